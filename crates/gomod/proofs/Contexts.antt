@@ -6,7 +6,7 @@ use Rattle.std.proofs.lemmas.List.Folds.{list_any-append}
 use Rattle.gomod.specs.declared.keyword.Keyword.{Keyword}
 use Rattle.gomod.specs.declared.keyword.Keyword.TheVariants.{Module, Go, Toolchain, Require, Exclude, Replace, Retract, Tool, Godebug, Ignore}
 use Rattle.gomod.specs.Keywords.{Keywords, is_module, has_block}
-use Rattle.gomod.specs.Reading.{Context, has_stood, stood_with, with_entry}
+use Rattle.gomod.specs.Reading.{Context, is_repeated, once_only_with, with_entry}
 use Rattle.gomod.specs.Grammar.{Row, Directive, OpenBlock, keyword_of, is_keyword, is_single, AreWritten}
 use Rattle.gomod.specs.Faults.{HasRoom, IsFilled}
 use Rattle.gomod.proofs.Lists.{map-join, filter-join, none-any, length-join}
@@ -25,13 +25,13 @@ has_entry (r ∷ rs) = true
 abbrev pub has_no_block : Keyword → Bool
 has_no_block k = not (has_block k)
 
-abbrev pub stood_in : List Directive → List Keyword
-stood_in ds = filter has_no_block (map keyword_of ds)
+abbrev pub once_only_in : List Directive → List Keyword
+once_only_in ds = filter has_no_block (map keyword_of ds)
 
 -- the context behind directives and an open block
 abbrev pub context_at : List Directive → Option OpenBlock → Context
-context_at ds None = record { block = None; has_module = stands Module ds; stood = stood_in ds }
-context_at ds (Some b) = record { block = Some b.keyword; has_module = stands Module ds || (is_module b.keyword && has_entry b.entries); stood = stood_in ds }
+context_at ds None = record { block = None; has_module = stands Module ds; once_only = once_only_in ds }
+context_at ds (Some b) = record { block = Some b.keyword; has_module = stands Module ds || (is_module b.keyword && has_entry b.entries); once_only = once_only_in ds }
 
 -- a keyword is `Module` by both tests or by neither
 pub module_same : (k : Keyword) → is_keyword Module k ≡ is_module k
@@ -76,32 +76,32 @@ any_without k (j ∷ js) =
     ∙ ap (λ x. cond (has_no_block j) (is_keyword k j || x) x) (any_without k js)
     ∙ any_step (is_keyword k j) (has_no_block j) (has_no_block k) (list_any (is_keyword k) js) (λ same. ap has_no_block (same_keyword k j same))
 
--- a directive has stood if it may stand once and stands above
-pub stood_is : (ds : List Directive) (k : Keyword) → has_stood (context_at ds None) k ≡ (is_single k && stands k ds)
-stood_is ds Module = refl
-stood_is ds Go = any_without Go (map keyword_of ds)
-stood_is ds Toolchain = any_without Toolchain (map keyword_of ds)
-stood_is ds Require = any_without Require (map keyword_of ds)
-stood_is ds Exclude = any_without Exclude (map keyword_of ds)
-stood_is ds Replace = any_without Replace (map keyword_of ds)
-stood_is ds Retract = any_without Retract (map keyword_of ds)
-stood_is ds Tool = any_without Tool (map keyword_of ds)
-stood_is ds Godebug = any_without Godebug (map keyword_of ds)
-stood_is ds Ignore = any_without Ignore (map keyword_of ds)
+-- a keyword is repeated if a file may have it once and it stands above
+pub repeated_is : (ds : List Directive) (k : Keyword) → is_repeated (context_at ds None) k ≡ (is_single k && stands k ds)
+repeated_is ds Module = refl
+repeated_is ds Go = any_without Go (map keyword_of ds)
+repeated_is ds Toolchain = any_without Toolchain (map keyword_of ds)
+repeated_is ds Require = any_without Require (map keyword_of ds)
+repeated_is ds Exclude = any_without Exclude (map keyword_of ds)
+repeated_is ds Replace = any_without Replace (map keyword_of ds)
+repeated_is ds Retract = any_without Retract (map keyword_of ds)
+repeated_is ds Tool = any_without Tool (map keyword_of ds)
+repeated_is ds Godebug = any_without Godebug (map keyword_of ds)
+repeated_is ds Ignore = any_without Ignore (map keyword_of ds)
 
--- a keyword that may stand once and does not stand above
-pub fresh-stood : (ds : List Directive) (k : Keyword) → IsFresh ds k → has_stood (context_at ds None) k ≡ false
-fresh-stood ds k h = stood_is ds k ∙ not_both (is_single k) (stands k ds) h
+-- a keyword that a file may have once and that does not stand above
+pub fresh-not_repeated : (ds : List Directive) (k : Keyword) → IsFresh ds k → is_repeated (context_at ds None) k ≡ false
+fresh-not_repeated ds k h = repeated_is ds k ∙ not_both (is_single k) (stands k ds) h
   where
     not_both : (a b : Bool) → (a ≡ true → b ≡ false) → (a && b) ≡ false
     not_both true b e = e refl
     not_both false b e = refl
 
-pub stood-fresh : (ds : List Directive) (k : Keyword) → has_stood (context_at ds None) k ≡ false → IsFresh ds k
-stood-fresh ds k h only = sym (ap (λ b. b && stands k ds) only) ∙ sym (stood_is ds k) ∙ h
+pub not_repeated-fresh : (ds : List Directive) (k : Keyword) → is_repeated (context_at ds None) k ≡ false → IsFresh ds k
+not_repeated-fresh ds k h only = sym (ap (λ b. b && stands k ds) only) ∙ sym (repeated_is ds k) ∙ h
 
-pub stood-repeated : (ds : List Directive) (k : Keyword) → has_stood (context_at ds None) k ≡ true → (is_single k ≡ true) × (stands k ds ≡ true)
-stood-repeated ds k h = and_parts (is_single k) (stands k ds) (sym (stood_is ds k) ∙ h)
+pub repeated-stands : (ds : List Directive) (k : Keyword) → is_repeated (context_at ds None) k ≡ true → (is_single k ≡ true) × (stands k ds ≡ true)
+repeated-stands ds k h = and_parts (is_single k) (stands k ds) (sym (repeated_is ds k) ∙ h)
 
 pub stands-more : (j : Keyword) (ds : List Directive) (d : Directive) → stands j (ds ++ d ∷ []) ≡ (stands j ds || is_keyword j (keyword_of d))
 stands-more j ds d =
@@ -112,30 +112,30 @@ with_by : (b : Bool) (ks : List Keyword) (k : Keyword) → ks ++ cond (not b) (k
 with_by true ks k = append-nil ks
 with_by false ks k = refl
 
-stood_in-more : (ds : List Directive) (d : Directive) → stood_in (ds ++ d ∷ []) ≡ stood_with (stood_in ds) (keyword_of d)
-stood_in-more ds d =
+once_only-more : (ds : List Directive) (d : Directive) → once_only_in (ds ++ d ∷ []) ≡ once_only_with (once_only_in ds) (keyword_of d)
+once_only-more ds d =
     ap (filter has_no_block) (map-join keyword_of ds (d ∷ []))
     ∙ filter-join has_no_block (map keyword_of ds) (keyword_of d ∷ [])
-    ∙ with_by (has_block (keyword_of d)) (stood_in ds) (keyword_of d)
+    ∙ with_by (has_block (keyword_of d)) (once_only_in ds) (keyword_of d)
 
-stood_same : (ks : List Keyword) (k : Keyword) → has_block k ≡ true → stood_with ks k ≡ ks
-stood_same ks k h = ap (λ b. cond b ks (ks ++ k ∷ [])) h
+once_only_same : (ks : List Keyword) (k : Keyword) → has_block k ≡ true → once_only_with ks k ≡ ks
+once_only_same ks k h = ap (λ b. cond b ks (ks ++ k ∷ [])) h
 
 -- a directive on one line
 pub context-single : (ds : List Directive) (k : Keyword) (d : Directive) → keyword_of d ≡ k → with_entry (context_at ds None) k ≡ context_at (ds ++ d ∷ []) None
 context-single ds k d is = λ i. record {
   block = None;
   has_module = (ap (λ b. stands Module ds || b) (sym (module_same k) ∙ ap (is_keyword Module) (sym is)) ∙ sym (stands-more Module ds d)) i;
-  stood = (ap (stood_with (stood_in ds)) (sym is) ∙ sym (stood_in-more ds d)) i;
+  once_only = (ap (once_only_with (once_only_in ds)) (sym is) ∙ sym (once_only-more ds d)) i;
 }
 
 -- a block begins
 pub context-begins : (ds : List Directive) (k : Keyword) (line : ℕ)
-    → ◌≡◌ {A = Context} (record { block = Some k; has_module = stands Module ds; stood = stood_in ds }) (context_at ds (Some (record { keyword = k; first = line; entries = [] })))
+    → ◌≡◌ {A = Context} (record { block = Some k; has_module = stands Module ds; once_only = once_only_in ds }) (context_at ds (Some (record { keyword = k; first = line; entries = [] })))
 context-begins ds k line = λ i. record {
   block = Some k;
   has_module = (sym (or_none (stands Module ds)) ∙ ap (λ b. stands Module ds || b) (sym (and_none (is_module k)))) i;
-  stood = stood_in ds;
+  once_only = once_only_in ds;
 }
 
 some_entry : (rs : List Row) (r : Row) → has_entry (rs ++ r ∷ []) ≡ true
@@ -154,7 +154,7 @@ context-inside ds b r h = λ i. record {
   block = Some b.keyword;
   has_module = (absorbs (stands Module ds) (is_module b.keyword) (has_entry b.entries)
       ∙ ap (λ x. stands Module ds || x) (sym (and_one (is_module b.keyword)) ∙ ap (λ x. is_module b.keyword && x) (sym (some_entry b.entries r)))) i;
-  stood = stood_same (stood_in ds) b.keyword h i;
+  once_only = once_only_same (once_only_in ds) b.keyword h i;
 }
 
 filled_entry : (m : Bool) (rs : List Row) → (m ≡ true → 0 < length rs) → (m && has_entry rs) ≡ m
@@ -164,11 +164,11 @@ filled_entry false rs h = refl
 
 -- a block ends
 pub context-closes : (ds : List Directive) (b : OpenBlock) (line : ℕ) → has_block b.keyword ≡ true → IsFilled b
-    → ◌≡◌ {A = Context} (record { block = None; has_module = (context_at ds (Some b)).has_module; stood = stood_in ds }) (context_at (ds ++ closed b line ∷ []) None)
+    → ◌≡◌ {A = Context} (record { block = None; has_module = (context_at ds (Some b)).has_module; once_only = once_only_in ds }) (context_at (ds ++ closed b line ∷ []) None)
 context-closes ds b line h filled = λ i. record {
   block = None;
   has_module = (ap (λ x. stands Module ds || x) (filled_entry (is_module b.keyword) b.entries filled ∙ sym (module_same b.keyword)) ∙ sym (stands-more Module ds (closed b line))) i;
-  stood = (sym (stood_same (stood_in ds) b.keyword h) ∙ sym (stood_in-more ds (closed b line))) i;
+  once_only = (sym (once_only_same (once_only_in ds) b.keyword h) ∙ sym (once_only-more ds (closed b line))) i;
 }
 
 -- where a block of module is open, no other module stands above

@@ -13,7 +13,7 @@ use Rattle.modlex.specs.Lexer.{Lexeme, views, line_tokens, first_of}
 use Rattle.modlex.specs.Symbols.{Symbol, symbol_of, symbols, is_name_kind}
 use Rattle.gomod.specs.Keywords.{Keywords, keyword_named, is_module, has_block}
 use Rattle.gomod.specs.State.{said_after}
-use Rattle.gomod.specs.Reading.{Context, Contents, Fails, Gives, ◌>>=◌, ◌⊕◌, header, has_stood, with_entry, module_entry, go_entry, word_entry, pair_entry}
+use Rattle.gomod.specs.Reading.{Context, Contents, Fails, Gives, ◌>>=◌, ◌⊕◌, header, is_repeated, with_entry, module_entry, go_entry, word_entry, pair_entry}
 use Rattle.gomod.specs.Reading.{replace_entry, retract_entry, entry, entry_says, directive, line_outside, line_inside, line_says, token_fault, as_reader, bytes_say}
 
 -- an entry of more than five tokens has no right form, whatever stands behind
@@ -33,8 +33,8 @@ entry_long line Ignore b c d e f g ts us = refl
 -- a directive that begins no block, by what its entry says
 headed : ℕ → Context → Keyword → Result (Context × Contents) GoModFault → Result (Context × Contents) GoModFault
 headed line o k said =
-    if has_stood o k then Err (faults.Twice line)
-    else (if has_block k && false then Ok (record { block = Some k; has_module = o.has_module; stood = o.stood }, header k)
+    if is_repeated o k then Err (faults.Twice line)
+    else (if has_block k && false then Ok (record { block = Some k; has_module = o.has_module; once_only = o.once_only }, header k)
     else said >>= (λ x. Ok (x.0, header k ⊕ x.1)))
 
 entry_says_long : (line : ℕ) (o : Context) (k : Keyword) (b c d e f g : Symbol) (ts us : List Symbol)

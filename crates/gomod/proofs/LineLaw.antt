@@ -8,7 +8,7 @@ use Rattle.gomod.specs.declared.fault.GoModFault.{GoModFault}
 use Rattle.gomod.specs.declared.fault.GoModFault.TheVariants as faults
 use Rattle.modlex.specs.Symbols.{Symbol, is_name_kind}
 use Rattle.gomod.specs.Keywords.{Keywords, keyword_named, is_module, has_block, opens_block_kind, closes_block_kind}
-use Rattle.gomod.specs.Reading.{Context, Contents, nothing, last_path, ◌⊕◌, ◌>>=◌, has_stood, header, with_entry, entry}
+use Rattle.gomod.specs.Reading.{Context, Contents, nothing, last_path, ◌⊕◌, ◌>>=◌, is_repeated, header, with_entry, entry}
 use Rattle.gomod.specs.Reading.{entry_says, is_opening, is_closing, directive, line_outside, line_inside, line_says}
 use Rattle.gomod.specs.declared.keyword.Keyword.TheVariants.{Module}
 use Rattle.gomod.specs.Reads.{Pointwise}
@@ -20,7 +20,7 @@ use Rattle.gomod.proofs.Steps.{guarded, bound}
 use Rattle.gomod.proofs.Moves.{Move, blank, single, begins, inside, closes, with_row, closed, IsFresh, keywords_more, items_more}
 use Rattle.gomod.proofs.EntryMeaning.{AreMeant, path_list, entry_means}
 use Rattle.gomod.proofs.EntryRight.{entry_right, right_entry, shape_no_opening, shape_no_closing, named_spelling}
-use Rattle.gomod.proofs.Contexts.{context_at, IsAlone, fresh-stood, stood-fresh, context-single, context-begins}
+use Rattle.gomod.proofs.Contexts.{context_at, IsAlone, fresh-not_repeated, not_repeated-fresh, context-single, context-begins}
 use Rattle.gomod.proofs.Contexts.{context-inside, context-closes, room-context, context-room, filled-context, context-filled}
 
 -- ---- a move is computed
@@ -44,7 +44,7 @@ unfolding line_says line_outside
 outside_is known line ds k ts known_k = rw known_k refl
 
 -- a line with a keyword that may come here and an entry that is read says what the keyword and the entry say
-directive_entry : (line : ℕ) (c : Context) (k : Keyword) (ts : List Symbol) (q : Contents) → has_stood c k ≡ false
+directive_entry : (line : ℕ) (c : Context) (k : Keyword) (ts : List Symbol) (q : Contents) → is_repeated c k ≡ false
     → is_opening ts ≡ false → entry line k ts ≡ Ok q → directive line c k ts ≡ Ok (with_entry c k, header k ⊕ q)
 unfolding directive
 directive_entry line c k ts q fresh no_opening is =
@@ -60,8 +60,8 @@ directive_begins : (line : ℕ) (ds : List Directive) (k : Keyword) → IsFresh 
     → directive line (context_at ds None) k (left ∷ []) ≡ Ok (context_at ds (Some (record { keyword = k; first = line; entries = [] })), header k)
 unfolding directive
 directive_begins line ds k fresh h =
-    let stood = fresh-stood ds k fresh in
-    rw (stood, h) (ap (λ c. Ok (c, header k)) (context-begins ds k line))
+    let once = fresh-not_repeated ds k fresh in
+    rw (once, h) (ap (λ c. Ok (c, header k)) (context-begins ds k line))
 
 meant_behind : (k : Keyword) (is : List Item) (q : Contents) → AreMeant is q → AreMeant is (header k ⊕ q)
 meant_behind k is q m = record {
@@ -97,7 +97,7 @@ move_says {known = known} (single ds line k ts known_k fresh is_right) alone =
     let means = entry_means line k ts q.0 q.1 in
     record {
       said = header k ⊕ q.0;
-      is_said = outside_is known line ds k ts known_k ∙ directive_entry line (context_at ds None) k ts q.0 (fresh-stood ds k fresh) (shape_no_opening k ts is_right.0 is_right.1) q.1
+      is_said = outside_is known line ds k ts known_k ∙ directive_entry line (context_at ds None) k ts q.0 (fresh-not_repeated ds k fresh) (shape_no_opening k ts is_right.0 is_right.1) q.1
           ∙ ap (λ c. Ok (c, header k ⊕ q.0)) (context-single ds k (one k (row line ts)) refl);
       meant = meant_behind k (item k (row line ts) ∷ []) q.0 means.0;
       bare = and_itself (is_module k) q.0.bare means.1;
@@ -207,14 +207,14 @@ directive_moves known line ds k ts x known_k plain h =
     (record {
       directives = ds;
       opened = Some (record { keyword = k; first = line; entries = [] });
-      move = begins ds line k known_k (stood-fresh ds k fresh.0) (and_left (has_block k) (is_opening ts) block.0);
+      move = begins ds line k known_k (not_repeated-fresh ds k fresh.0) (and_left (has_block k) (is_opening ts) block.0);
     }))
     (λ entry_.
     let b = bound (entry_says line (context_at ds None) k ts) (λ y. Ok (y.0, header k ⊕ y.1)) x entry_.1 in
     let c = bound (entry line k ts) (λ p. Ok (with_entry (context_at ds None) k, p)) b.0 b.1 in
-    record { directives = ds ++ one k (row line ts) ∷ []; opened = None; move = single ds line k ts known_k (stood-fresh ds k fresh.0) (entry_right line k ts c.0 c.1) })
+    record { directives = ds ++ one k (row line ts) ∷ []; opened = None; move = single ds line k ts known_k (not_repeated-fresh ds k fresh.0) (entry_right line k ts c.0 c.1) })
     (chosen (has_block k && is_opening ts) _ _ _ fresh.1))
-    (chosen (has_stood (context_at ds None) k) _ _ _ h)
+    (chosen (is_repeated (context_at ds None) k) _ _ _ h)
   where
     and_left : (a b : Bool) → (a && b) ≡ true → a ≡ true
     and_left true b e = refl

@@ -7,7 +7,7 @@ use Rattle.gomod.specs.declared.fault.GoModFault.{GoModFault}
 use Rattle.gomod.specs.declared.fault.GoModFault.TheVariants as faults
 use Rattle.modlex.specs.Symbols.{Symbol, is_name_kind}
 use Rattle.gomod.specs.Keywords.{Keywords, keyword_named, is_module, has_block, opens_block_kind, closes_block_kind}
-use Rattle.gomod.specs.Reading.{Context, Contents, ◌⊕◌, has_stood, header, with_entry, entry, entry_says, is_opening, is_closing, directive, line_outside, line_inside, line_says}
+use Rattle.gomod.specs.Reading.{Context, Contents, ◌⊕◌, is_repeated, header, with_entry, entry, entry_says, is_opening, is_closing, directive, line_outside, line_inside, line_says}
 use Rattle.gomod.specs.Entries.{Demand, HasShape}
 use Rattle.gomod.specs.Grammar.{Directive, OpenBlock, is_single}
 use Rattle.gomod.specs.Faults.{HasRoom, IsFilled, IsKeyword, IsUnknown, IsRepeated, IsAllowed, IsRowFault}
@@ -15,7 +15,7 @@ use Rattle.modlex.proofs.TokenSound.{chosen}
 use Rattle.gomod.proofs.Steps.{fails}
 use Rattle.gomod.proofs.Moves.{IsFresh}
 use Rattle.gomod.proofs.EntryRight.{entry_fault, IsEntryFault, shape_no_closing}
-use Rattle.gomod.proofs.Contexts.{context_at, stands, IsAlone, stood-fresh, stood-repeated, room-context, context-room, filled-context}
+use Rattle.gomod.proofs.Contexts.{context_at, stands, IsAlone, not_repeated-fresh, repeated-stands, room-context, context-room, filled-context}
 use Rattle.gomod.proofs.LineLaw.{name_is, keyword_is}
 
 -- ---- a token is one keyword at most
@@ -110,10 +110,10 @@ directive_fault known line ds t ts k f is named h =
     let no_unknown : ¬ IsUnknown known None (t ∷ ts) = λ u. (let none = u.1 in cc) in
     ⊎_elim
     (λ twice.
-    let r = stood-repeated ds k twice.0 in
+    let r = repeated-stands ds k twice.0 in
     inr (no_unknown, inl ((k, is, r.0, r.1), (let same = twice.1 in cc))))
     (λ fresh.
-    let no_twice = fresh_once known ds t ts k named (stood-fresh ds k fresh.0) in
+    let no_twice = fresh_once known ds t ts k named (not_repeated-fresh ds k fresh.0) in
     ⊎_elim
     (λ block. (let bad = block.1 in cc))
     (λ single_. ⊎_elim
@@ -121,7 +121,7 @@ directive_fault known line ds t ts k f is named h =
     (λ x. (let bad = x.2 in cc))
     (fails (entry_says line (context_at ds None) k ts) (λ x. Ok (x.0, header k ⊕ x.1)) f single_.1))
     (chosen (has_block k && is_opening ts) _ _ _ fresh.1))
-    (chosen (has_stood (context_at ds None) k) _ _ _ h)
+    (chosen (is_repeated (context_at ds None) k) _ _ _ h)
 
 named_fault : (ks : Keywords) (line : ℕ) (ds : List Directive) (t : Symbol) (ts : List Symbol) (f : GoModFault) (o : Option Keyword) → keyword_named ks t.text ≡ o → is_name_kind t.kind ≡ true
     → ◌≡◌ {A = Result (Context × Contents) GoModFault} (elim o [ None ↦ Err (faults.Unknown line) | Some k ↦ directive line (context_at ds None) k ts ]) (Err f) → IsRowFault ks ds None line (t ∷ ts) f

@@ -148,7 +148,7 @@ fn finish(reader: Reader, last: usize) -> Result<GoMod, GoModFault>
     let Reader {
         block,
         module,
-        stood: _,
+        once_only: _,
         required,
         retractions,
         bare,

@@ -21,7 +21,7 @@ use Rattle.gomod.proofs.Moves.{Move, blank, single, begins, inside, closes, IsFr
 use Rattle.gomod.proofs.Written.{same_keyword, written-move}
 use Rattle.gomod.proofs.Unwritten.{written-back}
 use Rattle.gomod.proofs.Contexts.{context_at, stands, IsAlone, module_same, written-alone}
-use Rattle.gomod.proofs.EntryMeaning.{IsSpanAt, AreMeant, path_list}
+use Rattle.gomod.proofs.EntryMeaning.{IsRetractEntryAt, AreMeant, path_list}
 use Rattle.gomod.proofs.LineLaw.{Says, move_says, says_move}
 use Rattle.gomod.proofs.LineTokens.{tokens_plain, bytes_ok, bytes_say-tokens, bytes_fault}
 use Rattle.gomod.proofs.Appends.{joined, lines_say-append, position_behind, tokens_of-append, tokens_of-length, tokens_of-last, rows_of-append}
@@ -57,8 +57,8 @@ meant_join is js p q once h k = record {
       (sym (entries_under-append Module is js)) (paths_join (entries_under Module is) (entries_under Module js) p.module_path q.module_path once h.paths k.paths);
   required = subst (λ l. Pointwise (λ e r. IsPair e.symbols r) l (p.required ++ q.required)) (sym (entries_under-append Require is js))
       (pointwise-append (λ e r. IsPair e.symbols r) (entries_under Require is) p.required (entries_under Require js) q.required h.required k.required);
-  retractions = subst (λ l. Pointwise IsSpanAt l (p.retractions ++ q.retractions)) (sym (entries_under-append Retract is js))
-      (pointwise-append IsSpanAt (entries_under Retract is) p.retractions (entries_under Retract js) q.retractions h.retractions k.retractions);
+  retractions = subst (λ l. Pointwise IsRetractEntryAt l (p.retractions ++ q.retractions)) (sym (entries_under-append Retract is js))
+      (pointwise-append IsRetractEntryAt (entries_under Retract is) p.retractions (entries_under Retract js) q.retractions h.retractions k.retractions);
 }
 
 other_entries : (j k : Keyword) (es : List Row) → is_keyword j k ≡ false → entries_under j (map (item k) es) ≡ []

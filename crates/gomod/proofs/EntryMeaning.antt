@@ -10,15 +10,15 @@ use Rattle.modlex.specs.Symbols.{Symbol, is_word}
 use Rattle.modlex.specs.Words.{value_of}
 use Rattle.gomod.specs.Reading.{interval_of, Contents, nothing, ◌>>=◌, version_found, path_word, version_word, fitting_word, pair, module_entry}
 use Rattle.gomod.specs.Reading.{go_entry, word_entry, pair_entry, replace_entry, interval, retract_entry, are_interval_kinds, entry}
-use Rattle.gomod.specs.Entries.{IsModuleEntry, IsPair, IsSpan}
+use Rattle.gomod.specs.Entries.{IsModuleEntry, IsPair, IsRetractEntry}
 use Rattle.gomod.specs.Grammar.{Row, row, Item, item, entries_under}
 use Rattle.gomod.specs.Reads.{Pointwise}
 use Rattle.modlex.proofs.TokenSound.{chosen}
 use Rattle.gomod.proofs.Steps.{guarded, bound, ok_same}
 
 -- a retraction is that of an entry and has its line
-abbrev pub IsSpanAt : Row → Retraction → Type 0
-IsSpanAt e r = (r.line ≡ e.line) × IsSpan e.symbols (interval_of r)
+abbrev pub IsRetractEntryAt : Row → Retraction → Type 0
+IsRetractEntryAt e r = (r.line ≡ e.line) × IsRetractEntry e.symbols (interval_of r)
 
 abbrev pub path_list : Option (List ℕ) → List (List ℕ)
 path_list None = []
@@ -28,7 +28,7 @@ path_list (Some path) = path ∷ []
 pub record AreMeant (is : List Item) (p : Contents) : Type 0 where
   pub paths : Pointwise (λ e x. IsModuleEntry e.symbols x) (entries_under Module is) (path_list p.module_path)
   pub required : Pointwise (λ e r. IsPair e.symbols r) (entries_under Require is) p.required
-  pub retractions : Pointwise IsSpanAt (entries_under Retract is) p.retractions
+  pub retractions : Pointwise IsRetractEntryAt (entries_under Retract is) p.retractions
 
 path_is : (line : ℕ) (passes : List ℕ → Bool) (w : Symbol) (path : List ℕ) → path_word line passes w ≡ Ok path → value_of w ≡ path
 path_is line passes w path h = ⊎_elim (λ x. ok_same _ _ x.1) (λ x. (let e = x.1 in cc)) (chosen (passes (value_of w)) _ _ _ h)
@@ -67,7 +67,7 @@ pair_entry_means line (p ∷ v ∷ []) r h =
 pair_entry_means line _ r h = cc
 
 -- the retraction read from a bracket, two words, a comma and a bracket is the interval that the line names
-interval_means : (line : ℕ) (l v c w r : Symbol) (i : Retraction) → interval line v w ≡ Ok i → IsSpanAt (row line (l ∷ v ∷ c ∷ w ∷ r ∷ [])) i
+interval_means : (line : ℕ) (l v c w r : Symbol) (i : Retraction) → interval line v w ≡ Ok i → IsRetractEntryAt (row line (l ∷ v ∷ c ∷ w ∷ r ∷ [])) i
 unfolding interval
 interval_means line l v c w r i h =
     let a = bound (version_word line v)
@@ -81,7 +81,7 @@ interval_means line l v c w r i h =
     (chosen (is_below b.0 a.0) _ _ _ b.2)
 
 -- the retraction read from an entry of retract is the interval that the line names
-retract_means : (line : ℕ) (ts : List Symbol) (i : Retraction) → retract_entry line ts ≡ Ok i → IsSpanAt (row line ts) i
+retract_means : (line : ℕ) (ts : List Symbol) (i : Retraction) → retract_entry line ts ≡ Ok i → IsRetractEntryAt (row line ts) i
 unfolding retract_entry
 retract_means line (v ∷ []) i h =
     ⊎_elim

@@ -17,7 +17,7 @@ use Rattle.modlex.specs.Symbols.{Symbol}
 use Rattle.gomod.specs.Keywords.{Keywords, is_module}
 use Rattle.modlex.specs.Words.{value_of}
 use Rattle.gomod.specs.Module.{GoModule, Interval}
-use Rattle.gomod.specs.Entries.{IsModuleEntry, IsPair, IsSpan, IsVersionOf}
+use Rattle.gomod.specs.Entries.{IsModuleEntry, IsPair, IsRetractEntry, NamesVersion}
 use Rattle.gomod.specs.Grammar.{Row, Directive, OpenBlock, Item, items_of, keyword_of, keywords_in, items, is_keyword, entries_under, AreWritten}
 use Rattle.gomod.specs.Reads.{Pointwise, FitsPath, Reads, rows_of_tokens}
 use Rattle.gomod.specs.Faults.{HasFirstFault, IsFirstUnfit, IsLastFault, Faulty}
@@ -27,7 +27,7 @@ use Rattle.gomod.specs.Reading.{fits_retraction, first_unfit, fitting_module, mo
 use Rattle.modlex.proofs.TokenSound.{chosen}
 use Rattle.gomod.proofs.Steps.{bound, fails, ok_same, err_same, ok_err, ok_or_err}
 use Rattle.gomod.proofs.Contexts.{context_at, stands, module_same, written-alone}
-use Rattle.gomod.proofs.EntryMeaning.{IsSpanAt, AreMeant, path_list}
+use Rattle.gomod.proofs.EntryMeaning.{IsRetractEntryAt, AreMeant, path_list}
 use Rattle.gomod.proofs.LineTokens.{fault_bytes}
 use Rattle.gomod.proofs.Appends.{joined, lines_say-append}
 use Rattle.gomod.proofs.Pass.{join_start}
@@ -43,7 +43,7 @@ path_same ts p q h k =
     let same = tail_same h.0 k.0 [] [] (sym h.1 ∙ k.1) in
     sym h.2 ∙ ap value_of same.0 ∙ k.2
 
-version_same : (text : List ℕ) (u v : Version) → IsVersionOf text u → IsVersionOf text v → u ≡ v
+version_same : (text : List ℕ) (u v : Version) → NamesVersion text u → NamesVersion text v → u ≡ v
 version_same text u v h k = let e = sym h ∙ k in cc
 
 pair_same : (ts : List Symbol) (r s : Requirement) → IsPair ts r → IsPair ts s → r ≡ s
@@ -51,12 +51,12 @@ pair_same ts r s h k =
     let first = tail_same h.0 k.0 (h.1 ∷ []) (k.1 ∷ []) (sym h.2 ∙ k.2) in
     let second = tail_same h.1 k.1 [] [] first.1 in
     let path = sym h.3 ∙ ap value_of first.0 ∙ k.3 in
-    let version = version_same (value_of h.1) r.version s.version h.4 (subst (λ w. IsVersionOf (value_of w) s.version) (sym second.0) k.4) in
+    let version = version_same (value_of h.1) r.version s.version h.4 (subst (λ w. NamesVersion (value_of w) s.version) (sym second.0) k.4) in
     λ i. record { path = path i; version = version i }
 
 -- an interval by its two words
 abbrev Ends : List ℕ → List ℕ → Interval → Type 0
-Ends low high i = IsVersionOf low i.low × IsVersionOf high i.high
+Ends low high i = NamesVersion low i.low × NamesVersion high i.high
 
 ends_same : (low high : List ℕ) (i j : Interval) → Ends low high i → Ends low high j → i ≡ j
 ends_same low high i j h k =
@@ -64,18 +64,18 @@ ends_same low high i j h k =
     let b = version_same high i.high j.high h.1 k.1 in
     λ x. record { low = a x; high = b x }
 
-span_one : (v : Symbol) (i : Interval) → IsSpan (v ∷ []) i → Ends (value_of v) (value_of v) i
-span_one v i h =
+retract_one : (v : Symbol) (i : Interval) → IsRetractEntry (v ∷ []) i → Ends (value_of v) (value_of v) i
+retract_one v i h =
     ⊎_elim
     (λ x.
     let same = tail_same v x.0 [] [] x.1 in
-    (subst (λ w. IsVersionOf (value_of w) i.low) (sym same.0) x.2, subst (λ w. IsVersionOf (value_of w) i.high) (sym same.0) x.3))
+    (subst (λ w. NamesVersion (value_of w) i.low) (sym same.0) x.2, subst (λ w. NamesVersion (value_of w) i.high) (sym same.0) x.3))
     (λ x. (let bad = x.5 in cc))
     h
 
 -- an interval named by five tokens ends at the versions of the second and the fourth
-span_two : (l v c w r : Symbol) (i : Interval) → IsSpan (l ∷ v ∷ c ∷ w ∷ r ∷ []) i → Ends (value_of v) (value_of w) i
-span_two l v c w r i h =
+retract_two : (l v c w r : Symbol) (i : Interval) → IsRetractEntry (l ∷ v ∷ c ∷ w ∷ r ∷ []) i → Ends (value_of v) (value_of w) i
+retract_two l v c w r i h =
     ⊎_elim
     (λ x. (let bad = x.1 in cc))
     (λ x.
@@ -83,14 +83,14 @@ span_two l v c w r i h =
     let second = tail_same v x.1 (c ∷ w ∷ r ∷ []) (x.2 ∷ x.3 ∷ x.4 ∷ []) first.1 in
     let third = tail_same c x.2 (w ∷ r ∷ []) (x.3 ∷ x.4 ∷ []) second.1 in
     let fourth = tail_same w x.3 (r ∷ []) (x.4 ∷ []) third.1 in
-    (subst (λ u. IsVersionOf (value_of u) i.low) (sym second.0) x.6, subst (λ u. IsVersionOf (value_of u) i.high) (sym fourth.0) x.7))
+    (subst (λ u. NamesVersion (value_of u) i.low) (sym second.0) x.6, subst (λ u. NamesVersion (value_of u) i.high) (sym fourth.0) x.7))
     h
 
-span_same : (ts : List Symbol) (i j : Interval) → IsSpan ts i → IsSpan ts j → i ≡ j
-span_same ts i j h k =
+retract_same : (ts : List Symbol) (i j : Interval) → IsRetractEntry ts i → IsRetractEntry ts j → i ≡ j
+retract_same ts i j h k =
     ⊎_elim
-    (λ x. ends_same (value_of x.0) (value_of x.0) i j (x.2, x.3) (span_one x.0 j (subst (λ us. IsSpan us j) x.1 k)))
-    (λ x. ends_same (value_of x.1) (value_of x.3) i j (x.6, x.7) (span_two x.0 x.1 x.2 x.3 x.4 j (subst (λ us. IsSpan us j) x.5 k)))
+    (λ x. ends_same (value_of x.0) (value_of x.0) i j (x.2, x.3) (retract_one x.0 j (subst (λ us. IsRetractEntry us j) x.1 k)))
+    (λ x. ends_same (value_of x.1) (value_of x.3) i j (x.6, x.7) (retract_two x.0 x.1 x.2 x.3 x.4 j (subst (λ us. IsRetractEntry us j) x.5 k)))
     h
 
 pointwise_same : {A B : Type 0} (R : A → B → Type 0) → ((a : A) (x y : B) → R a x → R a y → x ≡ y) → (es : List A) (xs ys : List B) → Pointwise R es xs → Pointwise R es ys → xs ≡ ys
@@ -104,11 +104,11 @@ pointwise_same R only (a ∷ es) (x ∷ xs) (y ∷ ys) h k =
     λ i. here i ∷ more i
 
 -- without their lines
-pub only_spans : (es : List Row) (rs : List Retraction) → Pointwise IsSpanAt es rs → Pointwise (λ e i. IsSpan e.symbols i) es (map interval_of rs)
-only_spans [] [] h = tt
-only_spans [] (r ∷ rs) h = absurd h
-only_spans (e ∷ es) [] h = absurd h
-only_spans (e ∷ es) (r ∷ rs) h = (h.0.1, only_spans es rs h.1)
+pub only_intervals : (es : List Row) (rs : List Retraction) → Pointwise IsRetractEntryAt es rs → Pointwise (λ e i. IsRetractEntry e.symbols i) es (map interval_of rs)
+only_intervals [] [] h = tt
+only_intervals [] (r ∷ rs) h = absurd h
+only_intervals (e ∷ es) [] h = absurd h
+only_intervals (e ∷ es) (r ∷ rs) h = (h.0.1, only_intervals es rs h.1)
 
 -- ---- retractions that fit
 
@@ -125,21 +125,21 @@ all_fit path [] h = refl
 all_fit path (r ∷ rs) h = let here = and_from (fits_path path r.versions.low) (fits_path path r.versions.high) h.0.0 h.0.1 in rw here (all_fit path rs h.1)
 
 -- the first unfit retraction of a list stays the first if a fitting retraction is put before it
-unfit_behind : (path : List ℕ) (e : Row) (i : Interval) (es : List Row) (line : ℕ) → IsSpan e.symbols i → FitsPath path i → IsFirstUnfit path es line → IsFirstUnfit path (e ∷ es) line
-unfit_behind path e i es line span fits u = record {
+unfit_behind : (path : List ℕ) (e : Row) (i : Interval) (es : List Row) (line : ℕ) → IsRetractEntry e.symbols i → FitsPath path i → IsFirstUnfit path es line → IsFirstUnfit path (e ∷ es) line
+unfit_behind path e i es line interval fits u = record {
   before = e ∷ u.before;
   unfit = u.unfit;
   others = u.others;
   split = ap (λ l. e ∷ l) u.split;
-  fitting = ((i, span, fits), u.fitting);
-  span = u.span;
+  fitting = ((i, interval, fits), u.fitting);
+  interval = u.interval;
   is = u.is;
   misfit = u.misfit;
   position = u.position;
 }
 
 -- the line found by the search of an unfit retraction is that of the first unfit retraction
-unfit_from : (path : List ℕ) (es : List Row) (rs : List Retraction) (line : ℕ) → Pointwise IsSpanAt es rs → first_unfit path rs ≡ Some line → IsFirstUnfit path es line
+unfit_from : (path : List ℕ) (es : List Row) (rs : List Retraction) (line : ℕ) → Pointwise IsRetractEntryAt es rs → first_unfit path rs ≡ Some line → IsFirstUnfit path es line
 unfit_from path [] [] line h k = cc
 unfit_from path [] (r ∷ rs) line h k = absurd h
 unfit_from path (e ∷ es) [] line h k = absurd h
@@ -152,7 +152,7 @@ unfit_from path (e ∷ es) (r ∷ rs) line h k =
       others = es;
       split = refl;
       fitting = tt;
-      span = interval_of r;
+      interval = interval_of r;
       is = h.0.1;
       misfit = λ fits. both_ways (fits_retraction path r) x.0 (and_from (fits_path path r.versions.low) (fits_path path r.versions.high) fits.0 fits.1);
       position = (let same : r.line ≡ line = (let e = x.1 in cc) in sym same ∙ h.0.0);
@@ -160,24 +160,24 @@ unfit_from path (e ∷ es) (r ∷ rs) line h k =
     (chosen (fits_retraction path r) _ _ _ k)
 
 -- the search of an unfit retraction finds the line of the first one
-unfit_at : (path : List ℕ) (before : List Row) (u : Row) (others : List Row) (rs : List Retraction) (span : Interval) → Pointwise IsSpanAt (before ++ u ∷ others) rs
-    → AllByRecursion (λ e. (i : Interval) × IsSpan e.symbols i × FitsPath path i) before → IsSpan u.symbols span → ¬ FitsPath path span → first_unfit path rs ≡ Some u.line
-unfit_at path [] u others [] span h fit is misfit = absurd h
-unfit_at path [] u others (r ∷ rs) span h fit is misfit =
-    let same = span_same u.symbols (interval_of r) span h.0.1 is in
+unfit_at : (path : List ℕ) (before : List Row) (u : Row) (others : List Row) (rs : List Retraction) (interval : Interval) → Pointwise IsRetractEntryAt (before ++ u ∷ others) rs
+    → AllByRecursion (λ e. (i : Interval) × IsRetractEntry e.symbols i × FitsPath path i) before → IsRetractEntry u.symbols interval → ¬ FitsPath path interval → first_unfit path rs ≡ Some u.line
+unfit_at path [] u others [] interval h fit is misfit = absurd h
+unfit_at path [] u others (r ∷ rs) interval h fit is misfit =
+    let same = retract_same u.symbols (interval_of r) interval h.0.1 is in
     let unfit : fits_retraction path r ≡ false =
     false_from_ne_true (fits_retraction path r) (λ e. misfit (subst (FitsPath path) same (and_parts (fits_path path r.versions.low) (fits_path path r.versions.high) e))) in
     rw unfit (ap (λ n. Some n) h.0.0)
-unfit_at path (b ∷ before) u others [] span h fit is misfit = absurd h
-unfit_at path (b ∷ before) u others (r ∷ rs) span h fit is misfit =
-    let same = span_same b.symbols fit.0.0 (interval_of r) fit.0.1 h.0.1 in
+unfit_at path (b ∷ before) u others [] interval h fit is misfit = absurd h
+unfit_at path (b ∷ before) u others (r ∷ rs) interval h fit is misfit =
+    let same = retract_same b.symbols fit.0.0 (interval_of r) fit.0.1 h.0.1 in
     let fits = subst (FitsPath path) same fit.0.2 in
     let here : fits_retraction path r ≡ true = and_from (fits_path path r.versions.low) (fits_path path r.versions.high) fits.0 fits.1 in
-    rw here (unfit_at path before u others rs span h.1 fit.1 is misfit)
+    rw here (unfit_at path before u others rs interval h.1 fit.1 is misfit)
 
-unfit_is : (path : List ℕ) (es : List Row) (rs : List Retraction) (line : ℕ) → Pointwise IsSpanAt es rs → IsFirstUnfit path es line → first_unfit path rs ≡ Some line
+unfit_is : (path : List ℕ) (es : List Row) (rs : List Retraction) (line : ℕ) → Pointwise IsRetractEntryAt es rs → IsFirstUnfit path es line → first_unfit path rs ≡ Some line
 unfit_is path es rs line h u =
-    unfit_at path u.before u.unfit u.others rs u.span (subst (λ l. Pointwise IsSpanAt l rs) u.split h) u.fitting u.is u.misfit ∙ ap (λ n. Some n) (sym u.position)
+    unfit_at path u.before u.unfit u.others rs u.interval (subst (λ l. Pointwise IsRetractEntryAt l rs) u.split h) u.fitting u.is u.misfit ∙ ap (λ n. Some n) (sym u.position)
 
 -- ---- bare files
 
@@ -251,7 +251,7 @@ reads_fitting known bytes ds p path m None utf8 a is unfit h =
       grammar = a.read.grammar;
       path = paths;
       required = a.meant.required;
-      retractions = only_spans (entries_under Retract (items ds None)) p.retractions a.meant.retractions;
+      retractions = only_intervals (entries_under Retract (items ds None)) p.retractions a.meant.retractions;
       fitting = fits_all path p.retractions unfit;
       bare = (λ b. bare.0 (sym a.bare ∙ b), λ one. a.bare ∙ bare.1 one);
     })
@@ -317,10 +317,10 @@ reading-from_reads known bytes m r =
     (λ e x y h k. path_same e.symbols x y h k) (entries_under Module is) (path_list c.contents.module_path) (m.path ∷ []) c.above.meant.paths r.path in
     let required = pointwise_same (λ (e : Row) (x : Requirement). IsPair e.symbols x)
     (λ e x y h k. pair_same e.symbols x y h k) (entries_under Require is) c.contents.required m.required c.above.meant.required r.required in
-    let spans = pointwise_same (λ (e : Row) (x : Interval). IsSpan e.symbols x) (λ e x y h k. span_same e.symbols x y h k) (entries_under Retract is)
-    (map interval_of c.contents.retractions) m.retractions (only_spans (entries_under Retract is) c.contents.retractions c.above.meant.retractions) r.retractions in
+    let intervals = pointwise_same (λ (e : Row) (x : Interval). IsRetractEntry e.symbols x) (λ e x y h k. retract_same e.symbols x y h k) (entries_under Retract is)
+    (map interval_of c.contents.retractions) m.retractions (only_intervals (entries_under Retract is) c.contents.retractions c.above.meant.retractions) r.retractions in
     let path = path_some c.contents.module_path m.path paths in
-    let fits = all_fit m.path c.contents.retractions (subst (AllByRecursion (FitsPath m.path)) (sym spans) r.fitting) in
+    let fits = all_fit m.path c.contents.retractions (subst (AllByRecursion (FitsPath m.path)) (sym intervals) r.fitting) in
     let bare = bare_file known (rows_of_tokens c.above.read.tokens) r.directives c.above.read.grammar (module_stands r.directives m.path r.path) in
     let truth = same_truth (length r.directives ≡ 1) c.contents.bare m.bare (λ b. bare.0 (sym c.above.bare ∙ b), λ one. c.above.bare ∙ bare.1 one) r.bare in
     text_of known bytes r.utf8
@@ -328,7 +328,7 @@ reading-from_reads known bytes m r =
     ∙ closed_file (length (lines bytes)) r.directives c.contents
     ∙ ap (module_of c.contents) path
     ∙ ap (fitting_module m.path c.contents) fits
-    ∙ ap (λ x. Ok x) (λ i. record { path = m.path; required = required i; retractions = spans i; bare = truth i })
+    ∙ ap (λ x. Ok x) (λ i. record { path = m.path; required = required i; retractions = intervals i; bare = truth i })
 
 -- ---- faults
 

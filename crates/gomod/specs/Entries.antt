@@ -26,9 +26,9 @@ pub data Demand : Type 0 where
   fitting_version : List ℕ → List ℕ → Demand
   interval : List ℕ → List ℕ → Demand
 
--- a text is the canonical text of a version
-abbrev pub IsVersionOf : List ℕ → Version → Type 0
-IsVersionOf text v = version_of text ≡ Some v
+-- a text names a version: it is its canonical text
+abbrev pub NamesVersion : List ℕ → Version → Type 0
+NamesVersion text v = version_of text ≡ Some v
 
 -- the text meets its demand; two texts are an interval if the first version is not above the second
 abbrev pub IsMet : Demand → Type 0
@@ -36,9 +36,9 @@ IsMet (module_path text) = is_path text ≡ true
 IsMet (loose_path text) = is_loose_path text ≡ true
 IsMet (file_path text) = is_file_path text ≡ true
 IsMet (go_version text) = is_go_version text ≡ true
-IsMet (version text) = (v : Version) × IsVersionOf text v
-IsMet (fitting_version path text) = (v : Version) × IsVersionOf text v × (fits_path path v ≡ true)
-IsMet (interval low high) = (u : Version) × (v : Version) × IsVersionOf low u × IsVersionOf high v × (¬ IsBelow v u)
+IsMet (version text) = (v : Version) × NamesVersion text v
+IsMet (fitting_version path text) = (v : Version) × NamesVersion text v × (fits_path path v ≡ true)
+IsMet (interval low high) = (u : Version) × (v : Version) × NamesVersion low u × NamesVersion high v × (¬ IsBelow v u)
 
 -- the fault of a line with a text that does not meet its demand
 abbrev pub fault_of : ℕ → Demand → GoModFault
@@ -111,11 +111,11 @@ IsModuleEntry ts path = (w : Symbol) × (ts ≡ w ∷ []) × (value_of w ≡ pat
 
 -- an entry names this path and this version
 abbrev pub IsPair : List Symbol → Requirement → Type 0
-IsPair ts r = (p : Symbol) × (v : Symbol) × (ts ≡ p ∷ v ∷ []) × (value_of p ≡ r.path) × IsVersionOf (value_of v) r.version
+IsPair ts r = (p : Symbol) × (v : Symbol) × (ts ≡ p ∷ v ∷ []) × (value_of p ≡ r.path) × NamesVersion (value_of v) r.version
 
 -- an entry names this interval; a single version is an interval of itself
-abbrev pub IsSpan : List Symbol → Interval → Type 0
-IsSpan ts i =
-    ((v : Symbol) × (ts ≡ v ∷ []) × IsVersionOf (value_of v) i.low × IsVersionOf (value_of v) i.high)
+abbrev pub IsRetractEntry : List Symbol → Interval → Type 0
+IsRetractEntry ts i =
+    ((v : Symbol) × (ts ≡ v ∷ []) × NamesVersion (value_of v) i.low × NamesVersion (value_of v) i.high)
     ⊎ ((l : Symbol) × (v : Symbol) × (c : Symbol) × (w : Symbol) × (r : Symbol) × (ts ≡ l ∷ v ∷ c ∷ w ∷ r ∷ [])
-    × IsVersionOf (value_of v) i.low × IsVersionOf (value_of w) i.high)
+    × NamesVersion (value_of v) i.low × NamesVersion (value_of w) i.high)

@@ -9,7 +9,7 @@ use Rattle.modlex.specs.Tokens.{AreTokensOf}
 use Rattle.modlex.specs.Symbols.{symbol_of}
 use Rattle.gomod.specs.Keywords.{Keywords}
 use Rattle.gomod.specs.Module.{GoModule, Interval}
-use Rattle.gomod.specs.Entries.{IsModuleEntry, IsPair, IsSpan}
+use Rattle.gomod.specs.Entries.{IsModuleEntry, IsPair, IsRetractEntry}
 use Rattle.gomod.specs.Grammar.{Row, Directive, AreWritten, rows_from, items, entries_under}
 
 -- two lists have the same length, and their items are related one by one
@@ -35,6 +35,6 @@ pub record Reads (known : Keywords) (bytes : List ℕ) (m : GoModule) : Type 0 w
   pub grammar : AreWritten known (rows_of_tokens tokens) directives None
   pub path : Pointwise (λ e p. IsModuleEntry e.symbols p) (entries_under Module (items directives None)) (m.path ∷ [])
   pub required : Pointwise (λ e r. IsPair e.symbols r) (entries_under Require (items directives None)) m.required
-  pub retractions : Pointwise (λ e i. IsSpan e.symbols i) (entries_under Retract (items directives None)) m.retractions
+  pub retractions : Pointwise (λ e i. IsRetractEntry e.symbols i) (entries_under Retract (items directives None)) m.retractions
   pub fitting : AllByRecursion (FitsPath m.path) m.retractions
   pub bare : (m.bare ≡ true) ↔ (length directives ≡ 1)

@@ -12,7 +12,7 @@ ghost use Rattle.gomod.specs.Reading.{replace_four, replace_five, replace_entry,
 
 use super::fault::GoModFault;
 use super::go_version::{is_file_path, is_go_version};
-use super::stretch::Stretch;
+use super::interval::Interval;
 use modlex::{Kind, Token};
 use modpath::{LoosePath, ModulePath, PathError, Suffix, loose_suffix, suffix};
 use modver::{Bound, Version, VersionFault, compare_bounds, fits_suffix};
@@ -31,7 +31,7 @@ pub struct Requirement {
 #[derive(Drop)]
 pub(crate) struct Retraction {
     pub(crate) line: usize,
-    pub(crate) versions: Stretch,
+    pub(crate) versions: Interval,
 }
 
 #[tactic(auto, unfolding(crate::specs::Paths::is_path))]
@@ -335,7 +335,7 @@ fn interval(
     if is_below(&high, &low) {
         Err(GoModFault::Interval(line))
     } else {
-        let versions = Stretch::between(alloc, low, high)?;
+        let versions = Interval::between(alloc, low, high)?;
         Ok(Retraction { line, versions })
     }
 }
@@ -352,7 +352,7 @@ pub(crate) fn retract_entry(
 {
     match tokens {
         [only] if only.is_word() => {
-            let versions = Stretch::one(bound(alloc, line, only)?);
+            let versions = Interval::one(bound(alloc, line, only)?);
             Ok(Retraction { line, versions })
         }
         [left, first, comma, second, right] if is_interval(left, first, comma, second, right) => {

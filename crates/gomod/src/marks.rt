@@ -6,7 +6,7 @@ ghost use Rattle.gomod.specs.Marks.{Ascends, Reaches, marked};
 ghost use Rattle.gomod.specs.Reading.{interval_of};
 
 use super::entries::{Retraction, is_below};
-use super::stretch::Stretch;
+use super::interval::Interval;
 use modver::Version;
 use std::alloc::{AllocError, Global};
 
@@ -35,27 +35,27 @@ pub(crate) fn ascend(versions: &[Version]) -> bool
     versions.is_sorted_by(|left, right| !is_below(right.bound(), left.bound()))
 }
 
-/// Marks the versions that a stretch contains, which stand side by side.
-fn mark(marks: &mut [bool], versions: &[Version], stretch: &Stretch)
+/// Marks the versions that an interval contains, which stand side by side.
+fn mark(marks: &mut [bool], versions: &[Version], interval: &Interval)
     requires ascend { Ascends versions.now }
     requires len { length marks.old ≡ length versions.now }
     ensures { (done : List Interval) → marks.old ≡ marked versions.now done
-        → marks.new ≡ marked versions.now (done ++ stretch.now ∷ []) }
+        → marks.new ≡ marked versions.now (done ++ interval.now ∷ []) }
 {
-    let first = versions.partition_point(|version| is_below(version.bound(), &stretch.low));
-    let end = first + reached(&versions[first..], stretch);
+    let first = versions.partition_point(|version| is_below(version.bound(), &interval.low));
+    let end = first + reached(&versions[first..], interval);
     marks[first..end].fill(true);
 }
 
-/// Returns how many versions a stretch reaches. They stand before the others. Most stretches reach one at most.
-fn reached(versions: &[Version], stretch: &Stretch) -> usize
+/// Returns how many versions an interval reaches. They stand before the others. Most intervals reach at most one.
+fn reached(versions: &[Version], interval: &Interval) -> usize
     requires { Ascends versions.now }
-    ensures { Reaches stretch.now versions.now result }
+    ensures { Reaches interval.now versions.now result }
 {
     let near = versions.len().min(2);
-    let few = versions[..near].partition_point(|version| stretch.reaches(version.bound()));
+    let few = versions[..near].partition_point(|version| interval.reaches(version.bound()));
     if few < near {
         return few;
     }
-    versions.partition_point(|version| stretch.reaches(version.bound()))
+    versions.partition_point(|version| interval.reaches(version.bound()))
 }

@@ -7,7 +7,7 @@ use Rattle.gomod.proofs.marks.mark.Goals as goal
 
 pub returns : goal.returns
 returns c = λ done before.
-    let i = c.args.stretch.now in
+    let i = c.args.interval.now in
     let vs = c.args.versions.now in
     let first = c.partition_point-first.result in
     let n = c.reached.result in

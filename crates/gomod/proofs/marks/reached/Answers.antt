@@ -6,14 +6,14 @@ use Rattle.gomod.proofs.marks.reached.Goals as goal
 
 pub returns : goal.returns
 returns c =
-    let i = c.args.stretch.now in
+    let i = c.args.interval.now in
     let vs = c.args.versions.now in
     reaches vs c.requires i c.partition_point.result c.partition_point.ensures.bound
     (IsPartitionPoint-from_clause (λ v. not (is_below i.high v)) vs c.partition_point.result c.partition_point.ensures.partitioned (reached-parted vs c.requires i) (λ a r q k. search rules))
 
 pub returns-then-few-near : goal.returns-then-few-near
 returns-then-few-near c =
-    let i = c.args.stretch.now in
+    let i = c.args.interval.now in
     let vs = c.args.versions.now in
     let near = c.min-near.result in
     let few = c.partition_point-few.result in

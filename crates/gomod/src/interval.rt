@@ -11,51 +11,51 @@ use std::marker::Model;
 
 /// All versions from a low one to a high one, which may be equal.
 #[derive(Drop)]
-pub(crate) struct Stretch {
+pub(crate) struct Interval {
     pub(crate) low: Bound,
     /// The high one. `None` means that it is the low one, as in most retractions, so the field is a pointer.
-    above: Option<Box<Bound>>,
+    other_high: Option<Box<Bound>>,
 }
 
-impl Model for Stretch {
+impl Model for Interval {
     ghost use Rattle.std.specs.Prelude.{Option, Some, None};
     ghost use Rattle.gomod.specs.Module.{Interval};
 
     ghost Value = { Interval };
 
-    ghost view = { λ s. record { low = s.low; high = elim s.above [ None ↦ s.low | Some b ↦ b.value ] } };
+    ghost view = { λ i. record { low = i.low; high = elim i.other_high [ None ↦ i.low | Some b ↦ b.value ] } };
 }
 
-impl Stretch {
-    /// Returns the stretch of one version.
-    pub(crate) fn one(version: Bound) -> Stretch
+impl Interval {
+    /// Returns the interval of one version.
+    pub(crate) fn one(version: Bound) -> Interval
         ensures { result ≡ record { low = version; high = version } }
     {
-        Stretch {
+        Interval {
             low: version,
-            above: None,
+            other_high: None,
         }
     }
 
-    /// Returns the stretch from a version to another. It fails only if memory runs out.
-    pub(crate) fn between(alloc: Global, low: Bound, high: Bound) -> Result<Stretch, AllocError>
-        ensures { IfOk result (λ s. s ≡ record { low = low; high = high }) }
+    /// Returns the interval from a version to another. It fails only if memory runs out.
+    pub(crate) fn between(alloc: Global, low: Bound, high: Bound) -> Result<Interval, AllocError>
+        ensures { IfOk result (λ i. i ≡ record { low = low; high = high }) }
     {
-        let above = Some(Box::new(alloc, high)?);
-        Ok(Stretch { low, above })
+        let other_high = Some(Box::new(alloc, high)?);
+        Ok(Interval { low, other_high })
     }
 
     /// Whether it is known to have one version alone.
     pub(crate) fn is_one(&self) -> bool
         ensures { IsTrue result → self.now.high ≡ self.now.low }
     {
-        self.above.is_none()
+        self.other_high.is_none()
     }
 
     pub(crate) fn high(&self) -> &Bound
         ensures { result.now ≡ self.now.high }
     {
-        match &self.above {
+        match &self.other_high {
             Some(high) => &**high,
             None => &self.low,
         }
@@ -68,7 +68,7 @@ impl Stretch {
         !is_below(self.high(), version)
     }
 
-    /// Whether the stretch contains a version.
+    /// Whether the interval contains a version.
     pub(crate) fn has(&self, version: &Bound) -> bool
         ensures { result ≡ covers version.now self.now }
     {

@@ -8,9 +8,9 @@ ghost use Rattle.gomod.specs.Module.{IsRetracted, covers, is_retracted};
 ghost use Rattle.gomod.specs.State.{state_of};
 ghost use Rattle.modver.specs.Fits.{fits};
 
+use super::coverage::{ascend, coverage};
 use super::entries::{Requirement, Retraction};
 use super::fault::GoModFault;
-use super::marks::{ascend, marks};
 use super::reader::{Reader, read_line};
 use modlex::cut_line;
 use modpath::{ModulePath, Suffix, suffix};
@@ -83,10 +83,10 @@ impl GoMod {
     /// Returns for each version whether the module retracts it. It fails only if memory runs out.
     /// If the versions ascend by precedence, it compares each retraction with few of them.
     pub fn retracted(&self, alloc: Global, versions: &[Version]) -> Result<Vec<bool>, AllocError>
-        ensures { IfOk result (λ marks. marks.items ≡ map (is_retracted self.now) versions.now) }
+        ensures { IfOk result (λ flags. flags.items ≡ map (is_retracted self.now) versions.now) }
     {
         if ascend(versions) {
-            return marks(alloc, &self.retractions, versions);
+            return coverage(alloc, &self.retractions, versions);
         }
         versions
             .iter()

@@ -35,10 +35,10 @@ found [] k x less e = absurd (omega (arith, less))
 found (y ∷ ys) zero x less e = ap Some e
 found (y ∷ ys) (suc k) x less e = found ys k x (omega (arith, less)) e
 
--- a mark tells whether the version at its index counts
-pub marked_at : (m : GoModule) (vs : List SemanticVersion) (marks : List Bool) → marks ≡ map (is_retracted m) vs → (index : ℕ) (x : SemanticVersion)
-    → index < length vs → get_or vs index x ≡ x → (b : Bool) → get_or marks index false ≡ b → counts (Some m) x ≡ not b
-marked_at m vs marks e index x less at b is =
+-- a flag tells whether the version at its index is retracted, and so whether it counts
+pub flag_at : (m : GoModule) (vs : List SemanticVersion) (flags : List Bool) → flags ≡ map (is_retracted m) vs → (index : ℕ) (x : SemanticVersion)
+    → index < length vs → get_or vs index x ≡ x → (b : Bool) → get_or flags index false ≡ b → counts (Some m) x ≡ not b
+flag_at m vs flags e index x less at b is =
     ap not (ap (is_retracted m) (sym at) ∙ sym (get_or-map (is_retracted m) vs index x false less) ∙ sym (ap (λ l. get_or l index false) e) ∙ is)
 
 -- ---- the scan

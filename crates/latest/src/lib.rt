@@ -49,7 +49,7 @@ pub fn latest_of(
     ensures { IfOk result (λ index. NamesTop versions.now (unretracted versions.now gomod.now) index) }
 {
     let retracted = gomod.retracted(alloc, versions)?;
-    Ok(top_unmarked(versions, &retracted))
+    Ok(top_unretracted(versions, &retracted))
 }
 
 /// Whether a version counts: any version if no go.mod is given, and otherwise one that the go.mod does not retract.
@@ -108,22 +108,22 @@ fn is_higher(versions: &[Version], version: &Version, highest: Option<usize>) ->
     }
 }
 
-/// Returns the index of the highest version without a mark, or `None` if each has one.
-fn top_unmarked(versions: &[Version], retracted: &[bool]) -> Option<usize>
+/// Returns the index of the highest version that is not retracted, or `None` if all are.
+fn top_unretracted(versions: &[Version], retracted: &[bool]) -> Option<usize>
     requires { length retracted.now ≡ length versions.now }
     ensures { (m : GoModule) → retracted.now ≡ map (is_retracted m) versions.now
         → NamesTop versions.now (counting versions.now (Some m)) result }
 {
     let mut highest = None;
     for next in 0..versions.len() {
-        highest = better_unmarked(versions, retracted, next, highest);
+        highest = better_unretracted(versions, retracted, next, highest);
     }
     highest
 }
 
-/// Returns the index of the highest version without a mark among those up to `index`, from the index of the highest
-/// before `index`.
-fn better_unmarked(
+/// Returns the index of the highest version that is not retracted among those up to `index`, from the index of the
+/// highest before `index`.
+fn better_unretracted(
     versions: &[Version],
     retracted: &[bool],
     index: usize,

@@ -2,7 +2,7 @@ use Rattle.std.proofs.Common.{◌≡◌, ap, sym, ◌∙◌}
 use Rattle.std.specs.List.{list_any}
 use Rattle.gomod.specs.Module.{covers, is_retracted}
 use Rattle.gomod.specs.Reading.{interval_of}
-use Rattle.gomod.proofs.MarkLists.{any-of_each}
+use Rattle.gomod.proofs.CoverageLists.{any-of_each}
 use Rattle.gomod.proofs.Retractions.{is_retracted-decides}
 use Rattle.gomod.proofs.module.GoMod.retracts.Goals as goal
 use Rattle.gomod.proofs.module.GoMod.retracts.Goals.{After-some_has}

@@ -15,7 +15,7 @@ use Rattle.modver.specs.Precedence.{precedence}
 use Rattle.modver.proofs.StrictOrders.{precedence_total}
 use Rattle.gomod.specs.Module.{Interval, covers}
 use Rattle.gomod.specs.Paths.{Version, is_below}
-use Rattle.gomod.specs.Marks.{Ascends, Reaches, marked}
+use Rattle.gomod.specs.Coverage.{Ascends, Reaches, covered}
 
 -- ---- the order
 
@@ -81,12 +81,12 @@ module _ (vs : List Version) (up : Ascends vs) where
   pub above-last : (high : Version) (i j : ℕ) (d : Version) → i ≤ j → j < length vs → is_below high (get_or vs i d) ≡ true → is_below high (get_or vs j d) ≡ true
   above-last high i j d le lt h = below-through high (get_or vs i d) (get_or vs j d) h (up i j d le lt)
 
--- ---- marks
+-- ---- which versions are covered
 
 -- an interval more
-pub marked-more : (vs : List Version) (is : List Interval) (i : Interval) → marked vs (is ++ i ∷ []) ≡ map (λ v. list_any (covers v) is || covers v i) vs
-marked-more [] is i = refl
-marked-more (v ∷ vs) is i = rw (any-more is, marked-more vs is i) refl
+pub covered-more : (vs : List Version) (is : List Interval) (i : Interval) → covered vs (is ++ i ∷ []) ≡ map (λ v. list_any (covers v) is || covers v i) vs
+covered-more [] is i = refl
+covered-more (v ∷ vs) is i = rw (any-more is, covered-more vs is i) refl
   where
     any-more : (is : List Interval) → list_any (covers v) (is ++ i ∷ []) ≡ (list_any (covers v) is || covers v i)
     any-more [] = or-false (covers v i)
@@ -121,7 +121,7 @@ module _ (f c : Version → Bool) where
   filled (v ∷ vs) (suc n) le some none =
       rw (some 0 v (omega arith), or-true (f v), filled vs n (omega arith) (λ k d lt. some (suc k) d (omega arith)) (λ k d a b. none (suc k) d (omega arith) (omega arith))) refl
 
-  -- marks that are set where the versions are covered
+  -- flags that are set where the versions are covered
   painted : (vs : List Version) (first n : ℕ) → first + n ≤ length vs → ((k : ℕ) (d : Version) → k < first → c (get_or vs k d) ≡ false)
       → ((k : ℕ) (d : Version) → first ≤ k → k < first + n → c (get_or vs k d) ≡ true)
       → ((k : ℕ) (d : Version) → first + n ≤ k → k < length vs → c (get_or vs k d) ≡ false)
@@ -195,33 +195,33 @@ rest-all m xs le =
     let e : length xs - m ≡ length (drop m xs) = omega (arith, length-drop m xs le) in
     ap (λ n. take n (drop m xs)) e ∙ take-length (drop m xs)
 
-pub none-marked : (vs : List Version) (n : ℕ) → n ≡ length vs → replicate n false ≡ marked vs []
-none-marked [] n e = rw e refl
-none-marked (v ∷ vs) zero e = absurd (omega arith)
-none-marked (v ∷ vs) (suc n) e = ap (λ l. false ∷ l) (none-marked vs n (omega arith))
+pub none-covered : (vs : List Version) (n : ℕ) → n ≡ length vs → replicate n false ≡ covered vs []
+none-covered [] n e = rw e refl
+none-covered (v ∷ vs) zero e = absurd (omega arith)
+none-covered (v ∷ vs) (suc n) e = ap (λ l. false ∷ l) (none-covered vs n (omega arith))
 
--- marks that are set in a slice of a list
-pub set-marks : (marks new : List Bool) (first n k : ℕ) → k ≡ n → first + n ≤ length marks → new ≡ replicate (length (take k (drop first marks))) true
-    → take first marks ++ (new ++ drop k (drop first marks)) ≡ take first marks ++ (replicate n true ++ drop n (drop first marks))
-set-marks marks new first n k e le h =
-    let all = length-drop first marks (omega arith) in
-    let long : length (take k (drop first marks)) ≡ k = length-take-le k (drop first marks) (omega (arith, all)) in
-    ap (λ l. take first marks ++ (l ++ drop k (drop first marks))) (h ∙ ap (λ m. replicate m true) long)
-    ∙ ap (λ m. take first marks ++ (replicate m true ++ drop m (drop first marks))) e
+-- flags that are set in a slice of a list
+pub set-flags : (flags new : List Bool) (first n k : ℕ) → k ≡ n → first + n ≤ length flags → new ≡ replicate (length (take k (drop first flags))) true
+    → take first flags ++ (new ++ drop k (drop first flags)) ≡ take first flags ++ (replicate n true ++ drop n (drop first flags))
+set-flags flags new first n k e le h =
+    let all = length-drop first flags (omega arith) in
+    let long : length (take k (drop first flags)) ≡ k = length-take-le k (drop first flags) (omega (arith, all)) in
+    ap (λ l. take first flags ++ (l ++ drop k (drop first flags))) (h ∙ ap (λ m. replicate m true) long)
+    ∙ ap (λ m. take first flags ++ (replicate m true ++ drop m (drop first flags))) e
 
--- ---- an interval's marks
+-- ---- what one interval covers
 
--- the marks of one more interval: true for the versions from the first that is not below it, as many as it reaches
-pub marked-once : (vs : List Version) (is : List Interval) (i : Interval) (first n : ℕ) → first ≤ length vs
+-- the flags of one more interval: true for the versions from the first that is not below it, as many as it reaches
+pub covered-once : (vs : List Version) (is : List Interval) (i : Interval) (first n : ℕ) → first ≤ length vs
     → IsPartitionPoint (λ v. is_below v i.low ≡ true) (λ v. is_below v i.low ≡ false) vs first → Reaches i (drop first vs) n
-    → take first (marked vs is) ++ (replicate n true ++ drop n (drop first (marked vs is))) ≡ marked vs (is ++ i ∷ [])
-marked-once vs is i first n le begun reach =
+    → take first (covered vs is) ++ (replicate n true ++ drop n (drop first (covered vs is))) ≡ covered vs (is ++ i ∷ [])
+covered-once vs is i first n le begun reach =
     let long : length (drop first vs) + first ≡ length vs = length-drop first vs le in
     painted (λ v. list_any (covers v) is) (λ v. covers v i) vs first n (omega (arith, reach.0))
     (λ k d lt. below-low (get_or vs k d) (begun.0 k d (omega arith) lt))
     (λ k d a b. inside (get_or vs k d) (begun.1 k d a (omega (arith, reach.0))) (at k d a (reach.1.0 (k - first) d (omega arith) (omega arith))))
     (λ k d a b. beyond (get_or vs k d) (at-true k d (omega arith) (reach.1.1 (k - first) d (omega arith) (omega arith))))
-    ∙ sym (marked-more vs is i)
+    ∙ sym (covered-more vs is i)
   where
     at : (k : ℕ) (d : Version) → first ≤ k → is_below i.high (get_or (drop first vs) (k - first) d) ≡ false → is_below i.high (get_or vs k d) ≡ false
     at k d a h =

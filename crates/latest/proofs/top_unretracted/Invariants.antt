@@ -1,7 +1,7 @@
 use Rattle.std.proofs.Common.{◌≡◌, Some, map}
 use Rattle.gomod.specs.Module.{GoModule, is_retracted}
 use Rattle.latest.specs.Latest.{IsBest}
-use Rattle.latest.proofs.top_unmarked.Given as goal
+use Rattle.latest.proofs.top_unretracted.Given as goal
 
 -- the index of the highest of the versions so far
 abbrev pub invariant-loop-next : goal.invariant-loop-next

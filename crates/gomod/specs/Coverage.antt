@@ -14,5 +14,5 @@ abbrev pub Reaches : Interval → List Version → ℕ → Type 0
 Reaches i vs n = (n ≤ length vs) × IsPartitionPoint (λ v. is_below i.high v ≡ false) (λ v. is_below i.high v ≡ true) vs n
 
 -- for each version, whether an interval covers it
-abbrev pub marked : List Version → List Interval → List Bool
-marked vs is = map (λ v. list_any (covers v) is) vs
+abbrev pub covered : List Version → List Interval → List Bool
+covered vs is = map (λ v. list_any (covers v) is) vs

@@ -1,9 +1,9 @@
 use Rattle.std.proofs.Common.{ap, subst, ◌∙◌, rules, arith, length, true, replicate, take, drop, ◌++◌, ◌+◌, ◌≤◌, List}
 use Rattle.std.proofs.lemmas.List.Sorted.{IsPartitionPoint-from_clause}
-use Rattle.gomod.specs.Marks.{Reaches}
+use Rattle.gomod.specs.Coverage.{Reaches}
 use Rattle.gomod.specs.Paths.{Version, is_below}
-use Rattle.gomod.proofs.MarkLists.{below-first, length-drop, marked-once, rest-all, set-marks}
-use Rattle.gomod.proofs.marks.mark.Goals as goal
+use Rattle.gomod.proofs.CoverageLists.{below-first, length-drop, covered-once, rest-all, set-flags}
+use Rattle.gomod.proofs.coverage.cover.Goals as goal
 
 pub returns : goal.returns
 returns c = λ done before.
@@ -16,7 +16,7 @@ returns c = λ done before.
     let within : first ≤ length vs = c.partition_point-first.ensures.bound in
     let reach = subst (λ (l : List Version). Reaches i l n) (rest-all first vs within) c.reached.ensures in
     let all = length-drop first vs within in
-    let room : first + n ≤ length c.args.marks.now = omega (arith, all, reach.0, c.requires.len) in
-    set-marks c.args.marks.now c.fill.new.self first n _ (omega arith) room (c.fill.ensures.after (λ y h. search rules))
+    let room : first + n ≤ length c.args.flags.now = omega (arith, all, reach.0, c.requires.len) in
+    set-flags c.args.flags.now c.fill.new.self first n _ (omega arith) room (c.fill.ensures.after (λ y h. search rules))
     ∙ ap (λ l. take first l ++ (replicate n true ++ drop n (drop first l))) before
-    ∙ marked-once vs done i first n within point reach
+    ∙ covered-once vs done i first n within point reach

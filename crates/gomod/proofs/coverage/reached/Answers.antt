@@ -1,8 +1,8 @@
 use Rattle.std.proofs.Common.{not, rules, length, take, ◌≤◌, ◌<◌}
 use Rattle.std.proofs.lemmas.List.Sorted.{IsPartitionPoint-from_clause}
 use Rattle.gomod.specs.Paths.{is_below}
-use Rattle.gomod.proofs.MarkLists.{ascends-take, reached-parted, reaches, reaches-few}
-use Rattle.gomod.proofs.marks.reached.Goals as goal
+use Rattle.gomod.proofs.CoverageLists.{ascends-take, reached-parted, reaches, reaches-few}
+use Rattle.gomod.proofs.coverage.reached.Goals as goal
 
 pub returns : goal.returns
 returns c =

@@ -1,8 +1,8 @@
 use Rattle.std.proofs.Common.{◌≡◌, not, rules}
 use Rattle.std.proofs.lemmas.Fn.{always_returns_same}
 use Rattle.gomod.specs.Paths.{is_below}
-use Rattle.gomod.proofs.MarkLists.{ascends-by}
-use Rattle.gomod.proofs.marks.ascend.Goals as goal
+use Rattle.gomod.proofs.CoverageLists.{ascends-by}
+use Rattle.gomod.proofs.coverage.ascend.Goals as goal
 
 pub returns : goal.returns
 returns c = ascends-by _ _

@@ -1,11 +1,13 @@
 -- The test of a Go version passes just those that have the form of one.
-use Rattle.std.proofs.Common.{◌≡◌, ◌↔◌, ℕ, zero, suc, ◌+◌, ◌<◌, true, false, ◌==◌, List, [], ◌∷◌, ◌++◌, length, take, drop, codes, arith}
-use Rattle.std.proofs.Common.{add-one, refl, ap, sym, ◌∙◌, subst, append_assoc, length-append, inl, inr, ⊎_elim, nat_eq, rules, tests}
+use Rattle.std.proofs.Common.{◌≡◌, ◌↔◌, ℕ, zero, suc, ◌+◌, ◌<◌, ◌≤◌, true, false, ◌==◌, ◌&&◌, not, cond, ltb, Option, Some, None, List, [], ◌∷◌, ◌++◌, length, take, drop, codes, arith}
+use Rattle.std.proofs.Common.{refl, ap, sym, ◌∙◌, subst, append_assoc, length-append, inl, inr, ⊎_elim, nat_eq, rules, tests}
 use Rattle.std.specs.List.{list_all, starts_with}
 use Rattle.std.specs.Char.{is_ascii_digit}
 use Rattle.std.proofs.lemmas.Slice.Eq.{bytes_eq-Decides}
 use Rattle.std.proofs.lemmas.List.{take_at, drop_at}
-use Rattle.std.proofs.lemmas.Bool.{and_parts, and_from, or_cases, cases_Bool, ltb-true, lt-ltb, eqb-true}
+use Rattle.std.proofs.lemmas.Bool.{and_parts, and_from, or_cases, cases_Bool, cases_lt, ltb-true, lt-ltb, le-ltb, eqb-true}
+use Rattle.std.proofs.lemmas.List.Sums.{prefix_len-le-length}
+use Rattle.std.specs.Option.{unwrap_or}
 use Rattle.gomod.specs.GoVersion.{is_decimal, is_tail, is_minor, digits_len, dot_at, is_go_version}
 use Rattle.gomod.specs.GoVersions.{IsTail, IsGoVersion}
 
@@ -24,7 +26,7 @@ dot_split (b ∷ bs) h =
     let here : dot_at (b ∷ bs) ≡ 0 = rw yes refl in
     subst (λ n. b ∷ bs ≡ take n (b ∷ bs) ++ 46 ∷ drop (n + 1) (b ∷ bs)) (sym here) (ap (λ x. x ∷ bs) (eqb-true b 46 yes)))
     (λ no.
-    let here : dot_at (b ∷ bs) ≡ suc (dot_at bs) = rw no (add-one (dot_at bs)) in
+    let here : dot_at (b ∷ bs) ≡ suc (dot_at bs) = rw no (omega arith) in
     let number : suc (dot_at bs + 1) ≡ suc (dot_at bs) + 1 = omega arith in
     let more = dot_split bs (omega (arith, h, here)) in
     subst (λ n. b ∷ bs ≡ take n (b ∷ bs) ++ 46 ∷ drop (n + 1) (b ∷ bs)) (sym here)
@@ -40,7 +42,7 @@ dot_at-digits (b ∷ a) r h =
     let halves = and_parts (is_ascii_digit b) (list_all is_ascii_digit a) h in
     let no = digit_no_dot b halves.0 in
     let more = dot_at-digits a r halves.1 in
-    let here : dot_at (b ∷ (a ++ 46 ∷ r)) ≡ dot_at (a ++ 46 ∷ r) + 1 = rw no refl in
+    let here : dot_at (b ∷ (a ++ 46 ∷ r)) ≡ dot_at (a ++ 46 ∷ r) + 1 = rw no (omega arith) in
     omega (arith, more, here)
 
 digits_len-front : (b tail : List ℕ) → list_all is_ascii_digit b ≡ true → digits_len tail ≡ 0 → digits_len (b ++ tail) ≡ length b
@@ -49,7 +51,7 @@ digits_len-front (x ∷ b) tail h none =
     let halves = and_parts (is_ascii_digit x) (list_all is_ascii_digit b) h in
     let yes = halves.0 in
     let more = digits_len-front b tail halves.1 none in
-    let here : digits_len (x ∷ (b ++ tail)) ≡ digits_len (b ++ tail) + 1 = rw yes refl in
+    let here : digits_len (x ∷ (b ++ tail)) ≡ digits_len (b ++ tail) + 1 = rw yes (omega arith) in
     omega (arith, more, here)
 
 decimal_digits : (a : List ℕ) → is_decimal a ≡ true → list_all is_ascii_digit a ≡ true
@@ -136,6 +138,46 @@ version_form text h =
       is_tail = tail_form (drop (digits_len rest) rest) behind.1;
       spelled = dot_split text (ltb-true (dot_at text) (length text) inner.0) ∙ ap (λ l. take (dot_at text) text ++ 46 ∷ l) (sym (split_at (digits_len rest) rest));
     }
+
+-- ---- what a search returns
+
+-- the index of the first byte that passes
+first_at : (n len i : ℕ) → Some i ≡ cond (ltb n len) (Some n) None → (i ≡ n) × (n < len)
+first_at n len i h = elim (cases_lt n len) [
+  | inl lt ↦ (ap (λ o. unwrap_or o 0) (rw (lt-ltb n len lt) at h), lt)
+  | inr le ↦ cc (rw (le-ltb n len le) at h)
+]
+
+-- a text without a dot
+pub no_dot : (text : List ℕ) → ◌≡◌ {A = Option ℕ} None (cond (ltb (dot_at text) (length text)) (Some (dot_at text)) None) → false ≡ is_go_version text
+unfolding is_go_version
+no_dot text h = elim (cases_lt (dot_at text) (length text)) [
+  | inl lt ↦ cc (rw (lt-ltb (dot_at text) (length text) lt) at h)
+  | inr le ↦ rw (le-ltb (dot_at text) (length text) le) refl
+]
+
+-- a text with its first dot at an index
+pub dot_is : (text : List ℕ) (i : ℕ) → Some i ≡ cond (ltb (dot_at text) (length text)) (Some (dot_at text)) None
+    → (is_decimal (take i text) && is_minor (drop (i + 1) text)) ≡ is_go_version text
+unfolding is_go_version
+dot_is text i h =
+    let found = first_at (dot_at text) (length text) i h in
+    rw (found.0, lt-ltb (dot_at text) (length text) found.1) refl
+
+pub dot_within : (text : List ℕ) (i : ℕ) → Some i ≡ cond (ltb (dot_at text) (length text)) (Some (dot_at text)) None → i + 1 ≤ length text
+dot_within text i h = let found = first_at (dot_at text) (length text) i h in omega (arith, found.0, found.1)
+
+-- a text by the number of digits that it begins with
+pub minor_is : (rest : List ℕ) (n : ℕ) → n ≡ digits_len rest → (is_decimal (take n rest) && is_tail (drop n rest)) ≡ is_minor rest
+unfolding is_minor
+minor_is rest n h = rw h refl
+
+-- the number of digits, where the search for another byte returns its index or none
+pub digits_are : (text : List ℕ) → unwrap_or (cond (ltb (digits_len text) (length text)) (Some (digits_len text)) None) (length text) ≡ digits_len text
+digits_are text = elim (cases_lt (digits_len text) (length text)) [
+  | inl lt ↦ rw (lt-ltb (digits_len text) (length text) lt) refl
+  | inr le ↦ (let most = prefix_len-le-length (λ b. not (not (is_ascii_digit b))) text in rw (le-ltb (digits_len text) (length text) le) (omega (arith, le, most)))
+]
 
 pub is_go_version-exact : (text : List ℕ) → (is_go_version text ≡ true) ↔ IsGoVersion text
 is_go_version-exact text = (

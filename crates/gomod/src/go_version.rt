@@ -1,9 +1,9 @@
 //! The words of go and replace that are neither a module path nor a version: Go versions and file paths.
 
-ghost use Rattle.std.specs.Prelude.{◌≡◌, ◌≤◌, length};
+ghost use Rattle.std.specs.Prelude.{◌≡◌};
 ghost use Rattle.std.specs.List.{list_all};
 ghost use Rattle.std.specs.Char.{is_ascii_digit};
-ghost use Rattle.gomod.specs.GoVersion.{is_decimal, is_tail, is_minor, digits_len, dot_at, is_go_version, is_file_path};
+ghost use Rattle.gomod.specs.GoVersion.{is_decimal, is_tail, is_minor, is_go_version, is_file_path};
 
 fn all_digits(text: &[u8]) -> bool
     ensures { result ≡ list_all is_ascii_digit text.now }
@@ -32,37 +32,15 @@ fn is_tail(tail: &[u8]) -> bool
         || (tail.starts_with(b"beta".as_slice()) && is_decimal(&tail[4..]))
 }
 
-/// Returns how many digits a text begins with.
-fn digits_len(text: &[u8]) -> usize
-    ensures value { result ≡ digits_len text.now }
-    ensures within { result ≤ length text.now }
-{
-    for (i, byte) in text.iter().enumerate() {
-        if !byte.is_ascii_digit() {
-            return i;
-        }
-    }
-    text.len()
-}
-
-/// Returns how many bytes come before the first dot, or the length of a text that has no dot.
-fn dot_at(text: &[u8]) -> usize
-    ensures value { result ≡ dot_at text.now }
-    ensures within { result ≤ length text.now }
-{
-    for (i, byte) in text.iter().enumerate() {
-        if *byte == b'.' {
-            return i;
-        }
-    }
-    text.len()
-}
-
 #[tactic(auto, unfolding(crate::specs::GoVersion::is_minor))]
 fn is_minor(rest: &[u8]) -> bool
     ensures { result ≡ is_minor rest.now }
 {
-    let (minor, tail) = rest.split_at(digits_len(rest));
+    let end = rest
+        .iter()
+        .position(|b| !b.is_ascii_digit())
+        .unwrap_or(rest.len());
+    let (minor, tail) = rest.split_at(end);
     is_decimal(minor) && is_tail(tail)
 }
 
@@ -71,8 +49,10 @@ fn is_minor(rest: &[u8]) -> bool
 pub(crate) fn is_go_version(text: &[u8]) -> bool
     ensures { result ≡ is_go_version text.now }
 {
-    let dot = dot_at(text);
-    dot < text.len() && is_decimal(&text[..dot]) && is_minor(&text[dot + 1..])
+    let Some(dot) = text.iter().position(|b| *b == b'.') else {
+        return false;
+    };
+    is_decimal(&text[..dot]) && is_minor(&text[dot + 1..])
 }
 
 /// Whether a text is a file path: `.` or `..`, or one that begins with `./`, `../` or `/`.

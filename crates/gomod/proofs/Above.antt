@@ -16,7 +16,7 @@ use Rattle.gomod.specs.Reads.{Pointwise, rows_of_tokens}
 use Rattle.gomod.specs.Faults.{AreRead, HasFirstFault}
 use Rattle.gomod.specs.Reading.{Context, Contents, nothing, at_start, last_path, ◌⊕◌, ◌>>=◌, bytes_say, lines_say}
 use Rattle.gomod.proofs.Steps.{bound, fails, ok_same}
-use Rattle.gomod.proofs.Lists.{pointwise-append, last_of, empty_list, length-join}
+use Rattle.gomod.proofs.Lists.{cond-append, pointwise-append, last_of, empty_list, length-join}
 use Rattle.gomod.proofs.Moves.{Move, blank, single, begins, inside, closes, IsFresh, keywords_more, items_more, keywords_in-move, items-move}
 use Rattle.gomod.proofs.Written.{same_keyword, written-move}
 use Rattle.gomod.proofs.Unwritten.{written-back}
@@ -29,15 +29,11 @@ use Rattle.gomod.proofs.Pass.{join_assoc, join_nothing}
 
 -- ---- entries behind entries
 
-cond-join : {A : Type 0} (b : Bool) (x : A) (xs ys : List A) → cond b (x ∷ (xs ++ ys)) (xs ++ ys) ≡ cond b (x ∷ xs) xs ++ ys
-cond-join true x xs ys = refl
-cond-join false x xs ys = refl
-
 pub entries_under-append : (k : Keyword) (is js : List Item) → entries_under k (is ++ js) ≡ entries_under k is ++ entries_under k js
 entries_under-append k [] js = refl
 entries_under-append k (i ∷ is) js =
     ap (λ l. cond (is_keyword k i.keyword) (i.entry ∷ l) l) (entries_under-append k is js)
-    ∙ cond-join (is_keyword k i.keyword) i.entry (entries_under k is) (entries_under k js)
+    ∙ cond-append (is_keyword k i.keyword) i.entry (entries_under k is) (entries_under k js)
 
 -- the module paths of two lists of entries, at most one of which has any, are those of both together
 paths_join : (xs ys : List Row) (p q : Option (List ℕ)) → (xs ≡ []) ⊎ (ys ≡ []) → Pointwise (λ e x. IsModuleEntry e.symbols x) xs (path_list p)

@@ -9,6 +9,7 @@ use Rattle.gomod.specs.Keywords.{Keywords, is_module, has_block}
 use Rattle.gomod.specs.Reading.{Context, is_repeated, once_only_with, with_entry}
 use Rattle.gomod.specs.Grammar.{Row, Directive, OpenBlock, keyword_of, is_keyword, is_single, AreWritten}
 use Rattle.gomod.specs.Faults.{HasRoom, IsFilled}
+use Rattle.gomod.proofs.Bools.{or_none, and_none, and_one}
 use Rattle.gomod.proofs.Lists.{map-join, filter-join, none-any, length-join}
 use Rattle.gomod.proofs.Moves.{IsFresh, closed, with_row}
 use Rattle.gomod.proofs.Written.{same_keyword}
@@ -45,18 +46,6 @@ module_same Retract = refl
 module_same Tool = refl
 module_same Godebug = refl
 module_same Ignore = refl
-
-or_none : (a : Bool) → (a || false) ≡ a
-or_none true = refl
-or_none false = refl
-
-and_none : (a : Bool) → (a && false) ≡ false
-and_none true = refl
-and_none false = refl
-
-and_one : (a : Bool) → (a && true) ≡ a
-and_one true = refl
-and_one false = refl
 
 -- a keyword that stands among those without blocks stands, and has no block
 any_step : (b c w x : Bool) → (b ≡ true → w ≡ c) → cond c (b || (w && x)) (w && x) ≡ (w && (b || x))

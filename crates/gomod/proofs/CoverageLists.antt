@@ -1,7 +1,7 @@
 -- Which of some versions intervals cover.
 use Rattle.std.proofs.Common.{◌+◌, ◌-◌, ◌++◌, length, get_or, arith, ◌≡◌, ◌<◌, ◌≤◌, ℕ, zero, suc, List, [], ◌∷◌, Bool, true}
 use Rattle.std.proofs.Common.{◌↔◌, false, not, refl, sym, ap, subst, ◌∙◌, inl, inr, ◌&&◌, ◌||◌, map, take, drop, replicate}
-use Rattle.std.proofs.lemmas.Bool.{cases_Bool, true≢false}
+use Rattle.std.proofs.lemmas.Bool.{cases_Bool, not-true, not-false, not_from_false, true≢false}
 use Rattle.std.proofs.lemmas.Cmp.{upto}
 use Rattle.std.proofs.Math.Seq.{take-length}
 use Rattle.std.proofs.lemmas.List.{get_or-drop, get_or-take, length-take-le}
@@ -16,6 +16,7 @@ use Rattle.modver.proofs.StrictOrders.{precedence_total}
 use Rattle.gomod.specs.Module.{Interval, covers}
 use Rattle.gomod.specs.Paths.{Version, is_below}
 use Rattle.gomod.specs.Coverage.{Ascends, Reaches, covered}
+use Rattle.gomod.proofs.Bools.{or_none, and_none}
 
 -- ---- the order
 
@@ -89,11 +90,7 @@ covered-more [] is i = refl
 covered-more (v ∷ vs) is i = rw (any-more is, covered-more vs is i) refl
   where
     any-more : (is : List Interval) → list_any (covers v) (is ++ i ∷ []) ≡ (list_any (covers v) is || covers v i)
-    any-more [] = or-false (covers v i)
-      where
-        or-false : (b : Bool) → (b || false) ≡ b
-        or-false true = refl
-        or-false false = refl
+    any-more [] = or_none (covers v i)
     any-more (j ∷ is) = ap (λ b. covers v j || b) (any-more is) ∙ sym (or-assoc (covers v j) (list_any (covers v) is) (covers v i))
       where
         or-assoc : (a b c : Bool) → ((a || b) || c) ≡ (a || (b || c))
@@ -104,15 +101,11 @@ or-true : (b : Bool) → (b || true) ≡ true
 or-true true = refl
 or-true false = refl
 
-or-none : (b : Bool) → (b || false) ≡ b
-or-none true = refl
-or-none false = refl
-
 module _ (f c : Version → Bool) where
   -- where the rest is not covered
   left : (vs : List Version) → ((k : ℕ) (d : Version) → k < length vs → c (get_or vs k d) ≡ false) → map f vs ≡ map (λ v. f v || c v) vs
   left [] none = refl
-  left (v ∷ vs) none = rw (none 0 v (omega arith), or-none (f v), left vs (λ k d lt. none (suc k) d (omega arith))) refl
+  left (v ∷ vs) none = rw (none 0 v (omega arith), or_none (f v), left vs (λ k d lt. none (suc k) d (omega arith))) refl
 
   filled : (vs : List Version) (n : ℕ) → n ≤ length vs → ((k : ℕ) (d : Version) → k < n → c (get_or vs k d) ≡ true)
       → ((k : ℕ) (d : Version) → n ≤ k → k < length vs → c (get_or vs k d) ≡ false) → replicate n true ++ drop n (map f vs) ≡ map (λ v. f v || c v) vs
@@ -131,22 +124,10 @@ module _ (f c : Version → Bool) where
   painted (v ∷ vs) (suc first) n le before some none =
       rw (
         before 0 v (omega arith),
-        or-none (f v),
+        or_none (f v),
         painted vs first n (omega arith) (λ k d lt. before (suc k) d (omega arith)) (λ k d a b. some (suc k) d (omega arith) (omega arith))
             (λ k d a b. none (suc k) d (omega arith) (omega arith)),
       ) refl
-
-not-true : (b : Bool) → not b ≡ true → b ≡ false
-not-true true e = cc e
-not-true false e = refl
-
-not-false : (b : Bool) → not b ≡ false → b ≡ true
-not-false true e = refl
-not-false false e = cc e
-
-to-not : (b : Bool) → b ≡ false → not b ≡ true
-to-not true e = cc e
-to-not false e = refl
 
 -- ---- what a search by halves returns
 
@@ -155,7 +136,7 @@ module _ (vs : List Version) (up : Ascends vs) (i : Interval) where
   pub reached-parted : IsPartitionedBy (λ v. not (is_below i.high v)) vs
   reached-parted j k d le lt h = elim (cases_Bool (is_below i.high (get_or vs j d))) [
     | inl above ↦ absurd (true≢false (sym (above-last vs up i.high j k d le lt above) ∙ not-true (is_below i.high (get_or vs k d)) h))
-    | inr other ↦ to-not _ other
+    | inr other ↦ not_from_false _ other
   ]
 
   pub reaches : (n : ℕ) → n ≤ length vs → IsPartitionPoint (λ v. not (is_below i.high v) ≡ true) (λ v. not (is_below i.high v) ≡ false) vs n → Reaches i vs n
@@ -239,12 +220,8 @@ covered-once vs is i first n le begun reach =
     inside : (v : Version) → is_below v i.low ≡ false → is_below i.high v ≡ false → covers v i ≡ true
     inside v a b = rw (a, b) refl
 
-    and-false : (b : Bool) → (b && false) ≡ false
-    and-false true = refl
-    and-false false = refl
-
     beyond : (v : Version) → is_below i.high v ≡ true → covers v i ≡ false
-    beyond v h = rw h (and-false (not (is_below v i.low)))
+    beyond v h = rw h (and_none (not (is_below v i.low)))
 
 -- a version that is below the one before it
 descends : (vs : List Version) → ((k : ℕ) × (k + 1 < length vs) × ((d : Version) → false ≡ not (is_below (get_or vs (k + 1) d) (get_or vs k d)))) → ¬ Ascends vs

@@ -25,6 +25,7 @@ use Rattle.gomod.specs.FileLaws.{ReadsOrIsFaulty}
 use Rattle.gomod.specs.Reading.{interval_of, Context, Contents, nothing, at_start, ◌⊕◌, ◌>>=◌, bytes_say, lines_say}
 use Rattle.gomod.specs.Reading.{fits_retraction, first_unfit, fitting_module, module_of, file_says, text_says, reading}
 use Rattle.modlex.proofs.TokenSound.{chosen}
+use Rattle.gomod.proofs.Bools.{or_none}
 use Rattle.gomod.proofs.Steps.{bound, fails, ok_same, err_same, ok_err, ok_or_err}
 use Rattle.gomod.proofs.Contexts.{context_at, stands, module_same, written-alone}
 use Rattle.gomod.proofs.EntryMeaning.{IsRetractEntryAt, AreMeant, path_list}
@@ -199,10 +200,6 @@ stands_some (d ∷ ds) h = omega arith
 one_module : (ds : List Directive) → stands Module ds ≡ true → length ds ≡ 1 → list_all is_module (map keyword_of ds ++ []) ≡ true
 one_module [] h len = absurd (omega (arith, len))
 one_module (d ∷ []) h len = ap (λ b. b && true) (sym (module_same (keyword_of d)) ∙ sym (or_none (is_keyword Module (keyword_of d))) ∙ h)
-  where
-    or_none : (a : Bool) → (a || false) ≡ a
-    or_none true = refl
-    or_none false = refl
 one_module (d ∷ e ∷ ds) h len = absurd (omega (arith, len))
 
 bare_file : (known : Keywords) (rows : List Row) (ds : List Directive) → AreWritten known rows ds None → stands Module ds ≡ true → (list_all is_module (keywords_in ds None) ≡ true) ↔ (length ds ≡ 1)

@@ -16,6 +16,8 @@ use Rattle.gomod.specs.Entries.{IsModuleEntry}
 use Rattle.gomod.specs.Grammar.{Row, row, keyword_symbol, left, right, Directive, one, OpenBlock, Item, item, entries_under, IsKnown}
 use Rattle.gomod.specs.Faults.{HasRoom, IsFilled, IsKeyword}
 use Rattle.modlex.proofs.TokenSound.{chosen}
+use Rattle.gomod.proofs.Bools.{and_none, and_one}
+use Rattle.gomod.proofs.Pass.{last_path-none}
 use Rattle.gomod.proofs.Steps.{guarded, bound}
 use Rattle.gomod.proofs.Moves.{Move, blank, single, begins, inside, closes, with_row, closed, IsFresh, keywords_more, items_more}
 use Rattle.gomod.proofs.EntryMeaning.{AreMeant, path_list, entry_means}
@@ -24,11 +26,6 @@ use Rattle.gomod.proofs.Contexts.{context_at, IsAlone, fresh-not_repeated, not_r
 use Rattle.gomod.proofs.Contexts.{context-inside, context-closes, room-context, context-room, filled-context, context-filled}
 
 -- ---- a move is computed
-
--- of no path and a path, the last is that path
-last_path-none : (p : Option (List ℕ)) → last_path None p ≡ p
-last_path-none None = refl
-last_path-none (Some x) = refl
 
 -- what a line says of the entries and keywords that it adds
 pub record Says (known : Keywords) (line : ℕ) (c d : Context) (ts : List Symbol) (is : List Item) (ks : List Keyword) : Type 0 where
@@ -51,10 +48,6 @@ directive_entry line c k ts q fresh no_opening is =
     let other : (has_block k && is_opening ts) ≡ false = ap (λ b. has_block k && b) no_opening ∙ and_none (has_block k) in
     let said : entry_says line c k ts ≡ Ok (with_entry c k, q) = ap (λ r. r >>= (λ p. Ok (with_entry c k, p))) is in
     rw (fresh, other) (ap (λ r. r >>= (λ x. Ok (x.0, header k ⊕ x.1))) said)
-  where
-    and_none : (a : Bool) → (a && false) ≡ false
-    and_none true = refl
-    and_none false = refl
 
 directive_begins : (line : ℕ) (ds : List Directive) (k : Keyword) → IsFresh ds k → has_block k ≡ true
     → directive line (context_at ds None) k (left ∷ []) ≡ Ok (context_at ds (Some (record { keyword = k; first = line; entries = [] })), header k)
@@ -108,10 +101,6 @@ move_says {known = known} (begins ds line k known_k fresh h) alone = record {
   meant = record { paths = tt; required = tt; retractions = tt };
   bare = sym (and_one (is_module k));
 }
-  where
-    and_one : (a : Bool) → (a && true) ≡ a
-    and_one true = refl
-    and_one false = refl
 move_says {known = known} (inside ds b line t ts room is_right) alone =
     let q = right_entry line b.keyword (t ∷ ts) is_right in
     let means = entry_means line b.keyword (t ∷ ts) q.0 q.1 in

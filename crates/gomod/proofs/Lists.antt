@@ -31,7 +31,7 @@ pub flat_map-join : {A B : Type 0} (f : A → List B) (xs ys : List A) → flat_
 flat_map-join f [] ys = refl
 flat_map-join f (x ∷ xs) ys = ap (λ l. f x ++ l) (flat_map-join f xs ys) ∙ sym (append_assoc (f x) (flat_map f xs) (flat_map f ys))
 
-cond-append : {A : Type 0} (b : Bool) (x : A) (xs ys : List A) → cond b (x ∷ (xs ++ ys)) (xs ++ ys) ≡ cond b (x ∷ xs) xs ++ ys
+pub cond-append : {A : Type 0} (b : Bool) (x : A) (xs ys : List A) → cond b (x ∷ (xs ++ ys)) (xs ++ ys) ≡ cond b (x ∷ xs) xs ++ ys
 cond-append true x xs ys = refl
 cond-append false x xs ys = refl
 

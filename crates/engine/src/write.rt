@@ -91,8 +91,8 @@ pub(crate) fn write_fixed<W: Write>(writer: &mut W, answer: Fixed) -> Result<Sta
     Ok(answer.status())
 }
 
-/// Writes a 200 with a body, and returns its status. `Io::Write` if a write fails. It takes memory only to join a short body with
-/// its head, and needs none.
+/// Writes a 200 with a body, and returns its status. `Io::Write` if a write fails. If there is no memory to join a short body with
+/// its head, it writes them one after the other.
 fn write_body<W: Write>(
     alloc: Global,
     writer: &mut W,

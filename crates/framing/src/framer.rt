@@ -36,9 +36,9 @@ pub enum Next {
 const LARGE: usize = 4_096;
 
 /// Takes the bytes of a stream in any pieces, and returns its messages. How the bytes are cut does not matter, and the
-/// work is linear in them: each byte of a body is moved a bounded number of times, and a head is read again only until it
-/// is whole. Once the head is whole, the framer makes room for all of the message, and it returns a large body in the
-/// buffer in which it collected it.
+/// work is linear in them: it moves a bounded number of bytes for each byte that it returns, and it reads a head again only
+/// until the head is whole. Once the head is whole, the framer makes room for all of the message, and it returns a large
+/// body in the buffer in which it collected it.
 #[derive(Drop)]
 pub struct Framer {
     /// The bytes that were fed, without a front that was dropped.
@@ -118,7 +118,8 @@ impl Framer {
         self.wanted.saturating_sub(self.bytes.len() - self.start)
     }
 
-    /// Drops the bytes that were returned once they are at least as many as the rest, so each byte is moved at most twice.
+    /// Drops the bytes that were returned once they are at least as many as the rest. So it rotates at most two bytes for each
+    /// byte that was returned.
     fn drop_used(&mut self)
         ensures { self.new ≡ self.old }
     {

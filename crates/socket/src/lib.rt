@@ -12,7 +12,7 @@
 //!
 //! Each wait is at most what is left, so one connection holds the others at most 12 seconds, and one more for each 1,048,576
 //! bytes that it moves: 29 for the largest publish, 28 for the largest zip. A peer that sends a byte just before each wait ends
-//! buys a microsecond with it.
+//! buys nothing with it: only each full 1,048,576 bytes buy a second.
 //!
 //! After a reply [`Peer::end`] shuts the writing side, and reads and drops bytes that came behind the message. A system resets a
 //! connection that is closed while bytes of it are unread, and the peer then loses the reply that was on its way. After a 400, a

@@ -15,7 +15,7 @@ use Rattle.engine.specs.Written.{IsBeginning}
 use Rattle.engine.specs.declared.fault.Io.{Io}
 use Rattle.engine.specs.declared.fault.Io.TheVariants as io
 
--- the most bytes that are read behind a message
+-- the most bytes that are read after a message
 abbrev pub read_limit : ℕ
 read_limit = 4096
 
@@ -55,7 +55,7 @@ IsBrokenOff exchanges rest out =
     ⊎ ((closing : Option Fixed) × IsClosing rest closing × (out ≡ texts_of exchanges ++ closing_bytes closing))
 
 -- How the call ended. A good end: all messages were answered, and the stream was closed. A failed read: each message that was
--- read was answered, and what was read behind them is no whole message. A failed write: as `IsBrokenOff` says.
+-- read was answered, and what was read after them is no whole message. A failed write: as `IsBrokenOff` says.
 abbrev pub Ended : Option (List ℕ) → Option (List ℕ) → List Exchange → List ℕ → List ℕ → List ℕ → Result (Unit {0}) Io → Type 0
 Ended unread unread_new exchanges input rest out (Ok u) =
     Tells unread input × ((closing : Option Fixed) × IsClosing rest closing × (out ≡ texts_of exchanges ++ closing_bytes closing))

@@ -53,7 +53,7 @@ ReadsOn old new unread unread_new (Err e) = (e ≡ io.Read) × Keeps unread unre
 abbrev pub work : ℕ → List ℕ → ℕ
 work reads held = reads * 65537 + length held
 
--- what was read so far behind the bytes that were held at first, while no message is whole
+-- what was read so far after the bytes that were held at first, while no message is whole
 pub record ReadSoFar (old now : Framing) (unread unread_now : Option (List ℕ)) (reads reads_now : ℕ) : Type 0 where
   pub bytes : List ℕ
   pub consumed : Consumes unread unread_now bytes
@@ -62,7 +62,7 @@ pub record ReadSoFar (old now : Framing) (unread unread_now : Option (List ℕ))
   pub sound : now.failure ≡ None
   pub less : work reads_now now.held ≤ work reads old.held
 
--- what comes next once these bytes are read behind the held ones: a message, which is taken, or what closes the stream
+-- what comes next once these bytes are read after the held ones: a message, which is taken, or what closes the stream
 abbrev pub IsNext : Framing → Framing → Option (List ℕ) → List ℕ → First → Type 0
 IsNext old new unread bytes (Answers x) = ReadsMessage (old.held ++ bytes) x.message new.held × (new.failure ≡ None)
 IsNext old new unread bytes (Closes closing) = (all : List ℕ) × Tells unread all × IsClosing (old.held ++ all) closing

@@ -37,7 +37,7 @@ pub fn answer_all<R: Read, W: Write, S: Shelves>(
 }
 
 /// Answers the first message of a stream and returns the status that it wrote, or None exactly for an empty input. It reads
-/// at most 4,096 bytes behind the first message, or behind the point at which the stream can't go on.
+/// at most 4,096 bytes after the first message, or after the point at which the stream can't go on.
 ///
 /// `Io::Read`: a read failed, nothing was done, and nothing is written. `Io::Write`: a write or the flush failed; a beginning
 /// of the text is written or all of it, and the shelves are as after the message.

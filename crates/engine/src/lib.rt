@@ -11,8 +11,8 @@
 //! | anything, if memory runs out while a message is gathered or handed out | one 503, in place of all that is left |
 //!
 //! A message is answered as `shelf`'s machine answers what it asks. `wire` reads its target. The first bytes of the body of a
-//! PUT are the go.mod, as many as the one header `Mod-Length` says, and the rest is the zip. A PUT whose `Mod-Length` is
-//! absent, doubled, no length value or above the body has no files, and the machine's checks answer it.
+//! PUT are the go.mod, as many as the one header `Mod-Length` says, and the rest is the zip. A PUT has no files if its
+//! `Mod-Length` is absent, doubled, malformed or larger than the body; the machine's checks answer it.
 //!
 //! | body of the PUT | `Mod-Length` | go.mod and zip |
 //! |---|---|---|
@@ -20,8 +20,8 @@
 //! | `module example.com/a`, a newline, `Z` | `0` | nothing; the whole body |
 //! | `module example.com/a`, a newline, `Z` | `23`, `021`, `+21`, two headers, or none | none: 400 `bad mod-length` |
 //!
-//! The time of a PUT is that of the one header `Version-Time`, or none without that header. A value that is no time, and two
-//! such headers, are a bad time, which the machine's checks answer.
+//! The time of a PUT is that of the one header `Version-Time`, or none without that header. A malformed value is a bad time,
+//! and so are two such headers; the machine's checks answer them.
 //!
 //! | the machine's reply | what is written |
 //! |---|---|

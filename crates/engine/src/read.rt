@@ -14,7 +14,7 @@ use wire::reply::Fixed;
 /// The bound ends a stream that is interrupted without end.
 pub(crate) const TRIES: u32 = 1_000;
 
-/// The most bytes that are read behind a message. A read takes no more unless more of a message is known to be missing.
+/// The most bytes that are read after a message. A read takes no more unless more of a message is known to be missing.
 const READ_LIMIT: usize = 4_096;
 
 /// The most bytes of one read, however many of a message are missing.
@@ -69,7 +69,7 @@ fn feed_some<R: Read>(reader: &mut R, framer: &mut Framer, chunk: &mut [u8]) -> 
     }
 }
 
-/// Reads once for a message that lacks more than `READ_LIMIT` bytes, and reads no byte behind it. Returns and fails as
+/// Reads once for a message that lacks more than `READ_LIMIT` bytes, and reads no byte after it. Returns and fails as
 /// `feed_some` does.
 #[inline(never)]
 fn read_body<R: Read>(reader: &mut R, framer: &mut Framer, missing: usize) -> Result<Reading, Io>

@@ -72,7 +72,7 @@ pub fn end_turn<W: Write>(writer: &mut W, turned: Result<Turn, Io>) -> Result<Op
     Ok(turn.number())
 }
 
-/// A stream of requests that is being answered. It holds the bytes that were read behind the answered messages.
+/// A stream of requests that is being answered. It holds the bytes that were read after the answered messages.
 #[derive(Drop)]
 pub struct Session {
     pub(crate) alloc: Global,
@@ -94,7 +94,7 @@ impl Session {
     }
 
     /// Takes one turn: answers the next message of the stream, or closes the stream if none comes. It reads at most 4,096 bytes
-    /// behind that message, or behind the point at which the stream can't go on. It does not flush. The caller lends the router,
+    /// after that message, or after the point at which the stream can't go on. It does not flush. The caller lends the router,
     /// so that it makes one for many streams.
     ///
     /// `Io::Read`: a read failed, nothing was done, and nothing is written. `Io::Write`: a write failed; a beginning of the text

@@ -57,7 +57,7 @@ pub fn write_both<W: Write>(writer: &mut W, first: &[u8], second: &[u8]) -> Resu
     write_bytes(writer, second)
 }
 
-/// Returns one text behind another. Fails only if memory runs out.
+/// Returns the first text with the second after it. Fails only if memory runs out.
 fn joined(alloc: Global, first: &[u8], second: &[u8]) -> Result<Vec<u8>, AllocError>
     ensures { IfOk result (λ text. text.items ≡ first.now ++ second.now) }
 {

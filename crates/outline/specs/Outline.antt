@@ -13,10 +13,10 @@ outline_of seen = record {
   zip_bytes = length seen.entry.zip;
 }
 
--- of what is seen, if anything is
+-- the outline of what is seen, if anything is seen
 abbrev pub in_outline : Option Seen → Option Outline
 in_outline seen = option_map outline_of seen
 
--- of what a shelf sees of a version
+-- the outline of what a shelf sees of a version
 abbrev pub outline : World → List ℕ → List ℕ → List ℕ → Option Outline
 outline w s p v = in_outline (view w s p v)

@@ -23,7 +23,7 @@ pub struct Outline {
 }
 
 impl Outline {
-    /// The outline of an entry. It takes no memory.
+    /// Returns the outline of an entry. Allocates nothing.
     pub fn of(seen: Seen) -> Outline
         ensures { result ≡ outline_of seen }
     {
@@ -43,9 +43,8 @@ pub trait Outlines: Shelves {
     ghost use Rattle.world.specs.Store.{Reads};
     ghost use Rattle.outline.specs.Outline.{outline};
 
-    /// The outline of what the shelf sees of the version; None if it sees no entry of it.
-    ///
-    /// Fails with `Device` if a disk failed, and `Memory` if memory ran out.
+    /// Returns the outline of what the shelf sees of the version, or None if it sees no entry. Fails with `Device` if a device
+    /// failed, and with `Memory` if memory ran out.
     fn outline(
         &mut self,
         shelf: &str,

@@ -1,4 +1,4 @@
--- What a list of events does in each world that a store stands for, and to what a crash may leave.
+-- What a list of events does in each world that a store stands for, and what a crash may leave.
 use Rattle.std.specs.Prelude.{◌≡◌, ◌≢◌, ◌⊎◌, List, ◌∷◌}
 use Rattle.world.specs.Store.{Shown}
 use Rattle.world.specs.World.{World}

@@ -16,7 +16,7 @@ use world::standing::Standing;
 
 /// Returns the outcome of the checks of a publish by the holder of a key. Reads no entry if the publish or its go.mod is
 /// refused by itself. Fails with `Device` if a device failed, and with `Memory` if memory ran out.
-/// The two halves are two functions, so the prover refuses a wrong half by itself.
+/// `own_refusal` and `judge_by_shelf` are two functions, so that the prover can refuse a wrong body of either.
 pub fn judge<S: Shelves>(
     alloc: Global,
     shelves: &mut S,

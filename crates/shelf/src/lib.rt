@@ -1,10 +1,7 @@
 //! The machine that answers requests for module versions over any store of shelves.
 //!
-//! There is the shelf `common`, and one shelf for each group and for each team. A team may be a member of one group.
-//! An entry stands at a shelf, a module path and a version, and holds the go.mod and the zip as they were received.
-//! It is never changed and never removed. A key belongs to one shelf, and may read, or read and publish. It reads
-//! what its shelf sees: of each version the shelf's own entry if there is one, otherwise that of its group if the shelf has
-//! a group and the group has an entry, otherwise that of `common`. It publishes to its own shelf.
+//! The crate `world` says what shelves, entries and keys are, and what a shelf sees. An entry is never changed and never
+//! removed. Each key may read; one that may also publish does so to its own shelf.
 //!
 //! A publish passes these tests in order. The first that fails decides the answer:
 //!

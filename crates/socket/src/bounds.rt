@@ -11,8 +11,8 @@ pub(crate) const PATIENCE: u64 = 5;
 /// The bytes that buy a peer one second more.
 pub(crate) const BYTES_A_SECOND: u64 = 1_048_576;
 
-/// The seconds for what a peer still sends behind its message. Bytes buy no time here, because they serve nobody.
+/// The seconds for what a peer still sends after its message. Bytes buy no time here, because they serve nobody.
 pub(crate) const REST_PATIENCE: u64 = 2;
 
-/// The most bytes behind a message that are read and dropped.
+/// The most bytes after a message that are read and dropped.
 pub(crate) const MOST_DROPPED: u64 = 33_554_432;

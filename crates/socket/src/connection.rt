@@ -17,7 +17,7 @@ use world::shelves::Shelves;
 /// The two ends of a connection, and the result of answering its first request.
 #[derive(Drop)]
 pub struct Answered<R, W> {
-    /// What the request was read from, at the byte behind the last that was read.
+    /// What the request was read from, at the byte after the last that was read.
     pub reader: R,
     /// What the reply was written to.
     pub writer: W,
@@ -109,7 +109,7 @@ impl Peer for TcpStream {
         answer_in_time(alloc, clock, routes, stream, stream, shelves).status
     }
 
-    /// Shuts the writing side, and drops what the peer sent behind its message. Errors are ignored: the reply is written.
+    /// Shuts the writing side, and drops what the peer sent after its message. Errors are ignored: the reply is written.
     fn end<C: Clock>(&mut self, clock: &C, status: u16) {
         let _ = drop_rest(clock, self, status);
     }

@@ -12,7 +12,7 @@ use std::time::{Clock, Duration, Instant};
 pub(crate) enum Phase {
     /// The request, or the reply.
     Message,
-    /// What comes behind the request.
+    /// What comes after the request.
     Rest,
 }
 

@@ -1,4 +1,4 @@
-//! Dropping what a peer sends behind its message.
+//! Dropping what a peer sends after its message.
 ghost use Rattle.std.specs.Prelude.{◌≡◌, ◌==◌, ◌||◌};
 
 use crate::bounds::MOST_DROPPED;
@@ -15,7 +15,7 @@ fn leaves_a_rest(status: u16) -> bool
     status == 400 || status == 413 || status == 503
 }
 
-/// The bytes behind a message, and whether a read waits for them.
+/// The bytes after a message, and whether a read waits for them.
 #[derive(Drop)]
 struct Rest<'a> {
     stream: &'a TcpStream,
@@ -43,7 +43,7 @@ impl<'a> BoundRead for Rest<'a> {
     }
 }
 
-/// Shuts the writing side, and drops what the peer sent behind the message that was answered with this status; also what it
+/// Shuts the writing side, and drops what the peer sent after the message that was answered with this status; also what it
 /// still sends if its request may not have been read to its end. Fails if a call of the system fails, or if a read would wait
 /// that may not.
 pub(crate) fn drop_rest<C: Clock>(clock: &C, stream: &TcpStream, status: u16) -> io::Result<()> {

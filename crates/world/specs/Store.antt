@@ -1,4 +1,4 @@
--- What a call of a store does in each world that the store stands for, and to what a crash may leave.
+-- What a call of a store does in each world that the store stands for, and what a crash may leave.
 use Rattle.std.specs.Prelude.{ℕ, ◌≡◌, ◌<◌, ◌≤◌, ◌-◌, ◌^◌, ◌⊎◌, Result, OnOk, OnErr, IfOk, IsErrOf, None, true}
 use Rattle.std.specs.FinMap as map
 use Rattle.world.specs.declared.entry.Place.{Place}

@@ -244,8 +244,8 @@ impl MapShelves {
         }
     }
 
-    /// Adds a shelf that is not there yet. It forgets all lists of versions, because one that was asked of this shelf before may
-    /// be longer now. Fails only if memory runs out.
+    /// Adds a shelf that does not exist yet. It forgets all kept lists, because one that was kept under this name lacks what the
+    /// shelf's group has. Fails only if memory runs out, and then adds nothing.
     fn add_shelf(&mut self, name: &str, parent: Option<Text>) -> Result<(), AllocError>
         ensures ok { OnOk result (self.new ≡ with_shelf self.old name.now parent) }
         ensures err { OnErr result (self.new ≡ self.old) }

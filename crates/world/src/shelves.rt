@@ -83,7 +83,8 @@ pub trait Shelves {
     fn count(&mut self, shelf: &str, path: &ModulePath) -> Result<u64, StoreFault>
         ensures reads { Reads (shown self.old) (shown self.new) result (λ w. count w shelf.now path.now) };
 
-    /// Puts an entry at a place, in each world in which there is room for it. What a crash leaves then is in `DoesAt.crash`.
+    /// Stores an entry at its place. The contract speaks only of worlds with room for it (`IsRoomFor`), so the caller checks that
+    /// first. `DoesAt.crash` says what a crash leaves.
     fn insert(
         &mut self,
         shelf: &str,

@@ -14,6 +14,7 @@ use Rattle.httparse.proofs.PieceLemmas.{RequestStart_deterministic, FieldLines-a
 use Rattle.httparse.proofs.OpenLemmas.{BlankLines_after, Newline_after_cr, some_newline, some_section, some_text, Word_cut, letter_is_token, line_blank, line_method}
 use Rattle.httparse.proofs.OpenLemmas.{request_may, request_may_from_line, Completes_first, Completes_next, Section_after_lines, Section_of_line, FieldLine_of_row}
 use Rattle.framing.specs.Framing.{MayBeginHead}
+use Rattle.framing.specs.Message.{head_limit}
 use Rattle.framing.specs.HeadFront.{HasLines, EndsIn, Stands, WasLookedAt, HasLooked, EndsLine}
 use Rattle.framing.specs.declared.head_front.Looked.{Looked}
 use Rattle.framing.specs.declared.head_front.HeadState.{HeadState}
@@ -235,7 +236,7 @@ all_looked_at p bytes at = record { fits = omega arith; stands = subst (Stands p
 
 -- the bytes that have come since lead to that state
 pub looked_on : (bytes more : List ℕ) (looked : Looked) (p : HeadState) → WasLookedAt bytes looked → more ≡ drop looked.len bytes
-    → ((front : List ℕ) → Stands looked.state front → Stands p (front ++ more)) → length bytes < 16384
+    → ((front : List ℕ) → Stands looked.state front → Stands p (front ++ more)) → length bytes < head_limit
     → WasLookedAt bytes (record { state = p; len = length bytes }) × MayBeginHead bytes
 looked_on bytes more looked p was is leads short =
     let whole = ap (λ (t : List ℕ). take looked.len bytes ++ t) is ∙ take-append-drop looked.len bytes in

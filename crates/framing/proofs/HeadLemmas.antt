@@ -6,7 +6,7 @@ use Rattle.httparse.specs.Spans.{IsRequestAt, RequestOverflows}
 use Rattle.httparse.specs.declared.spans.HeaderSpan.{HeaderSpan}
 use Rattle.httparse.specs.declared.spans.RequestSpans.{RequestSpans}
 use Rattle.httparse.proofs.GrammarLemmas.{request_unique, ReadsRequest-append}
-use Rattle.framing.specs.Message.{values_of, header_values, Announces, IsGoodHead, BeginsWith}
+use Rattle.framing.specs.Message.{values_of, header_values, head_limit, header_limit, Announces, IsGoodHead, BeginsWith}
 use Rattle.framing.specs.Never.{NeverBegins}
 use Rattle.framing.specs.Values.{values_at}
 
@@ -38,7 +38,7 @@ never_from_head bytes h rest reads not_good more k n q x =
     not_good n (subst (λ head. IsGoodHead head n) (sym same.0) x.good)
 
 -- no head has room
-pub never_from_room : (bytes : List ℕ) (room : ℕ) → room ≡ 64 → RequestOverflows room bytes → NeverBegins bytes
+pub never_from_room : (bytes : List ℕ) (room : ℕ) → room ≡ header_limit → RequestOverflows room bytes → NeverBegins bytes
 never_from_room bytes room is over more k n q x =
     let many = over more k q x.reads in
     let few = x.good.few in
@@ -52,7 +52,7 @@ front_begins bytes more text rest e fits =
     sym (take-append-drop (length text) bytes) ∙ ap (λ front. front ++ drop (length text) bytes) first
 
 -- no head is whole in the bytes that a head may have
-pub never_from_length : (bytes : List ℕ) → HasNoRequest bytes → 16384 ≤ length bytes → NeverBegins bytes
+pub never_from_length : (bytes : List ℕ) → HasNoRequest bytes → head_limit ≤ length bytes → NeverBegins bytes
 never_from_length bytes none long more k n q x =
     let short = x.good.short in
     let fits : length (print_request k) ≤ length bytes = omega arith in
@@ -64,7 +64,7 @@ module _ (bytes : List ℕ) (headers : List HeaderSpan) (spans : RequestSpans) (
   pub values_at_head : (name : List ℕ) → values_at name bytes (take spans.headers headers) ≡ header_values name h
   values_at_head name = ap (values_of name) at.fields
 
-  pub never_from_long : 16384 < spans.len → NeverBegins bytes
+  pub never_from_long : head_limit < spans.len → NeverBegins bytes
   never_from_long long = never_from_head bytes h _ at.reads (λ n good. let len = at.len in let short = good.short in absurd (omega arith))
 
   pub never_from_encoded : values_at (codes "transfer-encoding") bytes (take spans.headers headers) ≢ [] → NeverBegins bytes
@@ -75,8 +75,8 @@ module _ (bytes : List ℕ) (headers : List HeaderSpan) (spans : RequestSpans) (
   never_from_unannounced none =
       never_from_head bytes h _ at.reads (λ n good. none n (subst (λ values. Announces values n) (sym (values_at_head (codes "content-length"))) good.announces))
 
-  -- a whole head of at most 16,384 bytes without a transfer encoding that announces n is a good head
-  pub good_head : (n : ℕ) → length headers ≡ 64 → spans.len ≤ 16384
+  -- a whole head of at most `head_limit` bytes without a transfer encoding that announces n is a good head
+  pub good_head : (n : ℕ) → length headers ≡ header_limit → spans.len ≤ head_limit
       → values_at (codes "transfer-encoding") bytes (take spans.headers headers) ≡ []
       → Announces (values_at (codes "content-length") bytes (take spans.headers headers)) n
       → IsGoodHead h n

@@ -5,7 +5,7 @@ use Rattle.std.specs.List.{slice_range}
 use Rattle.std.specs.Prelude.{Vec}
 use Rattle.std.specs.declared.alloc.Global.{Global}
 use Rattle.httparse.specs.Grammar.{RequestHead, HasNoRequest, MayBecomeRequest}
-use Rattle.framing.specs.Message.{body_limit, Request, BeginsWith, ReadsMessage, End, too_large, bad, Ends}
+use Rattle.framing.specs.Message.{body_limit, head_limit, Request, BeginsWith, ReadsMessage, End, too_large, bad, Ends}
 use Rattle.framing.specs.declared.framer.Bad.{Bad}
 use Rattle.framing.specs.declared.framer.Bad.TheVariants.{BadRequest, TooLarge}
 use Rattle.framing.specs.declared.framer.Next.{Next}
@@ -33,7 +33,7 @@ with_body body m = record m { body = body }
 
 -- no whole head begins the bytes, but more bytes may complete one, and the bytes are fewer than a head may have
 abbrev pub MayBeginHead : List ℕ → Type 0
-MayBeginHead bytes = HasNoRequest bytes × MayBecomeRequest bytes × (length bytes < 16384)
+MayBeginHead bytes = HasNoRequest bytes × MayBecomeRequest bytes × (length bytes < head_limit)
 
 -- more bytes are needed: the head is not whole, or the body is not
 abbrev pub IsOpen : List ℕ → Type 0

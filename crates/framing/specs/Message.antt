@@ -15,6 +15,14 @@ values_of name (header ∷ headers) =
 abbrev pub header_values : List ℕ → RequestHead → List (List ℕ)
 header_values name head = values_of name (map name_and_value head.fields)
 
+-- the most bytes of a head
+abbrev pub head_limit : ℕ
+head_limit = 16384
+
+-- the most headers of a head
+abbrev pub header_limit : ℕ
+header_limit = 64
+
 -- the most bytes of a body
 abbrev pub body_limit : ℕ
 body_limit = 17825792
@@ -27,8 +35,8 @@ Announces (text ∷ other ∷ more) n = ⊥
 
 -- a good head, which announces a body of n bytes
 pub record IsGoodHead (head : RequestHead) (n : ℕ) : Type 0 where
-  pub short : length (print_request head) ≤ 16384
-  pub few : length head.fields ≤ 64
+  pub short : length (print_request head) ≤ head_limit
+  pub few : length head.fields ≤ header_limit
   pub unencoded : header_values (codes "transfer-encoding") head ≡ []
   pub announces : Announces (header_values (codes "content-length") head) n
 

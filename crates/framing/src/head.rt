@@ -2,7 +2,7 @@
 ghost use Rattle.std.specs.Prelude.{◌≡◌, ℕ, ◌≤◌, List, [], ◌∷◌, ◌++◌, length, All, take, MatchOption, MatchBool, codes, ◌≢◌};
 ghost use Rattle.std.specs.Str.{str_eq_ignore_ascii_case};
 ghost use Rattle.httparse.specs.Spans.{IsWithin, span_bytes, IsHeaderWithin, IsRequestWithin, IsRequestOf};
-ghost use Rattle.framing.specs.Message.{Announces};
+ghost use Rattle.framing.specs.Message.{Announces, header_limit};
 ghost use Rattle.framing.specs.Values.{Counts, IsFront, values_at};
 
 use crate::framer::Bad;
@@ -109,7 +109,7 @@ fn is_encoded(bytes: &[u8], headers: &[HeaderSpan]) -> bool
 /// Returns what the bytes begin with if their head is whole: the head, or its failure if it is malformed, or if it or its body is
 /// too long.
 fn within_limits(bytes: &[u8], headers: &[HeaderSpan], spans: RequestSpans) -> Front
-    requires room { length headers.now ≡ 64 }
+    requires room { length headers.now ≡ header_limit }
     requires within { IsRequestWithin bytes.now headers.now spans }
     requires whole { IsRequestOf bytes.now headers.now spans }
     ensures { IsFront bytes.now headers.now result }
@@ -127,7 +127,7 @@ fn within_limits(bytes: &[u8], headers: &[HeaderSpan], spans: RequestSpans) -> F
 
 /// Returns what the bytes begin with. It writes the headers of a whole head to the front of `headers`.
 pub(crate) fn front_of(bytes: &[u8], headers: &mut [HeaderSpan]) -> Front
-    requires { length headers.old ≡ 64 }
+    requires { length headers.old ≡ header_limit }
     ensures { IsFront bytes.now headers.new result }
 {
     if bytes.is_empty() {

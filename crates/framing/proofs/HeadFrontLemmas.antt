@@ -15,8 +15,8 @@ use Rattle.httparse.proofs.OpenLemmas.{BlankLines_after, Newline_after_cr, some_
 use Rattle.httparse.proofs.OpenLemmas.{request_may, request_may_from_line, Completes_first, Completes_next, Section_after_lines, Section_of_line, FieldLine_of_row}
 use Rattle.framing.specs.Framing.{MayBeginHead}
 use Rattle.framing.specs.Message.{head_limit}
-use Rattle.framing.specs.HeadFront.{HasLines, EndsIn, Stands, WasLookedAt, HasLooked, EndsLine}
-use Rattle.framing.specs.declared.head_front.Looked.{Looked}
+use Rattle.framing.specs.HeadFront.{HasLines, EndsIn, Stands, IsScanOf, HoldsScan, EndsLine}
+use Rattle.framing.specs.declared.head_front.Scan.{Scan}
 use Rattle.framing.specs.declared.head_front.HeadState.{HeadState}
 use Rattle.framing.specs.declared.head_front.HeadState.TheVariants as state
 use Rattle.framing.proofs.HeadLemmas.{front_begins}
@@ -228,36 +228,36 @@ state_may state.HeaderName bytes (name, word, lines) =
 state_may state.HeaderValue bytes (name, raw, word, all, lines) = lines_may bytes _ lines (field_line name raw word all)
 state_may state.Return bytes (name, raw, word, all, lines) = lines_may bytes _ lines (field_return name raw word all)
 
--- ---- what was looked at
+-- ---- what was scanned
 
 -- all of the bytes, where they end in that state
-all_looked_at : (p : HeadState) (bytes : List ℕ) → Stands p bytes → WasLookedAt bytes (record { state = p; len = length bytes })
-all_looked_at p bytes at = record { fits = omega arith; stands = subst (Stands p) (sym (take_all (length bytes) bytes (omega arith))) at }
+all_scanned : (p : HeadState) (bytes : List ℕ) → Stands p bytes → IsScanOf bytes (record { state = p; len = length bytes })
+all_scanned p bytes at = record { fits = omega arith; stands = subst (Stands p) (sym (take_all (length bytes) bytes (omega arith))) at }
 
 -- the bytes that have come since lead to that state
-pub looked_on : (bytes more : List ℕ) (looked : Looked) (p : HeadState) → WasLookedAt bytes looked → more ≡ drop looked.len bytes
-    → ((front : List ℕ) → Stands looked.state front → Stands p (front ++ more)) → length bytes < head_limit
-    → WasLookedAt bytes (record { state = p; len = length bytes }) × MayBeginHead bytes
-looked_on bytes more looked p was is leads short =
-    let whole = ap (λ (t : List ℕ). take looked.len bytes ++ t) is ∙ take-append-drop looked.len bytes in
-    let at = subst (Stands p) whole (leads (take looked.len bytes) was.stands) in
-    (all_looked_at p bytes at, (at.1, state_may p bytes at.0, short))
+pub scan_advances : (bytes more : List ℕ) (scan : Scan) (p : HeadState) → IsScanOf bytes scan → more ≡ drop scan.len bytes
+    → ((front : List ℕ) → Stands scan.state front → Stands p (front ++ more)) → length bytes < head_limit
+    → IsScanOf bytes (record { state = p; len = length bytes }) × MayBeginHead bytes
+scan_advances bytes more scan p was is leads short =
+    let whole = ap (λ (t : List ℕ). take scan.len bytes ++ t) is ∙ take-append-drop scan.len bytes in
+    let at = subst (Stands p) whole (leads (take scan.len bytes) was.stands) in
+    (all_scanned p bytes at, (at.1, state_may p bytes at.0, short))
 
--- what is looked at still is where more bytes come
-pub looked_more : (bytes more : List ℕ) (looked : Looked) → WasLookedAt bytes looked → WasLookedAt (bytes ++ more) looked
-looked_more bytes more looked was =
+-- a scan is one of the bytes with more after them
+pub scan_more : (bytes more : List ℕ) (scan : Scan) → IsScanOf bytes scan → IsScanOf (bytes ++ more) scan
+scan_more bytes more scan was =
     let fits = was.fits in
     record {
       fits = omega (arith, fits, length-append bytes more);
-      stands = subst (Stands looked.state) (sym (take-append-le looked.len bytes more fits)) was.stands;
+      stands = subst (Stands scan.state) (sym (take-append-le scan.len bytes more fits)) was.stands;
     }
 
-pub has_looked_more : (bytes more : List ℕ) (looked : Option Looked) → HasLooked bytes looked → HasLooked (bytes ++ more) looked
-has_looked_more bytes more looked has = record { was = λ one some. looked_more bytes more one (has.was one some) }
+pub holds_scan_more : (bytes more : List ℕ) (scan : Option Scan) → HoldsScan bytes scan → HoldsScan (bytes ++ more) scan
+holds_scan_more bytes more scan has = record { scanned = λ one some. scan_more bytes more one (has.scanned one some) }
 
--- the state in which the lines at the front end, and the state behind the last line
-pub looked_behind : (bytes front tail : List ℕ) (q p : HeadState) → MayBeginHead bytes → front ++ tail ≡ bytes → EndsLine front
+-- the state in which the lines at the front end, and the state after the last line
+pub scan_begins : (bytes front tail : List ℕ) (q p : HeadState) → MayBeginHead bytes → front ++ tail ≡ bytes → EndsLine front
     → ((rest : List ℕ) → EndsLine front → MayBeginHead (front ++ rest) → Stands q front)
-    → ((bs : List ℕ) → Stands q bs → Stands p (bs ++ tail)) → WasLookedAt bytes (record { state = p; len = length bytes })
-looked_behind bytes front tail q p may whole ends first leads =
-    all_looked_at p bytes (subst (Stands p) whole (leads front (first tail ends (subst MayBeginHead (sym whole) may))))
+    → ((bs : List ℕ) → Stands q bs → Stands p (bs ++ tail)) → IsScanOf bytes (record { state = p; len = length bytes })
+scan_begins bytes front tail q p may whole ends first leads =
+    all_scanned p bytes (subst (Stands p) whole (leads front (first tail ends (subst MayBeginHead (sym whole) may))))

@@ -6,7 +6,7 @@ use Rattle.httparse.specs.Grammar.{is_value_byte, AllPass, LineEnd, IsToken, Fie
 use Rattle.httparse.specs.Pieces.{Then, RequestStart, FieldLines}
 use Rattle.framing.specs.declared.head_front.HeadState.{HeadState}
 use Rattle.framing.specs.declared.head_front.HeadState.TheVariants as state
-use Rattle.framing.specs.declared.head_front.Looked.{Looked}
+use Rattle.framing.specs.declared.head_front.Scan.{Scan}
 
 -- the bytes are empty lines, a request line, some headers, and then rest
 abbrev pub HasLines : List ℕ → List ℕ → Type 0
@@ -29,14 +29,14 @@ EndsIn state.Return bytes =
 abbrev pub Stands : HeadState → List ℕ → Type 0
 Stands state bytes = EndsIn state bytes × HasNoRequest bytes
 
--- the first bytes were scanned: they end there in a head, and no whole head begins them
-pub record WasLookedAt (bytes : List ℕ) (looked : Looked) : Type 0 where
-  pub fits : looked.len ≤ length bytes
-  pub stands : Stands looked.state (take looked.len bytes)
+-- it is a scan of the first bytes: they end there in a head, and no whole head begins them
+pub record IsScanOf (bytes : List ℕ) (scan : Scan) : Type 0 where
+  pub fits : scan.len ≤ length bytes
+  pub stands : Stands scan.state (take scan.len bytes)
 
 -- if there is a scan, it is one of the first bytes
-pub record HasLooked (bytes : List ℕ) (looked : Option Looked) : Type 0 where
-  pub was : ForSome looked (WasLookedAt bytes)
+pub record HoldsScan (bytes : List ℕ) (scan : Option Scan) : Type 0 where
+  pub scanned : ForSome scan (IsScanOf bytes)
 
 -- there are no bytes, or the last is a line feed
 abbrev pub EndsLine : List ℕ → Type 0

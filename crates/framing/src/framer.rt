@@ -5,7 +5,7 @@ ghost use Rattle.framing.specs.Framing.{Answers, IsBad, IsUnfinished, HasMessage
 
 use crate::cut::bodiless_of;
 use crate::head::{Front, HEADER_LIMIT, front_of};
-use crate::head_front::{Looked, look};
+use crate::head_front::Scan;
 use crate::message::{Memory, Message};
 use httparse::spans::EMPTY_HEADER_SPAN;
 use std::alloc::Global;
@@ -48,7 +48,7 @@ pub struct Framer {
     /// The length of the message that has begun if its head is whole, and otherwise 0.
     wanted: usize,
     /// The scan of a head that is not whole.
-    looked: Option<Looked>,
+    scan: Option<Scan>,
     failure: Option<Bad>,
 }
 
@@ -56,14 +56,14 @@ impl Model for Framer {
     ghost use Rattle.std.specs.Prelude.{◌≤◌, length, drop};
     ghost use Rattle.std.specs.Option.{ForSome};
     ghost use Rattle.framing.specs.Framing.{Framing, IsBad, Awaits};
-    ghost use Rattle.framing.specs.HeadFront.{HasLooked};
+    ghost use Rattle.framing.specs.HeadFront.{HoldsScan};
 
     ghost Value = { Framing };
 
     ghost view = { λ f. record { held = drop f.start f.bytes.items; failure = f.failure } };
 
     ghost invariant = { λ f. (f.start ≤ length f.bytes.items) × ForSome f.failure (IsBad (drop f.start f.bytes.items))
-        × Awaits (drop f.start f.bytes.items) f.wanted × HasLooked (drop f.start f.bytes.items) f.looked };
+        × Awaits (drop f.start f.bytes.items) f.wanted × HoldsScan (drop f.start f.bytes.items) f.scan };
 }
 
 /// Removes the first `n` bytes.
@@ -84,7 +84,7 @@ impl Framer {
             bytes: Vec::new(alloc),
             start: 0,
             wanted: 0,
-            looked: None,
+            scan: None,
             failure: None,
         }
     }
@@ -152,7 +152,7 @@ impl Framer {
         let mut headers = [EMPTY_HEADER_SPAN; HEADER_LIMIT];
         match front_of(held, &mut headers) {
             Front::Unfinished => {
-                self.looked = look(held);
+                self.scan = Scan::of(held);
                 Ok(Next::NeedMore)
             }
             Front::Failed(bad) => Ok(self.fail(bad)),
@@ -176,13 +176,13 @@ impl Framer {
         ensures same { self.new ≡ self.old }
         ensures open { IsTrue result → IsUnfinished self.old.held }
     {
-        let Some(looked) = self.looked else {
+        let Some(scan) = self.scan else {
             return false;
         };
-        let Some(on) = looked.on(&self.bytes[self.start..]) else {
+        let Some(scan) = scan.advance(&self.bytes[self.start..]) else {
             return false;
         };
-        self.looked = Some(on);
+        self.scan = Some(scan);
         true
     }
 
@@ -212,7 +212,7 @@ impl Framer {
         let copy = Vec::from_slice(*self.bytes.allocator(), &self.bytes[from..from + body])?;
         self.start += head + body;
         self.wanted = 0;
-        self.looked = None;
+        self.scan = None;
         Ok(copy)
     }
 
@@ -231,7 +231,7 @@ impl Framer {
         remove_front(&mut taken, from);
         self.start = 0;
         self.wanted = 0;
-        self.looked = None;
+        self.scan = None;
         Ok(taken)
     }
 

@@ -4,7 +4,7 @@ ghost use Rattle.std.specs.List.{list_all};
 ghost use Rattle.httparse.specs.Grammar.{is_token_byte, is_uri_byte, is_value_byte};
 ghost use Rattle.httparse.specs.Pieces.{is_newline};
 ghost use Rattle.framing.specs.Framing.{MayBeginHead};
-ghost use Rattle.framing.specs.HeadFront.{Stands, WasLookedAt, EndsLine};
+ghost use Rattle.framing.specs.HeadFront.{Stands, IsScanOf, EndsLine};
 
 use crate::head::HEAD_LIMIT;
 
@@ -55,7 +55,7 @@ fn are_newlines(bytes: &[u8]) -> bool
 
 impl HeadState {
     /// Returns the state after one more byte, or `None` if it is not plain that a head may go on with this byte.
-    fn behind(self, byte: u8) -> Option<HeadState>
+    fn after(self, byte: u8) -> Option<HeadState>
         ensures { IfSome result (λ state. (bytes : List ℕ) → Stands self bytes → Stands state (bytes ++ byte ∷ [])) }
     {
         match self {
@@ -76,12 +76,12 @@ impl HeadState {
     }
 
     /// Returns the state after more bytes, or `None` if it is not plain that a head may go on with each.
-    fn behind_all(self, more: &[u8]) -> Option<HeadState>
+    fn after_all(self, more: &[u8]) -> Option<HeadState>
         ensures { IfSome result (λ state. (bytes : List ℕ) → Stands self bytes → Stands state (bytes ++ more.now)) }
     {
         let mut state = self;
         for byte in more {
-            state = state.behind(*byte)?;
+            state = state.after(*byte)?;
         }
         Some(state)
     }
@@ -89,23 +89,36 @@ impl HeadState {
 
 /// A scan: how many of the bytes held were scanned, and where in a head they end.
 #[derive(Clone, Copy, Drop)]
-pub(crate) struct Looked {
+pub(crate) struct Scan {
     pub(crate) state: HeadState,
     pub(crate) len: usize,
 }
 
-impl Looked {
+impl Scan {
+    /// Scans the beginning of a head. It returns `None` if the last line does not plainly show where it ends.
+    pub(crate) fn of(bytes: &[u8]) -> Option<Scan>
+        requires { MayBeginHead bytes.now }
+        ensures { IfSome result (IsScanOf bytes.now) }
+    {
+        let at = last_line(bytes);
+        let state = first_state(&bytes[..at]).after_all(&bytes[at..])?;
+        Some(Scan {
+            state,
+            len: bytes.len(),
+        })
+    }
+
     /// Returns the scan with the bytes that have come since, or `None` if it is not plain that no whole head begins the
     /// bytes and more bytes may complete one.
-    pub(crate) fn on(self, bytes: &[u8]) -> Option<Looked>
-        requires { WasLookedAt bytes.now self }
-        ensures { IfSome result (λ looked. WasLookedAt bytes.now looked × MayBeginHead bytes.now) }
+    pub(crate) fn advance(self, bytes: &[u8]) -> Option<Scan>
+        requires { IsScanOf bytes.now self }
+        ensures { IfSome result (λ scan. IsScanOf bytes.now scan × MayBeginHead bytes.now) }
     {
         if bytes.len() >= HEAD_LIMIT {
             return None;
         }
-        let state = self.state.behind_all(&bytes[self.len..])?;
-        Some(Looked {
+        let state = self.state.after_all(&bytes[self.len..])?;
+        Some(Scan {
             state,
             len: bytes.len(),
         })
@@ -132,17 +145,4 @@ fn first_state(lines: &[u8]) -> HeadState
         return HeadState::Blank;
     }
     HeadState::Line
-}
-
-/// Scans the beginning of a head. It returns `None` if the last line does not plainly show where it ends.
-pub(crate) fn look(bytes: &[u8]) -> Option<Looked>
-    requires { MayBeginHead bytes.now }
-    ensures { IfSome result (WasLookedAt bytes.now) }
-{
-    let at = last_line(bytes);
-    let state = first_state(&bytes[..at]).behind_all(&bytes[at..])?;
-    Some(Looked {
-        state,
-        len: bytes.len(),
-    })
 }

@@ -2,7 +2,7 @@ use Rattle.std.proofs.Common.{arith, sym, refl}
 use Rattle.framing.specs.declared.head_front.HeadState.TheVariants as state
 use Rattle.framing.proofs.HeadFrontLemmas.{step, step_feed, token_other, uri_other, value_other, blank_feed, blank_return, return_feed, blank_token}
 use Rattle.framing.proofs.HeadFrontLemmas.{method_token, method_space, target_more, line_token, name_token, name_colon, value_more, value_return}
-use Rattle.framing.proofs.head_front.HeadState.behind.Goals as goal
+use Rattle.framing.proofs.head_front.HeadState.after.Goals as goal
 
 pub returns-in-Blank : goal.returns-in-Blank
 returns-in-Blank c bytes stands =

@@ -1,7 +1,7 @@
 use Rattle.std.proofs.Common.{◌≡◌, ◌+◌, ◌++◌, ◌∷◌, ◌∙◌, ℕ, List, [], append-nil, append_assoc, ap, get_or, subst, sym, take}
 use Rattle.std.proofs.lemmas.List.{take_all, take_more}
 use Rattle.framing.specs.HeadFront.{Stands}
-use Rattle.framing.proofs.head_front.HeadState.behind_all.Goals as goal
+use Rattle.framing.proofs.head_front.HeadState.after_all.Goals as goal
 
 pub loop-byte-init : goal.loop-byte-init
 loop-byte-init c bytes stands = subst (Stands c.args.self) (sym (append-nil bytes)) stands

@@ -1,6 +1,6 @@
 use Rattle.std.proofs.Common.{ℕ, List, ◌++◌, take}
 use Rattle.framing.specs.HeadFront.{Stands}
-use Rattle.framing.proofs.head_front.HeadState.behind_all.Given as goal
+use Rattle.framing.proofs.head_front.HeadState.after_all.Given as goal
 
 -- the state of what was passed
 abbrev pub invariant-loop-byte : goal.invariant-loop-byte

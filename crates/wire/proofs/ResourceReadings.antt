@@ -1,5 +1,5 @@
 -- The computed reading of the rest after the key is what a GET asks for.
-use Rattle.std.proofs.Common.{◌≡◌, ◌≢◌, ◌==◌, ℕ, ◌+◌, ◌<◌, nat_lt, List, [], ◌∷◌, ◌++◌, length, drop, codes, Option, Some, None}
+use Rattle.std.proofs.Common.{◌≡◌, ◌≢◌, ◌==◌, ℕ, ◌+◌, ◌<◌, nat_lt, List, [], ◌∷◌, ◌++◌, length, drop, bytes_eq, codes, Option, Some, None}
 use Rattle.std.proofs.Common.{true, false, get_or, refl, sym, ap, ◌∙◌, subst, inl, inr, arith, append_assoc, length-append}
 use Rattle.std.proofs.lemmas.Bool.{cases_Bool, false_from_ne_true, lt-ltb}
 use Rattle.std.proofs.lemmas.Bool.Decides.{Decides-eqb}
@@ -7,7 +7,7 @@ use Rattle.std.proofs.lemmas.List.{drop_at}
 use Rattle.std.specs.Char.{is_ascii_uppercase}
 use Rattle.std.specs.Cmp.Lexicographic.{pointwise_decides}
 use Rattle.std.specs.List.{onto_first, slice_split}
-use Rattle.std.specs.Option.{option_and_then, option_map}
+use Rattle.std.specs.Option.{option_and_then, option_map, option_or}
 use Rattle.percent_encoding.proofs.PercentLemmas.{percent_decode-nil, percent_decode_not_percent}
 use Rattle.percent_encoding.specs.Percent.{percent_decode}
 use Rattle.modpath.proofs.PathLaw.{check_is_exact}
@@ -16,7 +16,7 @@ use Rattle.modpath.specs.ModulePath.{BeginsWith}
 use Rattle.modpath.specs.Path.{IsPath, check_of, first_element}
 use Rattle.modver.specs.SemanticVersion.{SemanticVersion, version_text}
 use Rattle.wire.specs.ModuleVersion.{IsModuleVersion, cut_of, path_of, module_version_of, version_from, without_end, without_start}
-use Rattle.wire.specs.Resource.{IsResource, asked_by, asked_of, ending_of, first_some, of_path, own_of, of_version, resource_for, resource_in, split_file, sum_at, summed_of, text_eq, without_ending}
+use Rattle.wire.specs.Resource.{IsResource, asked_by, asked_of, ending_of, of_path, own_of, of_version, resource_for, resource_in, split_file, sum_at, summed_of, without_ending}
 use Rattle.wire.specs.Route.{area_of, is_own}
 use Rattle.wire.specs.declared.routes.Area.{Area}
 use Rattle.wire.specs.declared.routes.Area.TheVariants as area
@@ -28,7 +28,7 @@ use Rattle.wire.proofs.ModuleVersionReadings.{path-cut, path-is, path-taken, mod
 use Rattle.wire.proofs.RouteReadings.{StandsIn, area-is, area-path, own-is}
 use Rattle.wire.proofs.TargetLemmas.{cut-is, end-is, end-taken, map-some, start-is, then-some}
 
-pub same-text : (xs ys : List ℕ) → text_eq xs ys ≡ true → xs ≡ ys
+pub same-text : (xs ys : List ℕ) → bytes_eq xs ys ≡ true → xs ≡ ys
 same-text xs ys h = (pointwise_decides Decides-eqb xs ys).0 h
 
 -- ---- a plain dash
@@ -86,14 +86,14 @@ asked-by-is p q name version h =
     let files : p ≡ q = ap (λ (x : List ℕ × VersionFile). x.1) found.2 in
     end-is (ending_of p) name found.0 found.1 ∙ (λ i. versions i ++ ending_of (files i))
 
-either-is : (A : Type 0) (P : A → Type 0) (a b : Option A) (x : A) → first_some a b ≡ Some x → (a ≡ Some x → P x) → (b ≡ Some x → P x) → P x
+either-is : (A : Type 0) (P : A → Type 0) (a b : Option A) (x : A) → option_or a b ≡ Some x → (a ≡ Some x → P x) → (b ≡ Some x → P x) → P x
 either-is A P (Some y) b x h left right = left h
 either-is A P None b x h left right = right h
 
 without-ending-is : (name version : List ℕ) (p : VersionFile) → without_ending name ≡ Some (version, p) → name ≡ version ++ ending_of p
 without-ending-is name version p h =
     let Named : List ℕ × VersionFile → Type 0 = λ found. name ≡ found.0 ++ ending_of found.1 in
-    either-is (List ℕ × VersionFile) Named (asked_by file.Info name) (first_some (asked_by file.GoMod name) (asked_by file.Zip name)) (version, p) h
+    either-is (List ℕ × VersionFile) Named (asked_by file.Info name) (option_or (asked_by file.GoMod name) (asked_by file.Zip name)) (version, p) h
     (asked-by-is file.Info p name version)
     (λ later. either-is (List ℕ × VersionFile) Named (asked_by file.GoMod name) (asked_by file.Zip name) (version, p) later
     (asked-by-is file.GoMod p name version) (asked-by-is file.Zip p name version))
@@ -132,8 +132,8 @@ without-ending-taken version file.Zip =
     rw (no-info version (codes ".zi") 112 (omega arith), no-mod, end-taken (codes ".zip") version) refl
 
 -- such a name is no list
-no-list : (version : List ℕ) (p : VersionFile) → text_eq (version ++ ending_of p) (codes "list") ≡ false
-no-list version p = elim (cases_Bool (text_eq (version ++ ending_of p) (codes "list"))) [
+no-list : (version : List ℕ) (p : VersionFile) → bytes_eq (version ++ ending_of p) (codes "list") ≡ false
+no-list version p = elim (cases_Bool (bytes_eq (version ++ ending_of p) (codes "list"))) [
   | inl same ↦ absurd (apart p (same-text (version ++ ending_of p) (codes "list") same))
   | inr other ↦ other
 ]
@@ -221,12 +221,12 @@ of-version-is rest path behind asked whole is h =
 -- what is computed for a path and the text after `/@` is what the rest asks for
 of-path-is : (rest path behind : List ℕ) (asked : Resource) → percent_decode rest ≡ escaped path ++ (codes "/@" ++ behind) → IsPath path
     → of_path path behind ≡ Some asked → IsResource rest asked
-of-path-is rest path behind asked whole is h = elim (cases_Bool (text_eq behind (codes "latest"))) [
+of-path-is rest path behind asked whole is h = elim (cases_Bool (bytes_eq behind (codes "latest"))) [
   | inl latest ↦
       let same : resource.Latest path ≡ asked = cc (rw latest at h) in
       let behinds = same-text behind (codes "latest") latest in
       subst (IsResource rest) same (record { whole = whole ∙ (λ i. escaped path ++ (codes "/@" ++ behinds i)); path_is = is })
-  | inr other ↦ elim (cases_Bool (text_eq behind (codes "v/list"))) [
+  | inr other ↦ elim (cases_Bool (bytes_eq behind (codes "v/list"))) [
     | inl list ↦
         let same : resource.List path ≡ asked = cc (rw (other, list) at h) in
         let behinds = same-text behind (codes "v/list") list in
@@ -247,7 +247,7 @@ asked-is rest asked h =
 
 -- what is computed for the text after a plain `-/` is what the rest asks for
 own-resource : (rest behind : List ℕ) (asked : Resource) → rest ≡ codes "-/" ++ behind → own_of (percent_decode behind) ≡ Some asked → IsResource rest asked
-own-resource rest behind asked whole h = elim (cases_Bool (text_eq (percent_decode behind) (codes "modules"))) [
+own-resource rest behind asked whole h = elim (cases_Bool (bytes_eq (percent_decode behind) (codes "modules"))) [
   | inl modules ↦
       let same : resource.Modules ≡ asked = cc (rw modules at h) in
       subst (IsResource rest) same (record { behind = behind; whole = whole; decodes = same-text (percent_decode behind) (codes "modules") modules })

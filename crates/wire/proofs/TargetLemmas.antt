@@ -1,12 +1,12 @@
 -- Targets, cut at a byte.
-use Rattle.std.proofs.Common.{◌≡◌, ◌==◌, ◌+◌, ◌-◌, ◌<◌, ℕ, suc, List, [], ◌∷◌, ◌++◌, length, take, drop, codes, Option, Some, None, Bool, true}
-use Rattle.std.proofs.Common.{false, nat_lt, nat_eq, cond, get_or, refl, sym, ap, ◌∙◌, subst, inl, inr, arith, append_assoc, length-append}
+use Rattle.std.proofs.Common.{◌≡◌, ◌==◌, ◌+◌, ◌-◌, ◌<◌, ℕ, suc, List, [], ◌∷◌, ◌++◌, length, take, drop, bytes_eq, codes, Option, Some, None, Bool, true}
+use Rattle.std.proofs.Common.{false, nat_lt, cond, get_or, refl, sym, ap, ◌∙◌, subst, inl, inr, arith, append_assoc, length-append}
 use Rattle.std.proofs.lemmas.Bool.{cases_Bool, eq-eqb, eqb-true, lt-ltb, ltb-true, or_parts}
 use Rattle.std.proofs.lemmas.Bool.Decides.{Decides-eqb}
 use Rattle.std.proofs.lemmas.List.{take_at, drop_at, take-append-drop}
 use Rattle.std.proofs.lemmas.List.Folds.{list_any-append}
 use Rattle.std.proofs.lemmas.List.Sums.{passes_at_first, split_at_first}
-use Rattle.std.specs.Cmp.Lexicographic.{pointwise, pointwise_decides}
+use Rattle.std.specs.Cmp.Lexicographic.{pointwise_decides}
 use Rattle.std.specs.List.{after_first, before_first, list_any, position_or_len}
 use Rattle.std.specs.Option.{option_and_then, option_map}
 use Rattle.wire.specs.ModuleVersion.{around, cut_of, without_end, without_slash, without_start}
@@ -28,12 +28,12 @@ if-some false x y h = cc h
 
 -- ---- beginnings and ends
 
-same-pointwise : (xs : List ℕ) → pointwise nat_eq xs xs ≡ true
-same-pointwise xs = (pointwise_decides Decides-eqb xs xs).1 refl
+same-bytes : (xs : List ℕ) → bytes_eq xs xs ≡ true
+same-bytes xs = (pointwise_decides Decides-eqb xs xs).1 refl
 
 pub start-is : (start text rest : List ℕ) → without_start start text ≡ Some rest → text ≡ start ++ rest
 start-is start text rest h =
-    let found = if-some (pointwise nat_eq (take (length start) text) start) (drop (length start) text) rest h in
+    let found = if-some (bytes_eq (take (length start) text) start) (drop (length start) text) rest h in
     let same : take (length start) text ≡ start = (pointwise_decides Decides-eqb _ start).0 found.0 in
     sym (take-append-drop (length start) text) ∙ ap (λ (l : List ℕ). l ++ drop (length start) text) same ∙ ap (λ (l : List ℕ). start ++ l) found.1
 
@@ -42,12 +42,12 @@ end-length front ending = omega (arith, length-append front ending)
 
 pub end-taken : (ending front : List ℕ) → without_end ending (front ++ ending) ≡ Some front
 end-taken ending front =
-    rw (end-length front ending, drop_at front ending (length front) refl, same-pointwise ending, take_at front ending (length front) refl) refl
+    rw (end-length front ending, drop_at front ending (length front) refl, same-bytes ending, take_at front ending (length front) refl) refl
 
 pub end-is : (ending text front : List ℕ) → without_end ending text ≡ Some front → text ≡ front ++ ending
 end-is ending text front h =
     let n = length text - length ending in
-    let found = if-some (pointwise nat_eq (drop n text) ending) (take n text) front h in
+    let found = if-some (bytes_eq (drop n text) ending) (take n text) front h in
     let same : drop n text ≡ ending = (pointwise_decides Decides-eqb _ ending).0 found.0 in
     sym (take-append-drop n text) ∙ ap (λ (l : List ℕ). take n text ++ l) same ∙ ap (λ (l : List ℕ). l ++ ending) found.1
 

@@ -1,8 +1,7 @@
 -- The computed reading of a request is what the request asks for.
-use Rattle.std.proofs.Common.{◌≡◌, ℕ, List, [], ◌∷◌, ◌++◌, codes, Option, Some, None, Ok, Err, IfOk, Result, nat_eq, refl, sym, ◌∙◌, subst, inl, inr}
+use Rattle.std.proofs.Common.{◌≡◌, ℕ, List, [], ◌∷◌, ◌++◌, bytes_eq, codes, Option, Some, None, Ok, Err, IfOk, Result, refl, sym, ◌∙◌, subst, inl, inr}
 use Rattle.std.proofs.lemmas.Bool.{cases_Bool, false_from_ne_true}
 use Rattle.std.proofs.lemmas.Str.{IsUtf8-from_is_utf8, is_utf8-from_IsUtf8}
-use Rattle.std.specs.Cmp.Lexicographic.{pointwise}
 use Rattle.std.specs.Str.{IsUtf8, is_utf8}
 use Rattle.percent_encoding.specs.Percent.{percent_decode}
 use Rattle.modpath.specs.Escape.{escaped}
@@ -49,9 +48,9 @@ route-asks method text utf8 (Some (a, key, rest)) e =
     let is = routed-is text key rest a e in
     let split = is.1 in
     let keyed : IsKeyed text key is.0 = record { whole = split.whole; some = split.some; no_slash = split.no_slash; is_text = (split-utf8 text key is.0 split utf8).0 } in
-    elim (cases_Bool (pointwise nat_eq method (codes "GET"))) [
+    elim (cases_Bool (bytes_eq method (codes "GET"))) [
       | inl get ↦ rw get (get-asks method text key is.0 rest a (same-text method (codes "GET") get) keyed is.2 (resource_in a rest) refl)
-      | inr other ↦ elim (cases_Bool (pointwise nat_eq method (codes "PUT"))) [
+      | inr other ↦ elim (cases_Bool (bytes_eq method (codes "PUT"))) [
         | inl put ↦ rw (other, put) (put-asks method text key is.0 rest a (same-text method (codes "PUT") put) keyed is.2 (module_version_in a rest) refl)
         | inr neither ↦ rw (other, neither) tt
       ]

@@ -1,9 +1,8 @@
 -- Module paths and versions in their escaped forms, around `/@`. (Go Modules Reference, "GOPROXY protocol".)
-use Rattle.std.specs.Prelude.{◌≡◌, ◌==◌, ℕ, ◌-◌, nat_eq, nat_lt, Bool, true, false, ◌&&◌, List, [], ◌∷◌, ◌++◌}
-use Rattle.std.specs.Prelude.{length, take, drop, codes, Option, Some, None, is_none, not, option_map, if◌then◌else◌}
+use Rattle.std.specs.Prelude.{◌≡◌, ◌==◌, ℕ, ◌-◌, nat_lt, Bool, true, false, ◌&&◌, List, [], ◌∷◌, ◌++◌}
+use Rattle.std.specs.Prelude.{length, take, drop, bytes_eq, codes, Option, Some, None, is_none, not, option_map, if◌then◌else◌}
 use Rattle.std.specs.Char.{is_ascii_uppercase}
 use Rattle.std.specs.Option.{option_and_then}
-use Rattle.std.specs.Cmp.Lexicographic.{pointwise}
 use Rattle.std.specs.List.{before_first, after_first, position_or_len}
 use Rattle.std.specs.Str.{is_utf8}
 use Rattle.modpath.specs.Escape.{escape_fault, escaped}
@@ -27,11 +26,11 @@ pub record IsModuleVersion (text path : List ℕ) (version : SemanticVersion) (e
 
 -- a text without this start, or without this ending, if it has it
 abbrev pub without_start : List ℕ → List ℕ → Option (List ℕ)
-without_start start text = if pointwise nat_eq (take (length start) text) start then Some (drop (length start) text) else None
+without_start start text = if bytes_eq (take (length start) text) start then Some (drop (length start) text) else None
 
 abbrev pub without_end : List ℕ → List ℕ → Option (List ℕ)
 without_end ending text =
-    if pointwise nat_eq (drop (length text - length ending) text) ending then Some (take (length text - length ending) text) else None
+    if bytes_eq (drop (length text - length ending) text) ending then Some (take (length text - length ending) text) else None
 
 -- the texts before and after the first `byte` in a text, if there is one
 unfoldable pub around : ℕ → List ℕ → Option (List ℕ × List ℕ)

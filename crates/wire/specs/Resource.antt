@@ -1,7 +1,6 @@
 -- What a GET asks for by the rest after the key. (Go Modules Reference, "GOPROXY protocol"; `-/` is this server's own.)
-use Rattle.std.specs.Prelude.{◌≡◌, ℕ, nat_eq, Bool, List, [], ◌++◌, codes, Option, Some, None, option_map, if◌then◌else◌}
-use Rattle.std.specs.Option.{option_and_then}
-use Rattle.std.specs.Cmp.Lexicographic.{pointwise}
+use Rattle.std.specs.Prelude.{◌≡◌, ℕ, List, [], ◌++◌, bytes_eq, codes, Option, Some, None, option_map, if◌then◌else◌}
+use Rattle.std.specs.Option.{option_and_then, option_or}
 use Rattle.percent_encoding.specs.Percent.{percent_decode}
 use Rattle.modver.specs.SemanticVersion.{SemanticVersion}
 use Rattle.wire.specs.ModuleVersion.{IsPathWith, IsModuleVersion, cut_of, path_of, module_version_of, version_from}
@@ -39,15 +38,6 @@ IsResource rest (resource.GoSum path version) = IsSummed rest path version
 
 -- ---- computed forms of the readings above
 
--- whether two texts are equal
-abbrev pub text_eq : List ℕ → List ℕ → Bool
-text_eq = pointwise nat_eq
-
--- the first of two values, or the second if there is no first
-abbrev pub first_some : {A : Type 0} → Option A → Option A → Option A
-first_some (Some x) other = Some x
-first_some None other = other
-
 -- the ending of a file of a version
 abbrev pub ending_of : VersionFile → List ℕ
 ending_of file.Info = codes ".info"
@@ -60,7 +50,7 @@ asked_by p name = option_map (λ version. (version, p)) (without_end (ending_of 
 
 -- a name without its ending, and the file with this ending
 abbrev pub without_ending : List ℕ → Option (List ℕ × VersionFile)
-without_ending name = first_some (asked_by file.Info name) (first_some (asked_by file.GoMod name) (asked_by file.Zip name))
+without_ending name = option_or (asked_by file.Info name) (option_or (asked_by file.GoMod name) (asked_by file.Zip name))
 
 -- a name after `v/` without its last ending, and the file with this ending
 abbrev pub split_file : List ℕ → Option (List ℕ × VersionFile)
@@ -80,8 +70,8 @@ of_version path asked =
 -- what is asked of a path, by the text after `/@`
 abbrev pub of_path : List ℕ → List ℕ → Option Resource
 of_path path asked =
-    if text_eq asked (codes "latest") then Some (resource.Latest path)
-    else if text_eq asked (codes "v/list") then Some (resource.List path)
+    if bytes_eq asked (codes "latest") then Some (resource.Latest path)
+    else if bytes_eq asked (codes "v/list") then Some (resource.List path)
     else of_version path asked
 
 -- what is asked of a module path
@@ -99,7 +89,7 @@ summed_of text = option_map sum_at (module_version_of text)
 -- what is asked of the shelf itself
 abbrev pub own_of : List ℕ → Option Resource
 own_of text =
-    if text_eq text (codes "modules") then Some resource.Modules
+    if bytes_eq text (codes "modules") then Some resource.Modules
     else option_and_then summed_of (without_start (codes "gosum/") text)
 
 -- what a GET asks for in an area

@@ -3,7 +3,7 @@ use Rattle.std.specs.Prelude.{◌==◌, ◌&&◌, ℕ, nat_eq, nat_lt, Bool, Lis
 use Rattle.std.specs.Prelude.{drop, codes, Option, Some, None, option_map, if◌then◌else◌}
 use Rattle.std.specs.List.{starts_with}
 use Rattle.std.specs.Option.{option_and_then}
-use Rattle.matchit.specs.Rows.{RowsOf}
+use Rattle.matchit.specs.Rows.{RowsOf, param_token, catch_all_token}
 use Rattle.matchit.specs.Router.{RouteOf}
 use Rattle.wire.specs.ModuleVersion.{around, without_start}
 use Rattle.wire.specs.declared.routes.Area.{Area}
@@ -12,7 +12,7 @@ use Rattle.wire.specs.declared.routes.Area.TheVariants as area
 -- both routes, as the router keeps them
 abbrev pub shelf_route : RouteOf Area
 shelf_route = record {
-  pattern = 47 ∷ 107 ∷ 47 ∷ 256 ∷ 47 ∷ 45 ∷ 47 ∷ 257 ∷ [];
+  pattern = 47 ∷ 107 ∷ 47 ∷ param_token ∷ 47 ∷ 45 ∷ 47 ∷ catch_all_token ∷ [];
   text = codes "/k/{key}/-/{*rest}";
   names = (4, 7) ∷ (13, 17) ∷ [];
   value = area.Shelf;
@@ -20,7 +20,7 @@ shelf_route = record {
 
 abbrev pub path_route : RouteOf Area
 path_route = record {
-  pattern = 47 ∷ 107 ∷ 47 ∷ 256 ∷ 47 ∷ 257 ∷ [];
+  pattern = 47 ∷ 107 ∷ 47 ∷ param_token ∷ 47 ∷ catch_all_token ∷ [];
   text = codes "/k/{key}/{*rest}";
   names = (4, 7) ∷ (11, 15) ∷ [];
   value = area.Path;

@@ -1,6 +1,5 @@
 -- What a request asks for, by its method and its target. (Go Modules Reference, "GOPROXY protocol"; PUT is this server's own.)
-use Rattle.std.specs.Prelude.{◌≡◌, ◌==◌, ℕ, ◌<◌, nat_eq, false, List, [], ◌∷◌, ◌++◌, length, codes, Option, Some, None, if◌then◌else◌}
-use Rattle.std.specs.Cmp.Lexicographic.{pointwise}
+use Rattle.std.specs.Prelude.{◌≡◌, ◌==◌, ℕ, ◌<◌, false, List, [], ◌∷◌, ◌++◌, length, bytes_eq, codes, Option, Some, None, if◌then◌else◌}
 use Rattle.std.specs.List.{list_any}
 use Rattle.std.specs.Str.{IsUtf8, is_utf8}
 use Rattle.percent_encoding.specs.Percent.{percent_decode}
@@ -56,8 +55,8 @@ module_version_in area.Path rest = module_version_of (percent_decode rest)
 -- what a request with that method asks for by its route
 abbrev pub asked_at : List ℕ → Area × List ℕ × List ℕ → Target
 asked_at method route =
-    if pointwise nat_eq method (codes "GET") then get_of route.1 (resource_in route.0 route.2)
-    else if pointwise nat_eq method (codes "PUT") then put_of route.1 (module_version_in route.0 route.2)
+    if bytes_eq method (codes "GET") then get_of route.1 (resource_in route.0 route.2)
+    else if bytes_eq method (codes "PUT") then put_of route.1 (module_version_in route.0 route.2)
     else target.Unreadable
 
 abbrev pub asked_or : List ℕ → Option (Area × List ℕ × List ℕ) → Target

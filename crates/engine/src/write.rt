@@ -11,7 +11,7 @@ use crate::read::TRIES;
 use std::alloc::{AllocError, Global};
 use std::io::{ErrorKind, Write};
 use wire::reply::{Fixed, Kind, StatusCode};
-use wire::{fixed, put_head};
+use wire::{encode_head, fixed};
 
 /// The most bytes of a body that is written with its head.
 /// One write keeps a socket from sending the head alone and waiting. Without memory to join them there are two.
@@ -103,7 +103,7 @@ fn write_body<W: Write>(
     ensures status { IfOk result (λ status. status ≡ 200) }
 {
     let mut buf = [0; 160];
-    let len = put_head(kind, body.len(), &mut buf);
+    let len = encode_head(kind, body.len(), &mut buf);
     write_joined(alloc, writer, &buf[..len], body)?;
     Ok(StatusCode::OK)
 }

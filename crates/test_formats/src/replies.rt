@@ -3,7 +3,7 @@ use crate::rows::{column, named, on_one_line};
 use modver::{Version, read_time};
 use std::alloc::{AllocError, Global};
 use std::test::Fail;
-use wire::{Fixed, Kind, StatusCode, fixed, fixed_line, info_body, put_head, reply_head};
+use wire::{Fixed, Kind, StatusCode, encode_head, fixed, fixed_line, info_body, reply_head};
 
 /// - `fixed` and `line`: a reply with a fixed body, and its bytes or its line.
 /// - `zip` and `made`: the head of a zip of no bytes, written to a buffer or to memory.
@@ -100,7 +100,7 @@ pub fn given(alloc: Global, row: &str) -> Result<String, Fail> {
         "info" => info(alloc, row),
         "made" => on_one_line(alloc, &reply_head(alloc, StatusCode::OK, Kind::Zip, 0)?),
         "zip" => {
-            let len = put_head(Kind::Zip, 0, &mut buf);
+            let len = encode_head(Kind::Zip, 0, &mut buf);
             on_one_line(alloc, &buf[..len])
         }
         "line" => {

@@ -21,19 +21,19 @@
 //! with a fixed body takes no memory.
 #![tactic(auto)]
 
+pub mod encode;
 pub mod info;
 pub mod laws;
 mod module_version;
-pub mod put;
 pub mod reply;
 pub mod request;
 mod resources;
 mod routes;
 pub mod targets;
 
+pub use encode::{encode_head, fixed, fixed_line, reply_head};
 pub use framing::{Bad, Framer, Memory, Message, Next, length_value};
 pub use info::info_body;
-pub use put::{fixed, fixed_line, put_head, reply_head};
 pub use reply::{Fixed, Kind, StatusCode};
 pub use request::{Resource, Target};
 pub use routes::RouteTable;

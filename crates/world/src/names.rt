@@ -1,5 +1,5 @@
 //! The rules of team names and keys.
-ghost use Rattle.std.specs.Prelude.{◌≡◌, ◌||◌, nat_eq};
+ghost use Rattle.std.specs.Prelude.{◌≡◌};
 ghost use Rattle.std.specs.List.{list_all};
 ghost use Rattle.world.specs.Names as spec;
 
@@ -38,25 +38,25 @@ fn is_lower(byte: u8) -> bool
 }
 
 fn is_key_byte(byte: u8) -> bool
-    ensures { result ≡ (spec.is_lower byte || spec.is_digit byte) }
+    ensures { result ≡ spec.is_key_byte byte }
 {
     is_lower(byte) || (48 <= byte && byte <= 57)
 }
 
 fn is_name_byte(byte: u8) -> bool
-    ensures { result ≡ (spec.is_lower byte || spec.is_digit byte || nat_eq byte 45) }
+    ensures { result ≡ spec.is_name_byte byte }
 {
     is_key_byte(byte) || byte == b'-'
 }
 
 fn all_key_bytes(bytes: &[u8]) -> bool
-    ensures { result ≡ list_all (λ c. spec.is_lower c || spec.is_digit c) bytes.now }
+    ensures { result ≡ list_all spec.is_key_byte bytes.now }
 {
     bytes.iter().all(|b| is_key_byte(*b))
 }
 
 fn all_name_bytes(bytes: &[u8]) -> bool
-    ensures { result ≡ list_all (λ c. spec.is_lower c || spec.is_digit c || nat_eq c 45) bytes.now }
+    ensures { result ≡ list_all spec.is_name_byte bytes.now }
 {
     bytes.iter().all(|b| is_name_byte(*b))
 }

@@ -6,7 +6,7 @@ use Rattle.framing.specs.Framing.{Framing, IsUnfinished, view}
 use Rattle.framing.specs.declared.message.Message.{Message}
 use Rattle.wire.specs.declared.reply.Fixed.{Fixed}
 use Rattle.engine.specs.First.{Answers}
-use Rattle.engine.specs.Served.{IsClosing}
+use Rattle.engine.specs.Served.{body_read_limit, IsClosing}
 use Rattle.engine.specs.Exchange.{Exchange}
 use Rattle.engine.specs.Turn.{StaysNear, ReadsOn, Takes, ReadSoFar, TakesNext, Comes}
 use Rattle.engine.specs.declared.fault.Io.{Io}
@@ -87,7 +87,7 @@ module _
 
     -- if the read gave more bytes, these were read too
     pub more_read : (left : ℕ) → left + 1 ≡ reads_now → ReadsOn now next u₁ u₂ (Ok reading.GoesOn)
-        → length next.held ≤ length now.held + 65536 → ReadSoFar old next u₀ u₂ reads left
+        → length next.held ≤ length now.held + body_read_limit → ReadSoFar old next u₀ u₂ reads left
     more_read left one (bytes, consumes, near, is) few = record {
       bytes = far.bytes ++ bytes;
       consumed = Consumes-trans u₀ u₁ u₂ far.bytes bytes far.consumed consumes;

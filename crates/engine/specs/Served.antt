@@ -19,6 +19,10 @@ use Rattle.engine.specs.declared.fault.Io.TheVariants as io
 abbrev pub read_limit : ℕ
 read_limit = 4096
 
+-- the most bytes of one read, however many of a message are missing
+abbrev pub body_read_limit : ℕ
+body_read_limit = 65536
+
 -- the input is what the reader holds, if that is known
 abbrev pub Tells : Option (List ℕ) → List ℕ → Type 0
 Tells None input = ⊤

@@ -11,7 +11,7 @@ use Rattle.engine.specs.First.{First, Answers, Closes, first_bytes, first_exchan
 use Rattle.engine.specs.Reply.{text_of, status_of}
 use Rattle.engine.specs.Store.{GoesThrough}
 use Rattle.engine.specs.Written.{IsBeginning, WritesBeginning}
-use Rattle.engine.specs.Served.{read_limit, Tells, IsClosing, closing_status, texts_of}
+use Rattle.engine.specs.Served.{read_limit, body_read_limit, Tells, IsClosing, closing_status, texts_of}
 use Rattle.engine.specs.declared.fault.Io.{Io}
 use Rattle.engine.specs.declared.fault.Io.TheVariants as io
 use Rattle.engine.specs.declared.incoming.Incoming.{Incoming}
@@ -48,10 +48,10 @@ ReadsOn old new unread unread_new (Ok (reading.Ends closing)) =
     × (closing ≡ Some fixed.Unavailable → bytes ≢ [])
 ReadsOn old new unread unread_new (Err e) = (e ≡ io.Read) × Keeps unread unread_new
 
--- What is left to do on a stream with these reads left and these bytes held. A read gives at most 65,536 bytes, so each read and
--- each message that is taken lessens it.
+-- What is left to do on a stream with these reads left and these bytes held. A read gives at most `body_read_limit` bytes, so each
+-- read and each message that is taken lessens it.
 abbrev pub work : ℕ → List ℕ → ℕ
-work reads held = reads * 65537 + length held
+work reads held = reads * (body_read_limit + 1) + length held
 
 -- what was read so far after the bytes that were held at first, while no message is whole
 pub record ReadSoFar (old now : Framing) (unread unread_now : Option (List ℕ)) (reads reads_now : ℕ) : Type 0 where

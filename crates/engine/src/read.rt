@@ -2,7 +2,7 @@
 ghost use Rattle.std.specs.Prelude.{◌≡◌, ℕ, ◌<◌, ◌≤◌, List, ◌++◌, ◌+◌, None, length, take, IfOk, IfErr, OnErr};
 ghost use Rattle.std.specs.Io.KnownBytes.{Consumes, IsAtEnd, Keeps};
 ghost use Rattle.framing.specs.Framing.{IsUnfinished};
-ghost use Rattle.engine.specs.Served.{read_limit};
+ghost use Rattle.engine.specs.Served.{body_read_limit, read_limit};
 ghost use Rattle.engine.specs.Turn.{ReadsOn, StaysNear};
 
 use crate::fault::Io;
@@ -77,7 +77,7 @@ fn read_body<R: Read>(reader: &mut R, framer: &mut Framer, missing: usize) -> Re
     requires long { read_limit < missing }
     requires missing { (bytes : List ℕ) → length bytes < missing → IsUnfinished (framer.old.held ++ bytes) }
     ensures on { ReadsOn framer.old framer.new (R.remaining reader.old) (R.remaining reader.new) result }
-    ensures few { length framer.new.held ≤ length framer.old.held + 65536 }
+    ensures few { length framer.new.held ≤ length framer.old.held + body_read_limit }
 {
     let mut chunk = [0; BODY_READ_LIMIT];
     let most = missing.min(BODY_READ_LIMIT);
@@ -89,7 +89,7 @@ fn read_body<R: Read>(reader: &mut R, framer: &mut Framer, missing: usize) -> Re
 pub(crate) fn read_more<R: Read>(reader: &mut R, framer: &mut Framer) -> Result<Reading, Io>
     requires { IsUnfinished framer.old.held }
     ensures on { ReadsOn framer.old framer.new (R.remaining reader.old) (R.remaining reader.new) result }
-    ensures few { length framer.new.held ≤ length framer.old.held + 65536 }
+    ensures few { length framer.new.held ≤ length framer.old.held + body_read_limit }
 {
     let missing = framer.missing();
     if missing > READ_LIMIT {

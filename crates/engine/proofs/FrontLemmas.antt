@@ -39,12 +39,12 @@ marked_nothing (false ∷ marks) = refl
 
 -- the marks of more messages leave the same texts of the first ones
 pub marks_front : (w : World) (ss : List (List ℕ)) (xs : List Exchange) (left : List Request)
-    → marked (remaining w ss (map spec.event_of (map message_of xs ++ left))) (map text_of xs) ≡ remaining_texts w ss xs
-marks_front w ss [] left = marked_nothing (remaining w ss (map spec.event_of left))
+    → marked (remaining w ss (map spec.event_of_message (map message_of xs ++ left))) (map text_of xs) ≡ remaining_texts w ss xs
+marks_front w ss [] left = marked_nothing (remaining w ss (map spec.event_of_message left))
 marks_front w ss (x ∷ xs) left =
     let next = after w (event_of x) in
     elim (is_remaining w ss (event_of x))
-    as (λ b. marked (b ∷ remaining next ss (map spec.event_of (map message_of xs ++ left))) (text_of x ∷ map text_of xs)
+    as (λ b. marked (b ∷ remaining next ss (map spec.event_of_message (map message_of xs ++ left))) (text_of x ∷ map text_of xs)
     ≡ marked (b ∷ remaining next ss (map event_of xs)) (text_of x ∷ map text_of xs)) [
       | true ↦ ap (λ texts. text_of x ∷ texts) (marks_front next ss xs left)
       | false ↦ marks_front next ss xs left
@@ -82,7 +82,7 @@ headed w ss x xs b = marked (b ∷ remaining (after w (event_of x)) ss (map even
 
 -- of the exchanges with a stream and those with what remains of it, one list ends before the other or both end together
 pub either_ends : (w : World) (ss : List (List ℕ)) (xs ys : List Exchange) (left rest : List Request)
-    → marked (remaining w ss (map spec.event_of (map message_of xs ++ left))) (map message_of xs ++ left) ≡ map message_of ys ++ rest
+    → marked (remaining w ss (map spec.event_of_message (map message_of xs ++ left))) (map message_of xs ++ left) ≡ map message_of ys ++ rest
     → GoesAsFar w ss xs ys ⊎ EndsBefore w ss xs ys
 either_ends w ss [] ys left rest same = inl ([], ys, refl, refl)
 either_ends w ss (x ∷ xs) [] left rest same = inr ([], x ∷ xs, refl, refl)
@@ -90,11 +90,11 @@ either_ends w ss (x ∷ xs) (y ∷ ys) left rest same =
     let next = after w (event_of x) in
     let ms = map message_of xs ++ left in
     elim (is_remaining w ss (event_of x))
-    as (λ b. is_remaining w ss (event_of x) ≡ b → marked (b ∷ remaining next ss (map spec.event_of ms)) (message_of x ∷ ms) ≡ message_of y ∷ (map message_of ys ++ rest)
+    as (λ b. is_remaining w ss (event_of x) ≡ b → marked (b ∷ remaining next ss (map spec.event_of_message ms)) (message_of x ∷ ms) ≡ message_of y ∷ (map message_of ys ++ rest)
     → GoesAsFar w ss (x ∷ xs) (y ∷ ys) ⊎ EndsBefore w ss (x ∷ xs) (y ∷ ys)) [
       | true ↦ λ near is.
           let first : message_of y ≡ message_of x = cc is in
-          let others : marked (remaining next ss (map spec.event_of ms)) ms ≡ map message_of ys ++ rest = cc is in
+          let others : marked (remaining next ss (map spec.event_of_message ms)) ms ≡ map message_of ys ++ rest = cc is in
           elim (either_ends next ss xs ys left rest others) [
             | inl h ↦ inl (y ∷ h.0, h.1, ap (λ l. y ∷ l) h.2, (λ i. first i ∷ h.3 i) ∙ sym (ap (headed w ss x xs) near))
             | inr h ↦ inr (x ∷ h.0, h.1, ap (λ l. x ∷ l) h.2, (λ i. first i ∷ h.3 i) ∙ sym (ap (headed w ss x h.0) near))

@@ -13,7 +13,7 @@ use Rattle.engine.specs.declared.fault.Io.{Io}
 use Rattle.engine.specs.declared.fault.Io.TheVariants as io
 use Rattle.engine.specs.declared.incoming.Incoming.TheVariants as incoming
 use Rattle.engine.specs.declared.incoming.Taken.TheVariants as taken
-use Rattle.engine.specs.declared.read.Reading.TheVariants as reading
+use Rattle.engine.specs.declared.read.Progress.TheVariants as progress
 use Rattle.engine.proofs.MessageLemmas.{message_shortens}
 use Rattle.engine.proofs.ReadLemmas.{near_few}
 use Rattle.engine.proofs.ServedLemmas.{left_of, Tells_left, Tells_after}
@@ -76,7 +76,7 @@ module _
         (is, (far.bytes, Consumes-kept u₀ u₁ u₂ far.bytes far.consumed keeps, subst IsUnfinished far.held waits))
 
     -- if the read ended the stream, the end comes next
-    pub end_comes : (closing : Option Fixed) (left : ℕ) → ReadsOn now next u₁ u₂ (Ok (reading.Ends closing))
+    pub end_comes : (closing : Option Fixed) (left : ℕ) → ReadsOn now next u₁ u₂ (Ok (progress.Ends closing))
         → Comes old next reads left u₀ u₂ (Ok (incoming.End closing))
     end_comes closing left (bytes, consumes, near, (all, tells, closes), some) = record {
       bytes = far.bytes ++ bytes;
@@ -86,7 +86,7 @@ module _
     }
 
     -- if the read gave more bytes, these were read too
-    pub more_read : (left : ℕ) → left + 1 ≡ reads_now → ReadsOn now next u₁ u₂ (Ok reading.GoesOn)
+    pub more_read : (left : ℕ) → left + 1 ≡ reads_now → ReadsOn now next u₁ u₂ (Ok progress.GoesOn)
         → length next.held ≤ length now.held + body_read_limit → ReadSoFar old next u₀ u₂ reads left
     more_read left one (bytes, consumes, near, is) few = record {
       bytes = far.bytes ++ bytes;

@@ -30,7 +30,7 @@ abbrev texts_for : List Request → List Answer → List (List ℕ)
 texts_for (m ∷ ms) (a ∷ answers) = bytes_of m a ∷ texts_for ms answers
 texts_for ms answers = []
 
-pub events_are : (xs : List Exchange) → map event_of xs ≡ map spec.event_of (map message_of xs)
+pub events_are : (xs : List Exchange) → map event_of xs ≡ map spec.event_of_message (map message_of xs)
 events_are [] = refl
 events_are (x ∷ xs) = ap (λ es. event_of x ∷ es) (events_are xs)
 
@@ -38,11 +38,11 @@ texts_are : (xs : List Exchange) → map text_of xs ≡ texts_for (map message_o
 texts_are [] = refl
 texts_are (x ∷ xs) = ap (λ ts. text_of x ∷ ts) (texts_are xs)
 
-marked_events : (marks : List Bool) (ms : List Request) → marked marks (map spec.event_of ms) ≡ map spec.event_of (marked marks ms)
+marked_events : (marks : List Bool) (ms : List Request) → marked marks (map spec.event_of_message ms) ≡ map spec.event_of_message (marked marks ms)
 marked_events [] ms = refl
 marked_events (true ∷ marks) [] = refl
 marked_events (false ∷ marks) [] = refl
-marked_events (true ∷ marks) (m ∷ ms) = ap (λ es. spec.event_of m ∷ es) (marked_events marks ms)
+marked_events (true ∷ marks) (m ∷ ms) = ap (λ es. spec.event_of_message m ∷ es) (marked_events marks ms)
 marked_events (false ∷ marks) (m ∷ ms) = marked_events marks ms
 
 marked_texts : (marks : List Bool) (xs : List Exchange) → marked marks (map text_of xs) ≡ texts_for (marked marks (map message_of xs)) (marked marks (map answer_of xs))
@@ -88,7 +88,7 @@ pub exchanges_alike : (old old_too new new_too later : World) (s : List ℕ) (fu
 exchanges_alike old old_too new new_too later s full purged is then agree run again same others none =
     let marks : List Bool = which_remain old (chain later s) full in
     let events : map event_of purged ≡ marked marks (map event_of full) =
-    events_are purged ∙ ap (λ ms. map spec.event_of ms) same ∙ sym (marked_events marks (map message_of full)) ∙ ap (marked marks) (sym (events_are full)) in
+    events_are purged ∙ ap (λ ms. map spec.event_of_message ms) same ∙ sym (marked_events marks (map message_of full)) ∙ ap (marked marks) (sym (events_are full)) in
     let alike =
     purged_runs_agree_so_far old old_too new new_too later s (map event_of full) (map answer_of full) (map answer_of purged) is then agree run (remaining_answered old (chain later s) full others)
     (subst (λ es. Run old_too es (map answer_of purged) new_too) events again) (all_replied purged none) in (

@@ -12,7 +12,7 @@ use Rattle.shelf.specs.Machine.{ask_reply, after_ask, reply_to, after, HasBody}
 use Rattle.world.specs.Store.{Shown, Does, DoesAt}
 use Rattle.shelf.proofs.Changes.{bodies_change_nothing}
 use Rattle.engine.specs.Ask.{ask_of, sum_of}
-use Rattle.engine.specs.Ask.{event_of as event_of_message}
+use Rattle.engine.specs.Ask.{event_of_message}
 use Rattle.engine.specs.Exchange.{Exchange, Outcome, Unserved, Met, Served, event_of, answer_of}
 use Rattle.engine.specs.Reply.{IsComposed, IsOutcome}
 use Rattle.engine.specs.Store.{GoesThrough, LeavesTwo, AllCalm, world_at}

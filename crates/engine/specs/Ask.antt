@@ -76,8 +76,8 @@ abbrev pub ask_of : Request → Ask
 ask_of m = ask_at m (target_in m)
 
 -- the event that a message is
-abbrev pub event_of : Request → Event
-event_of m = Asked (ask_of m)
+abbrev pub event_of_message : Request → Event
+event_of_message m = Asked (ask_of m)
 
 -- ---- go.sum lines
 

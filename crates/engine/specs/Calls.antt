@@ -11,7 +11,7 @@ use Rattle.shelf.specs.declared.ask.Event.{Event}
 use Rattle.shelf.specs.declared.reply.Answer.{Answer}
 use Rattle.shelf.specs.Isolation.{remaining, marked, Agree}
 use Rattle.shelf.specs.Machine.{Run}
-use Rattle.engine.specs.Ask.{event_of}
+use Rattle.engine.specs.Ask.{event_of_message}
 use Rattle.engine.specs.Exchange.{Exchange, message_of}
 use Rattle.engine.specs.Headline.{unavailable}
 use Rattle.engine.specs.Reply.{text_of}
@@ -24,7 +24,7 @@ NoneUnavailable texts = AllByRecursion (λ text. text ≢ unavailable) texts
 
 -- which messages of a stream remain for these shelves: all but those whose key belongs, at that moment, to another shelf
 abbrev pub remaining_for : World → List (List ℕ) → List Request → List Bool
-remaining_for w ss messages = remaining w ss (map event_of messages)
+remaining_for w ss messages = remaining w ss (map event_of_message messages)
 
 -- the bytes written at the end of a stream: none, the 413, or the 400
 abbrev pub end_bytes : End → List ℕ

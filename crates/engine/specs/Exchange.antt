@@ -32,7 +32,7 @@ abbrev pub message_of : Exchange → Request
 message_of x = x.message
 
 abbrev pub event_of : Exchange → Event
-event_of x = spec.event_of x.message
+event_of x = spec.event_of_message x.message
 
 abbrev pub answer_of : Exchange → Answer
 answer_of x = answer_to x.outcome

@@ -18,7 +18,7 @@ pub record Happening : Type 0 where
   pub answer : Answer
 
 abbrev pub event_in : Coming → Event
-event_in (Message m) = spec.event_of m
+event_in (Message m) = spec.event_of_message m
 event_in (Command e) = e
 
 -- the text that is written for what came: none for a command

@@ -18,8 +18,8 @@ use Rattle.engine.specs.declared.incoming.Incoming.{Incoming}
 use Rattle.engine.specs.declared.incoming.Incoming.TheVariants as incoming
 use Rattle.engine.specs.declared.incoming.Taken.{Taken}
 use Rattle.engine.specs.declared.incoming.Taken.TheVariants as taken
-use Rattle.engine.specs.declared.read.Reading.{Reading}
-use Rattle.engine.specs.declared.read.Reading.TheVariants as reading
+use Rattle.engine.specs.declared.read.Progress.{Progress}
+use Rattle.engine.specs.declared.read.Progress.TheVariants as progress
 use Rattle.engine.specs.declared.session.Turn.{Turn}
 use Rattle.engine.specs.declared.session.Turn.TheVariants as turn
 
@@ -39,10 +39,10 @@ pub record StaysNear (held bytes : List ℕ) : Type 0 where
   pub few : length late ≤ read_limit
 
 -- what a read gave the framer, or why it closes the stream; memory runs out only for bytes that came
-abbrev pub ReadsOn : Framing → Framing → Option (List ℕ) → Option (List ℕ) → Result Reading Io → Type 0
-ReadsOn old new unread unread_new (Ok reading.GoesOn) =
+abbrev pub ReadsOn : Framing → Framing → Option (List ℕ) → Option (List ℕ) → Result Progress Io → Type 0
+ReadsOn old new unread unread_new (Ok progress.GoesOn) =
     (bytes : List ℕ) × Consumes unread unread_new bytes × StaysNear old.held bytes × (new ≡ record old { held = old.held ++ bytes })
-ReadsOn old new unread unread_new (Ok (reading.Ends closing)) =
+ReadsOn old new unread unread_new (Ok (progress.Ends closing)) =
     (bytes : List ℕ) × Consumes unread unread_new bytes × StaysNear old.held bytes
     × ((all : List ℕ) × Tells unread all × IsClosing (old.held ++ all) closing)
     × (closing ≡ Some fixed.Unavailable → bytes ≢ [])

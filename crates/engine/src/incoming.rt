@@ -3,7 +3,7 @@ ghost use Rattle.std.specs.Prelude.{◌≡◌, None};
 ghost use Rattle.engine.specs.Turn.{Comes, Takes};
 
 use crate::fault::Io;
-use crate::read::{Reading, read_more};
+use crate::read::{Progress, read_more};
 use std::io::Read;
 use wire::reply::Fixed;
 use wire::{Bad, Framer, Message, Next};
@@ -65,7 +65,7 @@ pub(crate) fn next_message<R: Read>(
             return Err(Io::Read);
         }
         *reads -= 1;
-        if let Reading::Ends(closing) = read_more(reader, framer)? {
+        if let Progress::Ends(closing) = read_more(reader, framer)? {
             return Ok(Incoming::End(closing));
         }
     }

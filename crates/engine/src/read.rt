@@ -22,7 +22,7 @@ const BODY_READ_LIMIT: usize = 65_536;
 
 /// What a read led to.
 #[derive(Clone, Copy, Drop)]
-pub(crate) enum Reading {
+pub(crate) enum Progress {
     /// Bytes came, and the framer holds them.
     GoesOn,
     /// This reply closes the stream, or nothing does at a good end.
@@ -52,7 +52,7 @@ fn read_some<R: Read>(reader: &mut R, chunk: &mut [u8]) -> Result<usize, Io>
 
 /// Reads once and feeds the framer what came. Returns `Ends` at the end of the input, with the 400 if the framer holds
 /// something, and with the 503 if memory runs out. `Io::Read` if the read fails.
-fn feed_some<R: Read>(reader: &mut R, framer: &mut Framer, chunk: &mut [u8]) -> Result<Reading, Io>
+fn feed_some<R: Read>(reader: &mut R, framer: &mut Framer, chunk: &mut [u8]) -> Result<Progress, Io>
     requires waits { IsUnfinished framer.old.held }
     requires room { 0 < length chunk.old }
     requires near { (bytes : List ℕ) → length bytes ≤ length chunk.old → StaysNear framer.old.held bytes }
@@ -60,11 +60,11 @@ fn feed_some<R: Read>(reader: &mut R, framer: &mut Framer, chunk: &mut [u8]) -> 
     ensures few { length framer.new.held ≤ length framer.old.held + length chunk.old }
 {
     match read_some(reader, chunk)? {
-        0 if framer.is_empty() => Ok(Reading::Ends(None)),
-        0 => Ok(Reading::Ends(Some(Fixed::BadRequest))),
+        0 if framer.is_empty() => Ok(Progress::Ends(None)),
+        0 => Ok(Progress::Ends(Some(Fixed::BadRequest))),
         n => match framer.feed(&chunk[..n]) {
-            Ok(()) => Ok(Reading::GoesOn),
-            Err(_) => Ok(Reading::Ends(Some(Fixed::Unavailable))),
+            Ok(()) => Ok(Progress::GoesOn),
+            Err(_) => Ok(Progress::Ends(Some(Fixed::Unavailable))),
         },
     }
 }
@@ -72,7 +72,7 @@ fn feed_some<R: Read>(reader: &mut R, framer: &mut Framer, chunk: &mut [u8]) -> 
 /// Reads once for a message that lacks more than `READ_LIMIT` bytes, and reads no byte after it. Returns and fails as
 /// `feed_some` does.
 #[inline(never)]
-fn read_body<R: Read>(reader: &mut R, framer: &mut Framer, missing: usize) -> Result<Reading, Io>
+fn read_body<R: Read>(reader: &mut R, framer: &mut Framer, missing: usize) -> Result<Progress, Io>
     requires waits { IsUnfinished framer.old.held }
     requires long { read_limit < missing }
     requires missing { (bytes : List ℕ) → length bytes < missing → IsUnfinished (framer.old.held ++ bytes) }
@@ -86,7 +86,7 @@ fn read_body<R: Read>(reader: &mut R, framer: &mut Framer, missing: usize) -> Re
 
 /// Reads once and feeds the framer what came: at most 4,096 bytes, or 65,536 while more than 4,096 are known to be missing of a
 /// message. Returns and fails as `feed_some` does.
-pub(crate) fn read_more<R: Read>(reader: &mut R, framer: &mut Framer) -> Result<Reading, Io>
+pub(crate) fn read_more<R: Read>(reader: &mut R, framer: &mut Framer) -> Result<Progress, Io>
     requires { IsUnfinished framer.old.held }
     ensures on { ReadsOn framer.old framer.new (R.remaining reader.old) (R.remaining reader.new) result }
     ensures few { length framer.new.held ≤ length framer.old.held + body_read_limit }

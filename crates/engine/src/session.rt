@@ -30,7 +30,7 @@ pub enum Turn {
 
 impl Turn {
     /// Returns the status that was written, or None if nothing was.
-    fn number(self) -> Option<u16>
+    fn status(self) -> Option<u16>
         ensures { result ≡ turn_status self }
     {
         match self {
@@ -69,7 +69,7 @@ pub fn end_turn<W: Write>(writer: &mut W, turned: Result<Turn, Io>) -> Result<Op
 {
     let turn = turned?;
     flush(writer)?;
-    Ok(turn.number())
+    Ok(turn.status())
 }
 
 /// A stream of requests that is being answered. It holds the bytes that were read after the answered messages.

@@ -1,5 +1,5 @@
 //! Streams whose peer has a limited time.
-ghost use Rattle.std.specs.Prelude.{◌≡◌, ◌+◌, ◌*◌, ◌/◌, ◌<◌, ◌≤◌, IfOk, IfSome, IfNone};
+ghost use Rattle.std.specs.Prelude.{◌≡◌, ◌+◌, ◌-◌, ◌*◌, ◌/◌, ◌^◌, ◌<◌, ◌≤◌, min, IfOk, IfSome, IfNone, Some};
 ghost use Rattle.std.specs.Duration.{as_nanos};
 
 use crate::bounds::{BYTES_A_SECOND, PATIENCE, REST_PATIENCE};
@@ -51,6 +51,9 @@ impl<'a, C: Clock, T: Drop> Paced<'a, C, T> {
     /// Returns what is left of the peer's time, which the first call begins. Fails if none is left, or if the clock can't be read.
     fn left(&mut self) -> io::Result<Duration>
         ensures same { self.new.inner ≡ self.old.inner }
+        ensures begins { IfSome self.old.begun (λ t. self.new.begun ≡ Some t) }
+        ensures moved { self.new.moved ≡ self.old.moved }
+        ensures phase { self.new.phase ≡ self.old.phase }
         ensures some { IfOk result (λ left. 0 < as_nanos left) }
         ensures message { self.old.phase ≡ Phase.Message →
             IfOk result (λ left. as_nanos left ≤ (5 + self.old.moved / 1_048_576) * 1_000_000_000) }
@@ -62,9 +65,9 @@ impl<'a, C: Clock, T: Drop> Paced<'a, C, T> {
         time_left(time, now.duration_since(begun)).ok_or(io::Error::from(ErrorKind::TimedOut))
     }
 
-    /// Adds to the bytes that were moved.
+    /// Adds to the bytes that were moved, up to `u64::MAX`.
     fn count(&mut self, bytes: usize)
-        ensures { self.new.inner ≡ self.old.inner }
+        ensures { self.new ≡ record self.old { moved = min (self.old.moved + bytes) (2 ^ 64 - 1) } }
     {
         self.moved = self.moved.saturating_add(bytes as u64);
     }

@@ -1,6 +1,7 @@
 //! Streams whose peer has a limited time.
-ghost use Rattle.std.specs.Prelude.{◌≡◌, ◌+◌, ◌-◌, ◌*◌, ◌/◌, ◌^◌, ◌<◌, ◌≤◌, min, IfOk, IfSome, IfNone, Some};
+ghost use Rattle.std.specs.Prelude.{◌≡◌, ◌+◌, ◌-◌, ◌^◌, ◌<◌, ◌≤◌, min, IfOk, IfSome, IfNone, Some};
 ghost use Rattle.std.specs.Duration.{as_nanos};
+ghost use Rattle.socket.specs.Pace as spec;
 
 use crate::bounds::{BYTES_A_SECOND, PATIENCE, REST_PATIENCE};
 use crate::wait::{BoundRead, BoundWrite};
@@ -55,9 +56,7 @@ impl<'a, C: Clock, T: Drop> Paced<'a, C, T> {
         ensures moved { self.new.moved ≡ self.old.moved }
         ensures phase { self.new.phase ≡ self.old.phase }
         ensures some { IfOk result (λ left. 0 < as_nanos left) }
-        ensures message { self.old.phase ≡ Phase.Message →
-            IfOk result (λ left. as_nanos left ≤ (5 + self.old.moved / 1_048_576) * 1_000_000_000) }
-        ensures rest { self.old.phase ≡ Phase.Rest → IfOk result (λ left. as_nanos left ≤ 2_000_000_000) }
+        ensures within { IfOk result (λ left. as_nanos left ≤ spec.time_for self.old.phase self.old.moved) }
     {
         let now = Instant::now(self.clock)?;
         let begun = *self.begun.get_or_insert(now);
@@ -75,8 +74,7 @@ impl<'a, C: Clock, T: Drop> Paced<'a, C, T> {
 
 /// Returns the whole time of a peer that has moved this many bytes.
 fn time_for(phase: Phase, moved: u64) -> Duration
-    ensures message { phase ≡ Phase.Message → as_nanos result ≡ (5 + moved / 1_048_576) * 1_000_000_000 }
-    ensures rest { phase ≡ Phase.Rest → as_nanos result ≡ 2_000_000_000 }
+    ensures { as_nanos result ≡ spec.time_for phase moved }
 {
     match phase {
         Phase::Message => Duration::from_secs(PATIENCE + moved / BYTES_A_SECOND),

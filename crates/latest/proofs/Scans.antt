@@ -1,12 +1,11 @@
 -- The highest of the first versions of a list.
-use Rattle.std.proofs.Common.{◌≡◌, ◌<◌, ◌+◌, map, not, ℕ, zero, suc, List, [], ◌∷◌, Bool, true, false, refl, sym, ◌∙◌, ap, subst, Option, Some, None, length, inl, inr, ◌⊎◌, arith, get_or}
+use Rattle.std.proofs.Common.{◌≡◌, ◌<◌, ◌+◌, ℕ, zero, suc, List, [], ◌∷◌, Bool, true, false, refl, sym, ◌∙◌, ap, subst, Option, Some, None, length, inl, inr, ◌⊎◌, arith, get_or}
 use Rattle.std.specs.Prelude.{slice_get, unwrap_or}
 use Rattle.std.specs.declared.cmp.Ordering.{Ordering}
 use Rattle.std.specs.declared.cmp.Ordering.TheVariants.{Less, Equal, Greater}
 use Rattle.std.proofs.Math.Nat.{eq-or-lt_of_le}
 use Rattle.std.proofs.lemmas.Bool.{true≢false}
-use Rattle.std.proofs.lemmas.List.{get_or-map}
-use Rattle.gomod.specs.Module.{GoModule, is_retracted}
+use Rattle.gomod.specs.Module.{GoModule}
 use Rattle.modver.specs.Fits.{IsVersionOf}
 use Rattle.modver.specs.Rank.{IsAbove, rank_cmp}
 use Rattle.modver.specs.SemanticVersion.{SemanticVersion}
@@ -34,12 +33,6 @@ pub found : {X : Type 0} (xs : List X) (k : ℕ) (x : X) → k < length xs → g
 found [] k x less e = absurd (omega (arith, less))
 found (y ∷ ys) zero x less e = ap Some e
 found (y ∷ ys) (suc k) x less e = found ys k x (omega (arith, less)) e
-
--- a flag tells whether the version at its index is retracted, and so whether it counts
-pub flag_at : (m : GoModule) (vs : List SemanticVersion) (flags : List Bool) → flags ≡ map (is_retracted m) vs → (index : ℕ) (x : SemanticVersion)
-    → index < length vs → get_or vs index x ≡ x → (b : Bool) → get_or flags index false ≡ b → counts (Some m) x ≡ not b
-flag_at m vs flags e index x less at b is =
-    ap not (ap (is_retracted m) (sym at) ∙ sym (get_or-map (is_retracted m) vs index x false less) ∙ sym (ap (λ l. get_or l index false) e) ∙ is)
 
 -- ---- the scan
 

@@ -1,9 +1,11 @@
 -- The highest of a set of versions, and the latest version of a path.
 -- (Go Modules Reference, "GOPROXY protocol", on `@latest`, and "retract directive".)
-use Rattle.std.specs.Prelude.{ℕ, ◌≡◌, ◌<◌, true, false, Bool, not, List, Option, Some, None, Contains, slice_get}
+use Rattle.std.specs.Prelude.{ℕ, ◌≡◌, ◌<◌, true, false, Bool, not, List, map, Option, Some, None, Contains, slice_get}
 use Rattle.gomod.specs.Module.{GoModule, IsRetracted, is_retracted}
 use Rattle.std.specs.declared.cmp.Ordering.{Ordering}
 use Rattle.std.specs.declared.cmp.Ordering.TheVariants.{Greater}
+use Rattle.latest.specs.declared.Counting.{Counting}
+use Rattle.latest.specs.declared.Counting.TheVariants.{All, NotRetractedBy, Unflagged}
 use Rattle.modver.specs.Fits.{IsVersionOf}
 use Rattle.modver.specs.Rank.{IsAbove, rank_cmp}
 use Rattle.modver.specs.SemanticVersion.{SemanticVersion}
@@ -40,6 +42,13 @@ counts (Some m) v = not (is_retracted m v)
 -- the versions of a list that count
 abbrev pub counting : List SemanticVersion → Option GoModule → Versions
 counting vs m v = Contains vs v × (counts m v ≡ true)
+
+-- a scan counts the versions of a list that a go.mod does not retract, or all of them if there is no go.mod
+abbrev pub CountsBy : List SemanticVersion → Option GoModule → Counting → Type 0
+CountsBy vs None All = Unit {0}
+CountsBy vs (Some m) (NotRetractedBy gomod) = gomod.now ≡ m
+CountsBy vs (Some m) (Unflagged flags) = flags.now ≡ map (is_retracted m) vs
+CountsBy vs _ _ = ⊥
 
 abbrev pub is_greater : Ordering → Bool
 is_greater Greater = true

@@ -13,10 +13,10 @@
 
 pub mod laws;
 
-ghost use Rattle.std.specs.Option.{option_copied};
-ghost use Rattle.std.specs.Prelude.{◌≡◌, ◌<◌, ◌+◌, IfOk, Some, length, map};
-ghost use Rattle.gomod.specs.Module.{GoModule, is_retracted};
-ghost use Rattle.latest.specs.Latest.{IsBest, NamesTop, among, counting, counts, is_higher, unretracted};
+ghost use Rattle.std.specs.Prelude.{◌≡◌, ◌<◌, ◌+◌, IfOk, List, Option, Some, length, slice_get};
+ghost use Rattle.gomod.specs.Module.{GoModule};
+ghost use Rattle.latest.specs.Latest.{CountsBy, IsBest, NamesTop, among, counting, counts, is_higher, unretracted};
+ghost use Rattle.modver.specs.SemanticVersion.{SemanticVersion};
 
 use gomod::GoMod;
 use modver::{Version, rank_compare};
@@ -27,7 +27,7 @@ use std::cmp::Ordering;
 pub fn top(versions: &[Version]) -> Option<usize>
     ensures { NamesTop versions.now (among versions.now) result }
 {
-    top_of_counting(versions, None)
+    top_of(versions, Counting::All)
 }
 
 /// Returns the index of the highest version by rank that a go.mod does not retract, or `None` if it retracts every
@@ -35,7 +35,7 @@ pub fn top(versions: &[Version]) -> Option<usize>
 pub fn latest(versions: &[Version], gomod: &GoMod) -> Option<usize>
     ensures { NamesTop versions.now (unretracted versions.now gomod.now) result }
 {
-    top_of_counting(versions, Some(gomod))
+    top_of(versions, Counting::NotRetractedBy(gomod))
 }
 
 /// Returns the index of the highest version by rank that a go.mod does not retract, or `None` if it retracts every
@@ -49,26 +49,39 @@ pub fn latest_of(
     ensures { IfOk result (λ index. NamesTop versions.now (unretracted versions.now gomod.now) index) }
 {
     let retracted = gomod.retracted(alloc, versions)?;
-    Ok(top_unretracted(versions, &retracted))
+    Ok(top_of(versions, Counting::Unflagged(&retracted)))
 }
 
-/// Whether a version counts: any version if no go.mod is given, and otherwise one that the go.mod does not retract.
-fn counts(retractions: Option<&GoMod>, version: &Version) -> bool
-    ensures { result ≡ counts (option_copied retractions.entry) version.now }
+/// Which versions of a list count.
+#[derive(Clone, Copy, Drop)]
+enum Counting<'a> {
+    All,
+    /// Those that a go.mod does not retract.
+    NotRetractedBy(&'a GoMod),
+    /// Those whose flags are false. The flags are in the order of the versions.
+    Unflagged(&'a [bool]),
+}
+
+/// Whether the version at an index counts.
+fn counts(which: Counting, version: &Version, index: usize) -> bool
+    ensures { (vs : List SemanticVersion) (m : Option GoModule) → CountsBy vs m which.entry
+        → slice_get vs index ≡ Some version.now → result ≡ counts m version.now }
 {
-    match retractions {
-        Some(gomod) => !gomod.retracts(version),
-        None => true,
+    match which {
+        Counting::All => true,
+        Counting::NotRetractedBy(gomod) => !gomod.retracts(version),
+        Counting::Unflagged(flags) => flags.get(index) == Some(&false),
     }
 }
 
 /// Returns the index of the highest version that counts, or `None` if none does.
-fn top_of_counting(versions: &[Version], retractions: Option<&GoMod>) -> Option<usize>
-    ensures { NamesTop versions.now (counting versions.now (option_copied retractions.entry)) result }
+fn top_of(versions: &[Version], which: Counting) -> Option<usize>
+    ensures { (m : Option GoModule) → CountsBy versions.now m which.entry
+        → NamesTop versions.now (counting versions.now m) result }
 {
     let mut highest = None;
     for index in 0..versions.len() {
-        highest = better(versions, retractions, index, highest);
+        highest = better(versions, which, index, highest);
     }
     highest
 }
@@ -77,19 +90,19 @@ fn top_of_counting(versions: &[Version], retractions: Option<&GoMod>) -> Option<
 /// `index`. A version that is not above that one is not compared with the retractions.
 fn better(
     versions: &[Version],
-    retractions: Option<&GoMod>,
+    which: Counting,
     index: usize,
     highest: Option<usize>,
 ) -> Option<usize>
     requires { index < length versions.now }
-    ensures { IsBest versions.now (option_copied retractions.entry) index highest
-        → IsBest versions.now (option_copied retractions.entry) (index + 1) result }
+    ensures { (m : Option GoModule) → CountsBy versions.now m which.entry
+        → IsBest versions.now m index highest → IsBest versions.now m (index + 1) result }
 {
     let version = &versions[index];
     if !is_higher(versions, version, highest) {
         return highest;
     }
-    if !counts(retractions, version) {
+    if !counts(which, version, index) {
         return highest;
     }
     Some(index)
@@ -106,39 +119,4 @@ fn is_higher(versions: &[Version], version: &Version, highest: Option<usize>) ->
             Some(other) => rank_compare(version, other) == Ordering::Greater,
         },
     }
-}
-
-/// Returns the index of the highest version that is not retracted, or `None` if all are.
-fn top_unretracted(versions: &[Version], retracted: &[bool]) -> Option<usize>
-    requires { length retracted.now ≡ length versions.now }
-    ensures { (m : GoModule) → retracted.now ≡ map (is_retracted m) versions.now
-        → NamesTop versions.now (counting versions.now (Some m)) result }
-{
-    let mut highest = None;
-    for next in 0..versions.len() {
-        highest = better_unretracted(versions, retracted, next, highest);
-    }
-    highest
-}
-
-/// Returns the index of the highest version that is not retracted among those up to `index`, from the index of the
-/// highest before `index`.
-fn better_unretracted(
-    versions: &[Version],
-    retracted: &[bool],
-    index: usize,
-    highest: Option<usize>,
-) -> Option<usize>
-    requires { (index < length versions.now) × (length retracted.now ≡ length versions.now) }
-    ensures { (m : GoModule) → retracted.now ≡ map (is_retracted m) versions.now
-        → IsBest versions.now (Some m) index highest → IsBest versions.now (Some m) (index + 1) result }
-{
-    let version = &versions[index];
-    if retracted[index] {
-        return highest;
-    }
-    if !is_higher(versions, version, highest) {
-        return highest;
-    }
-    Some(index)
 }

@@ -11,8 +11,8 @@ use Rattle.engine.specs.Exchange.{Exchange}
 use Rattle.engine.specs.Turn.{StaysNear, ReadsOn, Takes, ReadSoFar, TakesNext, Comes}
 use Rattle.engine.specs.declared.fault.Io.{Io}
 use Rattle.engine.specs.declared.fault.Io.TheVariants as io
+use Rattle.engine.specs.declared.incoming.Incoming.{Incoming}
 use Rattle.engine.specs.declared.incoming.Incoming.TheVariants as incoming
-use Rattle.engine.specs.declared.incoming.Taken.TheVariants as taken
 use Rattle.engine.specs.declared.read.Progress.TheVariants as progress
 use Rattle.engine.proofs.MessageLemmas.{message_shortens}
 use Rattle.engine.proofs.ReadLemmas.{near_few}
@@ -44,17 +44,13 @@ module _
     few = near.few;
   }
 
-  -- if a message is whole, it comes next
-  pub message_comes : (new : Framing) (message : Message) → Takes now (taken.Message message) new
-      → Comes old new reads reads_now u₀ u₁ (Ok (incoming.Message message))
-  message_comes new message (reads_it, sound) =
+  -- what is taken comes next: a message that is whole, or the end if the bytes held can't go on
+  pub taken_comes : (new : Framing) (next : Incoming) → Takes now (Some next) new → Comes old new reads reads_now u₀ u₁ (Ok next)
+  taken_comes new (incoming.Message message) (reads_it, sound) =
       let shorter : length new.held < length now.held = message_shortens now.held (view message) new.held reads_it in
       (far.bytes, far.consumed, far.near, subst (λ (bytes : List ℕ). ReadsMessage bytes (view message) new.held) far.held reads_it, sound, omega (arith, shorter, far.less))
-
-  -- if the bytes held can't go on, the end comes next
-  pub close_comes : (new : Framing) (closing : Fixed) → Takes now (taken.Close closing) new
-      → Comes old new reads reads_now u₀ u₁ (Ok (incoming.End (Some closing)))
-  close_comes new closing (closes, memory) = record {
+  taken_comes new (incoming.End None) none = absurd none
+  taken_comes new (incoming.End (Some closing)) (closes, memory) = record {
     bytes = far.bytes;
     consumed = far.consumed;
     near = far.near;

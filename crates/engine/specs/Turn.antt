@@ -16,18 +16,17 @@ use Rattle.engine.specs.declared.fault.Io.{Io}
 use Rattle.engine.specs.declared.fault.Io.TheVariants as io
 use Rattle.engine.specs.declared.incoming.Incoming.{Incoming}
 use Rattle.engine.specs.declared.incoming.Incoming.TheVariants as incoming
-use Rattle.engine.specs.declared.incoming.Taken.{Taken}
-use Rattle.engine.specs.declared.incoming.Taken.TheVariants as taken
 use Rattle.engine.specs.declared.read.Progress.{Progress}
 use Rattle.engine.specs.declared.read.Progress.TheVariants as progress
 use Rattle.engine.specs.declared.session.Turn.{Turn}
 use Rattle.engine.specs.declared.session.Turn.TheVariants as turn
 
--- what is taken from the front of the held bytes; memory runs out only for a whole message
-abbrev pub Takes : Framing → Taken → Framing → Type 0
-Takes old (taken.Message message) new = ReadsMessage old.held (view message) new.held × (new.failure ≡ None)
-Takes old taken.More new = IsUnfinished old.held × (new ≡ old)
-Takes old (taken.Close closing) new =
+-- what is taken from the front of the held bytes, or nothing if more are needed; memory runs out only for a whole message
+abbrev pub Takes : Framing → Option Incoming → Framing → Type 0
+Takes old None new = IsUnfinished old.held × (new ≡ old)
+Takes old (Some (incoming.Message message)) new = ReadsMessage old.held (view message) new.held × (new.failure ≡ None)
+Takes old (Some (incoming.End None)) new = ⊥
+Takes old (Some (incoming.End (Some closing))) new =
     ((more : List ℕ) → IsClosing (old.held ++ more) (Some closing)) × (closing ≡ fixed.Unavailable → HasMessage old.held)
 
 -- without at most the last `read_limit` bytes that came, the stream was unfinished

@@ -8,16 +8,6 @@ use std::io::Read;
 use wire::reply::Fixed;
 use wire::{Bad, Framer, Message, Next};
 
-/// What the bytes that a framer holds begin with.
-#[derive(Drop)]
-pub(crate) enum Taken {
-    Message(Message),
-    /// No whole message, but maybe the beginning of one.
-    More,
-    /// The stream can't go on, and this reply closes it.
-    Close(Fixed),
-}
-
 /// What comes next on a stream.
 #[derive(Drop)]
 pub(crate) enum Incoming {
@@ -26,22 +16,21 @@ pub(crate) enum Incoming {
     End(Option<Fixed>),
 }
 
-/// Takes the next message from the framer if it holds a whole one, and otherwise returns `More`, or `Close` with the 400, the
-/// 413, or the 503 if memory runs out.
-/// An empty framer is not asked, because every stream begins with one.
-fn take(framer: &mut Framer) -> Taken
+/// Returns the next message if the framer holds a whole one, what closes the stream if it can't go on or memory runs out, and None
+/// if more bytes are needed. It does not ask an empty framer, because every stream begins with one.
+fn take(framer: &mut Framer) -> Option<Incoming>
     requires { framer.old.failure ≡ None }
     ensures { Takes framer.old result framer.new }
 {
     if framer.is_empty() {
-        return Taken::More;
+        return None;
     }
     match framer.next() {
-        Ok(Next::Message(message)) => Taken::Message(message),
-        Ok(Next::NeedMore) => Taken::More,
-        Ok(Next::Bad(Bad::BadRequest)) => Taken::Close(Fixed::BadRequest),
-        Ok(Next::Bad(Bad::TooLarge)) => Taken::Close(Fixed::TooLarge),
-        Err(_) => Taken::Close(Fixed::Unavailable),
+        Ok(Next::Message(message)) => Some(Incoming::Message(message)),
+        Ok(Next::NeedMore) => None,
+        Ok(Next::Bad(Bad::BadRequest)) => Some(Incoming::End(Some(Fixed::BadRequest))),
+        Ok(Next::Bad(Bad::TooLarge)) => Some(Incoming::End(Some(Fixed::TooLarge))),
+        Err(_) => Some(Incoming::End(Some(Fixed::Unavailable))),
     }
 }
 
@@ -56,10 +45,8 @@ pub(crate) fn next_message<R: Read>(
     ensures { Comes framer.old framer.new reads.old reads.new (R.remaining reader.old) (R.remaining reader.new) result }
 {
     loop {
-        match take(framer) {
-            Taken::Message(message) => return Ok(Incoming::Message(message)),
-            Taken::More => {}
-            Taken::Close(closing) => return Ok(Incoming::End(Some(closing))),
+        if let Some(incoming) = take(framer) {
+            return Ok(incoming);
         }
         if *reads == 0 {
             return Err(Io::Read);

@@ -16,7 +16,7 @@
 //!
 //! After a reply [`Peer::end`] shuts the writing side, and reads and drops bytes that came after the message. A system resets a
 //! connection that is closed while bytes of it are unread, and the peer then loses the reply that was on its way. After a 400, a
-//! 413 or a 503, whose request may not have been read to its end, it waits for what is still to come. After any other reply it
+//! 413 or a 503, whose request may be only partly read, it waits for what is still to come. After any other reply it
 //! drops only what is there already, so that a silent peer holds up nobody.
 #![tactic(auto)]
 

@@ -1,5 +1,8 @@
 //! Dropping what a peer sends after its message.
-ghost use Rattle.std.specs.Prelude.{◌≡◌, ◌==◌, ◌||◌};
+ghost use Rattle.std.specs.Prelude.{◌≡◌, ◌==◌, ◌||◌, ℕ, List, Some, true};
+ghost use Rattle.wire.specs.Reply.{fixed_status};
+ghost use Rattle.wire.specs.declared.reply.Fixed.{Fixed};
+ghost use Rattle.engine.specs.Served.{IsClosing};
 
 use crate::bounds::MOST_DROPPED;
 use crate::pace::{Paced, Phase};
@@ -8,9 +11,12 @@ use std::io::{self, Read};
 use std::net::{Shutdown, TcpStream};
 use std::time::{Clock, Duration};
 
-/// Whether the request of a reply with this status may not have been read to its end.
+/// Whether a request that got this status may be only partly read: 400, 413 and 503 also close a stream.
+#[tactic(auto, using(crate::proofs::RestLemmas::closing_leaves))]
 fn leaves_a_rest(status: u16) -> bool
-    ensures { result ≡ (status == 400) || (status == 413) || (status == 503) }
+    ensures exact { result ≡ (status == 400) || (status == 413) || (status == 503) }
+    ensures closing { (rest : List ℕ) (reply : Fixed) → IsClosing rest (Some reply) → status ≡ fixed_status reply
+        → result ≡ true }
 {
     status == 400 || status == 413 || status == 503
 }
@@ -44,8 +50,8 @@ impl<'a> BoundRead for Rest<'a> {
 }
 
 /// Shuts the writing side, and drops what the peer sent after the message that was answered with this status; also what it
-/// still sends if its request may not have been read to its end. Fails if a call of the system fails, or if a read would wait
-/// that may not.
+/// still sends if its request may be only partly read. Fails if a call of the system fails, or if a read would wait that may
+/// not.
 pub(crate) fn drop_rest<C: Clock>(clock: &C, stream: &TcpStream, status: u16) -> io::Result<()> {
     stream.shutdown(Shutdown::Write)?;
     let waits = leaves_a_rest(status);

@@ -36,7 +36,7 @@ pub trait Operator {
     /// The bytes that were sent to it, where they are known.
     ghost written: { Self → Option (List ℕ) };
 
-    /// Carries out its order, as `obey` does. A ping is told this tally.
+    /// Carries out its order, as `obey` does. A ping gets this tally.
     fn obeyed<C: Clock, S: Shelves, K: Copies<S>>(
         &mut self,
         alloc: Global,

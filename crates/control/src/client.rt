@@ -24,16 +24,16 @@ use world::entry::Right;
 /// The most bytes of a health's line without its end. Where each count has the most digits that it can have there are 232.
 const LONGEST_HEALTH: usize = 255;
 
-/// Why an operator was told nothing.
+/// Why no outcome was read.
 #[derive(Clone, Copy, Debug, Drop, PartialEq, Eq)]
 pub enum Untold {
     /// A name, the key or the path of a copy can't stand in a line: it has a space or the end of a line, or it makes the line too long.
     /// Nothing was sent.
     Words,
-    /// There was no memory for the line. Nothing was sent.
+    /// Memory ran out for the line. Nothing was sent.
     Memory,
-    /// The line could not be sent whole, or no outcome was read: none came, what came is the line of none, or memory ran out. Whether the
-    /// order was carried out is not known.
+    /// The line was not sent whole, or no outcome was read: a read failed, the bytes are no outcome's line, or memory ran out. Whether
+    /// the order was carried out is not known.
     Io,
 }
 
@@ -47,7 +47,10 @@ impl From<AllocError> for Untold {
     }
 }
 
-/// Sends an order and returns the outcome that it is answered with.
+/// Sends an order and returns its outcome.
+///
+/// `Untold::Words`: no line can carry the order. `Untold::Memory`: memory ran out for the line. In both cases nothing was sent.
+/// `Untold::Io`: the line was not sent whole, or no outcome was read.
 pub fn ask<R: Read, W: Write>(
     alloc: Global,
     reader: &mut R,
@@ -64,8 +67,10 @@ pub fn ask<R: Read, W: Write>(
     }
 }
 
-/// Orders a copy of the served store to a path, as the server sees it, and returns the outcome that the order is answered with.
-/// `Untold::Words`: the path has a space or the end of a line, or more than 4,090 bytes, and nothing was sent.
+/// Orders a copy of the served store to a path, as the server sees it, and returns the outcome.
+///
+/// `Untold::Words`: the path has a space or the end of a line, or more than 4,090 bytes. `Untold::Memory`: memory ran out for the
+/// line. In both cases nothing was sent. `Untold::Io`: the line was not sent whole, or no outcome was read.
 pub fn ask_to_copy<R: Read, W: Write>(
     alloc: Global,
     reader: &mut R,
@@ -82,7 +87,8 @@ pub fn ask_to_copy<R: Read, W: Write>(
     }
 }
 
-/// Has the server end, and returns what it tells: `Outcome::Stopping` if it does. It fails with `Untold::Io` alone.
+/// Orders the server to end, and returns the outcome: `Outcome::Stopping` if it ends. Fails only with `Untold::Io`: the line was not
+/// sent whole, or no outcome was read.
 pub fn ask_to_stop<R: Read, W: Write>(
     alloc: Global,
     reader: &mut R,
@@ -97,8 +103,8 @@ pub fn ask_to_stop<R: Read, W: Write>(
     }
 }
 
-/// Asks for the health of the server, and returns what it tells: the line of a health, or an outcome if it tells none. It fails with
-/// `Untold::Io` alone, also where what came is neither.
+/// Asks for the health of the server, and returns its line, or an outcome if the server sends one instead. Fails only with
+/// `Untold::Io`: the line was not sent whole, or neither a health nor an outcome was read.
 pub fn ask_for_health<R: Read, W: Write>(
     alloc: Global,
     reader: &mut R,

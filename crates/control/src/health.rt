@@ -35,7 +35,7 @@ impl Health {
     }
 }
 
-/// The line of a health that the bytes are, or None if they are none, or for want of memory.
+/// Returns the bytes as a text if they are the line of a health, and None otherwise or if memory runs out.
 pub(crate) fn health_line_in(alloc: Global, got: &[u8]) -> Option<Text>
     ensures same { IfSome result (λ line. line ≡ got.now) }
     ensures health { IfSome result IsHealthLine }

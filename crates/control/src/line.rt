@@ -30,15 +30,17 @@ impl From<AllocError> for Unread {
     }
 }
 
-/// Reads to the end of a line, and no further than what comes with it in one read: fewer bytes only if nothing more comes, or the
-/// line is too long for an order's.
+/// Reads a line of at most `LONGEST_COPY` bytes, with what comes behind its end in the same read, and returns the bytes. They may
+/// have no end of a line if the stream ends, or if the line is longer. Fails with `Io` if a read fails or `TRIES` reads do not end
+/// the line, and with `Memory` if memory runs out.
 pub(crate) fn read_line<R: Read>(alloc: Global, reader: &mut R) -> Result<Vec<u8>, Unread>
     ensures { IfOk result (λ got. spec.ReadsLine (R.remaining reader.old) (R.remaining reader.new) got.items) }
 {
     read_to(alloc, reader, LONGEST_COPY)
 }
 
-/// Reads so to the end of a line of so many bytes at most.
+/// Reads until a line ends, more than `most` bytes came or the stream ends, and returns the bytes. Fails with `Io` if a read fails
+/// or `TRIES` reads are not enough, and with `Memory` if memory runs out.
 pub(crate) fn read_to<R: Read>(
     alloc: Global,
     reader: &mut R,

@@ -17,10 +17,11 @@ use std::io::{Read, Write};
 use world::registry::StoreFault;
 use world::shelves::Shelves;
 
-/// Reads an operator's line, carries out the order that it is, and writes and returns what came of it. A copy is made by `copies`.
-/// `Outcome::Stopping`: the operator wants the server to end. `Told::Health`: the line is a ping, and is told the tally, the failures
-/// of the store and the versions that `copies` counts. `Outcome::Failed(StoreFault::Memory)` also means that there was no memory for
-/// the line, and that nothing was done.
+/// Reads an operator's line, does what it orders, and writes and returns what came of it; `copies` makes copies.
+///
+/// `Outcome::Stopping`: the server is to end. `Told::Health`: the line is a ping, which gets the tally, the failures of the store and
+/// the versions that `copies` counts. `Outcome::Failed(StoreFault::Memory)` also means that memory ran out for the line, and that
+/// nothing was done.
 ///
 /// `Io::Read`: nothing was done, and nothing written. `Io::Write`: a beginning of the line was written, and not all; the shelves are
 /// as after the order.
@@ -44,7 +45,8 @@ pub fn obey<R: Read, W: Write, S: Shelves, K: Copies<S>>(
     }
 }
 
-/// Reads a line and carries out the order that it is.
+/// Reads a line, does what it orders, and returns what the operator gets. Fails with `Io::Read` if the line can't be read, and then
+/// nothing was done.
 fn hear<R: Read, S: Shelves, K: Copies<S>>(
     alloc: Global,
     reader: &mut R,
@@ -62,7 +64,7 @@ fn hear<R: Read, S: Shelves, K: Copies<S>>(
     }
 }
 
-/// Carries out the order that the bytes are, if they are one's.
+/// Does what a line orders, and returns what the operator gets: `Outcome::Bad` if the line is no order.
 fn heed<S: Shelves, K: Copies<S>>(
     alloc: Global,
     got: &[u8],

@@ -5,10 +5,10 @@ ghost use Rattle.control.specs.Outcome as spec;
 use crate::copies::CopyRefusal;
 use world::registry::{Registered, StoreFault};
 
-/// What an operator is told.
+/// What came of an order.
 #[derive(Clone, Copy, Debug, Drop, PartialEq, Eq)]
 pub enum Outcome {
-    /// The machine's reply to the order; only `Done` changed anything. `Done` also tells of a copy that was made.
+    /// The machine's reply to the order; only `Done` changed anything. `Done` also means that a copy was made.
     Registered(Registered),
     /// A disk failed, the file of a copy can't be opened, or memory ran out, for the order or already for its line. Nothing was changed.
     Failed(StoreFault),

@@ -1,4 +1,4 @@
-//! What a ping is told.
+//! What a ping gets.
 ghost use Rattle.std.specs.Prelude.{◌≡◌};
 ghost use Rattle.control.specs.Pinging.{Pings, IsLineFor};
 
@@ -11,8 +11,8 @@ use std::alloc::Global;
 use world::registry::StoreFault;
 use world::shelves::Shelves;
 
-/// The health of the server as a ping is told it: the tally, the failures of the store, and the versions that it keeps. Nothing is
-/// done to the store: its versions are counted.
+/// Counts the versions that the store keeps, and returns what a ping gets: the line of the health, with the tally and the failures of
+/// the store. Returns `Outcome::Failed` if the count fails or memory runs out for the line.
 pub(crate) fn ping<S: Shelves, K: Copies<S>>(
     alloc: Global,
     tally: &Tally,
@@ -34,7 +34,7 @@ pub(crate) fn ping<S: Shelves, K: Copies<S>>(
     }
 }
 
-/// What is told of a health: its line, or `Memory` where there is none for it.
+/// Returns the line of a health, or `Outcome::Failed(StoreFault::Memory)` if memory runs out for it.
 fn tell(alloc: Global, health: &Health) -> Told
     ensures { IsLineFor health.now result }
 {

@@ -16,12 +16,12 @@ use std::time::Clock;
 use wire::RouteTable;
 use world::shelves::Shelves;
 
-/// Takes so many connections of peers, one after another, and answers on each the first message that comes over it; the orders of
-/// operators who come between them are carried out, a copy by `copies`, and do not count. A ping is told how the connections since the
-/// begin were answered, which was at `since`. It returns after the last of the peers, or once an operator who wants it to end was told
-/// so, and waits for each caller as long as it takes.
+/// Takes `connections` connections of peers, one after another, and answers the first message on each. Between them it carries out
+/// the orders of operators, who do not count; `copies` makes their copies. A ping gets the counts of the connections since the
+/// server began, which was at `since`. It waits for the next caller as long as that takes. It returns after the last peer, or once
+/// `Stopping` was written to an operator.
 ///
-/// A connection of a peer that fails counts. So does one that can't be taken, an operator's too, so a server without descriptors ends.
+/// A connection counts even if it fails. One that can't be taken counts too, even an operator's, so a server without descriptors ends.
 pub fn serve_both<
     C: Clock,
     P: Peer + Drop,
@@ -70,7 +70,7 @@ pub fn serve_both<
     }
 }
 
-/// Answers one request of a peer, ends its connection, and returns what became of it.
+/// Answers the first message of a peer, ends the connection if that wrote a status, and returns the result of `Peer::answer`.
 fn answer_on<C: Clock, P: Peer, S: Shelves>(
     alloc: Global,
     clock: &C,
@@ -87,7 +87,7 @@ fn answer_on<C: Clock, P: Peer, S: Shelves>(
     answered
 }
 
-/// Carries out one order of an operator, and returns whether that is to end. What fails on the connection is told to nobody.
+/// Carries out one order of an operator, and returns whether the server is to end. Ignores failures of the connection.
 fn obey_on<C: Clock, O: Operator, S: Shelves, K: Copies<S>>(
     alloc: Global,
     clock: &C,
@@ -102,7 +102,7 @@ fn obey_on<C: Clock, O: Operator, S: Shelves, K: Copies<S>>(
     is_stopping(told)
 }
 
-/// Whether an operator was told that the server ends.
+/// Whether `Stopping` was written to an operator.
 fn is_stopping(told: Result<Told, Io>) -> bool
     ensures { IsTrue result ↔ (told ≡ Ok (Told.Outcome Outcome.Stopping)) }
 {

@@ -1,9 +1,9 @@
 -- Lines among bytes.
-use Rattle.std.proofs.Common.{◌≡◌, ◌≢◌, ℕ, ◌-◌, ◌+◌, nat_eq, Bool, true, false, List, [], ◌∷◌, ◌++◌, length, get_or, take, drop, sym, subst, ◌∙◌, Option, Some, MatchOption}
+use Rattle.std.proofs.Common.{◌≡◌, ◌≢◌, ℕ, ◌-◌, ◌+◌, nat_eq, Bool, true, false, IsTrue, ◌↔◌, List, [], ◌∷◌, ◌++◌, length, get_or, take, drop, arith, refl, sym, subst, ◌∙◌, Option, Some, MatchOption}
 use denote.Ref.{Bor}
 use Rattle.std.specs.List.{Contains, IsAnyAnswer}
 use Rattle.std.proofs.Math.Dec.{eqb}
-use Rattle.std.proofs.lemmas.Bool.{false≢true, eqb-true}
+use Rattle.std.proofs.lemmas.Bool.{false≢true, eqb-true, eqb-false}
 use Rattle.std.specs.Cmp.{unsigned_Decides}
 use Rattle.std.specs.Cmp.Lexicographic.{pointwise}
 use Rattle.std.proofs.lemmas.Slice.Eq.{strip_suffix_is}
@@ -37,7 +37,8 @@ no_text most got line is none other holds = none (subst IsUtf8 (one_line got lin
 pub no_line : (got : List ℕ) → HoldsNoLine longest got → IsNoOrder got
 no_line got none order sent = none sent.line sent.ends
 
--- bytes in which a search found a byte contain it
-pub has_byte : (x : ℕ) (bytes : List ℕ) (r : Bool) → IsAnyAnswer (λ y b. eqb y x ≡ b) bytes r → r ≡ true → Contains bytes x
-has_byte x bytes true found is = (found.0, found.1, eqb-true (get_or bytes found.0 x) x (found.2 x))
-has_byte x bytes false found is = absurd (false≢true is)
+-- a search finds a byte just if the bytes contain it
+pub has_byte : (x : ℕ) (bytes : List ℕ) (r : Bool) → IsAnyAnswer (λ y b. eqb y x ≡ b) bytes r → IsTrue r ↔ Contains bytes x
+has_byte x bytes true found = (λ is. (found.0, found.1, eqb-true (get_or bytes found.0 x) x (found.2 x)), λ there. refl)
+has_byte x bytes false none =
+    (λ is. absurd (false≢true is), λ there. absurd (eqb-false (get_or bytes there.0 x) x (none there.0 x (omega arith) there.1) there.2))

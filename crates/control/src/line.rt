@@ -76,7 +76,7 @@ fn read_on<R: Read>(reader: &mut R, got: &mut Vec<u8>, most: usize) -> Result<bo
 
 /// Whether a line ends in these bytes, or would be too long.
 fn is_enough(bytes: &[u8], most: usize) -> bool
-    ensures { IsTrue result → spec.HasEnough most bytes.now }
+    ensures { IsTrue result ↔ spec.HasEnough most bytes.now }
 {
     bytes.len() > most || bytes.contains(&b'\n')
 }

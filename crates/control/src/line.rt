@@ -109,7 +109,7 @@ pub(crate) fn is_ping(got: &[u8]) -> bool
     got == b"ping\n".as_slice()
 }
 
-/// The order whose line the bytes are, or None if they are no order's.
+/// Returns the order whose line the bytes are, or None if they are no order's.
 pub(crate) fn order_in(got: &[u8]) -> Option<Order<'_>>
     ensures { MatchOption result (spec.IsNoOrder got.now) (λ order. spec.IsSent got.now order) }
 {

@@ -36,11 +36,11 @@ pub fn order_of<'a>(line: &'a str) -> Option<Order<'a>>
     ensures { MatchOption result (spec.OrdersNothing line.now) (λ order. spec.Orders line.now order) }
 {
     let words = words_of(line)?;
-    order_in(&words)
+    order_of_words(&words)
 }
 
 /// Returns the order that the words say, or None if they say none.
-fn order_in<'a>(words: &Words<'a>) -> Option<Order<'a>>
+fn order_of_words<'a>(words: &Words<'a>) -> Option<Order<'a>>
     ensures { MatchOption result (spec.SaysNoOrder (said words.now)) (λ order. said words.now ≡ spec.said_in order) }
 {
     match words.second {

@@ -43,7 +43,7 @@ no_word : (word : List ℕ) → is_word word ≡ true → (order : Order) → ¬
 no_word word passes order sent =
     let said = said_in order in
     let line = one_line (word ++ line_end ∷ []) word sent.line refl sent.ends in
-    let words : is_word (said.verb ++ space ∷ (said.first ++ behind said.second)) ≡ true = ap is_word (sym sent.orders.is ∙ line) ∙ passes in
+    let words : is_word (said.verb ++ space ∷ (said.first ++ behind said.second)) ≡ true = ap is_word (sym sent.says.is ∙ line) ∙ passes in
     never (is_word said.verb) (sym (list_all-append is_word_byte said.verb (space ∷ (said.first ++ behind said.second))) ∙ words)
 
 -- ---- nor one that orders a copy
@@ -62,14 +62,14 @@ no_copy : (sent path : List ℕ) (order : Order) → IsSent sent order → ¬ Is
 no_copy sent path order orders copies =
     let line = one_line sent orders.line copies.line orders.ends.is copies.ends in
     no_copy_words path order
-    (one_saying orders.line (copy_words path) (said_in order) (subst (λ l. IsTextOf l (copy_words path)) line copies.says) orders.orders)
+    (one_saying orders.line (copy_words path) (said_in order) (subst (λ l. IsTextOf l (copy_words path)) line copies.says) orders.says)
 
 -- ---- one order
 
 -- the bytes order one event
 same_event : (got : List ℕ) (one two : Order) → IsSent got one → IsSent got two → event_of one ≡ event_of two
 same_event got one two first second =
-    one_event first.line one two first.orders (subst (λ l. Orders l two) (one_line got first.line second.line first.ends.is second.ends) second.orders)
+    one_event first.line one two first.says (subst (λ l. Orders l two) (one_line got first.line second.line first.ends.is second.ends) second.says)
 
 abbrev registered_in : Reply → Registered
 registered_in (Registry r) = r

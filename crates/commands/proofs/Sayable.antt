@@ -128,7 +128,7 @@ carried a b c order verb first second room =
       record {
         line = line_of order;
         ends = record { is = refl; few = omega (arith, counted, rest_counted, few_verb, few_first, few_second, room); text = IsUtf8-from_ascii (line_of order) ascii };
-        orders = record { is = refl; words = and_from _ _ verb.says (and_from _ _ first.says (if_says c s.second second)) };
+        says = record { is = refl; words = and_from _ _ verb.says (and_from _ _ first.says (if_says c s.second second)) };
       },
     )
 

@@ -2,14 +2,13 @@
 use Rattle.std.proofs.Common.{◌≡◌, ℕ, List, Option, Some, None, Result, Ok, Err, MatchOption, sym, ap, subst}
 use Rattle.std.specs.Prelude.{option_copied, IfOk, IfErr}
 use denote.Ref.{Bor}
-use Rattle.control.specs.Asking.{IsUnwritten, IsUnsent}
-use Rattle.control.specs.Line.{IsLine, IsSaid, IsSent, IsNoCopy, CopiesNothing, SaysNoCopy, copy_words, longest, longest_copy}
-use Rattle.control.specs.Order.{two, said_in}
+use Rattle.control.specs.Asking.{AsksBy, IsUnwritten, Sends}
+use Rattle.control.specs.Line.{IsLine, IsSaid, IsNoCopy, CopiesNothing, SaysNoCopy, copy_words, longest_copy}
+use Rattle.control.specs.Order.{two}
 use Rattle.control.specs.Words.{Said, said, IsTextOf, HasNoWords}
 use Rattle.control.specs.declared.words.Words.{Words}
 use Rattle.control.specs.declared.client.Untold.{Untold}
-use Rattle.control.specs.declared.client.Untold.TheVariants as untold
-use Rattle.control.specs.declared.order.Order.{Order}
+use Rattle.control.specs.declared.outcome.Outcome.{Outcome}
 use Rattle.control.proofs.LineLemmas.{one_line}
 use Rattle.control.proofs.WordLemmas.{one_saying}
 
@@ -42,7 +41,7 @@ pub no_copy : (got line : List ℕ) → IsLine longest_copy got line → CopiesN
 no_copy got line holds nothing path says =
     nothing path (subst (λ l. IsTextOf l (copy_words path)) (one_line got line says.line holds.is says.ends) says.says)
 
--- ---- the line of an order is the one that says its words
+-- ---- the line of equal words
 
 -- what holds of words holds of equal words
 module _ {V : Type 0} (items : V → List ℕ) (most : ℕ) (s t : Said) (is : s ≡ t) where
@@ -53,18 +52,10 @@ pub err_unwritten : {V : Type 0} (most : ℕ) (s t : Said) → s ≡ t → (r : 
     → IfErr r (λ why. IsUnwritten most t why)
 err_unwritten most s t is r = subst (λ u. IfErr r (λ why. IsUnwritten most u why)) is
 
-sent_unwritten : (order : Order) (why : Untold) → IsUnwritten longest (said_in order) why → IsUnsent order why
-sent_unwritten order untold.Words none = λ sent is. none sent (record { line = is.line; ends = is.ends; says = is.orders })
-sent_unwritten order untold.Memory none = tt
-sent_unwritten order untold.Io never = never
+-- ---- a line was sent
 
-module _ {V : Type 0} (items : V → List ℕ) (order : Order) (s : Said) (is : s ≡ said_in order) where
-  pub ok_sent : (r : Result V Untold) → IfOk r (λ v. IsSaid longest (items v) s) → IfOk r (λ v. IsSent (items v) order)
-  ok_sent (Ok v) said =
-      let so = subst (IsSaid longest (items v)) is said in record { line = so.line; ends = so.ends; orders = so.says }
-  ok_sent (Err why) said = tt
-
-pub err_unsent : {V : Type 0} (order : Order) (s : Said) → s ≡ said_in order → (r : Result V Untold) → IfErr r (λ why. IsUnwritten longest s why)
-    → IfErr r (λ why. IsUnsent order why)
-err_unsent order s is (Ok v) none = tt
-err_unsent order s is (Err why) none = sent_unwritten order why (subst (λ t. IsUnwritten longest t why) is none)
+-- what was sent is such a line
+pub asks_by : (is_line : List ℕ → Type 0) (u u' w w' : Option (List ℕ)) (line : List ℕ) (told : Result Outcome Untold) → is_line line
+    → Sends u u' w w' line told → AsksBy is_line u u' w w' told
+asks_by is_line u u' w w' line (Ok told) is sends = (line, is, sends.0, sends.1)
+asks_by is_line u u' w w' line (Err why) is (same, sends) = subst (λ x. AsksBy is_line u u' w w' (Err x)) (sym same) (line, is, sends)

@@ -3,7 +3,8 @@ use Rattle.std.specs.Prelude.{ℕ, ◌≡◌, ◌⊎◌, List, Option, Result, O
 use Rattle.std.specs.Io.KnownBytes.{Consumes, Appends, Keeps}
 use Rattle.engine.specs.Written.{WritesBeginning}
 use Rattle.control.specs.Health.{IsHealthLine}
-use Rattle.control.specs.Line.{IsSaid, IsSent, IsCopyTo, ping_line, stop_line}
+use Rattle.control.specs.Line.{IsSaid, IsSent, IsCopyTo, longest, ping_line, stop_line}
+use Rattle.control.specs.Order.{said_in}
 use Rattle.control.specs.Outcome.{line_of}
 use Rattle.control.specs.Told.{line_told}
 use Rattle.control.specs.Words.{Said}
@@ -14,19 +15,13 @@ use Rattle.control.specs.declared.outcome.Outcome.{Outcome}
 use Rattle.control.specs.declared.told.Told.{Told}
 use Rattle.control.specs.declared.told.Told.TheVariants as spoken
 
--- no bytes are a line of this order
-abbrev pub IsUnsayable : Order → Type 0
-IsUnsayable order = (sent : List ℕ) → ¬ IsSent sent order
-
--- why there is no line of the order
-abbrev pub IsUnsent : Order → Untold → Type 0
-IsUnsent order Words = IsUnsayable order
-IsUnsent order Memory = Unit {0}
-IsUnsent order Io = ⊥
-
 -- no bytes are a line of these words, of so many bytes at most
 abbrev pub IsUnsaid : ℕ → Said → Type 0
 IsUnsaid most s = (sent : List ℕ) → ¬ IsSaid most sent s
+
+-- no bytes are a line of this order
+abbrev pub IsUnsayable : Order → Type 0
+IsUnsayable order = IsUnsaid longest (said_in order)
 
 -- why there is no line of the words
 abbrev pub IsUnwritten : ℕ → Said → Untold → Type 0
@@ -39,35 +34,41 @@ abbrev pub TellsOutcome : Option (List ℕ) → Option (List ℕ) → Result Out
 TellsOutcome unread unread_new (Ok told) = Consumes unread unread_new (line_of told)
 TellsOutcome unread unread_new (Err e) = e ≡ Io
 
--- The line of the order was sent, and the line of the outcome came. Or nothing was sent, because the order has no line or memory
--- ran out. Or the line was sent, or a beginning of it, and no outcome came.
+-- This line was sent, and the line of the outcome came. Or it was sent, or a beginning of it, and no outcome came.
+abbrev pub Sends :
+    Option (List ℕ) → Option (List ℕ) → Option (List ℕ) → Option (List ℕ) → List ℕ → Result Outcome Untold → Type 0
+Sends unread unread_new written written_new line (Ok told) =
+    Appends written written_new line × Consumes unread unread_new (line_of told)
+Sends unread unread_new written written_new line (Err why) =
+    (why ≡ Io) × (WritesBeginning written written_new line ⊎ Appends written written_new line)
+
+-- Such a line was sent, and the line of the outcome came. Or nothing was sent, because no bytes are such a line or memory ran out. Or
+-- the line was sent, or a beginning of it, and no outcome came.
+abbrev pub AsksBy :
+    (List ℕ → Type 0) → Option (List ℕ) → Option (List ℕ) → Option (List ℕ) → Option (List ℕ) → Result Outcome Untold → Type 0
+AsksBy is_line unread unread_new written written_new (Ok told) =
+    (sent : List ℕ) × is_line sent × Appends written written_new sent × Consumes unread unread_new (line_of told)
+AsksBy is_line unread unread_new written written_new (Err Words) = ((sent : List ℕ) → ¬ is_line sent) × Keeps written written_new
+AsksBy is_line unread unread_new written written_new (Err Memory) = Keeps written written_new
+AsksBy is_line unread unread_new written written_new (Err Io) =
+    (sent : List ℕ) × is_line sent × (WritesBeginning written written_new sent ⊎ Appends written written_new sent)
+
+-- so it was with the line of the order
 abbrev pub Asks :
     Option (List ℕ) → Option (List ℕ) → Option (List ℕ) → Option (List ℕ) → Order → Result Outcome Untold → Type 0
-Asks unread unread_new written written_new order (Ok told) =
-    (sent : List ℕ) × IsSent sent order × Appends written written_new sent × Consumes unread unread_new (line_of told)
-Asks unread unread_new written written_new order (Err Words) = IsUnsayable order × Keeps written written_new
-Asks unread unread_new written written_new order (Err Memory) = Keeps written written_new
-Asks unread unread_new written written_new order (Err Io) =
-    (sent : List ℕ) × IsSent sent order × (WritesBeginning written written_new sent ⊎ Appends written written_new sent)
+Asks unread unread_new written written_new order told =
+    AsksBy (λ sent. IsSent sent order) unread unread_new written written_new told
 
--- `Asks`, with the line that orders a copy to a path in place of an order's.
+-- so it was with the line that orders a copy to the path
 abbrev pub AsksToCopy :
     Option (List ℕ) → Option (List ℕ) → Option (List ℕ) → Option (List ℕ) → List ℕ → Result Outcome Untold → Type 0
-AsksToCopy unread unread_new written written_new path (Ok told) =
-    (sent : List ℕ) × IsCopyTo sent path × Appends written written_new sent × Consumes unread unread_new (line_of told)
-AsksToCopy unread unread_new written written_new path (Err Words) =
-    ((sent : List ℕ) → ¬ IsCopyTo sent path) × Keeps written written_new
-AsksToCopy unread unread_new written written_new path (Err Memory) = Keeps written written_new
-AsksToCopy unread unread_new written written_new path (Err Io) =
-    (sent : List ℕ) × IsCopyTo sent path × (WritesBeginning written written_new sent ⊎ Appends written written_new sent)
+AsksToCopy unread unread_new written written_new path told =
+    AsksBy (λ sent. IsCopyTo sent path) unread unread_new written written_new told
 
--- The line that ends the server was sent, and the line of the outcome came. Or it was sent, or a beginning of it, and none came.
+-- the line that ends the server was sent as `Sends` says
 abbrev pub AsksToStop :
     Option (List ℕ) → Option (List ℕ) → Option (List ℕ) → Option (List ℕ) → Result Outcome Untold → Type 0
-AsksToStop unread unread_new written written_new (Ok told) =
-    Appends written written_new stop_line × Consumes unread unread_new (line_of told)
-AsksToStop unread unread_new written written_new (Err why) =
-    (why ≡ Io) × (WritesBeginning written written_new stop_line ⊎ Appends written written_new stop_line)
+AsksToStop unread unread_new written written_new told = Sends unread unread_new written written_new stop_line told
 
 -- an outcome, or the line of a health and nothing else
 abbrev pub IsTold : Told → Type 0
@@ -79,7 +80,7 @@ abbrev pub TellsHealth : Option (List ℕ) → Option (List ℕ) → Result Told
 TellsHealth unread unread_new (Ok told) = IsTold told × Consumes unread unread_new (line_told told)
 TellsHealth unread unread_new (Err e) = e ≡ Io
 
--- So it was with the line that asks for the health of the server.
+-- The line that asks for the health was sent, and a line came as `TellsHealth` says. Or it was sent, or a beginning of it, and none came.
 abbrev pub AsksForHealth :
     Option (List ℕ) → Option (List ℕ) → Option (List ℕ) → Option (List ℕ) → Result Told Untold → Type 0
 AsksForHealth unread unread_new written written_new (Ok told) =

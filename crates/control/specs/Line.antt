@@ -2,7 +2,7 @@
 use Rattle.std.specs.Prelude.{ℕ, ◌≡◌, ◌≢◌, ◌<◌, ◌≤◌, ◌⊎◌, ◌++◌, ◌∷◌, Bool, IsTrue, List, [], length, codes, Contains, Option}
 use Rattle.std.specs.Str.{IsUtf8}
 use Rattle.std.specs.Io.KnownBytes.{Consumes, IsAtEnd}
-use Rattle.control.specs.Order.{Orders, two}
+use Rattle.control.specs.Order.{said_in, two}
 use Rattle.control.specs.Words.{Said, IsTextOf, line_end}
 use Rattle.control.specs.declared.order.Order.{Order}
 
@@ -23,21 +23,19 @@ pub record IsLine (most : ℕ) (got line : List ℕ) : Type 0 where
 abbrev pub HoldsNoLine : ℕ → List ℕ → Type 0
 HoldsNoLine most got = (line : List ℕ) → ¬ IsLine most got line
 
--- The bytes are the line of an order.
-pub record IsSent (got : List ℕ) (order : Order) : Type 0 where
-  pub line : List ℕ
-  pub ends : IsLine longest got line
-  pub orders : Orders line order
-
--- the bytes are no line of an order
-abbrev pub IsNoOrder : List ℕ → Type 0
-IsNoOrder got = (order : Order) → ¬ IsSent got order
-
 -- The bytes are a line of these words.
 pub record IsSaid (most : ℕ) (got : List ℕ) (s : Said) : Type 0 where
   pub line : List ℕ
   pub ends : IsLine most got line
   pub says : IsTextOf line s
+
+-- the bytes are the line of an order
+abbrev pub IsSent : List ℕ → Order → Type 0
+IsSent got order = IsSaid longest got (said_in order)
+
+-- the bytes are no line of an order
+abbrev pub IsNoOrder : List ℕ → Type 0
+IsNoOrder got = (order : Order) → ¬ IsSent got order
 
 -- the words that order a copy to a path
 abbrev pub copy_words : List ℕ → Said

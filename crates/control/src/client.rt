@@ -1,8 +1,8 @@
 //! The operator's side.
 ghost use Rattle.std.specs.Prelude.{◌≡◌, ◌++◌, ◌∷◌, [], IfOk, IfErr, IfSome, OnOk, option_copied};
 ghost use Rattle.control.specs.Asking.{Asks, AsksForHealth, AsksToCopy, AsksToStop};
-ghost use Rattle.control.specs.Asking.{IsUnsent, IsUnwritten, TellsOutcome, TellsHealth, IsTold};
-ghost use Rattle.control.specs.Line.{IsCopyTo, IsSaid, IsSent, copy_words, longest_copy};
+ghost use Rattle.control.specs.Asking.{IsUnwritten, Sends, TellsOutcome, TellsHealth, IsTold};
+ghost use Rattle.control.specs.Line.{IsCopyTo, IsSaid, IsSent, copy_words, longest, longest_copy};
 ghost use Rattle.control.specs.Order as spec;
 ghost use Rattle.control.specs.Order.{said_in};
 ghost use Rattle.control.specs.Outcome.{line_of};
@@ -11,7 +11,7 @@ ghost use Rattle.control.specs.Words.{said, text_of, behind, line_end};
 
 use crate::copy_line::words_to_copy;
 use crate::health::health_line_in;
-use crate::line::{LONGEST, LONGEST_COPY, line_in, read_line, read_to};
+use crate::line::{LONGEST, LONGEST_COPY, PING_LINE, STOP_LINE, line_in, read_line, read_to};
 use crate::order::Order;
 use crate::outcome::Outcome;
 use crate::told::Told;
@@ -61,10 +61,7 @@ pub fn ask<R: Read, W: Write>(
         (W.contents writer.old) (W.contents writer.new) order.now result }
 {
     let line = line_to_send(alloc, order)?;
-    match write_bytes(writer, &line) {
-        Ok(()) => hear_outcome(alloc, reader),
-        Err(_) => Err(Untold::Io),
-    }
+    send(alloc, reader, writer, &line)
 }
 
 /// Orders a copy of the served store to a path, as the server sees it, and returns the outcome.
@@ -81,10 +78,7 @@ pub fn ask_to_copy<R: Read, W: Write>(
         (W.contents writer.old) (W.contents writer.new) path.now result }
 {
     let line = copy_to_send(alloc, path)?;
-    match write_bytes(writer, &line) {
-        Ok(()) => hear_outcome(alloc, reader),
-        Err(_) => Err(Untold::Io),
-    }
+    send(alloc, reader, writer, &line)
 }
 
 /// Orders the server to end, and returns the outcome: `Outcome::Stopping` if it ends. Fails only with `Untold::Io`: the line was not
@@ -97,10 +91,7 @@ pub fn ask_to_stop<R: Read, W: Write>(
     ensures { AsksToStop (R.remaining reader.old) (R.remaining reader.new)
         (W.contents writer.old) (W.contents writer.new) result }
 {
-    match write_bytes(writer, b"stop\n") {
-        Ok(()) => hear_outcome(alloc, reader),
-        Err(_) => Err(Untold::Io),
-    }
+    send(alloc, reader, writer, STOP_LINE)
 }
 
 /// Asks for the health of the server, and returns its line, or an outcome if the server sends one instead. Fails only with
@@ -113,8 +104,24 @@ pub fn ask_for_health<R: Read, W: Write>(
     ensures { AsksForHealth (R.remaining reader.old) (R.remaining reader.new)
         (W.contents writer.old) (W.contents writer.new) result }
 {
-    match write_bytes(writer, b"ping\n") {
+    match write_bytes(writer, PING_LINE) {
         Ok(()) => hear_health(alloc, reader),
+        Err(_) => Err(Untold::Io),
+    }
+}
+
+/// Sends a line and returns the outcome. Fails only with `Untold::Io`: the line was not sent whole, or no outcome was read.
+fn send<R: Read, W: Write>(
+    alloc: Global,
+    reader: &mut R,
+    writer: &mut W,
+    line: &[u8],
+) -> Result<Outcome, Untold>
+    ensures { Sends (R.remaining reader.old) (R.remaining reader.new)
+        (W.contents writer.old) (W.contents writer.new) line.now result }
+{
+    match write_bytes(writer, line) {
+        Ok(()) => hear_outcome(alloc, reader),
         Err(_) => Err(Untold::Io),
     }
 }
@@ -122,7 +129,7 @@ pub fn ask_for_health<R: Read, W: Write>(
 /// The line of an order with its end.
 fn line_to_send(alloc: Global, order: &Order) -> Result<Vec<u8>, Untold>
     ensures ok { IfOk result (λ line. IsSent line.items order.now) }
-    ensures err { IfErr result (λ why. IsUnsent order.now why) }
+    ensures err { IfErr result (λ why. IsUnwritten longest (said_in order.now) why) }
 {
     let words = words_in(order);
     line_saying(alloc, &words, LONGEST)

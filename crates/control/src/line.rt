@@ -12,6 +12,12 @@ pub(crate) const LONGEST: usize = 127;
 /// The most bytes of the line that orders a copy, without its end: it names a file.
 pub(crate) const LONGEST_COPY: usize = 4_095;
 
+/// The line that ends the server.
+pub(crate) const STOP_LINE: &[u8] = b"stop\n";
+
+/// The line that asks for the health of the server.
+pub(crate) const PING_LINE: &[u8] = b"ping\n";
+
 /// The most reads of one line, interrupted ones included.
 const TRIES: u32 = 1_000;
 
@@ -95,18 +101,18 @@ pub(crate) fn line_in(got: &[u8], most: usize) -> Option<&str>
     }
 }
 
-/// Whether the bytes are the line that ends the server.
+/// Whether the bytes are `STOP_LINE`.
 pub(crate) fn is_stop(got: &[u8]) -> bool
     ensures { IsTrue result ↔ (got.now ≡ spec.stop_line) }
 {
-    got == b"stop\n".as_slice()
+    got == STOP_LINE
 }
 
-/// Whether the bytes are the line that asks for the health of the server.
+/// Whether the bytes are `PING_LINE`.
 pub(crate) fn is_ping(got: &[u8]) -> bool
     ensures { IsTrue result ↔ (got.now ≡ spec.ping_line) }
 {
-    got == b"ping\n".as_slice()
+    got == PING_LINE
 }
 
 /// Returns the order whose line the bytes are, or None if they are no order's.

@@ -12,11 +12,11 @@ use Rattle.shelf.specs.Machine.{after, reply_to}
 use Rattle.shelf.specs.declared.reply.Reply.{Reply}
 use Rattle.shelf.specs.declared.reply.Reply.TheVariants.{Registry}
 use Rattle.control.specs.Asking.{Asks}
-use Rattle.control.specs.Hearing.{Heard, Carried, Copied, Pinged, Stop, NoOrder, NoMemory, IsHeardIn, is_read, told_heard, turns_heard}
+use Rattle.control.specs.Copying.{GoesThroughSteps}
+use Rattle.control.specs.Hearing.{Heard, Carried, Copied, Pinged, Stop, NoOrder, NoMemory, IsHeardIn, steps_heard, told_heard}
 use Rattle.control.specs.Line.{IsSent, IsCopyTo, copy_words}
 use Rattle.control.specs.Order.{Orders, said_in, event_of, outcome_in}
 use Rattle.control.specs.Outcome.{outcome_of}
-use Rattle.control.specs.Turns.{GoesThroughTurns}
 use Rattle.control.specs.Words.{Said, IsTextOf, space, is_word, is_word_byte, behind, line_end}
 use Rattle.control.specs.declared.copies.CopyRefusal.{CopyRefusal}
 use Rattle.control.specs.declared.health.Health.{Health}
@@ -88,7 +88,7 @@ outcome_in_told (spoken.Health line) = outcome.Bad
 module _ (old new : Shown) (sent : List ℕ) (order asked : Order) (result : Result (Unit {0}) CommandRefusal) (w : World) where
   carried : new.is_honest → old.stands w → IsWorld w → ComeToTheSame asked order → IsSent sent asked → (other : Order) → IsSent sent other
       → (told : Result Registered StoreFault) → result ≡ told_ending asked (Ok (outcome_of told))
-      → GoesThroughTurns old new (turns_heard (Carried other told)) false → EndsAt new w order result
+      → GoesThroughSteps old new (steps_heard (Carried other told)) → EndsAt new w order result
   carried honest stands is same asks other heard (Ok r) ends through =
       let run = through.runs.at honest w stands in
       let event = same_event sent asked other asks heard in
@@ -98,7 +98,7 @@ module _ (old new : Shown) (sent : List ℕ) (order asked : Order) (result : Res
 
   heard_so : new.is_honest → old.stands w → IsWorld w → ComeToTheSame asked order → IsSent sent asked → (heard : Heard) → IsHeardIn sent heard
       → (outcome : Outcome) → spoken.Outcome outcome ≡ told_heard heard → result ≡ told_ending asked (Ok outcome)
-      → GoesThroughTurns old new (turns_heard heard) (is_read heard)
+      → GoesThroughSteps old new (steps_heard heard)
       → EndsAt new w order result
   heard_so honest stands is same asks (Carried other told) from outcome tells ends through =
       carried honest stands is same asks other from told (ends ∙ ap (λ o. told_ending asked (Ok o)) (ap outcome_in_told tells)) through

@@ -1,15 +1,15 @@
 -- Hearing an operator's line.
-use Rattle.std.proofs.Common.{◌≡◌, ℕ, false, List, [], Option, Result, Ok, Err, sym, subst}
+use Rattle.std.proofs.Common.{◌≡◌, ℕ, List, [], Option, Result, Ok, Err, sym, subst}
 use Rattle.std.specs.Io.KnownBytes.{Keeps}
 use Rattle.world.specs.Store.{Shown}
 use Rattle.world.specs.declared.registry.StoreFault.{StoreFault}
 use Rattle.engine.specs.Written.{Writes}
 use Rattle.engine.specs.declared.fault.Io.{Io}
 use Rattle.engine.specs.declared.fault.Io.TheVariants as io
-use Rattle.control.specs.Hearing.{Heard, Carried, Copied, Pinged, Stop, NoOrder, NoMemory, IsHeard, IsHeardIn, Heeds, Hears, Obeys}
+use Rattle.control.specs.Copying.{GoesThroughSteps}
+use Rattle.control.specs.Hearing.{Heard, NoMemory, IsHeard, IsHeardIn, Heeds, Hears, Obeys}
 use Rattle.control.specs.Line.{ReadsLine}
 use Rattle.control.specs.Told.{line_told}
-use Rattle.control.specs.Turns.{GoesThroughTurns}
 use Rattle.control.specs.declared.copies.CopyRefusal.{CopyRefusal}
 use Rattle.control.specs.declared.health.Health.{Health}
 use Rattle.control.specs.declared.told.Told.{Told}
@@ -22,12 +22,8 @@ told_unless told (Err e) = Err e
 module _ (copied : List ℕ → Result (Unit {0}) CopyRefusal → Type 0) (pinged : Result Health StoreFault → Type 0) (old new : Shown)
     (u u' : Option (List ℕ)) where
   was_heard : (got : List ℕ) → ReadsLine u u' got → (heard : Heard) → IsHeardIn got heard → IsHeard u u' heard
-  was_heard got reads (Carried order told) sent = (got, reads, sent)
-  was_heard got reads (Copied path told) sent = (got, reads, sent)
-  was_heard got reads (Pinged told) is = subst (ReadsLine u u') is reads
-  was_heard got reads Stop is = subst (ReadsLine u u') is reads
-  was_heard got reads NoOrder none = (got, reads, none.0, none.1, none.2, none.3)
   was_heard got reads NoMemory never = absurd never
+  was_heard got reads heard from = (got, reads, from)
 
   -- the line that was read
   pub hears_line : (got : List ℕ) (told : Told) → ReadsLine u u' got → Heeds copied pinged old new got told
@@ -47,6 +43,6 @@ module _ (copied : List ℕ → Result (Unit {0}) CopyRefusal → Type 0) (pinge
     obeys_told told (Err io.Write) hears writes = (told, hears, writes.1)
     obeys_told told (Err io.Read) hears (wrong, begun) = cc
 
-    pub obeys_unread : (e : Io) → e ≡ io.Read → GoesThroughTurns old new [] false → Keeps w w'
+    pub obeys_unread : (e : Io) → e ≡ io.Read → GoesThroughSteps old new [] → Keeps w w'
         → Obeys copied pinged old new u u' w w' (Err e)
     obeys_unread e is through keeps = subst (λ x. Obeys copied pinged old new u u' w w' (Err x)) (sym is) (through, keeps)

@@ -1,5 +1,5 @@
 -- What a store goes through on one connection, and on those before it.
-use Rattle.std.proofs.Common.{ℕ, ◌+◌, ◌<◌, ◌≤◌, ◌≡◌, refl, sym, ap, ◌∙◌, subst, false, List, [], ◌∷◌, ◌++◌, map, Option, Some, None, Result, Ok, Err, inl, inr, arith, append_assoc, append-nil}
+use Rattle.std.proofs.Common.{ℕ, ◌+◌, ◌<◌, ◌≤◌, ◌≡◌, refl, sym, ap, ◌∙◌, subst, List, [], ◌∷◌, ◌++◌, map, Option, Some, None, Result, Ok, Err, inl, inr, arith, append_assoc, append-nil}
 use Rattle.std.proofs.lemmas.List.{map-append}
 use Rattle.std.proofs.lemmas.List.Elements.{All-nil, All-push}
 use Rattle.std.specs.Io.KnownBytes.{Appends}
@@ -12,12 +12,12 @@ use Rattle.engine.specs.Written.{WritesBeginning}
 use Rattle.engine.specs.declared.fault.Io.{Io}
 use Rattle.engine.specs.declared.fault.Io.TheVariants as io
 use Rattle.socket.specs.Connections.{Come, exchanges_of}
-use Rattle.control.specs.Copying.{AllRead, GoesOnRead}
+use Rattle.control.specs.Copying.{Turned, turns_in, has_read, AllRead, GoesOnRead, GoesThroughSteps}
 use Rattle.control.specs.Health.{Answered, AreBelow, tally_of, with_one}
 use Rattle.control.specs.Hearing.{Heard, Carried, Copied, Pinged, Stop, NoOrder, NoMemory, Obeys}
 use Rattle.control.specs.Told.{line_told}
-use Rattle.control.specs.Turns.{Asked, messages, world_at, GoesThroughTurns, GoesOn}
-use Rattle.control.specs.Visits.{Call, OfPeer, OfOperator, answered_with, caller_of, turns_if, turns_of, turns_with, read_by, read_with, steps_of}
+use Rattle.control.specs.Turns.{Asked, messages, GoesOn}
+use Rattle.control.specs.Visits.{Call, OfPeer, OfOperator, answered_with, caller_of, steps_if, steps_of}
 use Rattle.control.specs.Visits.{steps_with, peers, AnswersOne, ObeysOne, ObeysOneBy, IsCallThere, IsTallied, ServesEach, ReadsEach, TellsTally}
 use Rattle.control.specs.declared.callers.Caller.{Caller}
 use Rattle.control.specs.declared.callers.Caller.TheVariants.{Peer, Operator}
@@ -25,25 +25,25 @@ use Rattle.control.specs.declared.copies.CopyRefusal.{CopyRefusal}
 use Rattle.control.specs.declared.health.Health.{Health}
 use Rattle.control.specs.declared.tally.Tally.{Tally}
 use Rattle.control.specs.declared.told.Told.{Told}
-use Rattle.control.proofs.StepLemmas.{turns_of_steps, read_of_steps, read_last, steps_last, read_then, no_reads, read_heard}
+use Rattle.control.proofs.StepLemmas.{messages_both, steps_last, steps_more, read_then, no_reads, read_heard}
 use Rattle.control.proofs.TallyLemmas.{answered_last, answered_peers, below_of, tallied_push, tally_push, tells_tally}
-use Rattle.control.proofs.TurnLemmas.{turns_none, turns_asked, turns_more, messages_append}
+use Rattle.control.proofs.TurnLemmas.{turns_none, turns_asked}
 
 -- ---- one connection
 
--- a store that goes through what came first from a peer goes through at most one turn
-pub turns_first : (old new : Shown) (first : Option First) → GoesThrough old new (exchanges_of first)
-    → GoesThroughTurns old new (map Asked (exchanges_of first)) false
-turns_first old new None through = turns_asked old new [] (omega arith) through
-turns_first old new (Some (Message x)) through = turns_asked old new (x ∷ []) (omega arith) through
-turns_first old new (Some (Closes closing)) through = turns_asked old new [] (omega arith) through
+-- a store that goes through what came first from a peer goes through at most one step
+steps_first : (old new : Shown) (first : Option First) → GoesThrough old new (exchanges_of first)
+    → GoesThroughSteps old new (map (λ x. Turned (Asked x)) (exchanges_of first))
+steps_first old new None through = turns_asked old new [] (omega arith) through
+steps_first old new (Some (Message x)) through = turns_asked old new (x ∷ []) (omega arith) through
+steps_first old new (Some (Closes closing)) through = turns_asked old new [] (omega arith) through
 
-first_message : (first : Option First) → messages (map Asked (exchanges_of first)) ≤ 1
+first_message : (first : Option First) → messages (turns_in (map (λ x. Turned (Asked x)) (exchanges_of first))) ≤ 1
 first_message None = omega arith
 first_message (Some (Message x)) = omega arith
 first_message (Some (Closes closing)) = omega arith
 
-no_message : (heard : Option Heard) → messages (turns_if heard) ≡ 0
+no_message : (heard : Option Heard) → messages (turns_in (steps_if heard)) ≡ 0
 no_message None = refl
 no_message (Some (Carried order told)) = refl
 no_message (Some (Copied path told)) = refl
@@ -134,29 +134,23 @@ same_come waiting left rest first one two = subst (Come waiting rest) (append-ni
 -- ---- one after another
 
 module _ {P O : Type 0} where
-  with_last : (calls : List (Call P O)) (last : Call P O) → turns_with (calls ++ last ∷ []) ≡ turns_with calls ++ turns_of last
-  with_last [] last = append-nil (turns_of last)
-  with_last (call ∷ calls) last =
-      ap (λ more. turns_of call ++ more) (with_last calls last)
-      ∙ sym (append_assoc (turns_of call) (turns_with calls) (turns_of last))
-
   peers_last : (calls : List (Call P O)) (last : Call P O) → peers (calls ++ last ∷ []) ≡ peers calls + peers (last ∷ [])
   peers_last [] last = omega arith
   peers_last (OfPeer visit answered ∷ calls) last = let e = peers_last calls last in omega (arith, e)
   peers_last (OfOperator audience ∷ calls) last = peers_last calls last
 
   -- there are at most as many messages as peers
-  one_each : (calls : List (Call P O)) → messages (turns_with calls) ≤ peers calls
+  one_each : (calls : List (Call P O)) → messages (turns_in (steps_with calls)) ≤ peers calls
   one_each [] = omega arith
   one_each (OfPeer visit answered ∷ calls) = omega (
     arith,
-    messages_append (map Asked (exchanges_of visit.first)) (turns_with calls),
+    messages_both (map (λ x. Turned (Asked x)) (exchanges_of visit.first)) (steps_with calls),
     first_message visit.first,
     one_each calls,
   )
   one_each (OfOperator audience ∷ calls) = omega (
     arith,
-    messages_append (turns_if audience.heard) (turns_with calls),
+    messages_both (steps_if audience.heard) (steps_with calls),
     no_message audience.heard,
     one_each calls,
   )
@@ -166,7 +160,7 @@ module _ {P O : Type 0} where
         (first : ServesEach heeded told unread written waiting left old mid n) where
       -- serving one more caller after others serves each of them
       each_push : (call : Call P O) → Come left rest (caller_of call ∷ []) → IsCallThere heeded told unread written call
-          → GoesThroughTurns mid new (turns_of call) (read_by call) → n + peers (call ∷ []) ≤ m
+          → GoesThroughSteps mid new (steps_of call) → n + peers (call ∷ []) ≤ m
           → ServesEach heeded told unread written waiting rest old new m
       each_push call comes there through few = record {
         calls = first.calls ++ call ∷ [];
@@ -174,8 +168,8 @@ module _ {P O : Type 0} where
         came = subst (Come waiting rest) (sym (map-append caller_of first.calls (call ∷ [])))
             (then_come waiting left rest (map caller_of first.calls) (caller_of call ∷ []) first.came comes);
         there = All-push (IsCallThere heeded told unread written) first.calls call first.there there;
-        through = rw (with_last first.calls call, read_last first.calls call)
-            (turns_more old mid new (turns_with first.calls) (read_with first.calls) first.through (turns_of call) (read_by call) through);
+        through = subst (GoesThroughSteps old new) (sym (steps_last first.calls call))
+            (steps_more old mid new (steps_with first.calls) (steps_of call) first.through through);
       }
 
     -- if nobody came, and more connections count, those who came before were served
@@ -227,7 +221,7 @@ module _ {P O : Type 0} where
 
       module _ (waiting left rest : Option (List (Caller P O))) (old mid new : S) (n m : ℕ) (tally : Tally) (first : UpTo waiting left old mid n tally) where
         reads_push : (call : Call P O) → Come left rest (caller_of call ∷ []) → IsCallThere heeded told unread written call
-            → GoesThroughTurns (shown mid) (shown new) (turns_of call) (read_by call)
+            → GoesThroughSteps (shown mid) (shown new) (steps_of call)
             → ((shown new).is_honest → (w : World) → (shown mid).stands w → AllRead shown copied counted w (steps_of call))
             → IsTallied since first.reads.each.calls call
             → n + peers (call ∷ []) ≤ m → Each waiting rest old new m
@@ -240,8 +234,7 @@ module _ {P O : Type 0} where
               let calls = first.reads.each.calls in
               let more = reads h _ (first.reads.each.through.runs.at honest w stands).ends in
               subst (AllRead shown copied counted w) (sym (steps_last calls call))
-              (read_then shown copied counted w (steps_with calls) (steps_of call) (first.reads.reads honest w stands)
-              (subst (λ ts. AllRead shown copied counted (world_at w ts) (steps_of call)) (sym (turns_of_steps calls)) more));
+              (read_then shown copied counted w (steps_with calls) (steps_of call) (first.reads.reads honest w stands) more);
           tallies = tallied_push since [] first.reads.each.calls call first.reads.tallies tallied;
         }
 
@@ -258,7 +251,7 @@ module _ {P O : Type 0} where
               reads = reads_push call
                   (subst (λ p. Come left rest (Peer p ∷ [])) (sym next.answers.begins) comes)
                   (next.answers.there, next.counts)
-                  (turns_first (shown mid) (shown new) visit.first next.answers.through)
+                  (steps_first (shown mid) (shown new) visit.first next.answers.through)
                   (λ h w stands. no_reads shown copied counted w (exchanges_of visit.first)) tt (omega (arith, few));
               is = ap (λ t. with_one t answered) first.is ∙ tally_push since (answered_with calls) answered
                   ∙ ap (tally_of since) (sym (answered_last calls call));
@@ -314,8 +307,8 @@ module _ {P O : Type 0} where
       pub each_goes : (waiting left : Option (List (Caller P O))) (old new : S) (n m : ℕ) (tally : Tally) → UpTo waiting left old new n tally → n ≤ m
           → GoesOn (shown old) (shown new) m
       each_goes waiting left old new n m tally all few = record {
-        turns = turns_with all.reads.each.calls;
-        read = read_with all.reads.each.calls;
+        turns = turns_in (steps_with all.reads.each.calls);
+        read = has_read (steps_with all.reads.each.calls);
         few = omega (arith, one_each all.reads.each.calls, all.reads.each.few, few);
         through = all.reads.each.through;
       }
@@ -325,7 +318,7 @@ module _ {P O : Type 0} where
           → GoesOnRead shown copied counted old new n
       each_read waiting left old new n all = record {
         steps = steps_with all.each.calls;
-        few = subst (λ ts. messages ts ≤ n) (sym (turns_of_steps all.each.calls)) (omega (arith, one_each all.each.calls, all.each.few));
-        through = rw (turns_of_steps all.each.calls, read_of_steps all.each.calls) all.each.through;
+        few = omega (arith, one_each all.each.calls, all.each.few);
+        through = all.each.through;
         reads = all.reads;
       }

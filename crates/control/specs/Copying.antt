@@ -34,6 +34,10 @@ has_read (Turned t ∷ steps) = has_read steps
 has_read (Copied path told ∷ steps) = true
 has_read (Counted told ∷ steps) = true
 
+-- from old to new the store went through the turns among the steps, and was read if one of them reads it
+abbrev pub GoesThroughSteps : Shown → Shown → List Step → Type 0
+GoesThroughSteps old new steps = GoesThroughTurns old new (turns_in steps) (has_read steps)
+
 module _ {S : Type 0} (shown : S → Shown) (copied : S → S → List ℕ → Result (Unit {0}) CopyRefusal → Type 0)
     (counted : S → S → ℕ → Type 0) where
   -- the copy was made of a store that stood for this world, and this came of it
@@ -65,5 +69,5 @@ module _ {S : Type 0} (shown : S → Shown) (copied : S → S → List ℕ → R
   pub record GoesOnRead (old new : S) (most : ℕ) : Type 0 where
     pub steps : List Step
     pub few : messages (turns_in steps) ≤ most
-    pub through : GoesThroughTurns (shown old) (shown new) (turns_in steps) (has_read steps)
+    pub through : GoesThroughSteps (shown old) (shown new) steps
     pub reads : (shown new).is_honest → (w : World) → (shown old).stands w → AllRead w steps

@@ -1,5 +1,5 @@
 -- What an operator's line orders, and the outcome that the operator gets.
-use Rattle.std.specs.Prelude.{ℕ, ◌≡◌, ◌≢◌, Bool, true, false, List, [], ◌∷◌, Option, Result, Ok, Err}
+use Rattle.std.specs.Prelude.{ℕ, ◌≡◌, ◌≢◌, List, [], ◌∷◌, Option, Result, Ok, Err}
 use Rattle.std.specs.Io.KnownBytes.{Appends, Keeps}
 use Rattle.world.specs.Store.{Shown}
 use Rattle.world.specs.declared.registry.Registered.{Registered}
@@ -8,11 +8,13 @@ use Rattle.world.specs.declared.registry.StoreFault.TheVariants.{Memory}
 use Rattle.engine.specs.Written.{WritesBeginning}
 use Rattle.engine.specs.declared.fault.Io.{Io}
 use Rattle.engine.specs.declared.fault.Io.TheVariants as io
+use Rattle.control.specs.Copying.{Step, Turned, Counted, GoesThroughSteps}
+use Rattle.control.specs.Copying as copying
 use Rattle.control.specs.Health.{IsPinged, line_of}
 use Rattle.control.specs.Line.{ReadsLine, IsSent, IsNoOrder, IsCopyTo, IsNoCopy, ping_line, stop_line}
 use Rattle.control.specs.Outcome.{outcome_of, outcome_of_copy}
 use Rattle.control.specs.Told.{line_told}
-use Rattle.control.specs.Turns.{Turn, Ordered, GoesThroughTurns}
+use Rattle.control.specs.Turns.{Ordered}
 use Rattle.control.specs.declared.copies.CopyRefusal.{CopyRefusal}
 use Rattle.control.specs.declared.health.Health.{Health}
 use Rattle.control.specs.declared.order.Order.{Order}
@@ -49,23 +51,14 @@ told_heard Stop = spoken.Outcome Stopping
 told_heard NoOrder = spoken.Outcome Bad
 told_heard NoMemory = spoken.Outcome (Failed Memory)
 
--- the turns of it: one for an order, and otherwise none
-abbrev pub turns_heard : Heard → List Turn
-turns_heard (Carried order told) = Ordered order told ∷ []
-turns_heard (Copied path told) = []
-turns_heard (Pinged told) = []
-turns_heard Stop = []
-turns_heard NoOrder = []
-turns_heard NoMemory = []
-
--- whether the store was read for it, though it is no turn
-abbrev pub is_read : Heard → Bool
-is_read (Carried order told) = false
-is_read (Copied path told) = true
-is_read (Pinged told) = true
-is_read Stop = false
-is_read NoOrder = false
-is_read NoMemory = false
+-- the steps of it: one for an order, a copy or a ping, and otherwise none
+abbrev pub steps_heard : Heard → List Step
+steps_heard (Carried order told) = Turned (Ordered order told) ∷ []
+steps_heard (Copied path told) = copying.Copied path told ∷ []
+steps_heard (Pinged told) = Counted told ∷ []
+steps_heard Stop = []
+steps_heard NoOrder = []
+steps_heard NoMemory = []
 
 -- these bytes ordered it
 abbrev pub IsHeardIn : List ℕ → Heard → Type 0
@@ -76,15 +69,10 @@ IsHeardIn got Stop = got ≡ stop_line
 IsHeardIn got NoOrder = IsNoOrder got × (got ≢ stop_line) × (got ≢ ping_line) × IsNoCopy got
 IsHeardIn got NoMemory = ⊥
 
--- the bytes that ordered it were read
+-- the bytes that ordered it were read, unless memory ran out before
 abbrev pub IsHeard : Option (List ℕ) → Option (List ℕ) → Heard → Type 0
-IsHeard unread unread_new (Carried order told) = (got : List ℕ) × ReadsLine unread unread_new got × IsSent got order
-IsHeard unread unread_new (Copied path told) = (got : List ℕ) × ReadsLine unread unread_new got × IsCopyTo got path
-IsHeard unread unread_new (Pinged told) = ReadsLine unread unread_new ping_line
-IsHeard unread unread_new Stop = ReadsLine unread unread_new stop_line
-IsHeard unread unread_new NoOrder =
-    (got : List ℕ) × ReadsLine unread unread_new got × IsNoOrder got × (got ≢ stop_line) × (got ≢ ping_line) × IsNoCopy got
 IsHeard unread unread_new NoMemory = Unit {0}
+IsHeard unread unread_new heard = (got : List ℕ) × ReadsLine unread unread_new got × IsHeardIn got heard
 
 module _ (copied : List ℕ → Result (Unit {0}) CopyRefusal → Type 0) (pinged : Result Health StoreFault → Type 0) where
   -- where an operator ordered a copy or asked for the health, this came of it
@@ -96,26 +84,26 @@ module _ (copied : List ℕ → Result (Unit {0}) CopyRefusal → Type 0) (pinge
   CameOf NoOrder = Unit {0}
   CameOf NoMemory = Unit {0}
 
-  -- what the bytes order was done, and this came of it
-  pub record Heeds (old new : Shown) (got : List ℕ) (told : Told) : Type 0 where
+  -- What was ordered was done, and this came of it. `is_from` says where the order came from.
+  pub record Follows (is_from : Heard → Type 0) (old new : Shown) (told : Told) : Type 0 where
     pub heard : Heard
-    pub from : IsHeardIn got heard
+    pub from : is_from heard
     pub tells : told ≡ told_heard heard
-    pub through : GoesThroughTurns old new (turns_heard heard) (is_read heard)
+    pub through : GoesThroughSteps old new (steps_heard heard)
     pub came : CameOf heard
 
+  -- what the bytes order was done, and this came of it
+  abbrev pub Heeds : Shown → Shown → List ℕ → Told → Type 0
+  Heeds old new got told = Follows (IsHeardIn got) old new told
+
   -- A line was read, what it orders was done, and this came of it.
-  pub record Hears (old new : Shown) (unread unread_new : Option (List ℕ)) (told : Told) : Type 0 where
-    pub heard : Heard
-    pub from : IsHeard unread unread_new heard
-    pub tells : told ≡ told_heard heard
-    pub through : GoesThroughTurns old new (turns_heard heard) (is_read heard)
-    pub came : CameOf heard
+  abbrev pub Hears : Shown → Shown → Option (List ℕ) → Option (List ℕ) → Told → Type 0
+  Hears old new unread unread_new told = Follows (IsHeard unread unread_new) old new told
 
   -- so it was, or a read failed, and nothing was done
   abbrev pub HearsOrFails : Shown → Shown → Option (List ℕ) → Option (List ℕ) → Result Told Io → Type 0
   HearsOrFails old new unread unread_new (Ok told) = Hears old new unread unread_new told
-  HearsOrFails old new unread unread_new (Err e) = (e ≡ io.Read) × GoesThroughTurns old new [] false
+  HearsOrFails old new unread unread_new (Err e) = (e ≡ io.Read) × GoesThroughSteps old new []
 
   -- A line was read, what it orders was done, and what came of it was written, or a beginning of that where a write failed. Or a read
   -- failed, and nothing was done, and nothing written.
@@ -124,7 +112,7 @@ module _ (copied : List ℕ → Result (Unit {0}) CopyRefusal → Type 0) (pinge
   Obeys old new unread unread_new written written_new (Ok told) =
       Hears old new unread unread_new told × Appends written written_new (line_told told)
   Obeys old new unread unread_new written written_new (Err io.Read) =
-      GoesThroughTurns old new [] false × Keeps written written_new
+      GoesThroughSteps old new [] × Keeps written written_new
   Obeys old new unread unread_new written written_new (Err io.Write) =
       (told : Told) × Hears old new unread unread_new told × WritesBeginning written written_new (line_told told)
 

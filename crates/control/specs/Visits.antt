@@ -1,5 +1,5 @@
 -- Peers and operators, one after another.
-use Rattle.std.specs.Prelude.{ℕ, ◌≡◌, ◌≤◌, ◌+◌, ◌⊎◌, ◌||◌, Bool, false, List, [], ◌∷◌, ◌++◌, map, All, Option, Some, None, Result, Ok, Err}
+use Rattle.std.specs.Prelude.{ℕ, ◌≡◌, ◌≤◌, ◌+◌, ◌⊎◌, List, [], ◌∷◌, ◌++◌, map, All, Option, Some, None, Result, Ok, Err}
 use Rattle.std.specs.Io.KnownBytes.{Appends, Keeps}
 use Rattle.world.specs.Store.{Shown}
 use Rattle.world.specs.World.{World}
@@ -9,12 +9,11 @@ use Rattle.engine.specs.Written.{WritesBeginning}
 use Rattle.engine.specs.declared.fault.Io.TheVariants as io
 use Rattle.socket.specs.Connections.{Visit, Come, exchanges_of}
 use Rattle.socket.specs.Connections as socket
-use Rattle.control.specs.Copying.{Step, Turned, Copied, Counted, AllRead}
+use Rattle.control.specs.Copying.{Step, Turned, AllRead, GoesThroughSteps}
 use Rattle.control.specs.Health.{Answered, IsPinged, tally_of}
-use Rattle.control.specs.Hearing.{Heard, CameOf, IsHeard, is_read, told_heard, turns_heard}
-use Rattle.control.specs.Hearing as hearing
+use Rattle.control.specs.Hearing.{Heard, Pinged, CameOf, IsHeard, steps_heard, told_heard}
 use Rattle.control.specs.Told.{line_told}
-use Rattle.control.specs.Turns.{Turn, Asked, Ordered, GoesThroughTurns}
+use Rattle.control.specs.Turns.{Asked}
 use Rattle.control.specs.declared.callers.Caller.{Caller}
 use Rattle.control.specs.declared.copies.CopyRefusal.{CopyRefusal}
 use Rattle.control.specs.declared.callers.Caller.TheVariants.{Peer, Operator}
@@ -36,45 +35,12 @@ abbrev pub caller_of : {P O : Type 0} → Call P O → Caller P O
 caller_of (OfPeer visit answered) = Peer visit.before
 caller_of (OfOperator audience) = Operator audience.before
 
--- the turns of what an operator ordered: one for an order, and otherwise none
-abbrev pub turns_if : Option Heard → List Turn
-turns_if None = []
-turns_if (Some heard) = turns_heard heard
-
--- the turns of one caller: at most one
-abbrev pub turns_of : {P O : Type 0} → Call P O → List Turn
-turns_of (OfPeer visit answered) = map Asked (exchanges_of visit.first)
-turns_of (OfOperator audience) = turns_if audience.heard
-
--- the messages of the peers and the orders of the operators, as they came
-abbrev pub turns_with : {P O : Type 0} → List (Call P O) → List Turn
-turns_with [] = []
-turns_with (call ∷ calls) = turns_of call ++ turns_with calls
-
--- whether the store was read for the order
-abbrev pub read_if : Option Heard → Bool
-read_if None = false
-read_if (Some heard) = is_read heard
-
-abbrev pub read_by : {P O : Type 0} → Call P O → Bool
-read_by (OfPeer visit answered) = false
-read_by (OfOperator audience) = read_if audience.heard
-
--- whether it was for one of the orders
-abbrev pub read_with : {P O : Type 0} → List (Call P O) → Bool
-read_with [] = false
-read_with (call ∷ calls) = read_by call || read_with calls
-
--- the turn, the copy or the ping that it was
+-- the steps of what an operator ordered: one for an order, a copy or a ping, and otherwise none
 abbrev pub steps_if : Option Heard → List Step
 steps_if None = []
-steps_if (Some (hearing.Carried order told)) = Turned (Ordered order told) ∷ []
-steps_if (Some (hearing.Copied path told)) = Copied path told ∷ []
-steps_if (Some (hearing.Pinged told)) = Counted told ∷ []
-steps_if (Some hearing.Stop) = []
-steps_if (Some hearing.NoOrder) = []
-steps_if (Some hearing.NoMemory) = []
+steps_if (Some heard) = steps_heard heard
 
+-- the steps of one caller: at most one
 abbrev pub steps_of : {P O : Type 0} → Call P O → List Step
 steps_of (OfPeer visit answered) = map (λ x. Turned (Asked x)) (exchanges_of visit.first)
 steps_of (OfOperator audience) = steps_if audience.heard
@@ -110,7 +76,7 @@ CountsAs (Some first) (Err e) = e ≡ io.Write
 
 -- a ping was told these counts
 abbrev pub TellsTally : Tally → Option Heard → Type 0
-TellsTally tally (Some (hearing.Pinged (Ok health))) = health.tally ≡ tally
+TellsTally tally (Some (Pinged (Ok health))) = health.tally ≡ tally
 TellsTally tally other = Unit {0}
 
 -- where the call is a ping, it was told the counts of the connections before it
@@ -145,7 +111,7 @@ module _ {O : Type 0} (heeded told : O → Option (List ℕ)) where
     pub audience : Audience O
     pub begins : audience.before ≡ operator
     pub there : IsToldThere audience.before audience.after audience.heard
-    pub through : GoesThroughTurns old new (turns_if audience.heard) (read_if audience.heard)
+    pub through : GoesThroughSteps old new (steps_if audience.heard)
     pub came : CameIf copied pinged audience.heard
 
   -- so it was between two stores, by what is known of copies and counts, with the tally of the moment
@@ -168,7 +134,7 @@ module _ {O : Type 0} (heeded told : O → Option (List ℕ)) where
       pub few : peers calls ≤ connections
       pub came : Come waiting left (map caller_of calls)
       pub there : All IsCallThere calls
-      pub through : GoesThroughTurns old new (turns_with calls) (read_with calls)
+      pub through : GoesThroughSteps old new (steps_with calls)
 
     -- So it was. Each copy that was ordered was made of the machine's world at its moment, and each ping was told what was counted in it,
     -- and how the connections before it were answered.

@@ -103,7 +103,7 @@ module _ (sql : List ℕ) (from : Join) (project : List Term) (order : List (Ter
           let first = first_listed sql from project order names is db (rows ++ row ∷ []) h in
           listed_width from project order (overlay db.trees []) ((rows ++ row ∷ []) ++ first.0) first.1 row (at_index rows first.0 row)
 
-  -- if the query shows more rows than a walk counts, the join has that many
+  -- if the query shows as many rows as a walk counts, the join has that many
   many_listed : (db : Database) → ShowsTooMany sql db → 2 ^ 128 ≤ length (map (eval_all project) (matches (overlay db.trees []) [] from ([] ∷ []))) + 1
   many_listed db h =
       let first = first_listed sql from project order names is db h.0 h.1 in
@@ -113,7 +113,7 @@ module _ (sql : List ℕ) (from : Join) (project : List Term) (order : List (Ter
       let long = h.2 in
       omega (arith, same, all, long)
 
--- if a query of one table shows more rows than a walk counts, the table has 2^64 rows
+-- if a query of one table shows as many rows as a walk counts, the table has 2^64 rows
 many_rows : (sql : List ℕ) (tree : ℕ) (project : List Term) (order : List (Term × Key)) (names : List (List ℕ))
     → command_of (understood store_schema sql) ≡ Select (record { lets = []; body = listing (inner tree end) project order }) names
     → (db : Database) → overlay db.trees [] tree ≡ db.trees tree → ShowsTooMany sql db → 2 ^ 64 ≤ length (db.trees tree)

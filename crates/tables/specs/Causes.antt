@@ -10,7 +10,7 @@ use Rattle.sqlite.specs.Table.{Table}
 use Rattle.sqlite_rules.specs.Lists.{Has}
 use Rattle.tables.specs.Schema.{store_schema}
 
--- the connection was shut or limited in its steps, or its disk failed in the call
+-- the connection was closed or limited in its steps, or its disk failed in the call
 abbrev pub IsHindered : State → State → Type 0
 IsHindered old new = (old.is_open ≡ false) ⊎ (IsSome old.step_limit ⊎ MoreFaults old.faults new.faults)
 

@@ -61,7 +61,7 @@ pub record IsWalkable (sql : List ℕ) (width : ℕ) : Type 0 where
   pub wide : (db : Database) (rows : List Row) (row : Row)
       → ReadsFirst (command_of (understood store_schema sql)) db [] (rows ++ row ∷ []) → length row ≡ width
 
--- the query shows more rows than a walk counts
+-- the query shows at least as many rows as a walk counts, which is 2 ^ 128 - 1
 abbrev pub ShowsTooMany : List ℕ → Database → Type 0
 ShowsTooMany sql db = (rows : List Row) × ReadsFirst (command_of (understood store_schema sql)) db [] rows × (2 ^ 128 ≤ length rows + 1)
 

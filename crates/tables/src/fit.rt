@@ -471,7 +471,7 @@ fn is_fit<S: Alter>(alloc: Global, conn: &mut Connection<S>) -> Result<bool, Err
 
 /// Whether the tables are those of the schema and stand for a world. Writes nothing.
 ///
-/// It fails only if memory runs out, the connection is shut or limited in its steps, the disk fails, or a table has 2^64 rows,
+/// It fails only if memory runs out, the connection is closed or limited in its steps, the disk fails, or a table has 2^64 rows,
 /// one for each rowid.
 pub fn stand_for_world<S: Alter>(alloc: Global, conn: &mut Connection<S>) -> Result<bool, Error>
     ensures clean { doubt (state S.Store conn.old).is_clean ≤ doubt (state S.Store conn.new).is_clean }

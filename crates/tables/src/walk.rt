@@ -32,10 +32,10 @@ pub(crate) trait RowTest {
         ensures memory { length row.now ≡ width → IfErr result (λ e. e ≡ Error.SqliteFailure ErrorCode.OutOfMemory) };
 }
 
-/// Whether each row of a query passes. Fails only if memory runs out, the connection is shut or limited in its steps, the disk
-/// fails, or the query shows more rows than the walk counts.
-/// Each table is read in one walk, ordered by what must not repeat, so nothing is quadratic. No clause of `sqlite`
-/// bounds the rows of a table, so the walk counts to 2^128, which no join of two tables reaches.
+/// Whether each row of a query passes. Fails only if memory runs out, the connection is closed or limited in its steps, the disk
+/// fails, or the query shows 2^128 - 1 rows or more, which a query of one table does only if the table has a row for each rowid.
+/// Each table is read in one walk, ordered by what must not repeat, so nothing is quadratic. No clause of `sqlite` bounds the
+/// rows of a table, so the walk has a bound of its own.
 pub(crate) fn rows_pass<S: Alter, T: RowTest>(
     conn: &mut Connection<S>,
     sql: &str,
@@ -61,6 +61,6 @@ pub(crate) fn rows_pass<S: Alter, T: RowTest>(
             return Ok(false);
         }
     }
-    // So many rows come only from a table that has one for each rowid.
+    // A query of one table shows this many rows only if the table has a row for each rowid.
     Err(Error::SqliteFailure(ErrorCode::TooBig))
 }

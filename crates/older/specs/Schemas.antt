@@ -4,8 +4,8 @@ use Rattle.sqlite.specs.Kind.TheVariants.{Integer, Text, Blob}
 use Rattle.sqlite.specs.Table.{Table}
 use Rattle.sqlite.specs.Schema.{Schema}
 use Rattle.sqlite_schema.specs.declared.schema.Column.{Column}
-use Rattle.tables.specs.Schema.{given, optional, refers, plain_table, meta_table, access_table, version_table}
-use Rattle.tables.specs.Schema.{piece_table, meta_index, shelf_index, access_index, version_index, piece_index}
+use Rattle.tables.specs.Schema.{given, optional, refers, plain_table, meta_table, access_table, version_table, piece_table}
+use Rattle.tables.specs.Schema.{meta_index, shelf_index, access_index, version_index, store_schema}
 use Rattle.older.specs.declared.schema.Format.{Format}
 use Rattle.older.specs.declared.schema.Format.TheVariants.{One, Two}
 
@@ -42,7 +42,7 @@ schema_1 = record {
 abbrev pub schema_2 : Schema
 schema_2 = record {
   tables = meta_table ∷ shelf_table ∷ access_table ∷ version_table ∷ piece_table ∷ [];
-  indexes = meta_index ∷ shelf_index ∷ access_index ∷ version_index ∷ piece_index ∷ [];
+  indexes = store_schema.indexes;
   views = [];
 }
 

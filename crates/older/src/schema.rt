@@ -1,14 +1,14 @@
 //! Recognises the tables of an older schema.
 
 ghost use Rattle.std.specs.Prelude.{◌≡◌, Decides, MatchOption};
-ghost use Rattle.tables.specs.Schema.{meta_table, access_table, version_index};
+ghost use Rattle.tables.specs.Schema.{meta_table, access_table};
 ghost use Rattle.older.specs.Schemas.{shelf_table, keyless_table, body_table, schema_1, schema_2, schema_of};
 
 use sqlite_schema::schema::{Index, Kind, Schema, Table};
 use tables::schema::{
-    are_name_indexes, are_place_indexes, has_first_key, has_no_terms, has_version_key,
-    is_access_table, is_bare, is_column, is_index, is_meta_table, is_piece_table, is_position,
-    is_reference, is_version_table,
+    are_indexes, are_name_indexes, are_place_columns, has_first_key, has_no_terms, has_version_key,
+    is_access_table, is_bare, is_column, is_meta_table, is_piece_table, is_position, is_reference,
+    is_version_index, is_version_table,
 };
 
 /// An older schema, by its number.
@@ -34,12 +34,6 @@ fn is_shelf_table(table: &Table) -> bool
         && table.references.is_empty()
 }
 
-fn is_version_index(version: &Index) -> bool
-    ensures { Decides result (version.now ≡ version_index) }
-{
-    is_index(version, "sqlite_autoindex_version_1", 7, 6, &[2, 3, 4])
-}
-
 fn are_first_indexes(indexes: &[Index]) -> bool
     ensures { Decides result (indexes.now ≡ schema_1.indexes) }
 {
@@ -51,27 +45,13 @@ fn are_first_indexes(indexes: &[Index]) -> bool
     }
 }
 
-fn are_second_indexes(indexes: &[Index]) -> bool
-    ensures { Decides result (indexes.now ≡ schema_2.indexes) }
-{
-    match indexes {
-        [meta, shelf, access, version, piece] => {
-            are_name_indexes(meta, shelf, access) && are_place_indexes(version, piece)
-        }
-        _ => false,
-    }
-}
-
 /// Reports whether this is the table of versions of schema 1, which have no order keys.
 fn is_keyless_table(table: &Table) -> bool
     ensures { Decides result (table.now ≡ keyless_table) }
 {
     let is_shaped = match table.columns.as_slice() {
         [id, shelf, path, version, time, gomod] => {
-            is_column(id, "id", Kind::Integer, false)
-                && is_column(shelf, "shelf", Kind::Text, true)
-                && is_column(path, "path", Kind::Text, true)
-                && is_column(version, "version", Kind::Text, true)
+            are_place_columns(id, shelf, path, version)
                 && is_column(time, "time", Kind::Text, false)
                 && is_column(gomod, "mod", Kind::Blob, true)
         }
@@ -137,7 +117,7 @@ fn is_schema_2(schema: &Schema) -> bool
         }
         _ => false,
     };
-    has_tables && are_second_indexes(schema.indexes.as_slice()) && schema.views.is_empty()
+    has_tables && are_indexes(schema.indexes.as_slice()) && schema.views.is_empty()
 }
 
 /// Returns the format whose tables, and no others, the schema has, or None if it is that of neither format.

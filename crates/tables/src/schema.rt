@@ -73,6 +73,17 @@ pub fn has_first_key(uniques: &[Items<usize>], orders: &[Order]) -> bool
     }
 }
 
+/// Whether the table has this name and this tree, and counts, computes and stamps nothing.
+pub fn is_bare(table: &Table, name: &str, tree: u32) -> bool
+    ensures { Decides result (IsBare table.now name.now tree) }
+{
+    is_named(&table.name, name)
+        && table.tree == tree
+        && table.computed.is_empty()
+        && has_no_stamps(&table.stamps)
+        && !table.is_counted
+}
+
 fn is_shelf_table(table: &Table) -> bool
     ensures { Decides result (table.now ≡ shelf_table) }
 {
@@ -84,27 +95,12 @@ fn is_shelf_table(table: &Table) -> bool
         _ => false,
     };
     is_shaped
-        && is_named(&table.name, "shelf")
-        && table.tree == 2
+        && is_bare(table, "shelf", 2)
         && table.key.is_none()
         && is_position(table.primary.as_slice(), 1)
         && has_first_key(table.uniques.as_slice(), table.orders.as_slice())
         && has_no_terms(&table.checks)
         && is_reference(table.references.as_slice(), 2, "shelf", "name")
-        && table.computed.is_empty()
-        && has_no_stamps(&table.stamps)
-        && !table.is_counted
-}
-
-/// Whether the table has this name and this tree, and counts, computes and stamps nothing.
-pub fn is_bare(table: &Table, name: &str, tree: u32) -> bool
-    ensures { Decides result (IsBare table.now name.now tree) }
-{
-    is_named(&table.name, name)
-        && table.tree == tree
-        && table.computed.is_empty()
-        && has_no_stamps(&table.stamps)
-        && !table.is_counted
 }
 
 /// Whether there is one reference, from the column at this position to this column of this table, with no action and not deferred.
@@ -155,8 +151,8 @@ pub fn has_version_key(uniques: &[Items<usize>], orders: &[Order]) -> bool
     }
 }
 
-/// Whether these are the columns for the number of a version and its place.
-fn are_place_columns(id: &Column, shelf: &Column, path: &Column, version: &Column) -> bool
+/// Reports whether these are the columns for the number of a version and its place, the same in every schema.
+pub fn are_place_columns(id: &Column, shelf: &Column, path: &Column, version: &Column) -> bool
     ensures { Decides result ((id.now ≡ optional (codes "id") Integer) × (shelf.now ≡ given (codes "shelf") Text)
         × (path.now ≡ given (codes "path") Text) × (version.now ≡ given (codes "version") Text)) }
 {
@@ -202,8 +198,8 @@ pub fn is_version_table(table: &Table) -> bool
         && is_reference(table.references.as_slice(), 2, "shelf", "name")
 }
 
-/// Reports whether this is a unique index with this name, tree, table and columns, in plain order.
-pub fn is_index(index: &Index, name: &str, tree: u32, table: u32, columns: &[usize]) -> bool
+/// Whether this is a unique index with this name, tree, table and columns, in plain order.
+fn is_index(index: &Index, name: &str, tree: u32, table: u32, columns: &[usize]) -> bool
     ensures { Decides result (index.now ≡ unique_index name.now tree table columns.now) }
 {
     is_named(&index.name, name)
@@ -342,15 +338,21 @@ pub fn are_name_indexes(meta: &Index, shelf: &Index, access: &Index) -> bool
         && is_index(access, "sqlite_autoindex_access_1", 5, 4, &[1])
 }
 
-/// Reports whether these are the indexes of `version` and `piece`, the same in schemas 2 and 3.
-pub fn are_place_indexes(version: &Index, piece: &Index) -> bool
-    ensures { Decides result ((version.now ≡ version_index) × (piece.now ≡ piece_index)) }
+/// Reports whether this is the index of `version`, the same in every schema.
+pub fn is_version_index(version: &Index) -> bool
+    ensures { Decides result (version.now ≡ version_index) }
 {
     is_index(version, "sqlite_autoindex_version_1", 7, 6, &[2, 3, 4])
-        && is_index(piece, "sqlite_autoindex_piece_1", 9, 8, &[1, 2])
 }
 
-fn are_indexes(indexes: &[Index]) -> bool
+fn are_place_indexes(version: &Index, piece: &Index) -> bool
+    ensures { Decides result ((version.now ≡ version_index) × (piece.now ≡ piece_index)) }
+{
+    is_version_index(version) && is_index(piece, "sqlite_autoindex_piece_1", 9, 8, &[1, 2])
+}
+
+/// Reports whether these are the indexes of schema 3, which are those of schema 2 too.
+pub fn are_indexes(indexes: &[Index]) -> bool
     ensures { Decides result (indexes.now ≡ store_schema.indexes) }
 {
     match indexes {

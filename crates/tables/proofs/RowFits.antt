@@ -10,7 +10,7 @@ use Rattle.world.specs.declared.entry.Place.{Place}
 use Rattle.world.specs.declared.entry.Entry.{Entry}
 use Rattle.world.specs.EntryTest.{fitting_version}
 use Rattle.world.specs.World.{place, IsEntry}
-use Rattle.tables.specs.Fit.{IsNamed, IsShelfRow, IsKeyRow, IsEntryRow, ShowsAt, ShowsFiles, ShowsKeys, text_in, place_in}
+use Rattle.tables.specs.Fit.{MayHaveParent, IsShelfRow, IsKeyRow, IsEntryRow, ShowsAt, ShowsFiles, ShowsKeys, text_in, place_in}
 use Rattle.modver.specs.Keys.{order_key_of, rank_key_of}
 use Rattle.modver.specs.SemanticVersion.{SemanticVersion}
 use Rattle.modver.specs.Time.{IsTime}
@@ -22,7 +22,7 @@ abbrev pub HasNoText : Row → ℕ → Type 0
 HasNoText row at = (t : List ℕ) → column row at ≡ Text t → IsUtf8 t → ⊥
 
 -- a name of a shelf is text, and so is its parent's
-pub named_utf8 : (name : List ℕ) (parent : Option (List ℕ)) → IsNamed name parent → IsUtf8 name × IfSome parent IsUtf8
+pub named_utf8 : (name : List ℕ) (parent : Option (List ℕ)) → MayHaveParent name parent → IsUtf8 name × IfSome parent IsUtf8
 named_utf8 name None named = (shelf_utf8 name named, tt)
 named_utf8 name (Some parent) named = (shelf_utf8 name (inr named.0), shelf_utf8 parent named.1)
 

@@ -16,7 +16,7 @@ use Rattle.tables.specs.Pieces.{piece_size, piece, HasPiece}
 use Rattle.tables.specs.Means.{Means, IsMeta, IsAt, IsPiece, ArePieces, is_of, schema_named}
 use Rattle.tables.specs.Fit.{text_in, int_in, nat_in, blob_in, key_in, number_in, place_in, piece_in, piece_key, full_piece}
 use Rattle.tables.specs.Fit.{is_on, entry_shown, piece_shown, meta_shown, shelf_shown, name_shown, number_shown}
-use Rattle.tables.specs.Fit.{IsSchemaRow, IsNamed, HasTop, IsShelfRow, IsKeyRow, IsNumberRow, IsEntryRow, IsPieceRow}
+use Rattle.tables.specs.Fit.{IsSchemaRow, MayHaveParent, HasTop, IsShelfRow, IsKeyRow, IsNumberRow, IsEntryRow, IsPieceRow}
 use Rattle.tables.specs.Fit.{IsMetaFit, AreShelvesFit, AreKeysFit, AreNumbersFit, AreEntriesFit, ArePiecesFit, AreFit}
 use Rattle.tables.proofs.AsciiLemmas.{shelf_utf8}
 use Rattle.tables.proofs.CountedRows.{all_counted}
@@ -46,7 +46,7 @@ module _ (db : Trees) (w : World) (sound : IsSound store_schema db) (means : Mea
     some = let it = means.named.found schema_named refl in (meta_shown it.0, mapped_has meta_shown (db 0) it.0 it.1);
   }
 
-  named : (name : List ℕ) (parent : Option (List ℕ)) → map.get w.shelves name ≡ Some parent → IsNamed name parent
+  named : (name : List ℕ) (parent : Option (List ℕ)) → map.get w.shelves name ≡ Some parent → MayHaveParent name parent
   named name None at = is.team_names name (ap is_some at)
   named name (Some parent) at = (
     elim (is.team_names name (ap is_some at)) [

@@ -23,7 +23,7 @@ use Rattle.tables.specs.Schema.{store_schema}
 use Rattle.tables.specs.Means.{may_publish}
 use Rattle.tables.specs.Means.{Means, IsMeta, IsShelf, IsAccess, IsNumbered, IsVersion, HasKeys, schema_named}
 use Rattle.tables.specs.Fit.{text_in, int_in, nat_in, blob_in, place_in, is_on, entry_shown, piece_shown, meta_shown}
-use Rattle.tables.specs.Fit.{shelf_shown, name_shown, number_shown, IsShelfName, IsNamed, IsShelfRow, HasTop, ShowsEntry, AreFit}
+use Rattle.tables.specs.Fit.{shelf_shown, name_shown, number_shown, IsShelfName, MayHaveParent, IsShelfRow, HasTop, ShowsEntry, AreFit}
 use Rattle.tables.proofs.Ascending.{ascending_from_map, one_by_key}
 use Rattle.tables.proofs.EntryTests.{with_zip}
 use Rattle.tables.proofs.ZipOf.{zip_of, zip_pieces, zip_small}
@@ -117,7 +117,7 @@ module _ (db : Trees) (sound : IsSound store_schema db) (fit : AreFit db) where
   shelf_stands : (t : List ℕ) → ((shelf : Row) × Has (db 2) shelf × (column shelf 1 ≡ Text t)) → map.contains_key shelves_of t ≡ true
   shelf_stands t it = subst (λ s. map.contains_key shelves_of s ≡ true) (ap text_in it.2) (ap is_some (shelf_got it.0 it.1))
 
-  good_name : (name : List ℕ) (parent : Option (List ℕ)) → IsNamed name parent → IsShelfName name
+  good_name : (name : List ℕ) (parent : Option (List ℕ)) → MayHaveParent name parent → IsShelfName name
   good_name name None named = named
   good_name name (Some parent) named = inr named.0
 

@@ -97,14 +97,14 @@ abbrev pub IsShelfName : List ℕ → Type 0
 IsShelfName name = (name ≡ common) ⊎ (is_team_name name ≡ true)
 
 -- a shelf may have this name and this parent; common may have none
-abbrev pub IsNamed : List ℕ → Option (List ℕ) → Type 0
-IsNamed name None = IsShelfName name
-IsNamed name (Some parent) = (is_team_name name ≡ true) × IsShelfName parent
+abbrev pub MayHaveParent : List ℕ → Option (List ℕ) → Type 0
+MayHaveParent name None = IsShelfName name
+MayHaveParent name (Some parent) = (is_team_name name ≡ true) × IsShelfName parent
 
 -- the row shows a shelf with a name and a parent that it may have
 abbrev pub IsShelfRow : Row → Type 0
 IsShelfRow row = (name : List ℕ) × (parent : Option (List ℕ)) × (column row 0 ≡ Text name)
-    × (column row 1 ≡ or_null Text parent) × IsNamed name parent
+    × (column row 1 ≡ or_null Text parent) × MayHaveParent name parent
 
 -- the names with this one added, if its row shows no parent
 abbrev pub top_put : Value → List ℕ → set.FinSet text_cmp → set.FinSet text_cmp

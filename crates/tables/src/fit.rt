@@ -17,13 +17,13 @@ ghost use Rattle.tables.specs.Means.{IsSettled, StandsForSome, StandsForNone};
 ghost use Rattle.tables.specs.Calls.{Honestly, FailsWithReason};
 ghost use Rattle.tables.specs.Causes.{HasReason};
 ghost use Rattle.tables.specs.Walks.{Tests, MayFollow, run_with};
-ghost use Rattle.tables.specs.Fit.{IsSchemaRow, IsShelfName, IsNamed, IsShelfRow, top_put, parent_put, are_whole};
+ghost use Rattle.tables.specs.Fit.{IsSchemaRow, IsShelfName, MayHaveParent, IsShelfRow, top_put, parent_put, are_whole};
 ghost use Rattle.tables.specs.Fit.{IsKeyRow, IsNumberRow, IsEntryRow, ShowsAt, entry_width, key_in, number_in};
 ghost use Rattle.tables.specs.Fit.{place_in, is_on, IsMetaFit, AreShelvesFit, AreKeysFit, AreNumbersFit, AreEntriesFit};
 ghost use Rattle.tables.specs.Fit.{AreFit, meta_shown, shelf_shown, name_shown, number_shown, entry_shown};
 
 use crate::columns::{blob_at, int_at, is_blob_at, text_at};
-use crate::pieces::has_pieces;
+use crate::pieces::are_pieces_fit;
 use crate::schema::is_store_schema;
 use crate::walk::{RowTest, rows_pass};
 use modver::{TimeText, Version, order_key, rank_key, read_time};
@@ -120,8 +120,8 @@ fn is_shelf_name(name: &str) -> bool
 }
 
 /// Whether a shelf may have this name and this parent.
-fn is_named(name: &str, parent: Option<&str>) -> bool
-    ensures { Decides result (IsNamed name.now (option_copied parent.entry)) }
+fn may_have_parent(name: &str, parent: Option<&str>) -> bool
+    ensures { Decides result (MayHaveParent name.now (option_copied parent.entry)) }
 {
     match parent {
         None => is_shelf_name(name),
@@ -191,7 +191,7 @@ impl RowTest for ShelfRows {
         let Some(parent) = parent_at(row, 1)? else {
             return Ok(false);
         };
-        if !is_named(name, parent) || is_last(&self.last, name) {
+        if !may_have_parent(name, parent) || is_last(&self.last, name) {
             return Ok(false);
         }
         self.note(name, parent)?;
@@ -372,7 +372,7 @@ pub fn run_up_to(last: &Option<Place>, many: u64, place: &Place) -> Option<u64>
 }
 
 /// Whether `meta` names schema 3 and nothing else. Fails as [`stand_for_world`] does.
-fn has_schema<S: Alter>(conn: &mut Connection<S>) -> Result<bool, Error>
+fn is_meta_fit<S: Alter>(conn: &mut Connection<S>) -> Result<bool, Error>
     ensures tests { Tests (state S.Store conn.old) (state S.Store conn.new) result
         (λ db. IsMetaFit (map meta_shown (db 0))) }
     ensures cause { FailsWithReason (state S.Store conn.old) (state S.Store conn.new) result }
@@ -386,7 +386,7 @@ fn has_schema<S: Alter>(conn: &mut Connection<S>) -> Result<bool, Error>
 
 /// Whether each shelf has a valid name that comes once, `common` is there without a parent, and no parent has one.
 /// Fails as [`stand_for_world`] does.
-fn has_shelves<S: Alter>(alloc: Global, conn: &mut Connection<S>) -> Result<bool, Error>
+fn are_shelves_fit<S: Alter>(alloc: Global, conn: &mut Connection<S>) -> Result<bool, Error>
     ensures tests { Tests (state S.Store conn.old) (state S.Store conn.new) result
         (λ db. AreShelvesFit (map shelf_shown (db 2))) }
     ensures cause { FailsWithReason (state S.Store conn.old) (state S.Store conn.new) result }
@@ -408,7 +408,7 @@ fn has_shelves<S: Alter>(alloc: Global, conn: &mut Connection<S>) -> Result<bool
 }
 
 /// Whether each key is well formed and comes once. Fails as [`stand_for_world`] does.
-fn has_keys<S: Alter>(alloc: Global, conn: &mut Connection<S>) -> Result<bool, Error>
+fn are_keys_fit<S: Alter>(alloc: Global, conn: &mut Connection<S>) -> Result<bool, Error>
     ensures tests { Tests (state S.Store conn.old) (state S.Store conn.new) result
         (λ db. AreKeysFit (map name_shown (db 4))) }
     ensures cause { FailsWithReason (state S.Store conn.old) (state S.Store conn.new) result }
@@ -418,7 +418,7 @@ fn has_keys<S: Alter>(alloc: Global, conn: &mut Connection<S>) -> Result<bool, E
 }
 
 /// Whether each key has a number of its own. Fails as [`stand_for_world`] does.
-fn has_numbers<S: Alter>(conn: &mut Connection<S>) -> Result<bool, Error>
+fn are_numbers_fit<S: Alter>(conn: &mut Connection<S>) -> Result<bool, Error>
     ensures tests { Tests (state S.Store conn.old) (state S.Store conn.new) result
         (λ db. AreNumbersFit (map number_shown (db 4))) }
     ensures cause { FailsWithReason (state S.Store conn.old) (state S.Store conn.new) result }
@@ -429,7 +429,7 @@ fn has_numbers<S: Alter>(conn: &mut Connection<S>) -> Result<bool, Error>
 
 /// Whether each version is an entry that may stand at its place, with the `order_key` and the `rank_key` of its version, each
 /// place comes once, and no shelf has too many versions of a path. Fails as [`stand_for_world`] does.
-fn has_entries<S: Alter>(alloc: Global, conn: &mut Connection<S>) -> Result<bool, Error>
+fn are_entries_fit<S: Alter>(alloc: Global, conn: &mut Connection<S>) -> Result<bool, Error>
     ensures tests { Tests (state S.Store conn.old) (state S.Store conn.new) result
         (λ db. AreEntriesFit (map entry_shown (db 6))) }
     ensures cause { FailsWithReason (state S.Store conn.old) (state S.Store conn.new) result }
@@ -447,26 +447,26 @@ fn has_entries<S: Alter>(alloc: Global, conn: &mut Connection<S>) -> Result<bool
 }
 
 /// Whether the rows of all tables are such that the tables stand for a world. Fails as [`stand_for_world`] does.
-fn is_fit<S: Alter>(alloc: Global, conn: &mut Connection<S>) -> Result<bool, Error>
+fn are_fit<S: Alter>(alloc: Global, conn: &mut Connection<S>) -> Result<bool, Error>
     ensures tests { Tests (state S.Store conn.old) (state S.Store conn.new) result AreFit }
     ensures cause { FailsWithReason (state S.Store conn.old) (state S.Store conn.new) result }
 {
-    if !has_schema(conn)? {
+    if !is_meta_fit(conn)? {
         return Ok(false);
     }
-    if !has_shelves(alloc, conn)? {
+    if !are_shelves_fit(alloc, conn)? {
         return Ok(false);
     }
-    if !has_keys(alloc, conn)? {
+    if !are_keys_fit(alloc, conn)? {
         return Ok(false);
     }
-    if !has_numbers(conn)? {
+    if !are_numbers_fit(conn)? {
         return Ok(false);
     }
-    if !has_entries(alloc, conn)? {
+    if !are_entries_fit(alloc, conn)? {
         return Ok(false);
     }
-    has_pieces(conn)
+    are_pieces_fit(conn)
 }
 
 /// Whether the tables are those of the schema and stand for a world. Writes nothing.
@@ -494,5 +494,5 @@ pub fn stand_for_world<S: Alter>(alloc: Global, conn: &mut Connection<S>) -> Res
     if !is_store_schema(conn.schema()) {
         return Ok(false);
     }
-    is_fit(alloc, conn)
+    are_fit(alloc, conn)
 }

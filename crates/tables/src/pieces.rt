@@ -113,7 +113,7 @@ pub fn may_go_on(last: Option<LastPiece>, piece: LastPiece) -> bool
 
 /// Whether the rows of `piece` are the pieces of zips. Fails only if memory runs out, the connection is closed or limited in its
 /// steps, the disk fails, or a table has a row for each rowid.
-pub(crate) fn has_pieces<S: Alter>(conn: &mut Connection<S>) -> Result<bool, Error>
+pub(crate) fn are_pieces_fit<S: Alter>(conn: &mut Connection<S>) -> Result<bool, Error>
     ensures tests { Tests (state S.Store conn.old) (state S.Store conn.new) result
         (λ db. ArePiecesFit (map piece_shown (db 8))) }
     ensures cause { FailsWithReason (state S.Store conn.old) (state S.Store conn.new) result }

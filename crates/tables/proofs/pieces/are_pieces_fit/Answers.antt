@@ -5,7 +5,7 @@ use Rattle.tables.proofs.Texts.{piece_rows_text}
 use Rattle.tables.proofs.FitTests.{walked}
 use Rattle.tables.proofs.PieceTests.{PieceFits, PieceKeeps, pieces_true, pieces_false}
 use Rattle.tables.proofs.WalkCauses.{piece_walkable, piece_vast, walk_reason}
-use Rattle.tables.proofs.pieces.has_pieces.Goals as goal
+use Rattle.tables.proofs.pieces.are_pieces_fit.Goals as goal
 
 pub rows_pass-requires-clause-plain : goal.rows_pass-requires-clause-plain
 rows_pass-requires-clause-plain g c = piece_rows_plain

@@ -4,7 +4,7 @@ use Rattle.tables.proofs.ListingLemmas.{entry_rows_plain, entry_rows_tables}
 use Rattle.tables.proofs.Texts.{entry_rows_text}
 use Rattle.tables.proofs.FitTests.{walked, EntryFits, EntryKeeps, entries_true, entries_false}
 use Rattle.tables.proofs.WalkCauses.{entry_walkable, entry_vast, walk_reason}
-use Rattle.tables.proofs.fit.has_entries.Goals as goal
+use Rattle.tables.proofs.fit.are_entries_fit.Goals as goal
 
 pub rows_pass-requires-clause-plain : goal.rows_pass-requires-clause-plain
 rows_pass-requires-clause-plain g c = entry_rows_plain

@@ -4,7 +4,7 @@ use Rattle.tables.proofs.ListingLemmas.{number_rows_plain, number_rows_tables}
 use Rattle.tables.proofs.Texts.{number_rows_text}
 use Rattle.tables.proofs.FitTests.{walked, NumberFits, NumberKeeps, numbers_true, numbers_false}
 use Rattle.tables.proofs.WalkCauses.{number_walkable, number_vast, walk_reason}
-use Rattle.tables.proofs.fit.has_numbers.Goals as goal
+use Rattle.tables.proofs.fit.are_numbers_fit.Goals as goal
 
 pub rows_pass-requires-clause-plain : goal.rows_pass-requires-clause-plain
 rows_pass-requires-clause-plain g c = number_rows_plain

@@ -8,7 +8,7 @@ use Rattle.tables.proofs.ListingLemmas.{shelf_rows_plain, shelf_rows_tables}
 use Rattle.tables.proofs.FitTests.{answered, refused, shelves_true, shelves_false}
 use Rattle.tables.proofs.Maps.{no_text}
 use Rattle.tables.proofs.WalkCauses.{shelf_walkable, shelf_vast, walk_reason, error_says}
-use Rattle.tables.proofs.fit.has_shelves.Goals as goal
+use Rattle.tables.proofs.fit.are_shelves_fit.Goals as goal
 
 none_of : (s : set.FinSet text_cmp) → s ≡ set.empty → (u : List ℕ) → set.contains s u ≡ true → ⊥
 none_of s is u h = no_text u (ap (λ x. set.contains x u) (sym is) ∙ h)

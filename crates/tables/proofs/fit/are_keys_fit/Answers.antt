@@ -4,7 +4,7 @@ use Rattle.tables.proofs.ListingLemmas.{key_rows_plain, key_rows_tables}
 use Rattle.tables.proofs.Texts.{key_rows_text}
 use Rattle.tables.proofs.FitTests.{walked, KeyFits, KeyKeeps, keys_true, keys_false}
 use Rattle.tables.proofs.WalkCauses.{key_walkable, key_vast, walk_reason}
-use Rattle.tables.proofs.fit.has_keys.Goals as goal
+use Rattle.tables.proofs.fit.are_keys_fit.Goals as goal
 
 pub rows_pass-requires-clause-plain : goal.rows_pass-requires-clause-plain
 rows_pass-requires-clause-plain g c = key_rows_plain

@@ -5,7 +5,7 @@ use Rattle.tables.specs.declared.fit.MetaRows.{MetaRows}
 use Rattle.tables.proofs.ListingLemmas.{meta_rows_plain, meta_rows_tables}
 use Rattle.tables.proofs.FitTests.{answered, refused, meta_true, meta_false}
 use Rattle.tables.proofs.WalkCauses.{meta_walkable, meta_vast, walk_reason, error_says}
-use Rattle.tables.proofs.fit.has_schema.Goals as goal
+use Rattle.tables.proofs.fit.is_meta_fit.Goals as goal
 
 abbrev start : MetaRows
 start = record { has_row = false }

@@ -99,7 +99,7 @@ module _ (db : Database) (start end : MetaRows) where
   -- if each row of `meta` passed, the walk saw a row exactly if the rows are those of schema 3
   pub meta_true : start.has_row ≡ false → Walks MetaFits MetaKeeps meta_rows_text db start end true → Decides end.has_row (Fit.IsMetaFit (map Fit.meta_shown (db.trees 0)))
   meta_true new w =
-      let same = meta_listed db.trees w.0 (all_listed meta_rows_text _ _ _ _ meta_rows_is db w.0 w.1) in
+      let same = meta_listed db.trees w.0 (all_listed store_schema meta_rows_text _ _ _ _ meta_rows_is db w.0 w.1) in
       elim (met start w.0 end w.2) [
         | inl none ↦ (
             let unseen : end.has_row ≡ false = ap (λ (x : MetaRows). x.has_row) none.0 ∙ new in
@@ -115,7 +115,7 @@ module _ (db : Database) (start end : MetaRows) where
 
   pub meta_false : Walks MetaFits MetaKeeps meta_rows_text db start end false → Fit.IsMetaFit (map Fit.meta_shown (db.trees 0)) → ⊥
   meta_false w fit =
-      let first = first_listed meta_rows_text _ _ _ _ meta_rows_is db (w.0 ++ w.1 ∷ []) w.3 in
+      let first = first_listed store_schema meta_rows_text _ _ _ _ meta_rows_is db (w.0 ++ w.1 ∷ []) w.3 in
       let same = meta_listed db.trees _ first.1 in
       w.5 (fit.each w.1 (has_permuted _ _ w.1 same (at_index w.0 first.0 w.1)))
 
@@ -189,23 +189,23 @@ NumberKeeps rows row next = next.last ≡ Some (Fit.number_in row)
 module _ (db : Database) where
   pub keys_true : (start end : KeyRows) → Walks KeyFits KeyKeeps key_rows_text db start end true → Fit.AreKeysFit (map Fit.name_shown (db.trees 4))
   keys_true start end w =
-      let it = all_listed key_rows_text _ _ _ _ key_rows_is db w.0 w.1 in
+      let it = all_listed store_schema key_rows_text _ _ _ _ key_rows_is db w.0 w.1 in
       once_true texts_total texts_exact Fit.IsKeyRow Fit.key_in (λ (x : KeyRows). x.last) texts_in_order start end w.0 _ (keys_listed db.trees w.0 it) (keys_in_order db.trees w.0 it) w.2
 
   pub keys_false : (start end : KeyRows) → start.last ≡ None → Walks KeyFits KeyKeeps key_rows_text db start end false → Fit.AreKeysFit (map Fit.name_shown (db.trees 4)) → ⊥
   keys_false start end new w =
-      let first = first_listed key_rows_text _ _ _ _ key_rows_is db (w.0 ++ w.1 ∷ []) w.3 in
+      let first = first_listed store_schema key_rows_text _ _ _ _ key_rows_is db (w.0 ++ w.1 ∷ []) w.3 in
       once_false texts_total texts_exact Fit.IsKeyRow Fit.key_in (λ (x : KeyRows). x.last) texts_in_order start w.2 new w.0 w.1 first.0 _ (keys_listed db.trees _ first.1) w.4 w.5
 
   pub numbers_true : (start end : NumberRows) → Walks NumberFits NumberKeeps number_rows_text db start end true → Fit.AreNumbersFit (map Fit.number_shown (db.trees 4))
   numbers_true start end w =
-      let it = all_listed number_rows_text _ _ _ _ number_rows_is db w.0 w.1 in
+      let it = all_listed store_schema number_rows_text _ _ _ _ number_rows_is db w.0 w.1 in
       once_true int_cmp_total int_cmp-IsAntisymmetric Fit.IsNumberRow Fit.number_in
       (λ (x : NumberRows). x.last) ints_in_order start end w.0 _ (numbers_listed db.trees w.0 it) (numbers_in_order db.trees w.0 it) w.2
 
   pub numbers_false : (start end : NumberRows) → start.last ≡ None → Walks NumberFits NumberKeeps number_rows_text db start end false → Fit.AreNumbersFit (map Fit.number_shown (db.trees 4)) → ⊥
   numbers_false start end new w =
-      let first = first_listed number_rows_text _ _ _ _ number_rows_is db (w.0 ++ w.1 ∷ []) w.3 in
+      let first = first_listed store_schema number_rows_text _ _ _ _ number_rows_is db (w.0 ++ w.1 ∷ []) w.3 in
       once_false int_cmp_total int_cmp-IsAntisymmetric Fit.IsNumberRow Fit.number_in
       (λ (x : NumberRows). x.last) ints_in_order start w.2 new w.0 w.1 first.0 _ (numbers_listed db.trees _ first.1) w.4 w.5
 
@@ -355,12 +355,12 @@ module _ (db : Database) (start end : ShelfRows) (new : (u : List ℕ) → set.c
 
   pub shelves_true : Walks ShelfFits ShelfKeeps shelf_rows_text db start end true → Decides (Fit.are_whole end.tops end.parents) (Fit.AreShelvesFit (map Fit.shelf_shown (db.trees 2)))
   shelves_true w =
-      let it = all_listed shelf_rows_text _ _ _ _ shelf_rows_is db w.0 w.1 in
+      let it = all_listed store_schema shelf_rows_text _ _ _ _ shelf_rows_is db w.0 w.1 in
       shelves_pass w.0 (shelves_listed db.trees w.0 it) (shelves_in_order db.trees w.0 it) w.2
 
   pub shelves_false : start.last ≡ None → Walks ShelfFits ShelfKeeps shelf_rows_text db start end false → Fit.AreShelvesFit (map Fit.shelf_shown (db.trees 2)) → ⊥
   shelves_false fresh w fit =
-      let first = first_listed shelf_rows_text _ _ _ _ shelf_rows_is db (w.0 ++ w.1 ∷ []) w.3 in
+      let first = first_listed store_schema shelf_rows_text _ _ _ _ shelf_rows_is db (w.0 ++ w.1 ∷ []) w.3 in
       once_false texts_total texts_exact Fit.IsShelfRow Fit.key_in
       (λ (x : ShelfRows). x.last) shelf_names_in_order start w.2 fresh w.0 w.1 first.0 _ (shelves_listed db.trees _ first.1) (shelf_last start w.0 w.2 w.4) w.5 fit.shelves
 
@@ -415,7 +415,7 @@ module _ (db : Database) (start end : EntryRows) where
   -- if each row of `version` passed, the rows of the table fit
   pub entries_true : start.last ≡ None → Walks EntryFits EntryKeeps entry_rows_text db start end true → Fit.AreEntriesFit (map Fit.entry_shown (db.trees 6))
   entries_true new w =
-      let it = all_listed entry_rows_text _ _ _ _ entry_rows_is db w.0 w.1 in
+      let it = all_listed store_schema entry_rows_text _ _ _ _ entry_rows_is db w.0 w.1 in
       let same = entries_listed db.trees w.0 it in
       let back = IsPermutation-sym _ _ same in
       let rise = entries_rise w.0 (entries_in_order db.trees w.0 it) w.2 in
@@ -430,7 +430,7 @@ module _ (db : Database) (start end : EntryRows) where
   -- if a row of `version` did not pass, the rows of the table do not fit
   pub entries_false : start.last ≡ None → Walks EntryFits EntryKeeps entry_rows_text db start end false → Fit.AreEntriesFit (map Fit.entry_shown (db.trees 6)) → ⊥
   entries_false new w fit =
-      let first = first_listed entry_rows_text _ _ _ _ entry_rows_is db (w.0 ++ w.1 ∷ []) w.3 in
+      let first = first_listed store_schema entry_rows_text _ _ _ _ entry_rows_is db (w.0 ++ w.1 ∷ []) w.3 in
       let same = entries_listed db.trees _ first.1 in
       let once = ascends_permuted PlacesApart places_turned _ _ same fit.once in
       let few = λ (s p : List ℕ). subst (λ n. n ≤ version_limit) (sym (filter_permuted (λ row. Fit.is_on s p (Fit.place_in row)) _ _ same)) (fit.few s p) in

@@ -8,6 +8,7 @@ use Rattle.sqlite.specs.Collation.TheVariants.{Binary}
 use Rattle.sqlite_value.specs.declared.keys.Key.{Key}
 use Rattle.sqlite_value.specs.Keys.{ascending}
 use Rattle.sqlite.specs.Order.{Row, column}
+use Rattle.sqlite.specs.Schema.{Schema}
 use Rattle.sqlite.specs.Term.{Term, Env, lit, col, eval_all}
 use Rattle.sqlite.specs.Tree.{Trees}
 use Rattle.sqlite.specs.Query.{Query, Join, inner, end, IsAnswer, Output, output, output_cmp, key_cmp, matches}
@@ -176,14 +177,14 @@ map_singles f g (x ∷ xs) = ap (λ l. f (g x) ∷ l) (map_singles f g xs)
 pub of_table : (tree : ℕ) (project : List Term) (db : Trees) → map (eval_all project) (matches db [] (inner tree end) ([] ∷ [])) ≡ map (λ row. eval_all project ([] ∷ row ∷ [])) (db tree)
 of_table tree project db = map_singles (eval_all project) (λ row. [] ∷ row ∷ []) (db tree)
 
-module _ (sql : List ℕ) (from : Join) (project : List Term) (order : List (Term × Key)) (names : List (List ℕ))
-    (is : command_of (understood store_schema sql) ≡ Select (record { lets = []; body = listing from project order }) names) (db : Database) where
-  pub all_listed : (rows : List Row) → Reads (command_of (understood store_schema sql)) db [] rows → IsListing (listing from project order) (overlay db.trees []) rows
+module _ (schema : Schema) (sql : List ℕ) (from : Join) (project : List Term) (order : List (Term × Key)) (names : List (List ℕ))
+    (is : command_of (understood schema sql) ≡ Select (record { lets = []; body = listing from project order }) names) (db : Database) where
+  pub all_listed : (rows : List Row) → Reads (command_of (understood schema sql)) db [] rows → IsListing (listing from project order) (overlay db.trees []) rows
   all_listed rows h =
       let read = subst (λ k. Reads k db [] rows) is h in
       is_listing from project order (overlay db.trees []) rows (read.answer Null)
 
-  pub first_listed : (rows : List Row) → ReadsFirst (command_of (understood store_schema sql)) db [] rows
+  pub first_listed : (rows : List Row) → ReadsFirst (command_of (understood schema sql)) db [] rows
       → (tail : List Row) × IsListing (listing from project order) (overlay db.trees []) (rows ++ tail)
   first_listed rows h =
       let got = (subst (λ k. ReadsFirst k db [] rows) is h).1 in

@@ -18,6 +18,7 @@ use Rattle.sqlite_trees.specs.Tree.{IsAscending}
 use Rattle.sqlite_trees.proofs.ListLemmas.{ascending_weaker}
 use Rattle.sqlite_rules.specs.Lists.{Has}
 use Rattle.sqlite_rules.proofs.ListLemmas.{has_right, has_either}
+use Rattle.tables.specs.Schema.{store_schema}
 use Rattle.tables.specs.Fit.{IsPieceRow, ArePiecesFit, piece_key, piece_in, piece_shown, full_piece, int_in, nat_in}
 use Rattle.tables.specs.Walks.{Pass, Walks, GoesOn, MayGoOn}
 use Rattle.tables.specs.declared.pieces.LastPiece.{LastPiece}
@@ -164,7 +165,7 @@ module _ (db : Database) (start end : PieceRows) (new : start.last ≡ None) whe
   pub pieces_true : Walks PieceFits PieceKeeps piece_rows_text db start end true → ArePiecesFit all
   pieces_true w =
       let rows = w.0 in
-      let listed = all_listed piece_rows_text _ _ _ _ piece_rows_is db rows w.1 in
+      let listed = all_listed store_schema piece_rows_text _ _ _ _ piece_rows_is db rows w.1 in
       let same = pieces_listed db.trees rows listed in
       let back = IsPermutation-sym _ _ same in
       let each = λ (row : Row) (there : Has rows row). (pass_each PieceFits PieceKeeps start rows end w.2 row there).1.0 in
@@ -272,7 +273,7 @@ module _ (db : Database) (start end : PieceRows) (new : start.last ≡ None) whe
   pieces_false w fit =
       let rows = w.0 in
       let row = w.1 in
-      let first = first_listed piece_rows_text _ _ _ _ piece_rows_is db (rows ++ row ∷ []) w.3 in
+      let first = first_listed store_schema piece_rows_text _ _ _ _ piece_rows_is db (rows ++ row ∷ []) w.3 in
       let tail = first.0 in
       let long = (rows ++ row ∷ []) ++ tail in
       let here = map piece_shown (db.trees 8) in

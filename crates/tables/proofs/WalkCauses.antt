@@ -7,6 +7,8 @@ use Rattle.std.proofs.lemmas.List.Sorted.{length_permutation}
 use Rattle.sqlite_trees.specs.View.{doubt}
 use Rattle.sqlite.specs.Tree.{Trees}
 use Rattle.sqlite.specs.Order.{Row}
+use Rattle.sqlite.specs.Schema.{Schema}
+use Rattle.sqlite.specs.Table.{Table}
 use Rattle.sqlite_trees.specs.declared.store.Store.{Ghosts}
 use Rattle.sqlite.specs.Held.{Held, state}
 use Rattle.sqlite.specs.Command.TheVariants.{Select}
@@ -28,8 +30,8 @@ use Rattle.sqlite.specs.State.{State, HasCleanDisk, IsUnchanged, Survives, Begin
 use Rattle.sqlite.proofs.Callers.{IsPlain, command_of}
 use Rattle.tables.specs.Schema.{store_schema, meta_table, shelf_table, access_table, version_table, piece_table}
 use Rattle.tables.specs.Fit.{entry_width, piece_width}
-use Rattle.tables.specs.Walks.{Tests, IsAlone, IsWalkable, ShowsTooMany}
-use Rattle.tables.specs.Causes.{IsExcused, IsVast, HasReason}
+use Rattle.tables.specs.Walks.{Tests, IsAlone, IsAllowed, IsWalkable, ShowsTooMany, ShowsTooManyOver}
+use Rattle.tables.specs.Causes.{IsExcused, IsVast, IsVastOver, HasReason}
 use Rattle.tables.proofs.Texts.{meta_rows_text, shelf_rows_text, key_rows_text, number_rows_text, entry_rows_text, piece_rows_text}
 use Rattle.tables.proofs.FailureLemmas.{was_clean}
 use Rattle.tables.proofs.Ascending.{has_permuted}
@@ -41,13 +43,13 @@ use Rattle.tables.proofs.ListingLemmas.{piece_names, by_token, by_number, by_pla
 
 -- ---- one query
 
-module _ (sql : List ℕ) (width : ℕ) (it : IsWalkable sql width) (plain : IsPlain (understood store_schema sql)) (unlisted : reads_listing store_schema sql ≡ false) where
+module _ (schema : Schema) (sql : List ℕ) (it : IsAllowed schema sql) (plain : IsPlain (understood schema sql)) (unlisted : reads_listing schema sql ≡ false) where
   -- the query fails only with an error that is excused
-  pub query_excused : (old new : State) (e : Error) → old.now.schema ≡ store_schema → FailsToQuery sql [] old new e → IsExcused old new e
+  pub query_excused : (old new : State) (e : Error) → old.now.schema ≡ schema → FailsToQuery sql [] old new e → IsExcused old new e
   unfolding FailsToQuery
-  query_excused old new e has (inl unread) = unrun sql old new store_schema has (command_of (understood store_schema sql)) refl plain it.alone e unread
+  query_excused old new e has (inl unread) = unrun sql old new schema has (command_of (understood schema sql)) refl plain it.alone e unread
   query_excused old new e has (inr h) =
-      let known : Ok h.0 ≡ understood store_schema sql = sym h.1.is ∙ ap (λ s. understood s sql) has in
+      let known : Ok h.0 ≡ understood schema sql = sym h.1.is ∙ ap (λ s. understood s sql) has in
       let bare = subst IsPlain (sym known) plain in
       let shown = rw (bare.0, bare.1) at h.2 in
       let same : shown.0 ≡ old.now = subst (λ b. IsSourceOf b old.now shown.0) (ap (λ s. reads_listing s sql) has ∙ unlisted) shown.1 in
@@ -55,15 +57,12 @@ module _ (sql : List ℕ) (width : ℕ) (it : IsWalkable sql width) (plain : IsP
       inr (inr (inl (it.allowed old.step_limit shown.0 e (ap (λ (d : Database). d.schema) same ∙ has) refused)))
 
   -- after some rows
-  module _ (old mid : State) (has : old.now.schema ≡ store_schema) (same : IsUnchanged old mid) where
+  module _ (old mid : State) (has : old.now.schema ≡ schema) (same : IsUnchanged old mid) where
     pub next_excused : (new : State) (e : Error) → Survives old mid (λ _. ⊥) → FailsToQuery sql [] mid new e → IsExcused old new e
     next_excused new e survives h = excused_since old mid new e (on_its_way old mid (λ _. ⊥) survives same.0.is_open) (query_excused mid new e (unchanged_schema old mid same has) h)
 
-    pub given_wide : (rows : List Row) (row : Row) → Begins sql [] mid (rows ++ row ∷ []) → length row ≡ width
-    given_wide rows row begins = it.wide old.now rows row (some_walked sql plain unlisted old mid mid has same (rows ++ row ∷ []) begins)
-
-    pub too_many : (rows : List Row) → Begins sql [] mid rows → 2 ^ 128 ≤ length rows + 1 → ShowsTooMany sql old.now
-    too_many rows begins many = (rows, some_walked sql plain unlisted old mid mid has same rows begins, many)
+    pub too_many : (rows : List Row) → Begins sql [] mid rows → 2 ^ 128 ≤ length rows + 1 → ShowsTooManyOver schema sql old.now
+    too_many rows begins many = (rows, some_walked schema sql plain unlisted old mid mid has same rows begins, many)
 
 -- an error that is handed on
 pub error_says : {X E : Type 0} (P : E → Type 0) (r : Result X E) (e : E) → IsErrAnd r (λ x. x ≡ e) → P e → IfErr r P
@@ -83,14 +82,14 @@ listed_width from project order db out it row there =
     (has_permuted (map (eval_all project) (matches db [] from ([] ∷ []))) out row (listed_rows from project order db out it) there) in
     ap length e.2 ∙ length-map project (λ t. eval t e.0)
 
-module _ (sql : List ℕ) (from : Join) (project : List Term) (order : List (Term × Key)) (names : List (List ℕ))
-    (is : command_of (understood store_schema sql) ≡ Select (record { lets = []; body = listing from project order }) names) where
-  -- a query for terms of a join with no fold and no type error can be walked over
-  is_walkable : has_no_fold from ≡ true → ((db : Database) → db.schema ≡ store_schema → RefusesQuery None db (record { lets = []; body = listing from project order }) [] (SqliteFailure TypeMismatch)
-      → ⊥) → IsAlone sql (understood store_schema sql) → IsWalkable sql (length project)
-  is_walkable foldless typed alone = record { alone = alone; allowed = allowed; wide = wide }
+module _ (schema : Schema) (sql : List ℕ) (from : Join) (project : List Term) (order : List (Term × Key)) (names : List (List ℕ))
+    (is : command_of (understood schema sql) ≡ Select (record { lets = []; body = listing from project order }) names) where
+  -- only a limit on its steps can refuse a query for terms of a join with no fold and no type error
+  pub is_allowed : has_no_fold from ≡ true → ((db : Database) → db.schema ≡ schema → RefusesQuery None db (record { lets = []; body = listing from project order }) [] (SqliteFailure TypeMismatch)
+      → ⊥) → IsAlone sql (understood schema sql) → IsAllowed schema sql
+  is_allowed foldless typed alone = record { alone = alone; allowed = allowed }
     where
-      allowed : (limit : Option ℕ) (db : Database) (e : Error) → db.schema ≡ store_schema → RefusesToRead limit (command_of (understood store_schema sql)) db [] e → IsSome limit
+      allowed : (limit : Option ℕ) (db : Database) (e : Error) → db.schema ≡ schema → RefusesToRead limit (command_of (understood schema sql)) db [] e → IsSome limit
       allowed limit db e has h = elim (subst (λ k. RefusesToRead limit k db [] e) is h) [
         | inl (named, wrong) ↦ absurd (typed db has (inl (refl, wrong)))
         | inr (inl (named, inl none)) ↦ absurd none
@@ -98,31 +97,47 @@ module _ (sql : List ℕ) (from : Join) (project : List Term) (order : List (Ter
         | inr (inr (named, limited)) ↦ limited
       ]
 
-      wide : (db : Database) (rows : List Row) (row : Row) → ReadsFirst (command_of (understood store_schema sql)) db [] (rows ++ row ∷ []) → length row ≡ length project
-      wide db rows row h =
-          let first = first_listed sql from project order names is db (rows ++ row ∷ []) h in
-          listed_width from project order (overlay db.trees []) ((rows ++ row ∷ []) ++ first.0) first.1 row (at_index rows first.0 row)
+  -- each row that it shows has a value for each column
+  shown_wide : (db : Database) (rows : List Row) (row : Row) → ReadsFirst (command_of (understood schema sql)) db [] (rows ++ row ∷ []) → length row ≡ length project
+  shown_wide db rows row h =
+      let first = first_listed schema sql from project order names is db (rows ++ row ∷ []) h in
+      listed_width from project order (overlay db.trees []) ((rows ++ row ∷ []) ++ first.0) first.1 row (at_index rows first.0 row)
 
   -- if the query shows as many rows as a walk counts, the join has that many
-  many_listed : (db : Database) → ShowsTooMany sql db → 2 ^ 128 ≤ length (map (eval_all project) (matches (overlay db.trees []) [] from ([] ∷ []))) + 1
+  pub many_listed : (db : Database) → ShowsTooManyOver schema sql db → 2 ^ 128 ≤ length (map (eval_all project) (matches (overlay db.trees []) [] from ([] ∷ []))) + 1
   many_listed db h =
-      let first = first_listed sql from project order names is db h.0 h.1 in
+      let first = first_listed schema sql from project order names is db h.0 h.1 in
       let same = length_permutation (map (eval_all project) (matches (overlay db.trees []) [] from ([] ∷ [])))
       (h.0 ++ first.0) (listed_rows from project order (overlay db.trees []) (h.0 ++ first.0) first.1) in
       let all = length-append h.0 first.0 in
       let long = h.2 in
       omega (arith, same, all, long)
 
--- if a query of one table shows as many rows as a walk counts, the table has 2^64 rows
-many_rows : (sql : List ℕ) (tree : ℕ) (project : List Term) (order : List (Term × Key)) (names : List (List ℕ))
-    → command_of (understood store_schema sql) ≡ Select (record { lets = []; body = listing (inner tree end) project order }) names
-    → (db : Database) → overlay db.trees [] tree ≡ db.trees tree → ShowsTooMany sql db → 2 ^ 64 ≤ length (db.trees tree)
-many_rows sql tree project order names is db plain h =
-    let long = many_listed sql (inner tree end) project order names is db h in
-    let all = ap length (of_table tree project (overlay db.trees [])) in
-    let each = length-map (overlay db.trees [] tree) (λ row. eval_all project ([] ∷ row ∷ [])) in
-    let there = ap length plain in
-    omega (arith, long, all, each, there)
+-- a query of one table
+module _ (schema : Schema) (sql : List ℕ) (tree : ℕ) (project : List Term) (order : List (Term × Key)) (names : List (List ℕ))
+    (is : command_of (understood schema sql) ≡ Select (record { lets = []; body = listing (inner tree end) project order }) names) where
+  -- if it shows as many rows as a walk counts, the table is vast
+  pub table_vast : (table : Table) → Has schema.tables table → table.tree ≡ tree → ((db : Database) → overlay db.trees [] tree ≡ db.trees tree)
+      → (db : Database) → db.schema ≡ schema → ShowsTooManyOver schema sql db → IsVastOver schema db
+  table_vast table listed own plain db has h = record { schema = has; table = table; listed = listed; rows = subst (λ t. 2 ^ 64 ≤ length (db.trees t)) (sym own) many }
+    where
+      many : 2 ^ 64 ≤ length (db.trees tree)
+      many =
+          let long = many_listed schema sql (inner tree end) project order names is db h in
+          let all = ap length (of_table tree project (overlay db.trees [])) in
+          let each = length-map (overlay db.trees [] tree) (λ row. eval_all project ([] ∷ row ∷ [])) in
+          let there = ap length (plain db) in
+          omega (arith, long, all, each, there)
+
+-- a query of the tables of a store for terms of a join with no fold and no type error can be walked over
+is_walkable : (sql : List ℕ) (from : Join) (project : List Term) (order : List (Term × Key)) (names : List (List ℕ))
+    → command_of (understood store_schema sql) ≡ Select (record { lets = []; body = listing from project order }) names → has_no_fold from ≡ true
+    → ((db : Database) → db.schema ≡ store_schema → RefusesQuery None db (record { lets = []; body = listing from project order }) [] (SqliteFailure TypeMismatch) → ⊥)
+    → IsAlone sql (understood store_schema sql) → IsWalkable sql (length project)
+is_walkable sql from project order names is foldless typed alone = record {
+  query = is_allowed store_schema sql from project order names is foldless typed alone;
+  wide = shown_wide store_schema sql from project order names is;
+}
 
 -- ---- the queries
 
@@ -138,8 +153,7 @@ pub meta_walkable : IsWalkable meta_rows_text 2
 meta_walkable = is_walkable meta_rows_text (inner 0 end) (col 1 1 ∷ col 1 2 ∷ []) [] (codes "name" ∷ codes "value" ∷ []) meta_rows_is refl meta_typed meta_alone
 
 pub meta_vast : (db : Database) → db.schema ≡ store_schema → ShowsTooMany meta_rows_text db → IsVast db
-meta_vast db has h =
-    record { schema = has; table = meta_table; listed = inl refl; rows = many_rows meta_rows_text 0 (col 1 1 ∷ col 1 2 ∷ []) [] (codes "name" ∷ codes "value" ∷ []) meta_rows_is db refl h }
+meta_vast = table_vast store_schema meta_rows_text 0 (col 1 1 ∷ col 1 2 ∷ []) [] (codes "name" ∷ codes "value" ∷ []) meta_rows_is meta_table (inl refl) refl (λ db. refl)
 
 shelf_typed : (db : Database) → db.schema ≡ store_schema → RefusesQuery None db (record { lets = []; body = listing (inner 2 end) shelf_columns by_name }) [] (SqliteFailure TypeMismatch) → ⊥
 unfolding understood everything
@@ -153,7 +167,7 @@ pub shelf_walkable : IsWalkable shelf_rows_text 2
 shelf_walkable = is_walkable shelf_rows_text (inner 2 end) shelf_columns by_name shelf_names shelf_rows_is refl shelf_typed shelf_alone
 
 pub shelf_vast : (db : Database) → db.schema ≡ store_schema → ShowsTooMany shelf_rows_text db → IsVast db
-shelf_vast db has h = record { schema = has; table = shelf_table; listed = inr (inl refl); rows = many_rows shelf_rows_text 2 shelf_columns by_name shelf_names shelf_rows_is db refl h }
+shelf_vast = table_vast store_schema shelf_rows_text 2 shelf_columns by_name shelf_names shelf_rows_is shelf_table (inr (inl refl)) refl (λ db. refl)
 
 key_typed : (db : Database) → db.schema ≡ store_schema → RefusesQuery None db (record { lets = []; body = listing (inner 4 end) (col 1 1 ∷ []) by_token }) [] (SqliteFailure TypeMismatch) → ⊥
 unfolding understood everything
@@ -167,7 +181,7 @@ pub key_walkable : IsWalkable key_rows_text 1
 key_walkable = is_walkable key_rows_text (inner 4 end) (col 1 1 ∷ []) by_token (codes "token" ∷ []) key_rows_is refl key_typed key_alone
 
 pub key_vast : (db : Database) → db.schema ≡ store_schema → ShowsTooMany key_rows_text db → IsVast db
-key_vast db has h = record { schema = has; table = access_table; listed = inr (inr (inl refl)); rows = many_rows key_rows_text 4 (col 1 1 ∷ []) by_token (codes "token" ∷ []) key_rows_is db refl h }
+key_vast = table_vast store_schema key_rows_text 4 (col 1 1 ∷ []) by_token (codes "token" ∷ []) key_rows_is access_table (inr (inr (inl refl))) refl (λ db. refl)
 
 number_typed : (db : Database) → db.schema ≡ store_schema → RefusesQuery None db (record { lets = []; body = listing (inner 4 end) (col 1 0 ∷ []) by_number }) [] (SqliteFailure TypeMismatch) → ⊥
 unfolding understood everything
@@ -181,8 +195,7 @@ pub number_walkable : IsWalkable number_rows_text 1
 number_walkable = is_walkable number_rows_text (inner 4 end) (col 1 0 ∷ []) by_number (codes "rowid" ∷ []) number_rows_is refl number_typed number_alone
 
 pub number_vast : (db : Database) → db.schema ≡ store_schema → ShowsTooMany number_rows_text db → IsVast db
-number_vast db has h =
-    record { schema = has; table = access_table; listed = inr (inr (inl refl)); rows = many_rows number_rows_text 4 (col 1 0 ∷ []) by_number (codes "rowid" ∷ []) number_rows_is db refl h }
+number_vast = table_vast store_schema number_rows_text 4 (col 1 0 ∷ []) by_number (codes "rowid" ∷ []) number_rows_is access_table (inr (inr (inl refl))) refl (λ db. refl)
 
 entry_typed : (db : Database) → db.schema ≡ store_schema → RefusesQuery None db (record { lets = []; body = listing (inner 6 end) entry_columns by_place }) [] (SqliteFailure TypeMismatch) → ⊥
 unfolding understood everything
@@ -196,7 +209,7 @@ pub entry_walkable : IsWalkable entry_rows_text entry_width
 entry_walkable = is_walkable entry_rows_text (inner 6 end) entry_columns by_place entry_names entry_rows_is refl entry_typed entry_alone
 
 pub entry_vast : (db : Database) → db.schema ≡ store_schema → ShowsTooMany entry_rows_text db → IsVast db
-entry_vast db has h = record { schema = has; table = version_table; listed = inr (inr (inr (inl refl))); rows = many_rows entry_rows_text 6 entry_columns by_place entry_names entry_rows_is db refl h }
+entry_vast = table_vast store_schema entry_rows_text 6 entry_columns by_place entry_names entry_rows_is version_table (inr (inr (inr (inl refl)))) refl (λ db. refl)
 
 piece_typed : (db : Database) → db.schema ≡ store_schema → RefusesQuery None db (record { lets = []; body = listing (inner 8 end) piece_columns by_piece }) [] (SqliteFailure TypeMismatch) → ⊥
 unfolding understood everything
@@ -210,8 +223,7 @@ pub piece_walkable : IsWalkable piece_rows_text piece_width
 piece_walkable = is_walkable piece_rows_text (inner 8 end) piece_columns by_piece piece_names piece_rows_is refl piece_typed piece_alone
 
 pub piece_vast : (db : Database) → db.schema ≡ store_schema → ShowsTooMany piece_rows_text db → IsVast db
-piece_vast db has h =
-    record { schema = has; table = piece_table; listed = inr (inr (inr (inr (inl refl)))); rows = many_rows piece_rows_text 8 piece_columns by_piece piece_names piece_rows_is db refl h }
+piece_vast = table_vast store_schema piece_rows_text 8 piece_columns by_piece piece_names piece_rows_is piece_table (inr (inr (inr (inr (inl refl))))) refl (λ db. refl)
 
 -- ---- one walk after the other
 

@@ -3,6 +3,7 @@ use Rattle.std.proofs.Common.{◌≡◌, ◌≤◌, ◌⊎◌, Bool, true, false
 use Rattle.sqlite_trees.specs.View.{doubt}
 use Rattle.sqlite.specs.Tree.{Trees}
 use Rattle.sqlite.specs.Order.{Row}
+use Rattle.sqlite.specs.Schema.{Schema}
 use Rattle.sqlite.specs.Effect.{Database, Reads, ReadsFirst}
 use Rattle.sqlite.specs.declared.error.Error.{Error}
 use Rattle.sqlite.specs.Listing.{understood, reads_listing}
@@ -13,7 +14,7 @@ use Rattle.tables.specs.Schema.{store_schema}
 use Rattle.tables.specs.Walks.{Looks, Tests, Pass}
 use Rattle.tables.proofs.FailureLemmas.{was_clean}
 
-pub unchanged_schema : (a b : State) → IsUnchanged a b → a.now.schema ≡ store_schema → b.now.schema ≡ store_schema
+pub unchanged_schema : {schema : Schema} (a b : State) → IsUnchanged a b → a.now.schema ≡ schema → b.now.schema ≡ schema
 unchanged_schema a b same has = ap (λ (d : Database). d.schema) same.0.now_is ∙ has
 
 pub outcome_then : (a b c : State) → IsUnchanged a b → IsUnchanged b c ⊎ IsRolledBack b c → IsUnchanged a c ⊎ IsRolledBack a c
@@ -27,12 +28,6 @@ outcome_then a b c p (inr q) = inr (record {
 })
 
 -- ---- rows one at a time
-
--- a query with no RETURNING commits nothing
-pub commits_nothing : (sql : List _) (old new : State) → IsPlain (understood store_schema sql)
-    → Survives old new (CommitsShowing sql [] old) → old.now.schema ≡ store_schema → Survives old new (λ _. ⊥)
-commits_nothing sql old new plain survives has =
-    survives_weaker old new _ _ (λ _ db. never_commits sql [] old db (subst (λ s. IsPlain (understood s sql)) (sym has) plain)) survives
 
 pub quiet_looks : (old new : State) → doubt old.is_clean ≤ doubt new.is_clean → (old.now.schema ≡ store_schema → Survives old new (λ _. ⊥))
     → (HasCleanDisk new → old.now.schema ≡ store_schema → IsUnchanged old new ⊎ IsRolledBack old new) → Looks old new
@@ -59,17 +54,22 @@ pub failed_or_same : (mid new : State) (e : Error) → Fails mid new ⊥ e ⊎ I
 failed_or_same mid new e (inl fails) = inr fails.3
 failed_or_same mid new e (inr same) = inl same
 
-module _ (sql : List _) (plain : IsPlain (understood store_schema sql)) (unlisted : reads_listing store_schema sql ≡ false)
-    (old mid new : State) (has : old.now.schema ≡ store_schema) (same : IsUnchanged old mid) where
-  pub all_walked : (rows : List Row) → Shown sql [] mid new rows → Reads (command_of (understood store_schema sql)) old.now [] rows
-  all_walked rows shown =
-      subst
-      (λ db. Reads (command_of (understood store_schema sql)) db [] rows) same.0.now_is (reads_as sql [] mid new store_schema (unchanged_schema old mid same has) _ refl plain unlisted rows shown)
+-- a query over the tables of a schema
+module _ (schema : Schema) (sql : List _) (plain : IsPlain (understood schema sql)) where
+  -- a query with no RETURNING commits nothing
+  pub commits_nothing : (old new : State) → Survives old new (CommitsShowing sql [] old) → old.now.schema ≡ schema → Survives old new (λ _. ⊥)
+  commits_nothing old new survives has = survives_weaker old new _ _ (λ _ db. never_commits sql [] old db (subst (λ s. IsPlain (understood s sql)) (sym has) plain)) survives
 
-  pub some_walked : (rows : List Row) → Begins sql [] mid rows → ReadsFirst (command_of (understood store_schema sql)) old.now [] rows
-  some_walked rows begins = subst
-      (λ db. ReadsFirst (command_of (understood store_schema sql)) db [] rows) same.0.now_is
-      (begins_as sql [] mid mid store_schema (unchanged_schema old mid same has) _ refl plain unlisted rows begins)
+  module _ (unlisted : reads_listing schema sql ≡ false) (old mid new : State) (has : old.now.schema ≡ schema) (same : IsUnchanged old mid) where
+    pub all_walked : (rows : List Row) → Shown sql [] mid new rows → Reads (command_of (understood schema sql)) old.now [] rows
+    all_walked rows shown =
+        subst
+        (λ db. Reads (command_of (understood schema sql)) db [] rows) same.0.now_is (reads_as sql [] mid new schema (unchanged_schema old mid same has) _ refl plain unlisted rows shown)
+
+    pub some_walked : (rows : List Row) → Begins sql [] mid rows → ReadsFirst (command_of (understood schema sql)) old.now [] rows
+    some_walked rows begins = subst
+        (λ db. ReadsFirst (command_of (understood schema sql)) db [] rows) same.0.now_is
+        (begins_as sql [] mid mid schema (unchanged_schema old mid same has) _ refl plain unlisted rows begins)
 
 module _ {X : Type 0} (Fits : X → Row → Type 0) (Keeps : X → Row → X → Type 0) where
   pub one_more : (start : X) (rows : List Row) (so_far : X) (row : Row) (next : X) → Pass Fits Keeps start rows so_far

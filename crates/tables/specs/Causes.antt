@@ -7,6 +7,7 @@ use Rattle.sqlite.specs.declared.error.Error.{Error}
 use Rattle.sqlite.specs.declared.error.Error.TheVariants.{SqliteFailure}
 use Rattle.sqlite.specs.declared.error.ErrorCode.TheVariants.{OutOfMemory}
 use Rattle.sqlite.specs.Table.{Table}
+use Rattle.sqlite.specs.Schema.{Schema}
 use Rattle.sqlite_rules.specs.Lists.{Has}
 use Rattle.tables.specs.Schema.{store_schema}
 
@@ -18,13 +19,19 @@ IsHindered old new = (old.is_open ≡ false) ⊎ (IsSome old.step_limit ⊎ More
 abbrev pub IsExcused : State → State → Error → Type 0
 IsExcused old new e = (e ≡ SqliteFailure OutOfMemory) ⊎ IsHindered old new
 
--- the tables are those of the schema, and one of them has at least as many rows as there are rowids
-pub record IsVast (db : Database) : Type 0 where
-  pub schema : db.schema ≡ store_schema
+-- the tables are those of this schema, and one of them has at least as many rows as there are rowids
+pub record IsVastOver (s : Schema) (db : Database) : Type 0 where
+  pub schema : db.schema ≡ s
   pub table : Table
-  pub listed : Has store_schema.tables table
+  pub listed : Has s.tables table
   pub rows : 2 ^ 64 ≤ length (db.trees table.tree)
 
--- the error says that memory ran out, or something hindered the call, or a table is vast
+abbrev pub IsVast : Database → Type 0
+IsVast = IsVastOver store_schema
+
+-- the error says that memory ran out, or something hindered the call, or a table of this schema is vast
+abbrev pub HasReasonOver : Schema → State → State → Error → Type 0
+HasReasonOver s old new e = IsExcused old new e ⊎ IsVastOver s old.now
+
 abbrev pub HasReason : State → State → Error → Type 0
-HasReason old new e = IsExcused old new e ⊎ IsVast old.now
+HasReason = HasReasonOver store_schema

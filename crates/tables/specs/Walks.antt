@@ -10,6 +10,7 @@ use Rattle.sqlite.specs.Effect.{Database, Reads, ReadsFirst, RefusesToRead}
 use Rattle.sqlite_resolve.specs.declared.compiled.Compiled.{Compiled}
 use Rattle.sqlite_resolve.specs.declared.error.CompileError.{CompileError}
 use Rattle.sqlite.specs.Listing.{understood}
+use Rattle.sqlite.specs.Schema.{Schema}
 use Rattle.sqlite.proofs.Callers.{command_of}
 use Rattle.world.specs.declared.entry.Place.{Place}
 use Rattle.world.specs.World.{version_limit}
@@ -53,17 +54,25 @@ abbrev pub IsAlone : List ℕ → Result Compiled CompileError → Type 0
 IsAlone sql (Ok c) = (length sql ≤ c.tail) × (c.names ≡ [])
 IsAlone sql (Err e) = ⊥
 
+-- only a limit on its steps can refuse the query over the tables of this schema
+pub record IsAllowed (schema : Schema) (sql : List ℕ) : Type 0 where
+  pub alone : IsAlone sql (understood schema sql)
+  pub allowed : (limit : Option ℕ) (db : Database) (e : Error) → db.schema ≡ schema
+      → RefusesToRead limit (command_of (understood schema sql)) db [] e → IsSome limit
+
 -- only a limit on its steps can refuse the query, and each row that it shows has this many values
 pub record IsWalkable (sql : List ℕ) (width : ℕ) : Type 0 where
-  pub alone : IsAlone sql (understood store_schema sql)
-  pub allowed : (limit : Option ℕ) (db : Database) (e : Error) → db.schema ≡ store_schema
-      → RefusesToRead limit (command_of (understood store_schema sql)) db [] e → IsSome limit
+  pub query : IsAllowed store_schema sql
   pub wide : (db : Database) (rows : List Row) (row : Row)
       → ReadsFirst (command_of (understood store_schema sql)) db [] (rows ++ row ∷ []) → length row ≡ width
 
 -- the query shows at least as many rows as a walk counts, which is 2 ^ 128 - 1
+abbrev pub ShowsTooManyOver : Schema → List ℕ → Database → Type 0
+ShowsTooManyOver schema sql db =
+    (rows : List Row) × ReadsFirst (command_of (understood schema sql)) db [] rows × (2 ^ 128 ≤ length rows + 1)
+
 abbrev pub ShowsTooMany : List ℕ → Database → Type 0
-ShowsTooMany sql db = (rows : List Row) × ReadsFirst (command_of (understood store_schema sql)) db [] rows × (2 ^ 128 ≤ length rows + 1)
+ShowsTooMany = ShowsTooManyOver store_schema
 
 -- ---- one place after another, in order
 

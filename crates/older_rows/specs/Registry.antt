@@ -58,10 +58,6 @@ PutsShelves old db after = StandFor db only_common → HasShelves old after
 abbrev pub ShowsRight : Row → ℕ → Right → Type 0
 ShowsRight row at right = column row at ≡ Int (if may_publish right then pos 1 else pos 0)
 
--- a row shows a key, its shelf and its right
-abbrev pub ShowsAs : Row → List ℕ → List ℕ → Right → Type 0
-ShowsAs row token shelf right = (column row 0 ≡ Text token) × (column row 1 ≡ Text shelf) × ShowsRight row 2 right
-
 -- a row shows a well-formed key, its shelf and its right
 abbrev pub IsGoodKey : Row → Type 0
 IsGoodKey row = (it : List ℕ × Holder) × ShowsKey row it × (is_key it.0 ≡ true)

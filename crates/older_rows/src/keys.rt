@@ -4,7 +4,8 @@ ghost use Rattle.std.specs.Prelude.{◌≡◌, IfOk, IfSome, IsTrue};
 ghost use Rattle.sqlite.specs.Held.{state};
 ghost use Rattle.older_rows.specs.Causes.{FailsAs};
 ghost use Rattle.older_rows.specs.Visits.{Moves, is_done};
-ghost use Rattle.older_rows.specs.Registry.{ShowsRight, ShowsAs, IsGoodKey, IsKeyRow, PutsKeys};
+ghost use Rattle.statements.specs.Extract.{ShowsKey};
+ghost use Rattle.older_rows.specs.Registry.{ShowsRight, IsGoodKey, IsKeyRow, PutsKeys};
 
 use crate::walk::{Visit, visit_rows};
 use older::schema::Format;
@@ -28,7 +29,8 @@ fn right_at(row: &Row, at: usize) -> Result<Option<Right>, Error>
 
 /// Returns the key that a row shows, with its shelf and its right. Returns None if a column is not of its type.
 fn key_at(row: &Row) -> Result<Option<(&str, &str, Right)>, Error>
-    ensures { IfOk result (λ found. IfSome found (λ key. ShowsAs row.now key.0.now key.1.now key.2)) }
+    ensures { IfOk result (λ found. IfSome found (λ key.
+        ShowsKey row.now (key.0.now, record { shelf = key.1.now; right = key.2 }))) }
 {
     let Some(token) = text_at(row, 0)? else {
         return Ok(None);

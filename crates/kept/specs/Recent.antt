@@ -1,4 +1,4 @@
--- Cached values, each under a number and with its weight.
+-- Cached values, each under a hash and with its weight.
 use Rattle.std.specs.Prelude.{ℕ, ◌≡◌, ◌+◌, List, [], ◌∷◌, Contains}
 
 module _ {V : Type 0} where

@@ -6,8 +6,7 @@ ghost use Rattle.outline.specs.Seen.{seen_heading};
 ghost use Rattle.kept.specs.Headings.{is_of, AreHeadings};
 ghost use Rattle.kept.specs.Recent.{Holds};
 
-use crate::recent::Recent;
-use crate::zips::number_of;
+use crate::recent::{Recent, hash_of};
 use outline::seen::SeenHeading;
 use std::alloc::{AllocError, Global};
 use text::Text;
@@ -83,7 +82,7 @@ impl Recent<KeptHeading> {
         ensures found { IfSome result (λ seen. (w : World) → AreHeadings w self.old
             → Some seen ≡ seen_heading (view w shelf.now path.now version.now)) }
     {
-        self.promote(number_of(shelf, path, version));
+        self.promote(hash_of(&[shelf, path, version]));
         let kept = self.kept_heading(shelf, path, version)?;
         match kept.seen.copy(alloc) {
             Ok(copy) => Some(copy),
@@ -113,7 +112,7 @@ impl Recent<KeptHeading> {
             .len()
             .saturating_add(HEADING_WEIGHT);
         if let Ok(kept) = KeptHeading::copy_of(alloc, shelf, path, version, seen) {
-            self.keep(alloc, number_of(shelf, path, version), weight, kept);
+            self.keep(alloc, hash_of(&[shelf, path, version]), weight, kept);
         }
     }
 
@@ -122,7 +121,7 @@ impl Recent<KeptHeading> {
         ensures held { IfSome result (λ it. Holds self.now it.now) }
         ensures names { IfSome result (λ it. IsTrue (is_of shelf.now path.now version.now it.now)) }
     {
-        let kept = self.get(number_of(shelf, path, version))?;
+        let kept = self.get(hash_of(&[shelf, path, version]))?;
         if kept.is_of(shelf, path, version) {
             Some(kept)
         } else {

@@ -6,9 +6,8 @@ ghost use Rattle.world.specs.World.{World};
 ghost use Rattle.kept.specs.Keys.{AreKeys};
 ghost use Rattle.kept.specs.Recent.{Holds};
 
-use crate::recent::Recent;
+use crate::recent::{Recent, hash_of};
 use std::alloc::{AllocError, Global};
-use std::hash::{FoldHasher, Hasher};
 use text::Text;
 use world::entry::Holder;
 
@@ -40,7 +39,7 @@ impl Recent<KeptKey> {
         ensures found { IfSome result
             (λ holder. (w : World) → AreKeys w self.old → map.get w.keys key.now ≡ Some holder) }
     {
-        self.promote(number_of(key));
+        self.promote(hash_of(&[key]));
         let kept = self.kept_key(key)?;
         match kept.holder.copy(alloc) {
             Ok(copy) => Some(copy),
@@ -57,7 +56,7 @@ impl Recent<KeptKey> {
             return;
         };
         if let Ok(kept) = KeptKey::copy_of(alloc, key, holder) {
-            self.keep(alloc, number_of(key), 1, kept);
+            self.keep(alloc, hash_of(&[key]), 1, kept);
         }
     }
 
@@ -66,7 +65,7 @@ impl Recent<KeptKey> {
         ensures held { IfSome result (λ it. Holds self.now it.now) }
         ensures name { IfSome result (λ it. IsTrue (bytes_eq it.now.key key.now)) }
     {
-        let kept = self.get(number_of(key))?;
+        let kept = self.get(hash_of(&[key]))?;
         if kept.key.as_str() == key {
             Some(kept)
         } else {
@@ -85,12 +84,4 @@ impl KeptKey {
             holder: holder.copy(alloc)?,
         })
     }
-}
-
-/// Returns the number under which a key is cached. Two keys with the same number replace each other; the text in a cached key
-/// says which key it is.
-fn number_of(key: &str) -> u64 {
-    let mut hasher = FoldHasher::default();
-    hasher.write(key.as_bytes());
-    hasher.finish()
 }

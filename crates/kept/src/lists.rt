@@ -7,10 +7,9 @@ ghost use Rattle.world.specs.Versions.{versions_of};
 ghost use Rattle.kept.specs.Lists.{is_of, AreLists};
 ghost use Rattle.kept.specs.Recent.{Holds};
 
-use crate::recent::Recent;
+use crate::recent::{Recent, hash_of};
 use modver::Version;
 use std::alloc::{AllocError, Global};
-use std::hash::{FoldHasher, Hasher};
 use text::Text;
 use world::version_list::Versions;
 
@@ -82,7 +81,7 @@ impl Recent<KeptList> {
         ensures found { IfSome result (λ versions. (w : World) → AreLists w self.old
             → versions ≡ versions_of w shelf.now path.now) }
     {
-        self.promote(number_of(shelf, path));
+        self.promote(hash_of(&[shelf, path]));
         let list = self.list(shelf, path)?;
         match copied(alloc, list.versions.as_slice()) {
             Ok(copy) => Some(copy),
@@ -96,7 +95,7 @@ impl Recent<KeptList> {
         ensures found { IfSome result (λ latest. (w : World) → AreLists w self.old
             → latest ≡ latest_of w shelf.now path.now) }
     {
-        self.promote(number_of(shelf, path));
+        self.promote(hash_of(&[shelf, path]));
         let latest = self.list(shelf, path)?.latest.as_ref()?;
         match copy_of(alloc, latest.as_ref()) {
             Ok(copy) => Some(copy),
@@ -110,7 +109,7 @@ impl Recent<KeptList> {
         ensures taken { IfSome result (λ versions. (w : World) → AreLists w self.old
             → versions ≡ versions_of w shelf.now path.now) }
     {
-        let list = self.take(number_of(shelf, path))?;
+        let list = self.take(hash_of(&[shelf, path]))?;
         if list.is_of(shelf, path) {
             Some(list.versions)
         } else {
@@ -153,7 +152,7 @@ impl Recent<KeptList> {
             → AreLists (with_entry w (place s path.now v) e) self.new }
     {
         self.drop_on(alloc, path);
-        // A list of the path is left only if there was no memory for the numbers.
+        // A list of the path is left only if there was no memory for the hashes.
         if self.has_path(path) {
             *self = Lists::no_lists();
         }
@@ -166,7 +165,7 @@ impl Recent<KeptList> {
         ensures held { IfSome result (λ list. Holds self.now list.now) }
         ensures names { IfSome result (λ list. IsTrue (is_of shelf.now path.now list.now)) }
     {
-        let list = self.get(number_of(shelf, path))?;
+        let list = self.get(hash_of(&[shelf, path]))?;
         if list.is_of(shelf, path) {
             Some(list)
         } else {
@@ -190,7 +189,7 @@ impl Recent<KeptList> {
             return;
         }
         if let Ok(list) = KeptList::new(alloc, shelf, path, versions, latest) {
-            self.keep(alloc, number_of(shelf, path), list.weight(), list);
+            self.keep(alloc, hash_of(&[shelf, path]), list.weight(), list);
         }
     }
 
@@ -198,33 +197,33 @@ impl Recent<KeptList> {
     fn drop_on(&mut self, alloc: Global, path: &str)
         ensures { (list : _) → Holds self.new list → Holds self.old list }
     {
-        let Ok(numbers) = self.numbers_on(alloc, path) else {
+        let Ok(hashes) = self.hashes_on(alloc, path) else {
             return;
         };
-        self.drop_all(numbers.as_slice());
+        self.drop_all(hashes.as_slice());
     }
 
-    /// Drops the lists under these numbers.
-    fn drop_all(&mut self, numbers: &[u64])
+    /// Drops the lists under these hashes.
+    fn drop_all(&mut self, hashes: &[u64])
         ensures { (list : _) → Holds self.new list → Holds self.old list }
     {
-        for number in numbers {
-            self.drop_one(*number);
+        for hash in hashes {
+            self.drop_one(*hash);
         }
     }
 
-    /// Returns the numbers of the lists of a path. Fails if memory runs out.
-    fn numbers_on(&self, alloc: Global, path: &str) -> Result<Vec<u64>, AllocError> {
-        let mut numbers = Vec::new(alloc);
+    /// Returns the hashes of the lists of a path. Fails if memory runs out.
+    fn hashes_on(&self, alloc: Global, path: &str) -> Result<Vec<u64>, AllocError> {
+        let mut hashes = Vec::new(alloc);
         let Some(cache) = &self.cache else {
-            return Ok(numbers);
+            return Ok(hashes);
         };
-        for (number, held) in cache {
+        for (hash, held) in cache {
             if held.1.path.as_str() == path {
-                numbers.push(*number)?;
+                hashes.push(*hash)?;
             }
         }
-        Ok(numbers)
+        Ok(hashes)
     }
 
     /// Reports whether a list of a path is cached.
@@ -236,15 +235,6 @@ impl Recent<KeptList> {
         };
         cache.iter().any(|(_, held)| held.1.path.as_str() == path)
     }
-}
-
-/// Returns the number under which the list of a shelf and a path is cached. Two lists with the same number replace each other; the
-/// names in a list say whose it is.
-fn number_of(shelf: &str, path: &str) -> u64 {
-    let mut hasher = FoldHasher::default();
-    hasher.write(shelf.as_bytes());
-    hasher.write(path.as_bytes());
-    hasher.finish()
 }
 
 /// Returns a copy of the versions. Fails if memory runs out.

@@ -6,13 +6,14 @@ ghost use Rattle.kept.specs.Recent.{Holds};
 
 use lru::LruCache;
 use std::alloc::{AllocError, Global};
+use std::hash::{FoldHasher, Hasher};
 use std::marker::Model;
 
 /// Values with their weights, the one that was asked for last first. It drops nothing by itself.
 type Cache<V> = LruCache<u64, (usize, V)>;
 
-/// Values under numbers, which together weigh at most a fixed figure. To make room for a new value, it drops those that were
-/// asked for longest ago. Contracts see each value with its number and its weight.
+/// Values under hashes, which together weigh at most a fixed figure. To make room for a new value, it drops those that were
+/// asked for longest ago. Contracts see each value with its hash and its weight.
 #[derive(Drop)]
 pub struct Recent<V> {
     pub(crate) cache: Option<Cache<V>>,
@@ -48,61 +49,61 @@ impl<V> Recent<V> {
         }
     }
 
-    /// Returns the value under a number, or None if there is none.
-    pub(crate) fn get(&self, number: u64) -> Option<&V>
+    /// Returns the value under a hash, or None if there is none.
+    pub(crate) fn get(&self, hash: u64) -> Option<&V>
         ensures { IfSome result (λ value. Holds self.now value.now) }
     {
-        let held = self.cache.as_ref()?.peek(&number)?;
+        let held = self.cache.as_ref()?.peek(&hash)?;
         Some(&held.1)
     }
 
-    /// Makes the value under a number, if there is one, the one that was asked for last.
-    pub(crate) fn promote(&mut self, number: u64)
+    /// Makes the value under a hash, if there is one, the one that was asked for last.
+    pub(crate) fn promote(&mut self, hash: u64)
         ensures { (v : _) → Holds self.new v → Holds self.old v }
     {
         let Some(cache) = &mut self.cache else {
             return;
         };
-        cache.promote(&number);
+        cache.promote(&hash);
     }
 
-    /// Takes the value under a number out of the cache and returns it, or returns None if there is none.
-    pub(crate) fn take(&mut self, number: u64) -> Option<V>
+    /// Takes the value under a hash out of the cache and returns it, or returns None if there is none.
+    pub(crate) fn take(&mut self, hash: u64) -> Option<V>
         ensures others { (v : _) → Holds self.new v → Holds self.old v }
         ensures taken { IfSome result (Holds self.old) }
     {
         let Some(cache) = &mut self.cache else {
             return None;
         };
-        let (_, (weight, value)) = cache.pop_entry(&number)?;
+        let (_, (weight, value)) = cache.pop_entry(&hash)?;
         self.weight = self.weight.saturating_sub(weight);
         Some(value)
     }
 }
 
 impl<V: Drop> Recent<V> {
-    /// Caches a value of this weight under a number, instead of the one that was there. If memory runs out, the value is not
+    /// Caches a value of this weight under a hash, instead of the one that was there. If memory runs out, the value is not
     /// cached. A value that weighs more than `most` changes nothing.
-    pub(crate) fn keep(&mut self, alloc: Global, number: u64, weight: usize, value: V)
+    pub(crate) fn keep(&mut self, alloc: Global, hash: u64, weight: usize, value: V)
         ensures { (v : _) → Holds self.new v → Holds self.old v ⊎ (v ≡ value) }
     {
         if weight > self.most {
             return;
         }
-        self.drop_one(number);
+        self.drop_one(hash);
         self.make_room(weight);
-        self.put(alloc, number, weight, value);
+        self.put(alloc, hash, weight, value);
     }
 
-    /// Drops the value under a number, if there is one.
-    pub(crate) fn drop_one(&mut self, number: u64)
+    /// Drops the value under a hash, if there is one.
+    pub(crate) fn drop_one(&mut self, hash: u64)
         ensures { (v : _) → Holds self.new v → Holds self.old v }
     {
-        drop(self.take(number));
+        drop(self.take(hash));
     }
 
     /// Drops the values that were asked for longest ago, until one of this weight has room.
-    pub(crate) fn make_room(&mut self, weight: usize)
+    fn make_room(&mut self, weight: usize)
         ensures { (v : _) → Holds self.new v → Holds self.old v }
     {
         for _ in 0..self.len() {
@@ -135,7 +136,7 @@ impl<V: Drop> Recent<V> {
     }
 
     /// Adds a value of this weight, if it has room and there is memory.
-    fn put(&mut self, alloc: Global, number: u64, weight: usize, value: V)
+    fn put(&mut self, alloc: Global, hash: u64, weight: usize, value: V)
         ensures { (v : _) → Holds self.new v → Holds self.old v ⊎ (v ≡ value) }
     {
         if weight > self.most - self.weight {
@@ -144,7 +145,7 @@ impl<V: Drop> Recent<V> {
         let Ok(mut cache) = cache_or_new(alloc, self.cache.take()) else {
             return;
         };
-        let Ok(_) = cache.put(number, (weight, value)) else {
+        let Ok(_) = cache.put(hash, (weight, value)) else {
             self.cache = Some(cache);
             return;
         };
@@ -161,4 +162,14 @@ fn cache_or_new<V>(alloc: Global, cache: Option<Cache<V>>) -> Result<Cache<V>, A
         Some(cache) => Ok(cache),
         None => LruCache::unbounded(alloc),
     }
+}
+
+/// Returns the hash under which a value with these names is cached. Values with the same hash replace each other, so each value
+/// holds its names, and a lookup compares them.
+pub(crate) fn hash_of(names: &[&str]) -> u64 {
+    let mut hasher = FoldHasher::default();
+    for name in names {
+        hasher.write(name.as_bytes());
+    }
+    hasher.finish()
 }

@@ -5,9 +5,8 @@ ghost use Rattle.world.specs.World.{World, place};
 ghost use Rattle.kept.specs.Recent.{Holds};
 ghost use Rattle.kept.specs.Zips.{is_at, IsZipAt, IsSeenAt, AreZips};
 
-use crate::recent::Recent;
+use crate::recent::{Recent, hash_of};
 use std::alloc::Global;
-use std::hash::{FoldHasher, Hasher};
 use world::bytes::Bytes;
 use world::entry::{Entry, MAX_ZIP, Place, Seen};
 
@@ -65,7 +64,7 @@ impl Recent<KeptZip> {
         ensures found { IfSome result (λ zip. (w : World) → AreZips w self.old
             → IsZipAt w (place shelf.now path.now version.now) zip) }
     {
-        self.promote(number_of(shelf, path, version));
+        self.promote(hash_of(&[shelf, path, version]));
         let kept = self.kept_zip(shelf, path, version)?;
         kept.zip.again()
     }
@@ -110,7 +109,7 @@ impl Recent<KeptZip> {
         let zip = zip.shared(alloc);
         if let Some(kept) = KeptZip::of(alloc, shelf, path, version, &zip) {
             let weight = zip.capacity().saturating_add(ZIP_WEIGHT);
-            self.keep(alloc, number_of(shelf, path, version), weight, kept);
+            self.keep(alloc, hash_of(&[shelf, path, version]), weight, kept);
         }
         zip
     }
@@ -120,21 +119,11 @@ impl Recent<KeptZip> {
         ensures held { IfSome result (λ it. Holds self.now it.now) }
         ensures place { IfSome result (λ it. IsTrue (is_at (place shelf.now path.now version.now) it.now)) }
     {
-        let kept = self.get(number_of(shelf, path, version))?;
+        let kept = self.get(hash_of(&[shelf, path, version]))?;
         if kept.is_at(shelf, path, version) {
             Some(kept)
         } else {
             None
         }
     }
-}
-
-/// Returns the number under which a zip or a heading is cached, by its shelf and its version. Two with the same number replace
-/// each other; the names in each say whose it is.
-pub(crate) fn number_of(shelf: &str, path: &str, version: &str) -> u64 {
-    let mut hasher = FoldHasher::default();
-    hasher.write(shelf.as_bytes());
-    hasher.write(path.as_bytes());
-    hasher.write(version.as_bytes());
-    hasher.finish()
 }

@@ -13,12 +13,12 @@ pub invariant_of-self-2 : goal.invariant_of-self-2
 invariant_of-self-2 g c =
     let was : c.in-Ok.cache.entries ≡ entries_in c.self.inside.cache = c.in-Ok.ensures ∙ ap entries_in c.take.ensures.value in
     let room : c.args.weight ≤ c.self.inside.most - c.self.inside.weight = search rules in
-    put_fits c.in-Ok.cache c.put.new.self (entries_in c.self.inside.cache) was c.self.inside.weight c.self.inside.most c.self.invariant nat_eq c.args.number
+    put_fits c.in-Ok.cache c.put.new.self (entries_in c.self.inside.cache) was c.self.inside.weight c.self.inside.most c.self.invariant nat_eq c.args.hash
     (c.args.weight, c.args.value) c.in-Ok-put.ensures.entries room
 
 pub returns : goal.returns
 returns g c v h =
     let was : c.in-Ok.cache.entries ≡ entries_in c.self.inside.cache = c.in-Ok.ensures ∙ ap entries_in c.take.ensures.value in
-    let held = put_holds c.in-Ok.cache c.put.new.self (entries_in c.self.inside.cache) was c.self.inside.weight c.self.inside.most c.self.invariant nat_eq c.args.number
+    let held = put_holds c.in-Ok.cache c.put.new.self (entries_in c.self.inside.cache) was c.self.inside.weight c.self.inside.most c.self.invariant nat_eq c.args.hash
     (c.args.weight, c.args.value) c.in-Ok-put.ensures.entries v h in
     subst (λ l. Holds l v ⊎ (v ≡ c.args.value)) c.self.view_is held

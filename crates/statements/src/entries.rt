@@ -55,7 +55,8 @@ fn time_of(text: Option<String>) -> Result<Option<TimeText>, Error>
     }
 }
 
-fn read_stamp(row: &Row) -> Result<Option<TimeText>, Error>
+/// Returns the time in column 2 of a row, or None for NULL. Fails with `DatabaseCorrupt` if the text writes no time.
+fn read_time_column(row: &Row) -> Result<Option<TimeText>, Error>
     ensures { IfOk result (λ time. column row.now 2 ≡ or_null StoredText time) }
 {
     let time: Option<String> = row.get(2)?;
@@ -68,7 +69,7 @@ fn read_version(row: &Row) -> Result<VersionRow, Error>
 {
     let id: i64 = row.get(0)?;
     let shelf: String = row.get(1)?;
-    let time = read_stamp(row)?;
+    let time = read_time_column(row)?;
     let gomod: Vec<u8> = row.get(3)?;
     Ok(VersionRow {
         id,

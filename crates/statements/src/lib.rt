@@ -33,7 +33,8 @@
 //! the zip.
 //!
 //! What contracts say of values holds if the disk has returned what was written. A call fails with the error of `sqlite` if
-//! the disk fails, memory runs out, the connection is closed, or a row holds a value that no store writes.
+//! the disk fails, memory runs out, the connection is closed or limited in its steps, or a row holds a value that no store
+//! writes, and with `TooBig` if there are as many rows or pieces as its loop counts.
 #![tactic(auto)]
 
 pub mod compare;

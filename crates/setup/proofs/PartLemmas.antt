@@ -210,7 +210,7 @@ chains_more w (u ∷ ts) t s =
     ∙ (or_apart (is_among (chain w u) s) (is_among (chains w ts) s) (is_among (chain w t) s)
     ∙ ap (λ b. b || is_among (chain w t) s) (sym (among_either (chain w u) (chains w ts) s))))
 
--- ---- a team behind its parent
+-- ---- a parent and then its team
 
 or_itself : (b : Bool) → (b || false) ≡ (b || (b || false))
 or_itself true = refl
@@ -242,7 +242,7 @@ of_parent parent = record { name = parent; parent = None }
 abbrev of_team : List ℕ → List ℕ → Shelf
 of_team t parent = record { name = t; parent = Some parent }
 
--- a team is added behind its parent
+-- a parent and then its team are added
 module _ (w : World) (is : IsWorld w) (done : List (List ℕ)) (shelves : List Shelf) (t parent : List ℕ) (at : map.get w.shelves t ≡ Some (Some parent)) (of : AreOf w (chains w done) shelves) where
   abbrev with_parent : List Shelf
   with_parent = added shelves (of_parent parent)
@@ -318,9 +318,9 @@ pub some_named : {X : Type 0} (f : X → List ℕ) (xs : List X) → (length xs 
 some_named f [] some = λ _. some refl
 some_named f (x ∷ xs) some = not_cons (f x) (each f xs)
 
-pub adds_behind : (shelves behind more : List Shelf) (parent team a t : List ℕ) → a ≡ parent → t ≡ team → behind ≡ added shelves (of_parent a) → more ≡ added behind (of_team t parent)
+pub adds_both : (shelves behind more : List Shelf) (parent team a t : List ℕ) → a ≡ parent → t ≡ team → behind ≡ added shelves (of_parent a) → more ≡ added behind (of_team t parent)
     → more ≡ added (added shelves (of_parent parent)) (of_team team parent)
-adds_behind shelves behind more parent team a t one two first then =
+adds_both shelves behind more parent team a t one two first then =
     let parented : behind ≡ added shelves (of_parent parent) = first ∙ ap (λ n. added shelves (of_parent n)) one in
     then ∙ (λ i. added (parented i) (of_team (two i) parent))
 

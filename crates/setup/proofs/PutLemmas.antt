@@ -17,7 +17,7 @@ use Rattle.statements.specs.Shelves.{names_of, AreShelves}
 use Rattle.statements.specs.declared.shelf_list.Shelf.{Shelf}
 use Rattle.statements.proofs.RowLemmas.{filling_of, writing_of}
 use Rattle.setup.specs.Parts.{part_of, Puts, PutsShelves, MakesPart, is_written}
-use Rattle.setup.specs.declared.extract_judge.Judged.{Judged}
+use Rattle.setup.specs.declared.judge.Judged.{Judged}
 use Rattle.statements.specs.declared.extract_rows.CopyError.{CopyError}
 
 -- a store is spared by a first call that spares it, and a second that spares it if its tables stood for a world

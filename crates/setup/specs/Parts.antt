@@ -17,10 +17,10 @@ use Rattle.world.specs.World.{World, IsWorld, common, chain, is_among, only_comm
 use Rattle.setup.specs.Extracted.{IsRead, IsUnfit}
 use Rattle.setup.specs.declared.choice.Wanted.{Wanted}
 use Rattle.setup.specs.declared.choice.Wanted.TheVariants as wanted
-use Rattle.setup.specs.declared.extract_judge.Judged.{Judged}
-use Rattle.setup.specs.declared.extract_judge.Judged.TheVariants as judged
-use Rattle.setup.specs.declared.extract_part.Rows.{Rows}
-use Rattle.setup.specs.declared.extract_part.Rows.TheVariants as rows
+use Rattle.setup.specs.declared.judge.Judged.{Judged}
+use Rattle.setup.specs.declared.judge.Judged.TheVariants as judged
+use Rattle.setup.specs.declared.write.Rows.{Rows}
+use Rattle.setup.specs.declared.write.Rows.TheVariants as rows
 use Rattle.setup.specs.declared.refusal.Refusal.{Refusal}
 use Rattle.setup.specs.declared.refusal.Refusal.TheVariants as refusal
 
@@ -45,16 +45,17 @@ AreTeams w ts = (ts ≢ []) × ((t : List ℕ) → Has ts t → IsTeam w t)
 
 -- ---- the choice
 
--- the list with the parent of a team, and then the team, added
-abbrev pub behind_parent : List Shelf → List ℕ → List ℕ → List Shelf
-behind_parent shelves parent t = added (added shelves (record { name = parent; parent = None })) (record { name = t; parent = Some parent })
+-- the list with the parent of a team and then the team added
+abbrev pub with_parent_and_team : List Shelf → List ℕ → List ℕ → List Shelf
+with_parent_and_team shelves parent t =
+    added (added shelves (record { name = parent; parent = None })) (record { name = t; parent = Some parent })
 
--- a team is added behind its parent; None: there is no such team
+-- the parent of a team and then the team are added; None: there is no such team
 abbrev pub AddsTeam : World → List ℕ → List Shelf → Option (List Shelf) → Type 0
 AddsTeam w t shelves None = ¬ IsTeam w t
 AddsTeam w t shelves (Some more) =
     (parent : List ℕ) × (map.get w.shelves t ≡ Some (Some parent))
-    × (more ≡ behind_parent shelves parent t)
+    × (more ≡ with_parent_and_team shelves parent t)
 
 -- these are shelves of the world, and their names, with `common`, are the names ss
 pub record AreOf (w : World) (ss : List (List ℕ)) (shelves : List Shelf) : Type 0 where
@@ -77,19 +78,19 @@ shelves_of w (wanted.Teams ts) = chains w (each (λ t. t.now) ts.now)
 shelves_of w wanted.All = map.keys w.shelves
 
 -- the world of the shelves that are wanted
-abbrev pub what : Wanted → World → World
-what (wanted.Teams ts) w = part_of w (chains w (each (λ t. t.now) ts.now))
-what wanted.All w = w
+abbrev pub wanted_part : Wanted → World → World
+wanted_part (wanted.Teams ts) w = part_of w (chains w (each (λ t. t.now) ts.now))
+wanted_part wanted.All w = w
 
 -- the shelves, with `common`, are those that are wanted; None: what is wanted does not exist
 abbrev pub Chooses : World → Wanted → Option (List Shelf) → Type 0
 Chooses w it None = ¬ IsThere w it
-Chooses w it (Some shelves) = IsThere w it × AreShelves w shelves × (part_of w (common ∷ names_of shelves) ≡ what it w)
+Chooses w it (Some shelves) = IsThere w it × AreShelves w shelves × (part_of w (common ∷ names_of shelves) ≡ wanted_part it w)
 
 -- the verdict on copying wanted shelves of w into a store of x
 abbrev pub IsJudged : World → World → Wanted → Judged → Type 0
 IsJudged w x it (judged.Fit shelves) =
-    IsThere w it × AreShelves w shelves × (part_of w (common ∷ names_of shelves) ≡ what it w) × (x ≡ only_common)
+    IsThere w it × AreShelves w shelves × (part_of w (common ∷ names_of shelves) ≡ wanted_part it w) × (x ≡ only_common)
 IsJudged w x it judged.NoTeam = ¬ IsThere w it
 IsJudged w x it judged.NotEmpty = IsThere w it × (x ≢ only_common)
 
@@ -161,7 +162,7 @@ pub record FillsBy (There : World → Type 0) (next : World → World)
       → FillsAt fresh fresh_new (There w) (next w) x result
 
 abbrev pub Fills : Wanted → Shown → Shown → Shown → Shown → Result (Unit {0}) Refusal → Type 0
-Fills it = FillsBy (λ w. IsThere w it) (what it)
+Fills it = FillsBy (λ w. IsThere w it) (wanted_part it)
 
 -- the part of these teams is put into a fresh store
 abbrev pub ExtractsTeams : List (List ℕ) → Shown → Shown → Shown → Shown → Result (Unit {0}) Refusal → Type 0

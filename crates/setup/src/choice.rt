@@ -4,7 +4,7 @@ ghost use Rattle.std.specs.Prelude.{◌≡◌, map as each, IfOk, IsSome, IsTrue
 ghost use Rattle.sqlite.specs.Held.{state};
 ghost use Rattle.world.specs.World.{IsWorld};
 ghost use Rattle.statements.specs.Calls.{InEachWorld, Spares};
-ghost use Rattle.setup.specs.Parts.{behind_parent, AddsTeam, ListsTeams, Chooses};
+ghost use Rattle.setup.specs.Parts.{with_parent_and_team, AddsTeam, ListsTeams, Chooses};
 
 use sqlite::{Alter, Connection, Error};
 use statements::registry::find_shelf;
@@ -22,14 +22,14 @@ pub enum Wanted<'a> {
     All,
 }
 
-/// Returns the list with the parent of a team, and then the team, added at its end. Fails if memory runs out.
-fn put_behind(
+/// Returns the list with the parent of a team and then the team added. Fails if memory runs out.
+fn with_parent_and_team(
     alloc: Global,
     list: ShelfList,
     parent: Text,
     team: &str,
 ) -> Result<ShelfList, AllocError>
-    ensures { IfOk result (λ longer. longer ≡ behind_parent list parent team.now) }
+    ensures { IfOk result (λ longer. longer ≡ with_parent_and_team list parent team.now) }
 {
     let above = Shelf {
         name: Text::copy_of(alloc, parent.as_str())?,
@@ -43,7 +43,7 @@ fn put_behind(
     list.with(alloc, team)
 }
 
-/// Returns the list with a team behind its parent, or None if no team has the name.
+/// Returns the list with the parent of a team and then the team added, or None if no team has the name.
 fn add_team<S: Alter>(
     alloc: Global,
     source: &mut Connection<S>,
@@ -55,7 +55,7 @@ fn add_team<S: Alter>(
         IfOk result (λ longer. IsTrue new.is_open × AddsTeam w team.now list longer)) }
 {
     match find_shelf(source, team)? {
-        Some(Some(parent)) => Ok(Some(put_behind(alloc, list, parent, team)?)),
+        Some(Some(parent)) => Ok(Some(with_parent_and_team(alloc, list, parent, team)?)),
         Some(None) => Ok(None),
         None => Ok(None),
     }

@@ -5,15 +5,15 @@
 //! | call | what it calls |
 //! |---|---|
 //! | `adopt::open_tables` | `tables::fit::stand_for_world`, or `tables::create::create` if there are no tables |
-//! | `extract_judge::is_blank` | `statements::query::find_row` for a shelf other than `common`, a key and an entry |
-//! | `extract::extract_part` | `find_shelf` or `find_shelves` of `statements`, and `is_blank`; then, in one transaction, `extract_rows` |
+//! | `judge::is_blank` | `statements::query::find_row` for a shelf other than `common`, a key and an entry |
+//! | `copy::copy_shelves` | `find_shelf` or `find_shelves` of `statements`, and `is_blank`; then, in one transaction, `extract_rows` |
 //!
 //! What contracts say of values holds if the disk has returned what was written.
 #![tactic(auto)]
 
 pub mod adopt;
 pub mod choice;
-pub mod extract;
-pub mod extract_judge;
-mod extract_part;
+pub mod copy;
+pub mod judge;
 pub mod refusal;
+mod write;

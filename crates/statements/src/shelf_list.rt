@@ -15,7 +15,7 @@ use world::text_set::TextSet;
 pub struct Shelf {
     /// Its name.
     pub name: Text,
-    /// The shelf behind it: a team's group, or `common` for a team without one. A group has none.
+    /// Its parent: a team's group, or `common` for a team without one. A group has none.
     pub parent: Option<Text>,
 }
 

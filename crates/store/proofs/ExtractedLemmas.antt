@@ -13,7 +13,7 @@ use Rattle.kept.specs.declared.kept.Kept.{Kept}
 use Rattle.kept.specs.Kept.{AreKept, IsNothing}
 use Rattle.kept.proofs.KeptLemmas.{nothing_kept}
 use Rattle.setup.specs.Extracted.{IsRead, IsUnfit, Tells as TellsOne, Extracts}
-use Rattle.setup.specs.Parts.{AreTeams, what, Tells, FillsAt, FillsBy, ExtractsTeams}
+use Rattle.setup.specs.Parts.{AreTeams, wanted_part, Tells, FillsAt, FillsBy, ExtractsTeams}
 use Rattle.setup.specs.declared.choice.Wanted.{Wanted}
 use Rattle.setup.specs.declared.choice.Wanted.TheVariants as wanted
 use Rattle.setup.proofs.PartLemmas.{chains_world, part_of_one}
@@ -44,9 +44,9 @@ fault_tells There x refusal.NotEmpty a b c = absurd (b refl)
 fault_tells There x refusal.NoTeam a b c = absurd (c refl)
 
 -- the wanted shelves of a world are a world
-pub what_is_world : (it : Wanted) (w : World) → IsWorld w → IsWorld (what it w)
-what_is_world (wanted.Teams ts) w is = chains_world w _ is
-what_is_world wanted.All w is = is
+pub wanted_is_world : (it : Wanted) (w : World) → IsWorld w → IsWorld (wanted_part it w)
+wanted_is_world (wanted.Teams ts) w is = chains_world w _ is
+wanted_is_world wanted.All w is = is
 
 -- a change from x to the next world, done if the result is Ok, fills the store as `FillsAt` says, without what it caches
 pub fills_at : (old new : State) (There : Type 0) (next x : World) (result : Result (Unit {0}) Refusal) → HasCleanDisk new → StandsFor old x → IsWorld next

@@ -9,8 +9,8 @@ ghost use Rattle.store.specs.Shown.{shown_of, shown_with};
 use crate::store::{SqlShelves, fault};
 use kept::kept::Kept;
 use setup::choice::Wanted;
-use setup::extract::extract_part;
-use setup::extract_judge::Judged;
+use setup::copy::copy_shelves;
+use setup::judge::Judged;
 use setup::refusal::Refusal;
 use sqlite::Alter;
 use statements::extract_rows::CopyError;
@@ -122,7 +122,7 @@ impl<S: Alter> SqlShelves<S> {
         ensures cause { HasCauseInEither self.old.failures self.new.failures
             fresh.old.failures fresh.new.failures result }
     {
-        match extract_part(self.alloc, &mut self.conn, wanted, &mut fresh.conn) {
+        match copy_shelves(self.alloc, &mut self.conn, wanted, &mut fresh.conn) {
             Ok(Judged::Fit(_)) => Ok(()),
             Ok(Judged::NoTeam) => Err(Refusal::NoTeam),
             Ok(Judged::NotEmpty) => Err(Refusal::NotEmpty),

@@ -24,7 +24,7 @@
 //! | `insert` | `statements::entries::add_entry` |
 //! | `team_add`, `group_add`, `key_add` | `add_team`, `add_group`, `add_key` of `statements::registry` |
 //! | `key_revoke` | `statements::revoke::revoke_key` |
-//! | `extract`, `extract_teams`, `copy` | `setup::extract::extract_part`, which writes in one transaction |
+//! | `extract`, `extract_teams`, `copy` | `setup::copy::copy_shelves`, which writes in one transaction |
 //! | `migrate` | `older::schema::format_of`, and `migration::write::write_world`, into a fresh store in one transaction |
 //!
 //! The chain of a shelf is its own shelf, its group if it has one, and `common`. `statements::registry::find_shelf` finds the

@@ -11,7 +11,7 @@ use crate::store::{SqlShelves, fault};
 use kept::kept::Kept;
 use migration::write::write_world;
 use older::schema::format_of;
-use setup::extract_judge::is_blank;
+use setup::judge::is_blank;
 use setup::refusal::{Refusal, open_refusal};
 use sqlite::{Alter, Connection, Error, ErrorCode};
 use statements::extract_rows::CopyError;

@@ -1,0 +1,19 @@
+use Rattle.std.proofs.Common.{sym, subst, Decides}
+use Rattle.sqlite.specs.Held.{state}
+use Rattle.setup.specs.Extracted.{HasEntry}
+use Rattle.tables.proofs.FailureLemmas.{was_clean}
+use Rattle.setup.proofs.BlankLemmas.{all_paths_plain, all_paths_tables, entry_found}
+use Rattle.setup.proofs.judge.has_entry.Goals as goal
+
+pub find_row-requires-clause-plain : goal.find_row-requires-clause-plain
+find_row-requires-clause-plain g c = all_paths_plain
+
+pub find_row-requires-clause-tables : goal.find_row-requires-clause-tables
+find_row-requires-clause-tables g c = all_paths_tables
+
+pub returns-clause-answer : goal.returns-clause-answer
+returns-clause-answer g c clean x stands =
+    let old = state g.F.Store c.args.conn.now in
+    let h = (c.in_ok-found.ensures.row clean x stands) in
+    let holds = stands (was_clean old (state g.F.Store c.find_row.new.conn) c.find_row.ensures.spares.clean clean) h.0 in
+    (h.1, subst (λ b. Decides b (HasEntry x)) (sym c.is_some.ensures) (entry_found old.now x holds.trees.means c.in_ok-found.found h.2))

@@ -42,7 +42,7 @@ impl<'a> Chain<'a> {
         }
     }
 
-    /// The names of its shelves.
+    /// Returns the names of its shelves.
     pub(crate) fn as_slice(&self) -> &[&'a str]
         ensures { map (λ shelf. shelf.now) result.now ≡ self.now }
     {

@@ -48,8 +48,8 @@ use world::version_list::Versions;
 use world::versions::{highest, latest_left};
 
 /// Shelves whose entries and keys are rows of SQL tables.
-/// Once a fault has shut the connection, the store stands for every world that agrees with what it keeps, and answers
-/// errors and what it keeps alone.
+/// Once a fault has closed the connection, a call still returns what is cached, and fails with `Device` if it needs the tables.
+/// The store then stands for every world that agrees with its cache.
 #[derive(Drop)]
 pub struct SqlShelves<S: Alter> {
     pub(crate) conn: Connection<S>,
@@ -58,10 +58,11 @@ pub struct SqlShelves<S: Alter> {
     pub(crate) alloc: Global,
 }
 
-/// Returns the fault for an error, and counts a failure that is no want of memory.
+/// Returns the fault for an error: `Memory` if memory ran out, and otherwise `Device`, which it counts.
 pub(crate) fn fault(failures: &mut u64, error: Error) -> StoreFault
     ensures no_fewer { failures.old ≤ failures.new }
     ensures device { result ≡ StoreFault.Device → GrewOrFull failures.old failures.new }
+    ensures memory { error ≡ Error.SqliteFailure ErrorCode.OutOfMemory → result ≡ StoreFault.Memory }
 {
     match error {
         Error::SqliteFailure(ErrorCode::OutOfMemory) => StoreFault::Memory,
@@ -72,7 +73,7 @@ pub(crate) fn fault(failures: &mut u64, error: Error) -> StoreFault
     }
 }
 
-/// Returns the answer, or the fault for an error. Counts a failure that is no want of memory.
+/// Returns the answer, or the fault for an error as [`fault`] does.
 pub(crate) fn counted<T>(failures: &mut u64, given: Result<T, Error>) -> Result<T, StoreFault>
     ensures { IsCounted failures.old failures.new given result }
 {
@@ -266,14 +267,13 @@ impl<S: Alter> Outlines for SqlShelves<S> {
 }
 
 impl<S: Alter> SqlShelves<S> {
-    /// A store over a connection. The store begins at the world that the tables stand for, and no
-    /// table changes; where there is none, the tables are made, with the shelf `common` alone.
+    /// Returns a store over a connection. The store begins at the world that the tables stand for; if there are no tables, it
+    /// makes them, with only the shelf `common`.
     ///
-    /// It is refused as `BadSchema` where the tables are not those of the schema or stand for no world,
-    /// as `Memory` where memory was wanted, and as `Device` where the disk failed, the connection is
-    /// shut, in a transaction or limited in its steps, or a table has 2^64 rows, one for each rowid.
-    /// The connection then comes back, and where it is open it shows the tables that it showed. A crash leaves what it left before,
-    /// or of no tables the made ones.
+    /// Fails with `BadSchema` if the tables are not those of the schema or stand for no world, with `Memory` if memory ran out,
+    /// and with `Device` if the disk failed, the connection is closed, in a transaction or limited in its steps, or a table has
+    /// 2^64 rows, one for each rowid. The connection then comes back. If it is still open, it shows the tables that it showed
+    /// before. A crash leaves what it left before or, if there were no tables, tables with only `common`.
     pub fn adopt(
         alloc: Global,
         mut conn: Connection<S>,
@@ -285,13 +285,13 @@ impl<S: Alter> SqlShelves<S> {
         ensures none_kept { IfOk result (λ s. IsNothing s.kept) }
         ensures refused { IfErr result (λ e. IsOfOpening e.0) }
         ensures none_failed { IfOk result (λ s. s.failures ≡ 0) }
-        // Where this is refused, the connection shows what it showed, and a crash leaves what it left before or the made tables.
+        // A refused connection that is still open shows what it showed, and a crash leaves what it left before or the new tables.
         ensures same { IfErr result (λ e. Honestly (state S.Store conn) (state S.Store e.1) (λ old new.
             IsTrue new.is_open → new.now ≡ old.now)) }
         ensures crash { IfErr result (λ e. Honestly (state S.Store conn) (state S.Store e.1) LeavesFirst) }
         ensures bad { IfErr result (λ e. Honestly (state S.Store conn) (state S.Store e.1) (λ old _.
             e.0 ≡ Refusal.BadSchema → IsBad old.now)) }
-        // A refused connection comes back in no transaction unless it came in one, and its steps are limited as before.
+        // A refused connection is in a transaction exactly if it came in one, and its steps are limited as before.
         ensures mode { IfErr result (λ e. Honestly (state S.Store conn) (state S.Store e.1) (λ old new.
             new.in_transaction ≡ old.in_transaction)) }
         ensures limit { IfErr result (λ e. Honestly (state S.Store conn) (state S.Store e.1) (λ old new.
@@ -311,7 +311,8 @@ impl<S: Alter> SqlShelves<S> {
         }
     }
 
-    /// The group of a shelf, if it has one. Copies the kept name if there is one, and queries the tables otherwise.
+    /// Returns the group of a shelf, or None if it has none or does not exist. Copies the cached name if there is one, and
+    /// queries the tables otherwise. Fails with `Memory` if memory ran out, and otherwise with `Device`.
     fn group_of(&mut self, shelf: &str) -> Result<Option<Text>, StoreFault>
         ensures reads { Reads (shown_with (state S.Store self.old.conn) self.old.kept self.old.failures)
             (shown_with (state S.Store self.new.conn) self.new.kept self.new.failures) result
@@ -329,8 +330,8 @@ impl<S: Alter> SqlShelves<S> {
         Ok(group)
     }
 
-    /// Returns what a shelf sees of a version without its zip, with the shelf that its entry stands on. Takes what is cached if there
-    /// is one, and queries the tables otherwise.
+    /// Returns what a shelf sees of a version without its zip, with the shelf that its entry stands on, or None. Copies the
+    /// cached heading if there is one, and queries the tables otherwise. Fails as `group_of` does.
     fn seen(
         &mut self,
         shelf: &str,
@@ -354,7 +355,7 @@ impl<S: Alter> SqlShelves<S> {
         Ok(seen)
     }
 
-    /// What a shelf sees of a version. Queries the tables.
+    /// Returns what a shelf sees of a version, or None. Always queries the tables. Fails as `group_of` does.
     fn find(&mut self, shelf: &str, path: &str, version: &str) -> Result<Option<Seen>, StoreFault>
         ensures reads { Reads (shown_with (state S.Store self.old.conn) self.old.kept self.old.failures)
             (shown_with (state S.Store self.new.conn) self.new.kept self.new.failures) result
@@ -366,8 +367,8 @@ impl<S: Alter> SqlShelves<S> {
         counted(&mut self.failures, found)
     }
 
-    /// The versions of a path that a shelf sees, in ascending precedence. Takes the cached list if there is one, and
-    /// queries the tables otherwise.
+    /// Returns the versions of a path that a shelf sees, in ascending precedence. Takes the list out of the cache if it is there,
+    /// so the caller caches it again, and queries the tables otherwise. Fails as `group_of` does.
     fn take_versions(&mut self, shelf: &str, path: &str) -> Result<Versions, StoreFault>
         ensures reads { Reads (shown_with (state S.Store self.old.conn) self.old.kept self.old.failures)
             (shown_with (state S.Store self.new.conn) self.new.kept self.new.failures) result

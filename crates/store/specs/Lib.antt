@@ -4,6 +4,7 @@ pub use Rattle.setup.specs.Extracted
 pub use Rattle.setup.specs.Parts
 pub mod Shown
 pub mod Counted
+pub mod Names
 pub mod Restart
 pub mod Migrated
 pub mod Older

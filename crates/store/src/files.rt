@@ -1,11 +1,12 @@
 //! Opens the files of a store, with room in memory for the pages of a zip.
 
-ghost use Rattle.std.specs.Prelude.{◌≡◌, ◌⊎◌, ◌↔◌, true, false, codes, IfOk, IfErr, IsErrAnd, IsSomeAnd, IsTrue};
+ghost use Rattle.std.specs.Prelude.{◌≡◌, ◌⊎◌, ◌↔◌, false, Decides, IfOk, IfErr, IsErrAnd, IsSomeAnd, IsTrue};
 ghost use Rattle.sqlite.specs.Files.{file_state, image_of, IsOpened, IsCleanLeft, Finds};
 ghost use Rattle.sqlite.specs.Start.{FindsIn};
 ghost use Rattle.sqlite.specs.State.{HasCleanDisk};
 ghost use Rattle.sqlite_wal.specs.Files.{image_at};
 ghost use Rattle.setup.specs.Opened.{IsOfOpening};
+ghost use Rattle.store.specs.Names.{IsNoFileName};
 ghost use Rattle.store.specs.Restart.{HoldsNoDatabase};
 
 use setup::refusal::Refusal;
@@ -25,12 +26,11 @@ use std::io::ErrorKind;
 /// as many, a publish of 1 or 16 MiB takes up to a tenth less time, but each opening reads and digests a log of 64 MiB.
 const KEPT_PAGES: usize = 8_192;
 
-/// Opens a connection to the files at a path, and creates them if they do not exist. `:memory:`, a URI and the empty name
-/// name no file.
+/// Opens a connection to the files at a path, and creates them if they do not exist.
 ///
-/// Fails with `BadSchema` if the files hold no database, with `Memory` if memory ran out, and with `Device` if the disk failed,
-/// another process has the files open, or the system or the name does not let them be opened. The files then come back, if they
-/// were opened.
+/// Fails with `BadSchema` if the files hold no database, with `Memory` if memory ran out, and with `Device` if the disk failed or
+/// the files cannot be opened (see [`Refusal::Device`]). The files then come back, if they were opened.
+///
 /// It opens both files itself, because the kit's call for a path takes no number of pages. No statement asks for the
 /// time, so it passes no clock.
 pub(crate) fn connect<T: Start>(
@@ -38,7 +38,7 @@ pub(crate) fn connect<T: Start>(
     path: &str,
     start: T,
 ) -> Result<Connection<FileStore<FileFrom<T>>>, (Refusal, Option<Leftover<FileFrom<T>>>)>
-    ensures memory { path.now ≡ codes ":memory:" → IsErrAnd result (λ e. e.0 ≡ Refusal.Device) }
+    ensures no_file { IsNoFileName path.now → IsErrAnd result (λ e. e.0 ≡ Refusal.Device) }
     ensures opened { IfOk result (λ c. HasCleanDisk (file_state c) → IsOpened c) }
     ensures found { IfOk result (λ c. HasCleanDisk (file_state c) → FindsIn (image_at T.Start) (file_state c)) }
     ensures refused { IfErr result (λ e. IsOfOpening e.0) }
@@ -48,12 +48,12 @@ pub(crate) fn connect<T: Start>(
     if names_no_file(path) {
         return Err((Refusal::Device, None));
     }
+    let Ok(state) = RandomState::new(rt) else {
+        return Err((Refusal::Device, None));
+    };
     let files = match sqlite_std_file::open(rt, path, start) {
         Ok(files) => files,
         Err(error) => return Err((path_refusal(error), None)),
-    };
-    let Ok(state) = RandomState::new(rt) else {
-        return Err((Refusal::Device, None));
     };
     let options = Options {
         cache_pages: KEPT_PAGES,
@@ -67,7 +67,7 @@ pub(crate) fn connect<T: Start>(
 
 /// Reports whether sqlite takes this name for no file: `:memory:`, a URI, or the empty name.
 pub fn names_no_file(path: &str) -> bool
-    ensures { path.now ≡ codes ":memory:" → result ≡ true }
+    ensures { Decides result (IsNoFileName path.now) }
 {
     path.is_empty() || path == ":memory:" || path.starts_with("file:")
 }

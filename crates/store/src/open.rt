@@ -1,6 +1,6 @@
 //! Opens stores.
 
-ghost use Rattle.std.specs.Prelude.{◌≡◌, Err, codes, IfOk, IfErr, IsErrAnd, IsSomeAnd};
+ghost use Rattle.std.specs.Prelude.{◌≡◌, Err, IfOk, IfErr, IsErrAnd, IsSomeAnd};
 ghost use Rattle.sqlite.specs.Held.{state};
 ghost use Rattle.sqlite.specs.Files.{file_state, IsCleanLeft};
 ghost use Rattle.sqlite.specs.State.{HasCleanDisk};
@@ -9,6 +9,7 @@ ghost use Rattle.sqlite_wal.specs.Files.{image_at};
 ghost use Rattle.world.specs.World.{only_common};
 ghost use Rattle.store.specs.Shown.{shown_with, BeginsAt};
 ghost use Rattle.setup.specs.Opened.{IsOfOpening};
+ghost use Rattle.store.specs.Names.{IsNoFileName};
 ghost use Rattle.store.specs.Restart.{HoldsStore, HoldsNoStore};
 
 use crate::files::connect;
@@ -61,9 +62,9 @@ impl<T: Start> SqlShelves<FileStore<FileFrom<T>>> {
     /// are empty, it begins with only the shelf `common`.
     ///
     /// Fails with `BadSchema` if the files hold no database, other tables, or tables that stand for no world; with `Memory` if
-    /// memory ran out; and with `Device` if the disk failed, or the system or the name does not let the files be opened. The files
-    /// then come back, if they were opened. Files that are no store stay as they are (tested); if the disk failed or memory ran
-    /// out, files that were empty may hold the tables that were made, and a log may be left beside them.
+    /// memory ran out; and with `Device` if the disk failed or the files cannot be opened (see [`Refusal::Device`]). The files then
+    /// come back, if they were opened. Files that are no store stay as they are (tested); if the disk failed or memory ran out,
+    /// files that were empty may hold the tables that were made, and a log may be left beside them.
     ///
     /// No clause of `sqlite` ties a path to the bytes of a file, so no contract says that this path was opened: tests do.
     pub fn open_from(
@@ -71,7 +72,7 @@ impl<T: Start> SqlShelves<FileStore<FileFrom<T>>> {
         path: &str,
         start: T,
     ) -> Result<FileShelves<T>, (Refusal, Option<Leftover<FileFrom<T>>>)>
-        ensures memory { path.now ≡ codes ":memory:" → IsErrAnd result (λ e. e.0 ≡ Refusal.Device) }
+        ensures no_file { IsNoFileName path.now → IsErrAnd result (λ e. e.0 ≡ Refusal.Device) }
         ensures begins { IfOk result (λ s. HasCleanDisk (file_state s.conn)
             → (w : _) × BeginsAt (shown_with (file_state s.conn) s.kept s.failures) w) }
         ensures found { IfOk result (λ s. HasCleanDisk (file_state s.conn) → (w : _)
@@ -95,7 +96,7 @@ impl SqlShelves<FileStore<File>> {
     /// It assumes that a write that a crash tears leaves each byte old or new. As with SQLite's
     /// `synchronous=FULL`, most commits then sync once.
     pub fn open_file(rt: &HostRuntime, path: &str) -> Result<FileShelves<Unknown>, Refusal>
-        ensures memory { path.now ≡ codes ":memory:" → result ≡ Err Refusal.Device }
+        ensures no_file { IsNoFileName path.now → result ≡ Err Refusal.Device }
         ensures begins { IfOk result (λ s. HasCleanDisk (file_state s.conn)
             → (w : _) × BeginsAt (shown_with (file_state s.conn) s.kept s.failures) w) }
         ensures refused { IfErr result IsOfOpening }

@@ -14,9 +14,8 @@ use std::rt::HostRuntime;
 
 /// Opens a connection to the files of an older store, where `T` says what they hold. It does not test the tables.
 ///
-/// Fails with `BadSchema` if the files hold no database, with `Memory` if memory ran out, and with `Device` if the disk failed,
-/// another process has the files open, or the system or the name does not let them be opened. The files then come back, if
-/// they were opened.
+/// Fails with `BadSchema` if the files hold no database, with `Memory` if memory ran out, and with `Device` if the disk failed or
+/// the files cannot be opened (see [`Refusal::Device`]). The files then come back, if they were opened.
 pub fn open_older<T: Start>(
     rt: &HostRuntime,
     path: &str,

@@ -14,13 +14,13 @@ seen log db is_log history = (replay (cond is_log log db) history).seen
 
 pub returns-in-Ok-connect_files-clause-found : goal.returns-in-Ok-connect_files-clause-found
 returns-in-Ok-connect_files-clause-found g c clean =
-    let (log, db) = c.in-Ok.ensures.fresh in
+    let (log, db) = c.in-Ok-open.ensures.fresh in
     let found = c.in-Ok-connect_files.ensures.found clean in
     let same = ap₂ image (ap₂ (seen g.T.Start.log g.T.Start.db) log.0 log.1) (ap₂ (seen g.T.Start.log g.T.Start.db) db.0 db.1) in
     subst (λ i. FindsIn i (file_state c.in-Ok-connect_files.conn)) same (record { holds = found.holds; reads = found.reads })
 
 pub returns-in-Err-connect_files-clause-bad : goal.returns-in-Err-connect_files-clause-bad
 returns-in-Err-connect_files-clause-bad g c bad clean =
-    let (log, db) = c.in-Ok.ensures.fresh in
+    let (log, db) = c.in-Ok-open.ensures.fresh in
     let same = ap₂ image (ap₂ (seen g.T.Start.log g.T.Start.db) log.0 log.1) (ap₂ (seen g.T.Start.log g.T.Start.db) db.0 db.1) in
     subst HoldsNoDatabase same (c.in-Err-connect_files.ensures.bad bad clean)

@@ -33,3 +33,6 @@ pub returns-in_err-conn-clause-bad : goal.returns-in_err-conn-clause-bad
 returns-in_err-conn-clause-bad g c =
     let p = err_from_is_err_and c.from_residual.result c.from_residual.ensures.1 in
     rw (p.1, p.2) (λ bad. left_of_no_store _ _ (c.in_err-conn.ensures.bad bad))
+
+pub returns-in-Err-clause-no_file : goal.returns-in-Err-clause-no_file
+returns-in-Err-clause-no_file g c named = absurd (c.in_ok-conn.ensures.no_file named)

@@ -1,14 +1,13 @@
--- What extracting one team's part of a store into a fresh store does.
-use Rattle.std.specs.Prelude.{ℕ, ◌≡◌, ◌≢◌, ◌≤◌, ◌⊎◌, List, true, Some, Result, Ok, Err, OnOk, OnErr}
+-- What copying shelves of a store into a fresh store finds there and leaves of both.
+use Rattle.std.specs.Prelude.{ℕ, ◌≡◌, ◌≢◌, ◌≤◌, ◌⊎◌, List, true, Some, Result, Err}
 use Rattle.std.specs.FinMap as map
 use Rattle.sqlite.specs.State.{State, HasCleanDisk}
 use Rattle.tables.specs.Means.{StandsFor}
 use Rattle.world.specs.declared.entry.Entry.{Entry}
 use Rattle.world.specs.declared.entry.Holder.{Holder}
 use Rattle.world.specs.declared.entry.Place.{Place}
-use Rattle.world.specs.Part.{part, IsTeam}
 use Rattle.world.specs.Store.{Shown, GrewOrFull}
-use Rattle.world.specs.World.{World, common, only_common}
+use Rattle.world.specs.World.{World, common}
 use Rattle.setup.specs.declared.refusal.Refusal.{Refusal}
 use Rattle.setup.specs.declared.refusal.Refusal.TheVariants as refusal
 
@@ -28,7 +27,7 @@ abbrev pub InEachTwo : State → State → State → State → (World → World 
 InEachTwo source source_new fresh fresh_new P =
     HasCleanDisk source_new → HasCleanDisk fresh_new → (w x : World) → StandsFor source w → StandsFor fresh x → P w x
 
--- ---- the call `extract`
+-- ---- the calls `extract`, `extract_teams` and `copy`
 
 -- the store still stands for each world that it stood for, and if a crash left one of two worlds, it still leaves one of the two
 pub record IsRead (old new : Shown) : Type 0 where
@@ -36,38 +35,9 @@ pub record IsRead (old new : Shown) : Type 0 where
   pub stays : new.is_honest → (w : World) → old.stands w → new.stands w
   pub left : new.is_honest → (w x y : World) → old.stands w → old.leaves x y → new.leaves x y
 
--- What the result of extracting a team of w into a store of x says: it is done, or why it is refused, or memory ran out or a device
--- failed. `NoTeam` comes before `NotEmpty`.
-abbrev pub Tells : World → World → List ℕ → Result (Unit {0}) Refusal → Type 0
-Tells w x team (Ok u) = IsTeam w team × (x ≡ only_common)
-Tells w x team (Err refusal.NoTeam) = ¬ IsTeam w team
-Tells w x team (Err refusal.NotEmpty) = IsTeam w team × (x ≢ only_common)
-Tells w x team (Err refusal.BadSchema) = ⊥
-Tells w x team (Err refusal.Device) = Unit {0}
-Tells w x team (Err refusal.Memory) = Unit {0}
-
--- The fresh store stands for the team's part if the call returns Ok, and for what it stood for otherwise. If a crash left only the
--- old world, it leaves that or the part, and only the part once the call has returned Ok.
-pub record ExtractsAt (old new : Shown) (w x : World) (team : List ℕ) (result : Result (Unit {0}) Refusal) : Type 0 where
-  pub tells : Tells w x team result
-  pub ok : OnOk result (new.stands (part w team))
-  pub err : OnErr result (new.stands x)
-  pub left : old.leaves x x → new.leaves x (part w team)
-  pub alone : old.leaves x x → OnOk result (new.leaves (part w team) (part w team))
-
 -- the refusal is that there is no such team, or that the fresh store has more than `common`
 abbrev pub IsUnfit : Result (Unit {0}) Refusal → Type 0
 IsUnfit result = (result ≡ Err refusal.NoTeam) ⊎ (result ≡ Err refusal.NotEmpty)
-
--- For each world of the source and each of the fresh store, `ExtractsAt` holds, if the disks have returned what was written. The
--- source is only read, and so is the fresh store if `IsUnfit` holds of the result.
-pub record Extracts (source source_new fresh fresh_new : Shown) (team : List ℕ) (result : Result (Unit {0}) Refusal) : Type 0 where
-  pub reads : IsRead source source_new
-  pub honest : fresh_new.is_honest → fresh.is_honest
-  pub spares : IsUnfit result → IsRead fresh fresh_new
-  pub at :
-      source_new.is_honest → fresh_new.is_honest → (w x : World) → source.stands w → fresh.stands x
-      → ExtractsAt fresh fresh_new w x team result
 
 -- the call returns `Device` only if a device of one of the two stores failed in it, or a count of failures cannot grow
 pub record HasCauseInEither (before now before_too now_too : ℕ) (result : Result (Unit {0}) Refusal) : Type 0 where

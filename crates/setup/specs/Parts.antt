@@ -11,7 +11,7 @@ use Rattle.statements.specs.Extract.{OfWorlds, PutsShelf, CopiesKeys, CopiesVers
 use Rattle.statements.specs.Shelves.{names_of, added, AreShelves}
 use Rattle.statements.specs.declared.extract_rows.CopyError.{CopyError}
 use Rattle.statements.specs.declared.shelf_list.Shelf.{Shelf}
-use Rattle.world.specs.Part.{IsTeam, is_held}
+use Rattle.world.specs.Part.{IsTeam, is_held, part}
 use Rattle.world.specs.Store.{Shown}
 use Rattle.world.specs.World.{World, IsWorld, common, chain, is_among, only_common}
 use Rattle.setup.specs.Extracted.{IsRead, IsUnfit}
@@ -129,7 +129,7 @@ MakesPart shelves source db after =
     (w : World) → Means source w → IsWorld w → AreShelves w shelves
     → StandFor db only_common → Means after (part_of w (common ∷ names_of shelves))
 
--- ---- the calls `extract_teams` and `copy`
+-- ---- the calls `extract`, `extract_teams` and `copy`
 
 -- What the result of copying shelves into a store of x says: it is done, or why it is refused, or memory ran out or a device failed.
 -- `NoTeam` comes before `NotEmpty`.
@@ -161,8 +161,13 @@ pub record FillsBy (There : World → Type 0) (next : World → World)
       source_new.is_honest → fresh_new.is_honest → (w x : World) → source.stands w → fresh.stands x
       → FillsAt fresh fresh_new (There w) (next w) x result
 
+-- the wanted shelves are put into a fresh store
 abbrev pub Fills : Wanted → Shown → Shown → Shown → Shown → Result (Unit {0}) Refusal → Type 0
 Fills it = FillsBy (λ w. IsThere w it) (wanted_part it)
+
+-- the part of this team is put into a fresh store
+abbrev pub Extracts : List ℕ → Shown → Shown → Shown → Shown → Result (Unit {0}) Refusal → Type 0
+Extracts t = FillsBy (λ w. IsTeam w t) (λ w. part w t)
 
 -- the part of these teams is put into a fresh store
 abbrev pub ExtractsTeams : List (List ℕ) → Shown → Shown → Shown → Shown → Result (Unit {0}) Refusal → Type 0

@@ -12,8 +12,8 @@ use Rattle.store.specs.Shown.{shown_of, shown_with}
 use Rattle.kept.specs.declared.kept.Kept.{Kept}
 use Rattle.kept.specs.Kept.{AreKept, IsNothing}
 use Rattle.kept.proofs.KeptLemmas.{nothing_kept}
-use Rattle.setup.specs.Extracted.{IsRead, IsUnfit, Tells as TellsOne, Extracts}
-use Rattle.setup.specs.Parts.{AreTeams, wanted_part, Tells, FillsAt, FillsBy, ExtractsTeams}
+use Rattle.setup.specs.Extracted.{IsRead, IsUnfit}
+use Rattle.setup.specs.Parts.{AreTeams, wanted_part, Tells, FillsAt, FillsBy, Extracts, ExtractsTeams}
 use Rattle.setup.specs.declared.choice.Wanted.{Wanted}
 use Rattle.setup.specs.declared.choice.Wanted.TheVariants as wanted
 use Rattle.setup.proofs.PartLemmas.{chains_world, part_of_one}
@@ -111,7 +111,7 @@ not_none t ts e = cc e
 one_team : (w : World) (t : List ℕ) → IsTeam w t → AreTeams w (t ∷ [])
 one_team w t is = (not_none t [], λ u there. elim there [ inl same ↦ subst (IsTeam w) (sym same) is | inr none ↦ absurd none ])
 
-one_tells : (w x : World) (t : List ℕ) (r : Result (Unit {0}) Refusal) → Tells (AreTeams w (t ∷ [])) x r → TellsOne w x t r
+one_tells : (w x : World) (t : List ℕ) (r : Result (Unit {0}) Refusal) → Tells (AreTeams w (t ∷ [])) x r → Tells (IsTeam w t) x r
 one_tells w x t (Ok u) h = (h.0.1 t (inl refl), h.1)
 one_tells w x t (Err refusal.NoTeam) h = λ is. h (one_team w t is)
 one_tells w x t (Err refusal.NotEmpty) h = (h.0.1 t (inl refl), h.1)
@@ -121,7 +121,7 @@ one_tells w x t (Err refusal.Memory) h = tt
 
 -- extracting the list of one team is extracting the team
 pub extracts_one : (source source_new fresh fresh_new : Shown) (t : List ℕ) (r : Result (Unit {0}) Refusal)
-    → ExtractsTeams (t ∷ []) source source_new fresh fresh_new r → Extracts source source_new fresh fresh_new t r
+    → ExtractsTeams (t ∷ []) source source_new fresh fresh_new r → Extracts t source source_new fresh fresh_new r
 extracts_one source source_new fresh fresh_new t r does = record {
   reads = does.reads;
   honest = does.honest;

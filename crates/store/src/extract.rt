@@ -2,8 +2,8 @@
 
 ghost use Rattle.std.specs.Prelude.{◌≡◌, ◌≢◌, map as each};
 ghost use Rattle.sqlite.specs.Held.{state};
-ghost use Rattle.setup.specs.Extracted.{Extracts, HasCauseInEither};
-ghost use Rattle.setup.specs.Parts.{Fills, ExtractsTeams, CopiesAll};
+ghost use Rattle.setup.specs.Extracted.{HasCauseInEither};
+ghost use Rattle.setup.specs.Parts.{Fills, Extracts, ExtractsTeams, CopiesAll};
 ghost use Rattle.store.specs.Shown.{shown_of, shown_with};
 
 use crate::store::{SqlShelves, fault};
@@ -40,10 +40,10 @@ impl<S: Alter> SqlShelves<S> {
         team: &str,
         fresh: &mut SqlShelves<F>,
     ) -> Result<(), Refusal>
-        ensures extracts { Extracts (shown_with (state S.Store self.old.conn) self.old.kept self.old.failures)
+        ensures extracts { Extracts team.now (shown_with (state S.Store self.old.conn) self.old.kept self.old.failures)
             (shown_with (state S.Store self.new.conn) self.new.kept self.new.failures)
             (shown_with (state F.Store fresh.old.conn) fresh.old.kept fresh.old.failures)
-            (shown_with (state F.Store fresh.new.conn) fresh.new.kept fresh.new.failures) team.now result }
+            (shown_with (state F.Store fresh.new.conn) fresh.new.kept fresh.new.failures) result }
         ensures cause { HasCauseInEither self.old.failures self.new.failures
             fresh.old.failures fresh.new.failures result }
     {

@@ -6,7 +6,7 @@ use Rattle.commands.specs.declared.refusal.CommandRefusal.{CommandRefusal}
 use Rattle.commands.specs.declared.exit.Exit.{Exit}
 use Rattle.commands.specs.declared.exit.Exit.TheVariants.{Done, NotAccepted, Refused, BadUsage}
 
--- how a run ends by the result of its command: that it is accepted, that a publish or a row of an import is not, or why it was refused
+-- how a run ends by the result of its command: that it is accepted, that it is done and not accepted, or why it was refused
 abbrev pub exit_of : Result Bool CommandRefusal → Exit
 exit_of (Ok true) = Done
 exit_of (Ok false) = NotAccepted

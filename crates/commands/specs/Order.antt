@@ -72,7 +72,7 @@ pub record OrdersOver
   pub ends : result ≡ told_ending asked told
   pub unsent : told ≡ Err untold.Words → EndsInEach order result
 
--- so it was over a connection, or nobody listens
+-- so it was over a connection, or there was none
 abbrev pub OrdersThere : Order → Result (Unit {0}) CommandRefusal → Type 0
 OrdersThere order result =
     ((unread unread_new written written_new : Option (List ℕ)) × OrdersOver unread unread_new written written_new order result)
@@ -96,7 +96,7 @@ pub record CopiesOver (unread unread_new written written_new : Option (List ℕ)
   pub asks : AsksToCopy unread unread_new written written_new path told
   pub ends : result ≡ copy_ending told
 
--- so it was over a connection, or nobody listens
+-- so it was over a connection, or there was none
 abbrev pub CopiesThere : List ℕ → Result (Unit {0}) CommandRefusal → Type 0
 CopiesThere path result =
     ((unread unread_new written written_new : Option (List ℕ)) × CopiesOver unread unread_new written written_new path result)
@@ -117,7 +117,7 @@ pub record StopsOver (unread unread_new written written_new : Option (List ℕ))
   pub asks : AsksToStop unread unread_new written written_new told
   pub ends : result ≡ stop_ending told
 
--- so it was over a connection, or nobody listens
+-- so it was over a connection, or there was none
 abbrev pub StopsThere : Result (Unit {0}) CommandRefusal → Type 0
 StopsThere result =
     ((unread unread_new written written_new : Option (List ℕ)) × StopsOver unread unread_new written written_new result)

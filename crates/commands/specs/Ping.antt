@@ -36,7 +36,7 @@ pub record PingsOver (unread unread_new written written_new printed printed_new 
   pub asks : AsksForHealth unread unread_new written written_new told
   pub prints : Prints printed printed_new result (health_ending told)
 
--- so it was over a connection, or nobody listens
+-- so it was over a connection, or there was none
 abbrev pub PingsThere : Option (List ℕ) → Option (List ℕ) → Result Bool CommandRefusal → Type 0
 PingsThere printed printed_new result =
     ((unread unread_new written written_new : Option (List ℕ)) × PingsOver unread unread_new written written_new printed printed_new result)

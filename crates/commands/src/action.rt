@@ -68,7 +68,8 @@ pub enum Action<'a> {
 }
 
 /// Does one action on a store and returns whether it was accepted; only a publish and an import can be done and not accepted.
-/// `copies` makes the copies that are ordered while the store is served, and counts its versions for a ping.
+/// `copies` makes the copies that are ordered while the store is served, and counts its versions for a ping. Fails as the function of
+/// the action does.
 pub fn act_on<S: Outlines, K: Copies<S>, I: Read, O: Write>(
     rt: &HostRuntime,
     shelves: &mut S,

@@ -13,7 +13,7 @@ use std::io::Write;
 pub enum Exit {
     /// The command is done.
     Done,
-    /// A publish or a row of an import was not accepted. The output says why.
+    /// A publish or a row of an import was not accepted, or the rest of the list can't be read. The output says why.
     NotAccepted,
     /// The command was refused.
     Refused(CommandRefusal),

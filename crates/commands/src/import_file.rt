@@ -11,8 +11,9 @@ use std::io::Write;
 use std::rt::HostRuntime;
 use world::shelves::Shelves;
 
-/// Publishes each row of the list in a file, with files of the system, and returns whether all were accepted. `BadRow` if the
-/// header or a row is bad. `Io` if the list can't be opened, and then nothing is done, or if a line can't be printed.
+/// Publishes each row of the list in a file, with files of the system, and returns whether the whole list was read and every row
+/// accepted. `BadRow` if the header or a row is bad. `Io` if the list can't be opened, and then nothing is done, or if a line can't be
+/// printed.
 pub fn import_file<S: Shelves, O: Write>(
     rt: &HostRuntime,
     shelves: &mut S,

@@ -8,12 +8,12 @@
 //! | `inventory`, `requires` | prints what a shelf sees, and what a version requires | [`report`], [`inventory`], [`requirements`] |
 //! | `answer` | answers the requests of a reader from a store, or from shelves in memory | [`answer`], [`memory`] |
 //! | `serve` | prints its port, answers one request on each of some connections, and carries out orders between them | [`serve`] |
-//! | the commands of the registry with `--control` | send an order to a running `serve`, and end by what it tells | [`order`] |
+//! | the registry commands with `--control`, `copy`, `stop` | send an order to a running `serve`, and end by its outcome | [`order`] |
 //! | `ping` | asks a running `serve` for its health, and prints the line | [`ping`] |
 //!
-//! [`laws`] has what holds of every import. [`action`] does the action of a command on a store; [`refusal`] has the words that tell why
-//! a command was refused, and [`exit`] how a run ends: its exit status, and the line of that word. Nothing here opens a store
-//! or reads the words of a command line.
+//! [`laws`] has what holds of every inventory, every import and every order that is sent. [`action`] does the action of a command on a
+//! store; [`refusal`] has the words that say why a command was refused, and [`exit`] how a run ends: its exit status, and the line of
+//! that word. Nothing here opens a store or reads the words of a command line.
 #![tactic(auto)]
 
 pub mod action;

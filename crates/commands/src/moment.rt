@@ -1,9 +1,10 @@
-//! The time of the clock.
+//! The time of the system clock.
 use jiff::Timestamp;
 use modver::{TimeText, read_time};
 use std::rt::HostRuntime;
 
-/// The time of the system's clock, or None if it can't be read, or the year has not four digits.
+/// Returns the system clock's time in UTC, to the second. None if the clock can't be read, its year does not have four digits, or
+/// memory runs out.
 pub(crate) fn time_now(rt: &HostRuntime) -> Option<TimeText> {
     let Ok(now) = Timestamp::now(rt) else {
         return None;

@@ -10,8 +10,10 @@ use std::os::unix::net::UnixStream;
 use std::rt::HostRuntime;
 use world::names::{COMMON, is_key, is_team_name};
 
-/// Sends an order to the `serve` that listens at a socket, and ends as the same command does on the store of a file.
-/// `Device` if nobody listens there. `Io` if no outcome came: whether the order was carried out is not known then.
+/// Sends an order to the `serve` that listens at a socket, and ends as the same command does on the store of a file. Fails with the
+/// refusals of that command; with `Device` also if nobody listens there or the system refuses the connection; with `Memory` also if
+/// memory runs out for the line, and then nothing is sent; and with `Io` if no outcome of a registry command came. Then the order may
+/// have been carried out.
 pub fn order_at(rt: &HostRuntime, path: &str, order: &Order) -> Result<(), CommandRefusal>
     ensures { spec.OrdersThere order.now result }
 {
@@ -22,7 +24,7 @@ pub fn order_at(rt: &HostRuntime, path: &str, order: &Order) -> Result<(), Comma
 }
 
 /// Writes the line of an order, reads the line of its outcome, and ends by it as the same command does on the store of a file.
-/// An order that no line can carry ends, without being sent, as it would in any world.
+/// An order that no line can carry ends, without being sent, as it would in any world. Fails as `order_at` does once it is connected.
 pub fn order_over<R: Read, W: Write>(
     alloc: Global,
     reader: &mut R,
@@ -95,8 +97,8 @@ fn refusal_by(keeps: bool, refusal: CommandRefusal) -> CommandRefusal
 
 /// Has the `serve` that listens at a socket copy its store into the file of a path, as that server sees it, and waits for that as long
 /// as it takes. `NotEmpty` if the file has more than an empty store or belongs to the served store. `Device` if nobody listens there,
-/// the file can't be opened or a disk failed. `Memory` if memory ran out, here or there. `Name` if no line can carry the path: nothing
-/// was sent. `Io` if no outcome of a copy came.
+/// the system refuses the connection, the file can't be opened or a disk failed. `Memory` if memory ran out there, or here for the
+/// line. `Name` if no line can carry the path: nothing was sent. `Io` if no outcome of a copy came.
 pub fn copy_at(rt: &HostRuntime, control: &str, path: &str) -> Result<(), CommandRefusal>
     ensures { spec.CopiesThere path.now result }
 {
@@ -113,7 +115,7 @@ fn patient_server_at(rt: &HostRuntime, control: &str) -> io::Result<UnixStream> 
     Ok(server)
 }
 
-/// Writes the line that orders a copy, and reads the line of its outcome.
+/// Writes the line that orders a copy, and reads the line of its outcome. Fails as `copy_at` does once it is connected.
 pub fn copy_over<R: Read, W: Write>(
     alloc: Global,
     reader: &mut R,
@@ -141,8 +143,8 @@ fn copy_ending(told: Result<Outcome, Untold>) -> Result<(), CommandRefusal>
     }
 }
 
-/// Has the `serve` that listens at a socket end, after the request in hand. `Device` if nobody listens there; otherwise it ends as
-/// `stop_over` does.
+/// Has the `serve` that listens at a socket end, after the request in hand. `Device` if nobody listens there or the system refuses the
+/// connection; otherwise it ends as `stop_over` does.
 pub fn stop_at(rt: &HostRuntime, path: &str) -> Result<(), CommandRefusal>
     ensures { spec.StopsThere result }
 {

@@ -11,8 +11,9 @@ use std::rt::HostRuntime;
 use text::Text;
 use world::registry::StoreFault;
 
-/// Asks the `serve` that listens at a socket for its health, and prints the line. `Device` if nobody listens there, or the store of
-/// that server met a fault; `Memory` if the server had no memory for it. `Io` if no such line came, or the output failed.
+/// Asks the `serve` that listens at a socket for its health, prints the line and returns true. `Device` if nobody listens there, the
+/// system refuses the connection, or the store of that server met a fault; `Memory` if the server had no memory for the line. `Io` if
+/// no such line came, or the output failed.
 pub fn ping_at<O: Write>(
     rt: &HostRuntime,
     path: &str,
@@ -26,7 +27,8 @@ pub fn ping_at<O: Write>(
     }
 }
 
-/// Writes the line of a ping, reads the line of the health, and prints it. What is no line of a health is not printed.
+/// Writes the line of a ping, reads the line of the health, prints it and returns true. What is no line of a health is not printed.
+/// Fails as `ping_at` does once it is connected.
 pub fn ping_over<R: Read, W: Write, O: Write>(
     alloc: Global,
     reader: &mut R,

@@ -8,7 +8,7 @@ use world::registry::{Registered, StoreFault};
 /// Why a command was refused, with exit status 1.
 #[derive(Clone, Copy, Debug, Drop, PartialEq, Eq)]
 pub enum CommandRefusal {
-    /// The name of a team or a group, or a key, breaks its rule; for `copy`, the path has a space, or more than 4,090 bytes.
+    /// The name of a team or a group, or a key, breaks its rule; for `copy`, no line can carry the path (`control::ask_to_copy`).
     Name,
     /// A shelf of that name, or the key, exists already.
     Taken,
@@ -18,7 +18,7 @@ pub enum CommandRefusal {
     NoKey,
     /// There is no group of that name.
     NoGroup,
-    /// A disk failed, a file can't be opened as a store, or no `serve` listens at the socket of `--control`.
+    /// A disk failed, a file can't be opened as a store, or no `serve` can be reached at the socket of `--control`.
     Device,
     /// Memory ran out.
     Memory,

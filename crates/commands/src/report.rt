@@ -90,7 +90,7 @@ fn print<O: Write>(
     print_text(text.as_slice(), output)
 }
 
-/// Prints a text.
+/// Prints a text and returns true. `Io` if the output fails.
 pub(crate) fn print_text<O: Write>(text: &[u8], output: &mut O) -> Result<bool, CommandRefusal>
     ensures { spec.Prints (O.contents output.old) (O.contents output.new) result (Ok text.now) }
 {

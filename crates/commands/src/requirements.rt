@@ -41,7 +41,8 @@ pub fn requirements<S: Shelves>(
     required_on(alloc, shelves, holder.shelf.as_str(), &path, &version)
 }
 
-/// Returns what the go.mod of a version requires, or None if the shelf does not see the version.
+/// Returns what the go.mod of a version requires, or None if the shelf does not see the version. Fails if the store meets a fault or
+/// memory runs out.
 fn required_on<S: Shelves>(
     alloc: Global,
     shelves: &mut S,

@@ -29,8 +29,8 @@ pub enum Entrance {
 
 /// Prints the line of the entrance, and serves the connections that come in: the store goes through at most as many requests as there
 /// are connections. If a socket `control` is named, the orders of operators who connect to it are carried out between them, copies by
-/// `copies`, and do not count; a ping is told the versions that `copies` counts. `Io` if the port or the socket can't be had, the clock
-/// can't be read for the time of the begin, or the output fails; a connection that fails only counts.
+/// `copies`, and do not count; a ping is told the versions that `copies` counts. `Io` if the entrance or the socket can't be opened, the
+/// clock can't be read for the start time, the output fails, or memory runs out before it serves; a connection that fails only counts.
 pub fn serve<S: Shelves, K: Copies<S>, O: Write>(
     rt: &HostRuntime,
     shelves: &mut S,

@@ -1,5 +1,5 @@
 //! What runs a command: the files of the system, or any other `Runner`.
-use commands::files::has_no_bytes;
+use commands::files::is_missing_or_empty;
 use commands::refusal::CommandRefusal;
 use runner::{Command, run};
 use sqlite::{File, FileStore, Start, Unknown};
@@ -74,7 +74,7 @@ impl<'a> Runner for SystemStores<'a> {
         ⟦<Target as Shelves>⟧.shown (image_at ⟦<UnknownTarget as Start>⟧) };
 
     fn is_new(&self, db: &str) -> bool {
-        has_no_bytes(self.rt, db)
+        is_missing_or_empty(self.rt, db)
     }
 
     fn run<I: Read, O: Write>(

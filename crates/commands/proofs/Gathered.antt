@@ -6,15 +6,15 @@ use Rattle.world.specs.World.{World}
 use Rattle.commands.specs.Reading.{Adds}
 
 -- this holds, and the store still stands for this world
-pub record KeepsAt (old new : Shown) (w : World) (so : Type 0) : Type 0 where
+pub record HoldsAt (old new : Shown) (w : World) (so : Type 0) : Type 0 where
   pub holds : so
   pub stays : new.stands w
   pub left : (x y : World) → old.leaves x y → new.leaves x y
 
 -- it holds in each world that the store stood for, and the count of failures did not fall
-pub record Keeps (old new : Shown) (so : World → Type 0) : Type 0 where
+pub record HoldsThroughout (old new : Shown) (so : World → Type 0) : Type 0 where
   pub honest : new.is_honest → old.is_honest
-  pub at : new.is_honest → (w : World) → old.stands w → KeepsAt old new w (so w)
+  pub at : new.is_honest → (w : World) → old.stands w → HoldsAt old new w (so w)
   pub no_fewer : old.failures ≤ new.failures
 
 module _ {X T : Type 0} (f : World → X → List T) (before : List T) (goal : World → List T) where
@@ -24,7 +24,7 @@ module _ {X T : Type 0} (f : World → X → List T) (before : List T) (goal : W
 
   -- if the items of one more piece were added, gathering goes on
   pub gathered_more : (a b c : Shown) (items more : List T) (x : X) (rest : List X)
-      → Keeps a b (Gathers items (x ∷ rest)) → Adds b c items more (Ok tt) (λ w. f w x) → Keeps a c (Gathers more rest)
+      → HoldsThroughout a b (Gathers items (x ∷ rest)) → Adds b c items more (Ok tt) (λ w. f w x) → HoldsThroughout a c (Gathers more rest)
   gathered_more a b c items more x rest far adds = record {
     honest = λ h. far.honest (adds.honest h);
     at = λ h w stands.
@@ -40,7 +40,7 @@ module _ {X T : Type 0} (f : World → X → List T) (before : List T) (goal : W
 
   -- if the items of the next piece of what is left were added, gathering goes on
   pub gathered_next : (a b c : Shown) (items more : List T) (x y : X) (left rest : List X) → left ≡ x ∷ rest → y ≡ x
-      → Keeps a b (Gathers items left) → Adds b c items more (Ok tt) (λ w. f w y) → Keeps a c (Gathers more rest)
+      → HoldsThroughout a b (Gathers items left) → Adds b c items more (Ok tt) (λ w. f w y) → HoldsThroughout a c (Gathers more rest)
   gathered_next a b c items more x y left rest begins is far adds =
-      gathered_more a b c items more x rest (subst (λ l. Keeps a b (Gathers items l)) begins far)
+      gathered_more a b c items more x rest (subst (λ l. HoldsThroughout a b (Gathers items l)) begins far)
       (subst (λ z. Adds b c items more (Ok tt) (λ w. f w z)) is adds)

@@ -23,26 +23,26 @@ use Rattle.world.specs.Store.{Shown, Does}
 use Rattle.world.specs.declared.registry.StoreFault.{StoreFault}
 use Rattle.world.proofs.Causes.{grown_more, grown_before}
 use Rattle.commands.specs.Import as spec
-use Rattle.commands.specs.Import.{Turn, GoesThrough, Publishes, DoesRow, Imports, Answers, HasNoFile, Unfetched}
+use Rattle.commands.specs.Import.{DoneRow, GoesThrough, Publishes, DoesRow, Imports, Answers, HasNoFile, Unfetched}
 use Rattle.commands.specs.ImportFiles.{IsBodyOf}
 use Rattle.commands.specs.ImportLine.{IsFront, PrintsFront}
 use Rattle.commands.specs.ImportList.{HasRead, IsAt, Line, fields_of_line, header}
 use Rattle.commands.specs.Publish.{answer_of}
 use Rattle.commands.specs.declared.import.Closing.{Closing}
 use Rattle.commands.specs.declared.import.Ending.{Ending}
-use Rattle.commands.specs.declared.import_line.Outcome.TheVariants as outcome
+use Rattle.commands.specs.declared.import_line.RowOutcome.TheVariants as outcome
 use Rattle.commands.specs.declared.sources.SourceFault.TheVariants as source
 
--- ---- lists of turns
+-- ---- lists of done rows
 
-pub events_more : (turns : List Turn) (t : Turn) → spec.events (turns ++ t ∷ []) ≡ spec.events turns ++ spec.events (t ∷ [])
+pub events_more : (done_rows : List DoneRow) (t : DoneRow) → spec.events (done_rows ++ t ∷ []) ≡ spec.events done_rows ++ spec.events (t ∷ [])
 events_more [] t = refl
-events_more (u ∷ turns) t = ap (λ es. spec.events_of u.done ++ es) (events_more turns t) ∙ sym (append_assoc (spec.events_of u.done) (spec.events turns) (spec.events (t ∷ [])))
+events_more (u ∷ done_rows) t = ap (λ es. spec.events_of u.done ++ es) (events_more done_rows t) ∙ sym (append_assoc (spec.events_of u.done) (spec.events done_rows) (spec.events (t ∷ [])))
 
-pub answers_more : (turns : List Turn) (t : Turn) → spec.answers (turns ++ t ∷ []) ≡ spec.answers turns ++ spec.answers (t ∷ [])
+pub answers_more : (done_rows : List DoneRow) (t : DoneRow) → spec.answers (done_rows ++ t ∷ []) ≡ spec.answers done_rows ++ spec.answers (t ∷ [])
 answers_more [] t = refl
-answers_more (u ∷ turns) t =
-    ap (λ es. spec.answers_of u.done ++ es) (answers_more turns t) ∙ sym (append_assoc (spec.answers_of u.done) (spec.answers turns) (spec.answers (t ∷ [])))
+answers_more (u ∷ done_rows) t =
+    ap (λ es. spec.answers_of u.done ++ es) (answers_more done_rows t) ∙ sym (append_assoc (spec.answers_of u.done) (spec.answers done_rows) (spec.answers (t ∷ [])))
 
 met_either : (first last : List Answer) → MetDevice (first ++ last) → MetDevice first ⊎ MetDevice last
 met_either [] last met = inr met
@@ -112,67 +112,67 @@ module _ (files : List ℕ → Option (Option (List ℕ))) (key : List ℕ) wher
 
   -- ---- one more row
 
-  done_more : (turns : List Turn) (t : Turn) → spec.AreDone files key turns → spec.IsDone files key t.line t.done → spec.AreDone files key (turns ++ t ∷ [])
+  done_more : (done_rows : List DoneRow) (t : DoneRow) → spec.AreDone files key done_rows → spec.IsDone files key t.line t.done → spec.AreDone files key (done_rows ++ t ∷ [])
   done_more [] t done last = (last, tt)
-  done_more (u ∷ turns) t done last = (done.0, done_more turns t done.1 last)
+  done_more (u ∷ done_rows) t done last = (done.0, done_more done_rows t done.1 last)
 
   -- a store that goes through rows and then through one more goes through all of them
-  pub through_more : (a b c : Shown) (turns : List Turn) (t : Turn) → GoesThrough a b files key turns
-      → GoesThrough b c files key (t ∷ []) → GoesThrough a c files key (turns ++ t ∷ [])
-  through_more a b c turns t far next = record {
-    done = done_more turns t far.done next.done.0;
-    runs = subst (λ es. Runs a c es (spec.answers (turns ++ t ∷ []))) (sym (events_more turns t))
-        (subst (λ told. Runs a c (spec.events turns ++ spec.events (t ∷ [])) told) (sym (answers_more turns t))
-        (runs_joined a b c (spec.events turns) (spec.events (t ∷ [])) (spec.answers turns) (spec.answers (t ∷ [])) far.runs next.runs));
+  pub through_more : (a b c : Shown) (done_rows : List DoneRow) (t : DoneRow) → GoesThrough a b files key done_rows
+      → GoesThrough b c files key (t ∷ []) → GoesThrough a c files key (done_rows ++ t ∷ [])
+  through_more a b c done_rows t far next = record {
+    done = done_more done_rows t far.done next.done.0;
+    runs = subst (λ es. Runs a c es (spec.answers (done_rows ++ t ∷ []))) (sym (events_more done_rows t))
+        (subst (λ told. Runs a c (spec.events done_rows ++ spec.events (t ∷ [])) told) (sym (answers_more done_rows t))
+        (runs_joined a b c (spec.events done_rows) (spec.events (t ∷ [])) (spec.answers done_rows) (spec.answers (t ∷ [])) far.runs next.runs));
     no_fewer = omega (arith, far.no_fewer, next.no_fewer);
     device = λ met.
-        elim (met_either (spec.answers turns) (spec.answers (t ∷ [])) (subst MetDevice (answers_more turns t) met)) [
+        elim (met_either (spec.answers done_rows) (spec.answers (t ∷ [])) (subst MetDevice (answers_more done_rows t) met)) [
           | inl x ↦ grown_more a.failures b.failures c.failures (far.device x) next.no_fewer
           | inr x ↦ grown_before a.failures b.failures c.failures far.no_fewer (next.device x)
         ];
   }
 
   -- a store that goes through rows and then through none goes through the rows
-  pub through_idle : (a b c : Shown) (turns : List Turn) → GoesThrough a b files key turns
-      → GoesThrough b c files key [] → GoesThrough a c files key turns
-  through_idle a b c turns far idle = record {
+  pub through_idle : (a b c : Shown) (done_rows : List DoneRow) → GoesThrough a b files key done_rows
+      → GoesThrough b c files key [] → GoesThrough a c files key done_rows
+  through_idle a b c done_rows far idle = record {
     done = far.done;
-    runs = subst (λ es. Runs a c es (spec.answers turns)) (append-nil (spec.events turns))
-        (subst (λ xs. Runs a c (spec.events turns ++ []) xs) (append-nil (spec.answers turns))
-        (runs_joined a b c (spec.events turns) [] (spec.answers turns) [] far.runs idle.runs));
+    runs = subst (λ es. Runs a c es (spec.answers done_rows)) (append-nil (spec.events done_rows))
+        (subst (λ xs. Runs a c (spec.events done_rows ++ []) xs) (append-nil (spec.answers done_rows))
+        (runs_joined a b c (spec.events done_rows) [] (spec.answers done_rows) [] far.runs idle.runs));
     no_fewer = omega (arith, far.no_fewer, idle.no_fewer);
     device = λ met. grown_more a.failures b.failures c.failures (far.device met) idle.no_fewer;
   }
 
   -- ---- how an import ends
 
-  module _ (old new : Shown) (list w0 w1 w2 : Option (List ℕ)) (turns : List Turn) where
+  module _ (old new : Shown) (list w0 w1 w2 : Option (List ℕ)) (done_rows : List DoneRow) where
     -- an import that did these rows and printed the line that ends it does as `Imports` says
-    pub closed : (n : ℕ) (why : Closing) (accepted : Bool) (result : Result Ending Io) → spec.AreFirst list turns
-        → GoesThrough old new files key turns → spec.IsOver list turns n why → accepted ≡ list_all spec.is_accepted turns → Appends w0 w1 (spec.lines_from 1 turns)
+    pub closed : (n : ℕ) (why : Closing) (accepted : Bool) (result : Result Ending Io) → spec.AreFirst list done_rows
+        → GoesThrough old new files key done_rows → spec.IsOver list done_rows n why → accepted ≡ list_all spec.is_accepted done_rows → Appends w0 w1 (spec.lines_from 1 done_rows)
         → spec.Closes n why accepted w1 w2 result → Imports old new files key list w0 w2 result
     closed n why accepted (Ok e) front far over all printed closes = record {
-      turns = turns;
+      done_rows = done_rows;
       first = front;
       through = far;
       ends = (n, why, over, closes.0 ∙ ap (λ b. spec.ending_of b why) all, Appends-trans w0 w1 w2 _ _ printed closes.1);
     }
     closed n why accepted (Err e) front far over all printed closes = record {
-      turns = turns;
+      done_rows = done_rows;
       first = front;
       through = far;
       ends = (closes.0, inr (n, why, closes.1.0, over, closes.1.1, Appends-trans w0 w1 w2 _ _ printed closes.1.2));
     }
 
     -- an import whose output broke off in the line of a row does as `Imports` says
-    pub broken_off : (mid : Shown) (n : ℕ) (t : Turn) (e : Io) → spec.AreFirst list (turns ++ t ∷ [])
-        → GoesThrough old mid files key turns → GoesThrough mid new files key (t ∷ []) → Appends w0 w1 (spec.lines_from 1 turns) → n ≡ length turns + 1 → e ≡ io.Write
+    pub broken_off : (mid : Shown) (n : ℕ) (t : DoneRow) (e : Io) → spec.AreFirst list (done_rows ++ t ∷ [])
+        → GoesThrough old mid files key done_rows → GoesThrough mid new files key (t ∷ []) → Appends w0 w1 (spec.lines_from 1 done_rows) → n ≡ length done_rows + 1 → e ≡ io.Write
         → PrintsFront w1 w2 (spec.line_of n t) → Imports old new files key list w0 w2 (Err e)
     broken_off mid n t e first far next printed count is front = record {
-      turns = turns ++ t ∷ [];
+      done_rows = done_rows ++ t ∷ [];
       first = first;
-      through = through_more old mid new turns t far next;
-      ends = (is, inl (turns, t, front.0, refl, subst (λ k. IsFront front.0 (spec.line_of k t)) count front.1, Appends-trans w0 w1 w2 _ _ printed front.2));
+      through = through_more old mid new done_rows t far next;
+      ends = (is, inl (done_rows, t, front.0, refl, subst (λ k. IsFront front.0 (spec.line_of k t)) count front.1, Appends-trans w0 w1 w2 _ _ printed front.2));
     }
 
 -- ---- the rows so far
@@ -188,28 +188,28 @@ begun None rows state source at = tt
 begun (Some text) rows state source (rest, is, reached) = (state, rest, reached, tt)
 
 module _ {R : Type 0} (remaining : R → Option (List ℕ)) (list : Option (List ℕ)) where
-  pub are_first : (turns : List Turn) (reader : Reader R) → HasRead remaining list (spec.rows_of turns) reader → spec.AreFirst list turns
+  pub are_first : (done_rows : List DoneRow) (reader : Reader R) → HasRead remaining list (spec.rows_of done_rows) reader → spec.AreFirst list done_rows
   are_first [] reader read = tt
   are_first (t ∷ ts) reader read = begun list _ _ _ read.at
 
 -- the rows with one more at the end
-pub rows_more : (turns : List Turn) (t : Turn) → spec.rows_of turns ++ fields_of_line t.line ∷ [] ≡ spec.rows_of (turns ++ t ∷ [])
-rows_more turns t = ap (λ l. header ∷ l) (sym (map-append (λ (u : Turn). fields_of_line u.line) turns (t ∷ [])))
+pub rows_more : (done_rows : List DoneRow) (t : DoneRow) → spec.rows_of done_rows ++ fields_of_line t.line ∷ [] ≡ spec.rows_of (done_rows ++ t ∷ [])
+rows_more done_rows t = ap (λ l. header ∷ l) (sym (map-append (λ (u : DoneRow). fields_of_line u.line) done_rows (t ∷ [])))
 
-lines_after : (n : ℕ) (turns : List Turn) (t : Turn) → spec.lines_from n (turns ++ t ∷ []) ≡ spec.lines_from n turns ++ spec.line_of (n + length turns) t
+lines_after : (n : ℕ) (done_rows : List DoneRow) (t : DoneRow) → spec.lines_from n (done_rows ++ t ∷ []) ≡ spec.lines_from n done_rows ++ spec.line_of (n + length done_rows) t
 lines_after n [] t = append-nil (spec.line_of n t) ∙ ap (λ k. spec.line_of k t) (omega arith)
-lines_after n (u ∷ turns) t =
-    let same : n + 1 + length turns ≡ n + length (u ∷ turns) = omega arith in
-    ap (λ l. spec.line_of n u ++ l) (lines_after (n + 1) turns t)
-    ∙ sym (append_assoc (spec.line_of n u) (spec.lines_from (n + 1) turns) (spec.line_of (n + 1 + length turns) t))
-    ∙ ap (λ k. (spec.line_of n u ++ spec.lines_from (n + 1) turns) ++ spec.line_of k t) same
+lines_after n (u ∷ done_rows) t =
+    let same : n + 1 + length done_rows ≡ n + length (u ∷ done_rows) = omega arith in
+    ap (λ l. spec.line_of n u ++ l) (lines_after (n + 1) done_rows t)
+    ∙ sym (append_assoc (spec.line_of n u) (spec.lines_from (n + 1) done_rows) (spec.line_of (n + 1 + length done_rows) t))
+    ∙ ap (λ k. (spec.line_of n u ++ spec.lines_from (n + 1) done_rows) ++ spec.line_of k t) same
 
 -- printing the line of one more row prints the lines of all
-pub lines_more : (a b c : Option (List ℕ)) (n : ℕ) (turns : List Turn) (t : Turn) → n ≡ length turns + 1 → Appends a b (spec.lines_from 1 turns)
-    → Appends b c (spec.line_of n t) → Appends a c (spec.lines_from 1 (turns ++ t ∷ []))
-lines_more a b c n turns t count printed more =
-    let same : n ≡ 1 + length turns = omega (arith, count) in
-    subst (λ l. Appends a c l) (sym (lines_after 1 turns t))
+pub lines_more : (a b c : Option (List ℕ)) (n : ℕ) (done_rows : List DoneRow) (t : DoneRow) → n ≡ length done_rows + 1 → Appends a b (spec.lines_from 1 done_rows)
+    → Appends b c (spec.line_of n t) → Appends a c (spec.lines_from 1 (done_rows ++ t ∷ []))
+lines_more a b c n done_rows t count printed more =
+    let same : n ≡ 1 + length done_rows = omega (arith, count) in
+    subst (λ l. Appends a c l) (sym (lines_after 1 done_rows t))
     (Appends-trans a b c _ _ printed (subst (λ k. Appends b c (spec.line_of k t)) same more))
 
 and_true : (b : Bool) → b && true ≡ b
@@ -221,7 +221,7 @@ and_assoc true b c = refl
 and_assoc false b c = refl
 
 -- all rows with one more are accepted if the first ones and the last are
-pub all_more : (turns : List Turn) (t : Turn) → list_all spec.is_accepted (turns ++ t ∷ []) ≡ list_all spec.is_accepted turns && spec.is_accepted t
+pub all_more : (done_rows : List DoneRow) (t : DoneRow) → list_all spec.is_accepted (done_rows ++ t ∷ []) ≡ list_all spec.is_accepted done_rows && spec.is_accepted t
 all_more [] t = and_true (spec.is_accepted t)
-all_more (u ∷ turns) t =
-    ap (λ b. spec.is_accepted u && b) (all_more turns t) ∙ and_assoc (spec.is_accepted u) (list_all spec.is_accepted turns) (spec.is_accepted t)
+all_more (u ∷ done_rows) t =
+    ap (λ b. spec.is_accepted u && b) (all_more done_rows t) ∙ and_assoc (spec.is_accepted u) (list_all spec.is_accepted done_rows) (spec.is_accepted t)

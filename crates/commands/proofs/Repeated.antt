@@ -35,7 +35,7 @@ use Rattle.world.specs.Forms.{path_of}
 use Rattle.world.specs.World.{World, gomod_limit, zip_limit}
 use Rattle.world.specs.declared.registry.StoreFault.TheVariants.{Memory}
 use Rattle.commands.specs.Import as spec
-use Rattle.commands.specs.Import.{AreDone, Done, IsDone, Turn, Answers, HasNoFile, Unfetched, answers, answers_of, events, events_of, outcome_of}
+use Rattle.commands.specs.Import.{AreDone, Done, IsDone, DoneRow, Answers, HasNoFile, Unfetched, answers, answers_of, events, events_of, outcome_of}
 use Rattle.commands.specs.ImportFiles.{IsBodyOf, IsReadable}
 use Rattle.commands.specs.ImportLine.{accepts_outcome}
 use Rattle.commands.specs.ImportList.{Line, Meets, fields_of_line}
@@ -45,7 +45,7 @@ use Rattle.commands.specs.Sources.{IsRead}
 use Rattle.commands.specs.declared.import.Closing.{Closing}
 use Rattle.commands.specs.declared.import.Closing.TheVariants as closing
 use Rattle.commands.specs.declared.import.Ending.TheVariants.{AllIn, SomeOut}
-use Rattle.commands.specs.declared.import_line.Outcome.TheVariants as outcome
+use Rattle.commands.specs.declared.import_line.RowOutcome.TheVariants as outcome
 use Rattle.commands.specs.declared.sources.SourceFault.TheVariants as source
 
 -- ---- a list is read in one way
@@ -82,17 +82,17 @@ line_in (path ∷ version ∷ time ∷ gomod ∷ zip ∷ []) = record { path = p
 line_in fields = record { path = []; version = []; time = []; gomod = []; zip = [] }
 
 -- the rows of the first import are the first rows of the second
-abbrev AreFirstOf : List Turn → List Turn → Type 0
+abbrev AreFirstOf : List DoneRow → List DoneRow → Type 0
 AreFirstOf [] us = Unit {0}
 AreFirstOf (t ∷ ts) [] = ⊥
 AreFirstOf (t ∷ ts) (u ∷ us) = (t.line ≡ u.line) × AreFirstOf ts us
 
-first_of : (ts us : List Turn) → AreFront (map (λ (t : Turn). fields_of_line t.line) ts) (map (λ (t : Turn). fields_of_line t.line) us) → AreFirstOf ts us
+first_of : (ts us : List DoneRow) → AreFront (map (λ (t : DoneRow). fields_of_line t.line) ts) (map (λ (t : DoneRow). fields_of_line t.line) us) → AreFirstOf ts us
 first_of [] us front = tt
 first_of (t ∷ ts) [] front = absurd front
 first_of (t ∷ ts) (u ∷ us) front = (ap line_in front.0, first_of ts us front.1)
 
-again_first : (text : List ℕ) (ts us : List Turn) → spec.AreFirst (Some text) ts → Meets (Some text) (spec.rows_of us) (λ next. next ≡ None) → AreFirstOf ts us
+again_first : (text : List ℕ) (ts us : List DoneRow) → spec.AreFirst (Some text) ts → Meets (Some text) (spec.rows_of us) (λ next. next ≡ None) → AreFirstOf ts us
 again_first text [] us first whole = tt
 again_first text (t ∷ ts) us (s1, y1, some, _) (s2, y2, all, end) =
     let front = front_of_all default_config st.StartRecord s1 s2 (strip_bom text) y1 y2 (spec.rows_of (t ∷ ts)) (spec.rows_of us) some all end in
@@ -152,7 +152,7 @@ module _ (files : List ℕ → Option (Option (List ℕ))) where
     readable : IsReadable l
 
   -- each row asks the publish at its index
-  abbrev AskEach : List Turn → List Publish → Type 0
+  abbrev AskEach : List DoneRow → List Publish → Type 0
   AskEach [] [] = Unit {0}
   AskEach [] (p ∷ ps) = ⊥
   AskEach (t ∷ ts) [] = ⊥
@@ -187,19 +187,19 @@ module _ (files : List ℕ → Option (Option (List ℕ))) where
   row_accepted key w new l Unfetched es told done accepts run = absurd (cc accepts)
 
   -- what was done by an import whose rows were all accepted
-  record TookAll (key : List ℕ) (turns : List Turn) : Type 0 where
+  record TookAll (key : List ℕ) (done_rows : List DoneRow) : Type 0 where
     publishes : List Publish
-    asks : AskEach turns publishes
-    are : events turns ≡ puts key publishes
-    accepts : AllAccepted (answers turns)
+    asks : AskEach done_rows publishes
+    are : events done_rows ≡ puts key publishes
+    accepts : AllAccepted (answers done_rows)
 
   run_after : (w new : World) (e : Event) (a : Answer) (es : List Event) (told : List Answer) → Run w (e ∷ es) (a ∷ told) new → (v : World) × Run v es told new
   run_after w new e (Replied r) es told run = (after w e, run.1)
   run_after w new e (Failed fault) es told run = (w, run)
 
   -- rows that were all accepted are publishes that the machine accepted
-  all_in : (key : List ℕ) (w new : World) (turns : List Turn) → AreDone files key turns → list_all spec.is_accepted turns ≡ true
-      → Run w (events turns) (answers turns) new → TookAll key turns
+  all_in : (key : List ℕ) (w new : World) (done_rows : List DoneRow) → AreDone files key done_rows → list_all spec.is_accepted done_rows ≡ true
+      → Run w (events done_rows) (answers done_rows) new → TookAll key done_rows
   all_in key w new [] done all run = record { publishes = []; asks = tt; are = refl; accepts = tt }
   all_in key w new (t ∷ ts) done all run =
       let (here, others) = and_parts (spec.is_accepted t) (list_all spec.is_accepted ts) all in
@@ -259,7 +259,7 @@ module _ (files : List ℕ → Option (Option (List ℕ))) where
     answer_in Unfetched = Failed Memory
 
     -- an answer for each publish, which is a fault for those that the machine was not asked
-    abbrev padded : List Publish → List Turn → List Answer
+    abbrev padded : List Publish → List DoneRow → List Answer
     padded [] ts = []
     padded (p ∷ ps) [] = Failed Memory ∷ padded ps []
     padded (p ∷ ps) (t ∷ ts) = answer_in t.done ∷ padded ps ts
@@ -277,7 +277,7 @@ module _ (files : List ℕ → Option (Option (List ℕ))) where
     one_again key w new l Unfetched p es fs told more asks done go run = go w run
 
     -- a run over rows that are done again is a run over their publishes
-    all_again : (key : List ℕ) (w new : World) (us ts : List Turn) (ps : List Publish) → AskEach us ps → AreFirstOf ts us → AreDone files key ts
+    all_again : (key : List ℕ) (w new : World) (us ts : List DoneRow) (ps : List Publish) → AskEach us ps → AreFirstOf ts us → AreDone files key ts
         → Run w (events ts) (answers ts) new → Run w (puts key ps) (padded ps ts) new
     all_again key w new [] [] [] asks first done run = run
     all_again key w new [] [] (p ∷ ps) asks first done run = absurd asks
@@ -298,7 +298,7 @@ module _ (files : List ℕ → Option (Option (List ℕ))) where
     repeat key l HasNoFile p asks done got = absurd (has_files l p asks done)
     repeat key l Unfetched p asks done got = inr refl
 
-    repeats : (key : List ℕ) (us ts : List Turn) (ps : List Publish) → AskEach us ps → AreFirstOf ts us → AreDone files key ts → AllSameOrFailed (padded ps ts)
+    repeats : (key : List ℕ) (us ts : List DoneRow) (ps : List Publish) → AskEach us ps → AreFirstOf ts us → AreDone files key ts → AllSameOrFailed (padded ps ts)
         → AreRepeats ts
     repeats key us [] ps asks first done same = tt
     repeats key [] (t ∷ ts) ps asks first done same = absurd first
@@ -313,21 +313,21 @@ all_or_some true e = refl
 all_or_some false e = absurd (cc e)
 
 -- an import that ended as all accepted did all rows of its list, and each was accepted
-whole_list : (text : List ℕ) (turns : List Turn) (n : ℕ) (why : Closing) → spec.IsOver (Some text) turns n why → AllIn ≡ spec.ending_of (list_all spec.is_accepted turns) why
-    → (list_all spec.is_accepted turns ≡ true) × Meets (Some text) (spec.rows_of turns) (λ next. next ≡ None)
-whole_list text turns n closing.End (inl over) ends = (all_or_some (list_all spec.is_accepted turns) ends, over.1)
-whole_list text turns n closing.End (inr over) ends = absurd over.2
-whole_list text turns n closing.BadRow over ends = absurd (cc ends)
-whole_list text turns n closing.Unread over ends = absurd (cc ends)
+whole_list : (text : List ℕ) (done_rows : List DoneRow) (n : ℕ) (why : Closing) → spec.IsOver (Some text) done_rows n why → AllIn ≡ spec.ending_of (list_all spec.is_accepted done_rows) why
+    → (list_all spec.is_accepted done_rows ≡ true) × Meets (Some text) (spec.rows_of done_rows) (λ next. next ≡ None)
+whole_list text done_rows n closing.End (inl over) ends = (all_or_some (list_all spec.is_accepted done_rows) ends, over.1)
+whole_list text done_rows n closing.End (inr over) ends = absurd over.2
+whole_list text done_rows n closing.BadRow over ends = absurd (cc ends)
+whole_list text done_rows n closing.Unread over ends = absurd (cc ends)
 
 -- importing a list again that was imported whole changes nothing
 pub repeated_import_changes_nothing : RepeatedImportChangesNothing
-repeated_import_changes_nothing files text k again s old mid later new turns repeated between told known is own first (n, why, over, ends) after may second =
-    let (accepts, whole) = whole_list text turns n why over ends in
-    let took = all_in files k old mid turns first.done accepts first.run in
-    let front = again_first text repeated turns second.first whole in
-    let once : Run old (puts k took.publishes) (answers turns) mid = subst (λ es. Run old es (answers turns) mid) took.are first.run in
-    let twice = all_again files known again later new turns repeated took.publishes took.asks front second.done second.run in
-    let law = repeated_list_changes_nothing old mid later new s k again took.publishes between (answers turns) told (padded files known took.publishes repeated)
+repeated_import_changes_nothing files text k again s old mid later new done_rows repeated between told known is own first (n, why, over, ends) after may second =
+    let (accepts, whole) = whole_list text done_rows n why over ends in
+    let took = all_in files k old mid done_rows first.done accepts first.run in
+    let front = again_first text repeated done_rows second.first whole in
+    let once : Run old (puts k took.publishes) (answers done_rows) mid = subst (λ es. Run old es (answers done_rows) mid) took.are first.run in
+    let twice = all_again files known again later new done_rows repeated took.publishes took.asks front second.done second.run in
+    let law = repeated_list_changes_nothing old mid later new s k again took.publishes between (answers done_rows) told (padded files known took.publishes repeated)
     is own once took.accepts after may twice in
-    (repeats files known again turns repeated took.publishes took.asks front second.done law.0, law.1)
+    (repeats files known again done_rows repeated took.publishes took.asks front second.done law.0, law.1)

@@ -24,7 +24,7 @@ pub record Moment (S : Type 0) : Type 0 where
   pub written : Option (List ℕ)
 
 -- nothing was read or written
-pub record IsSilent {S : Type 0} (old new : Moment S) : Type 0 where
+pub record KeepsStreams {S : Type 0} (old new : Moment S) : Type 0 where
   pub unread : new.unread ≡ old.unread
   pub written : new.written ≡ old.written
 
@@ -39,7 +39,7 @@ module _ {S : Type 0} (shown : S → Shown) (copied : Copied S) (counted : Count
     pub ended : Result (Unit {0}) CommandRefusal
     pub registers : Registers (shown old.store) (shown new.store) outcome next ended
     pub told : result ≡ acceptance ended
-    pub silent : IsSilent old new
+    pub streams : KeepsStreams old new
 
   -- the requests of the input were answered from the store
   pub record AnswersFrom (result : Result Bool CommandRefusal) : Type 0 where

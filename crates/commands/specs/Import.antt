@@ -27,8 +27,8 @@ use Rattle.commands.specs.declared.import.Ending.{Ending}
 use Rattle.commands.specs.declared.import.Ending.TheVariants as ending
 use Rattle.commands.specs.declared.import.Step.{Step}
 use Rattle.commands.specs.declared.import.Step.TheVariants as step
-use Rattle.commands.specs.declared.import_line.Outcome.{Outcome}
-use Rattle.commands.specs.declared.import_line.Outcome.TheVariants as outcome
+use Rattle.commands.specs.declared.import_line.RowOutcome.{RowOutcome}
+use Rattle.commands.specs.declared.import_line.RowOutcome.TheVariants as outcome
 use Rattle.commands.specs.declared.sources.SourceFault.TheVariants as source
 
 -- ---- what is done with a row
@@ -49,7 +49,7 @@ pub data Done : Type 0 where
   Unfetched : Done
 
 -- a row that was done
-pub record Turn : Type 0 where
+pub record DoneRow : Type 0 where
   pub line : Line
   pub done : Done
 
@@ -64,11 +64,11 @@ answers_of (Answers ask answer) = answer ∷ []
 answers_of HasNoFile = []
 answers_of Unfetched = []
 
-abbrev pub events : List Turn → List Event
+abbrev pub events : List DoneRow → List Event
 events [] = []
 events (t ∷ ts) = events_of t.done ++ events ts
 
-abbrev pub answers : List Turn → List Answer
+abbrev pub answers : List DoneRow → List Answer
 answers [] = []
 answers (t ∷ ts) = answers_of t.done ++ answers ts
 
@@ -77,7 +77,7 @@ abbrev pub fixed_answer : Answer → Fixed
 fixed_answer (Replied reply) = answer_of (Ok reply)
 fixed_answer (Failed fault) = answer_of (Err fault)
 
-abbrev pub outcome_of : Done → Outcome
+abbrev pub outcome_of : Done → RowOutcome
 outcome_of (Answers ask answer) = outcome.Answered (fixed_answer answer)
 outcome_of HasNoFile = outcome.NoFile
 outcome_of Unfetched = outcome.Answered Unavailable
@@ -89,21 +89,21 @@ module _ (files : List ℕ → Option (Option (List ℕ))) (key : List ℕ) wher
   IsDone l HasNoFile = IsBodyOf files l (Err source.NoFile)
   IsDone l Unfetched = Unit {0}
 
-  abbrev pub AreDone : List Turn → Type 0
+  abbrev pub AreDone : List DoneRow → Type 0
   AreDone [] = Unit {0}
   AreDone (t ∷ ts) = IsDone t.line t.done × AreDone ts
 
 -- ---- what is printed
 
-abbrev pub line_of : ℕ → Turn → List ℕ
+abbrev pub line_of : ℕ → DoneRow → List ℕ
 line_of n t = numbered n (outcome_text (outcome_of t.done))
 
 -- a line for each row, with its number
-abbrev pub lines_from : ℕ → List Turn → List ℕ
+abbrev pub lines_from : ℕ → List DoneRow → List ℕ
 lines_from n [] = []
 lines_from n (t ∷ ts) = line_of n t ++ lines_from (n + 1) ts
 
-abbrev pub is_accepted : Turn → Bool
+abbrev pub is_accepted : DoneRow → Bool
 is_accepted t = accepts_outcome (outcome_of t.done)
 
 -- the line that ends an import, if one does
@@ -121,15 +121,15 @@ ending_of accepted closing.Unread = ending.SomeOut
 -- ---- where the list ends
 
 -- the header and the rows that were done
-abbrev pub rows_of : List Turn → List (List (List ℕ))
-rows_of turns = header ∷ map (λ t. fields_of_line t.line) turns
+abbrev pub rows_of : List DoneRow → List (List (List ℕ))
+rows_of done_rows = header ∷ map (λ t. fields_of_line t.line) done_rows
 
 -- the list begins with these rows
 abbrev pub Begins : Option (List ℕ) → List (List (List ℕ)) → Type 0
 Begins list rows = Meets list rows (λ next. Unit {0})
 
 -- the rows that were done are the first of the list
-abbrev pub AreFirst : Option (List ℕ) → List Turn → Type 0
+abbrev pub AreFirst : Option (List ℕ) → List DoneRow → Type 0
 AreFirst list [] = Unit {0}
 AreFirst list (t ∷ ts) = Begins list (rows_of (t ∷ ts))
 
@@ -156,46 +156,46 @@ IsHeaderClosing list closing.BadRow = BadHeaderComes list
 IsHeaderClosing list closing.Unread = Unit {0}
 
 -- no row is done after these, and the next one would have this number: 0 for the header
-abbrev pub IsOver : Option (List ℕ) → List Turn → ℕ → Closing → Type 0
-IsOver list turns n why =
-    ((n ≡ length turns + 1) × IsClosing list (rows_of turns) why)
-    ⊎ ((n ≡ 0) × (turns ≡ []) × IsHeaderClosing list why)
+abbrev pub IsOver : Option (List ℕ) → List DoneRow → ℕ → Closing → Type 0
+IsOver list done_rows n why =
+    ((n ≡ length done_rows + 1) × IsClosing list (rows_of done_rows) why)
+    ⊎ ((n ≡ 0) × (done_rows ≡ []) × IsHeaderClosing list why)
 
 -- ---- the import
 
 -- the store went through the rows in a run of publishes
 pub record GoesThrough
-    (old new : Shown) (files : List ℕ → Option (Option (List ℕ))) (key : List ℕ) (turns : List Turn) : Type 0 where
-  pub done : AreDone files key turns
-  pub runs : Runs old new (events turns) (answers turns)
+    (old new : Shown) (files : List ℕ → Option (Option (List ℕ))) (key : List ℕ) (done_rows : List DoneRow) : Type 0 where
+  pub done : AreDone files key done_rows
+  pub runs : Runs old new (events done_rows) (answers done_rows)
   -- the count never falls, and a `Device` fault is met only if it grew or is full
   pub no_fewer : old.failures ≤ new.failures
-  pub device : MetDevice (answers turns) → GrewOrFull old.failures new.failures
+  pub device : MetDevice (answers done_rows) → GrewOrFull old.failures new.failures
 
 -- The output broke off: in the line of the last row, or in the one that ends the import.
-abbrev pub BreaksOff : Option (List ℕ) → Option (List ℕ) → Option (List ℕ) → List Turn → Type 0
-BreaksOff list written written_new turns =
-    ((first : List Turn) × (last : Turn) × (front : List ℕ) × (turns ≡ first ++ last ∷ [])
+abbrev pub BreaksOff : Option (List ℕ) → Option (List ℕ) → Option (List ℕ) → List DoneRow → Type 0
+BreaksOff list written written_new done_rows =
+    ((first : List DoneRow) × (last : DoneRow) × (front : List ℕ) × (done_rows ≡ first ++ last ∷ [])
     × IsFront front (line_of (length first + 1) last) × Appends written written_new (lines_from 1 first ++ front))
-    ⊎ ((n : ℕ) × (why : Closing) × (front : List ℕ) × IsOver list turns n why
-    × IsFront front (closing_line n why) × Appends written written_new (lines_from 1 turns ++ front))
+    ⊎ ((n : ℕ) × (why : Closing) × (front : List ℕ) × IsOver list done_rows n why
+    × IsFront front (closing_line n why) × Appends written written_new (lines_from 1 done_rows ++ front))
 
 -- each row has its line, and then comes the line that ends the import, if there is one; or the output broke off
-abbrev pub Ends : Option (List ℕ) → Option (List ℕ) → Option (List ℕ) → List Turn → Result Ending Io → Type 0
-Ends list written written_new turns result =
+abbrev pub Ends : Option (List ℕ) → Option (List ℕ) → Option (List ℕ) → List DoneRow → Result Ending Io → Type 0
+Ends list written written_new done_rows result =
     MatchResult result
-    (λ e. (n : ℕ) × (why : Closing) × IsOver list turns n why × (e ≡ ending_of (list_all is_accepted turns) why)
-    × Appends written written_new (lines_from 1 turns ++ closing_line n why))
-    (λ e. (e ≡ io.Write) × BreaksOff list written written_new turns)
+    (λ e. (n : ℕ) × (why : Closing) × IsOver list done_rows n why × (e ≡ ending_of (list_all is_accepted done_rows) why)
+    × Appends written written_new (lines_from 1 done_rows ++ closing_line n why))
+    (λ e. (e ≡ io.Write) × BreaksOff list written written_new done_rows)
 
 -- The rows at the front of the list were published one after another, and the import ended as `Ends` says.
 pub record Imports
     (old new : Shown) (files : List ℕ → Option (Option (List ℕ))) (key : List ℕ) (list written written_new : Option (List ℕ))
     (result : Result Ending Io) : Type 0 where
-  pub turns : List Turn
-  pub first : AreFirst list turns
-  pub through : GoesThrough old new files key turns
-  pub ends : Ends list written written_new turns result
+  pub done_rows : List DoneRow
+  pub first : AreFirst list done_rows
+  pub through : GoesThrough old new files key done_rows
+  pub ends : Ends list written written_new done_rows result
 
 -- ---- its steps
 
@@ -209,7 +209,7 @@ pub record Publishes (old new : Shown) (ask : Ask) (answer : Fixed) : Type 0 whe
 
 -- a row was done, with this outcome
 pub record DoesRow
-    (old new : Shown) (files : List ℕ → Option (Option (List ℕ))) (key : List ℕ) (l : Line) (result : Outcome) : Type 0 where
+    (old new : Shown) (files : List ℕ → Option (Option (List ℕ))) (key : List ℕ) (l : Line) (result : RowOutcome) : Type 0 where
   pub done : Done
   pub through : GoesThrough old new files key (record { line = l; done = done } ∷ [])
   pub is : result ≡ outcome_of done
@@ -235,7 +235,7 @@ module _ {R : Type 0} (remaining : R → Option (List ℕ)) where
   module _ (old new : Shown) (files : List ℕ → Option (Option (List ℕ))) (key : List ℕ) (list : Option (List ℕ))
       (rows : List (List (List ℕ))) (reader : Reader R) (n : ℕ) (written written_new : Option (List ℕ)) where
     -- a row was done after these rows
-    pub record TakesTurn (t : Turn) : Type 0 where
+    pub record DoesNextRow (t : DoneRow) : Type 0 where
       pub through : GoesThrough old new files key (t ∷ [])
       pub read : HasRead remaining list (rows ++ fields_of_line t.line ∷ []) reader
 
@@ -248,6 +248,6 @@ module _ {R : Type 0} (remaining : R → Option (List ℕ)) where
     -- the next row was done and its line printed, or no row is done; or the output broke off in its line
     abbrev pub StepIs : Result Step Io → Type 0
     StepIs (Ok (step.Row accepted)) =
-        (t : Turn) × TakesTurn t × (accepted ≡ is_accepted t) × Appends written written_new (line_of n t)
+        (t : DoneRow) × DoesNextRow t × (accepted ≡ is_accepted t) × Appends written written_new (line_of n t)
     StepIs (Ok (step.Over why)) = IsIdle why
-    StepIs (Err e) = (t : Turn) × TakesTurn t × (e ≡ io.Write) × PrintsFront written written_new (line_of n t)
+    StepIs (Err e) = (t : DoneRow) × DoesNextRow t × (e ≡ io.Write) × PrintsFront written written_new (line_of n t)

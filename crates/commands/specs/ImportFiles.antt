@@ -16,10 +16,10 @@ IsReadable l = is_some (path_of l.path) && is_some (version_of l.version) ≡ tr
 module _ (files : List ℕ → Option (Option (List ℕ))) (l : Line) where
   -- this may be read from the two files
   abbrev pub GoModIs : Result (List ℕ) SourceFault → Type 0
-  GoModIs had = IsRead gomod_limit (files l.gomod) had
+  GoModIs read = IsRead gomod_limit (files l.gomod) read
 
   abbrev pub ZipIs : Result (List ℕ) SourceFault → Type 0
-  ZipIs had = IsRead zip_limit (files l.zip) had
+  ZipIs read = IsRead zip_limit (files l.zip) read
 
   -- This may be read as the files of a row, by what is known of them. If the path or the version is invalid, they are not read.
   abbrev pub IsBodyOf : Result Body SourceFault → Type 0

@@ -5,14 +5,14 @@ use Rattle.engine.specs.declared.fault.Io.{Io}
 use Rattle.engine.specs.declared.fault.Io.TheVariants as io
 use Rattle.wire.specs.Reply.{line_bytes, fixed_status}
 use Rattle.commands.specs.Publish.{accepts}
-use Rattle.commands.specs.declared.import_line.Outcome.{Outcome}
-use Rattle.commands.specs.declared.import_line.Outcome.TheVariants.{NoFile, Answered}
+use Rattle.commands.specs.declared.import_line.RowOutcome.{RowOutcome}
+use Rattle.commands.specs.declared.import_line.RowOutcome.TheVariants.{NoFile, Answered}
 
-abbrev pub outcome_text : Outcome → List ℕ
+abbrev pub outcome_text : RowOutcome → List ℕ
 outcome_text NoFile = codes "no file"
 outcome_text (Answered answer) = line_bytes answer
 
-abbrev pub accepts_outcome : Outcome → Bool
+abbrev pub accepts_outcome : RowOutcome → Bool
 accepts_outcome NoFile = false
 accepts_outcome (Answered answer) = accepts (fixed_status answer)
 

@@ -7,12 +7,9 @@ use Rattle.control.specs.declared.outcome.Outcome.{Outcome}
 use Rattle.control.specs.declared.outcome.Outcome.TheVariants as outcome
 use Rattle.control.specs.declared.told.Told.{Told}
 use Rattle.control.specs.declared.told.Told.TheVariants as spoken
-use Rattle.commands.specs.Report as report
+use Rattle.commands.specs.Report.{Prints}
 use Rattle.commands.specs.declared.refusal.CommandRefusal.{CommandRefusal}
 use Rattle.commands.specs.declared.refusal.CommandRefusal.TheVariants.{Device, Memory, Io}
-
-abbrev pub Prints : Option (List ℕ) → Option (List ℕ) → Result Bool CommandRefusal → Result (List ℕ) CommandRefusal → Type 0
-Prints = report.Prints
 
 -- why an outcome came in the place of a health
 abbrev pub refusal_of : Outcome → CommandRefusal

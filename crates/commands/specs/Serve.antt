@@ -24,16 +24,16 @@ abbrev pub input_line : List ℕ
 input_line = codes "listening on standard input\n"
 
 -- a port was printed: the one that is named, or any for 0
-abbrev pub Prints : ℕ → Option (List ℕ) → Option (List ℕ) → Type 0
-Prints port written written_new = (bound : ℕ) × (port ≢ 0 → bound ≡ port) × Appends written written_new (port_line bound)
+abbrev pub PrintsPort : ℕ → Option (List ℕ) → Option (List ℕ) → Type 0
+PrintsPort port written written_new = (bound : ℕ) × (port ≢ 0 → bound ≡ port) × Appends written written_new (port_line bound)
 
 -- the entrance was printed
 abbrev pub Announces : Entrance → Option (List ℕ) → Option (List ℕ) → Type 0
-Announces (Port port) written written_new = Prints port written written_new
+Announces (Port port) written written_new = PrintsPort port written written_new
 Announces Input written written_new = Appends written written_new input_line
 
 -- The entrance was printed, and the store went through at most as many requests as there are connections. Or the entrance can't be
--- had, or the output failed, and the store stays as it was.
+-- opened, or the output failed, and the store stays as it was.
 abbrev pub Listens :
     {S : Type 0} → (S → Shown) → S → S → Entrance → ℕ → Option (List ℕ) → Option (List ℕ) → Result (Unit {0}) CommandRefusal → Type 0
 Listens shown old new entrance connections written written_new result =
@@ -50,8 +50,8 @@ abbrev pub Counted : Type 0 → Type 1
 Counted S = S → S → ℕ → Type 0
 
 -- The entrance was printed, and the store went through at most as many requests as there are connections, with orders between them,
--- and copies of the machine's world at that moment, and versions counted in it. Or the entrance or the socket can't be had, or the
--- time of the begin, or the output failed, and the store stays as it was.
+-- and copies of the machine's world at that moment, and versions counted in it. Or it ended before it served, because the entrance or
+-- the socket can't be opened, the clock can't be read, the output failed or memory ran out, and the store stays as it was.
 abbrev pub ListensToBoth :
     {S : Type 0} → (S → Shown) → Copied S → Counted S → S → S → Entrance → ℕ
     → Option (List ℕ) → Option (List ℕ) → Result (Unit {0}) CommandRefusal → Type 0

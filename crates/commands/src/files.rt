@@ -43,7 +43,7 @@ pub fn is_empty_file(rt: &HostRuntime, path: &str) -> bool {
 }
 
 /// Whether there is no such file, or it has no bytes. False for a folder or a device.
-pub fn has_no_bytes(rt: &HostRuntime, path: &str) -> bool {
+pub fn is_missing_or_empty(rt: &HostRuntime, path: &str) -> bool {
     match fs::metadata(rt, path) {
         Ok(found) => found.is_file() && found.len() == 0,
         Err(error) => error.kind() == ErrorKind::NotFound,

@@ -5,7 +5,7 @@ ghost use Rattle.commands.specs.Import as spec;
 ghost use Rattle.commands.specs.ImportFiles.{IsBodyOf};
 ghost use Rattle.commands.specs.ImportList.{HasRead, header, line_of_row};
 
-use crate::import_line::{Outcome, print_bad_row, print_outcome};
+use crate::import_line::{RowOutcome, print_bad_row, print_outcome};
 use crate::import_list::{ImportRow, NextRow, is_header, open, read_next, row_of};
 use crate::publish::{Words, answer_of, publish_by};
 use crate::sources::{SourceFault, Sources};
@@ -172,14 +172,14 @@ fn import_row<S: Shelves, F: Sources>(
     key: &str,
     row: &ImportRow,
     sources: &F,
-) -> Outcome
+) -> RowOutcome
     ensures { spec.DoesRow (S.shown shelves.old) (S.shown shelves.new)
         (F.known sources.now) key.now (line_of_row row.now) result }
 {
     match body_of(alloc, row, sources) {
-        Ok(body) => Outcome::Answered(publish_row(alloc, shelves, key, row, body)),
-        Err(SourceFault::NoFile) => Outcome::NoFile,
-        Err(SourceFault::Memory) => Outcome::Answered(Fixed::Unavailable),
+        Ok(body) => RowOutcome::Answered(publish_row(alloc, shelves, key, row, body)),
+        Err(SourceFault::NoFile) => RowOutcome::NoFile,
+        Err(SourceFault::Memory) => RowOutcome::Answered(Fixed::Unavailable),
     }
 }
 
@@ -246,7 +246,7 @@ fn close<O: Write>(
             Err(fault) => Err(fault),
         },
         Closing::Unread => {
-            match print_outcome(number, Outcome::Answered(Fixed::Unavailable), output) {
+            match print_outcome(number, RowOutcome::Answered(Fixed::Unavailable), output) {
                 Ok(()) => Ok(Ending::SomeOut),
                 Err(fault) => Err(fault),
             }

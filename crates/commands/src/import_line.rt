@@ -13,33 +13,33 @@ use wire::reply::Fixed;
 
 /// The outcome of a row.
 #[derive(Clone, Copy, Drop)]
-pub enum Outcome {
+pub enum RowOutcome {
     /// A file could not be read, and nothing was stored.
     NoFile,
     /// Its publish got this answer.
     Answered(Fixed),
 }
 
-impl Outcome {
+impl RowOutcome {
     /// Whether it is the answer 200 or 201.
     pub fn accepts(self) -> bool
         ensures { result ≡ spec.accepts_outcome self }
     {
         match self {
-            Outcome::NoFile => false,
-            Outcome::Answered(answer) => is_accepted(answer.status().as_u16()),
+            RowOutcome::NoFile => false,
+            RowOutcome::Answered(answer) => is_accepted(answer.status().as_u16()),
         }
     }
 }
 
 /// Prints the line of a row: its number, a space, and the answer or `no file`. `Io::Write` if the output fails.
-pub fn print_outcome<O: Write>(number: u64, outcome: Outcome, output: &mut O) -> Result<(), Io>
+pub fn print_outcome<O: Write>(number: u64, outcome: RowOutcome, output: &mut O) -> Result<(), Io>
     ensures { spec.Prints (O.contents output.old) (O.contents output.new)
         (spec.numbered number (spec.outcome_text outcome)) result }
 {
     match outcome {
-        Outcome::NoFile => print_numbered(number, b"no file", output),
-        Outcome::Answered(answer) => {
+        RowOutcome::NoFile => print_numbered(number, b"no file", output),
+        RowOutcome::Answered(answer) => {
             let mut text = [0; 40];
             let len = fixed_line(answer, &mut text);
             print_numbered(number, &text[..len], output)

@@ -1,6 +1,7 @@
 //! The health of a running `serve`, asked for and printed.
 ghost use Rattle.std.specs.Prelude.{◌≡◌};
 ghost use Rattle.commands.specs.Ping as spec;
+ghost use Rattle.commands.specs.Report.{Prints};
 
 use crate::refusal::CommandRefusal;
 use crate::report::print_text;
@@ -71,7 +72,7 @@ fn print_health<O: Write>(
     told: Result<Text, CommandRefusal>,
     output: &mut O,
 ) -> Result<bool, CommandRefusal>
-    ensures { spec.Prints (O.contents output.old) (O.contents output.new) result told }
+    ensures { Prints (O.contents output.old) (O.contents output.new) result told }
 {
     match told {
         Ok(line) => print_text(line.as_str().as_bytes(), output),

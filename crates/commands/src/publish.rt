@@ -53,23 +53,23 @@ pub fn publish<S: Shelves, O: Write>(
     ensures { spec.PublishesFiles S.shown shelves.old shelves.new (spec.asked_by words.now)
         (O.contents output.old) (O.contents output.new) result }
 {
-    let had = read_files(rt, files);
-    publish_had(rt.alloc(), shelves, words, had, output)
+    let read = read_files(rt, files);
+    publish_read(rt.alloc(), shelves, words, read, output)
 }
 
 /// Publishes the files that were read, and prints the outcome. If they were not read, it does nothing on the store: it prints the
 /// 503 if memory ran out, and otherwise fails with `Io`.
-fn publish_had<S: Shelves, O: Write>(
+fn publish_read<S: Shelves, O: Write>(
     alloc: Global,
     shelves: &mut S,
     words: &Words,
-    had: Result<Body, FileFault>,
+    read: Result<Body, FileFault>,
     output: &mut O,
 ) -> Result<bool, CommandRefusal>
     ensures { spec.EndsBy S.shown shelves.old shelves.new (spec.asked_by words.now)
-        (O.contents output.old) (O.contents output.new) result had }
+        (O.contents output.old) (O.contents output.new) result read }
 {
-    match had {
+    match read {
         Ok(body) => publish_files(alloc, shelves, words, body, output),
         Err(FileFault::Memory) => tell(Fixed::Unavailable, output),
         Err(FileFault::Io) => Err(CommandRefusal::Io),

@@ -1,7 +1,7 @@
 //! `serve`: one request on each of some connections, and the orders of operators between them.
 ghost use Rattle.std.specs.Prelude.{◌≡◌, ◌≢◌, ◌++◌, codes, decimal, option_copied, IfOk, OnOk};
 ghost use Rattle.std.specs.Io.KnownBytes.{Appends};
-ghost use Rattle.commands.specs.Serve.{Announces, ListensToBoth, ListensAs, Prints, input_line, port_line, port_text};
+ghost use Rattle.commands.specs.Serve.{Announces, ListensToBoth, ListensAs, PrintsPort, input_line, port_line, port_text};
 
 use crate::moment::time_now;
 use crate::refusal::CommandRefusal;
@@ -125,7 +125,7 @@ fn listen<O: Write>(rt: &HostRuntime, entrance: Entrance, output: &mut O) -> io:
 /// Binds a port of 127.0.0.1, and prints it; the system chooses one in the place of 0.
 /// A named port is printed as it was named, and only a chosen one is asked of the system.
 fn listen_at<O: Write>(rt: &HostRuntime, port: u16, output: &mut O) -> io::Result<TcpListener>
-    ensures { OnOk result (Prints port (O.contents output.old) (O.contents output.new)) }
+    ensures { OnOk result (PrintsPort port (O.contents output.old) (O.contents output.new)) }
 {
     let listener = TcpListener::bind(rt, (Ipv4Addr::LOCALHOST, port))?;
     let bound = match port {

@@ -8,7 +8,7 @@ ghost use Rattle.runner.specs.Migrate.{MigratesEmpty, MigratesFile, MigratesInto
 
 use crate::old_file::OldFile;
 use crate::{open_refusal, unmade};
-use commands::files::{has_no_bytes, is_same_file};
+use commands::files::{is_missing_or_empty, is_same_file};
 use commands::refusal::CommandRefusal;
 use sqlite::{Alter, Connection, FileFrom, FileStore, Start};
 use sqlite_trees::store::Store;
@@ -36,7 +36,7 @@ pub(crate) fn migrate_file<T: Start, U: Start>(
     ensures { MigratesFile (state ⟦<FileStore<FileFrom<T>> as Store>⟧) (image_at T.Start)
         ⟦<FileShelves<U> as Shelves>⟧.shown (image_at U.Start) result }
 {
-    if !names_no_file(from) && has_no_bytes(rt, from) {
+    if !names_no_file(from) && is_missing_or_empty(rt, from) {
         return migrate_nothing(rt, from, to, target);
     }
     let file = match OldFile::find(rt, from, to) {

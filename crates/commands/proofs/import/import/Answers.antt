@@ -32,45 +32,46 @@ loop-number-init g c =
 
 pub returns-in-Err : goal.returns-in-Err
 returns-in-Err g c =
-    let (turns, so) = c.loop-number.invariant in
-    let (t, takes, is, front) = c.in-Err.ensures (g.L.Read.remaining c.args.list) (spec.rows_of turns) so.read in
-    broken_off (g.F.Sources.known c.args.sources.now) c.args.key.now _ _ (g.L.Read.remaining c.args.list) _ _ _ turns _ _ t _
-    (are_first g.L.Read.remaining (g.L.Read.remaining c.args.list) (turns ++ t ∷ []) c.import_next.new.reader
-    (subst (λ rows. HasRead g.L.Read.remaining (g.L.Read.remaining c.args.list) rows c.import_next.new.reader) (rows_more turns t) takes.read))
+    let (done_rows, so) = c.loop-number.invariant in
+    let (t, takes, is, front) = c.in-Err.ensures (g.L.Read.remaining c.args.list) (spec.rows_of done_rows) so.read in
+    broken_off (g.F.Sources.known c.args.sources.now) c.args.key.now _ _ (g.L.Read.remaining c.args.list) _ _ _ done_rows _ _ t _
+    (are_first g.L.Read.remaining (g.L.Read.remaining c.args.list) (done_rows ++ t ∷ []) c.import_next.new.reader
+    (subst (λ rows. HasRead g.L.Read.remaining (g.L.Read.remaining c.args.list) rows c.import_next.new.reader) (rows_more done_rows t) takes.read))
     so.through takes.through so.printed so.count is front
 
 pub returns-in-Ok-Over : goal.returns-in-Ok-Over
 returns-in-Ok-Over g c =
-    let (turns, so) = c.loop-number.invariant in
+    let (done_rows, so) = c.loop-number.invariant in
     let files = g.F.Sources.known c.args.sources.now in
     let key = c.args.key.now in
     let list = g.L.Read.remaining c.args.list in
     let first = g.O.Write.contents c.args.output.now in
-    let idle = rw c.in-Ok-Over.field-0-is at (c.in-Ok-Over.ensures list (spec.rows_of turns) so.read) in
-    let printed = subst (λ w. Appends first w (spec.lines_from 1 turns)) (sym idle.output) so.printed in
-    closed files key _ _ list first _ _ turns c.loop-number.number c.in-Ok-Over.closing c.loop-number.accepted c.close-in-Ok-Over.result
-    (are_first g.L.Read.remaining list turns _ so.read) (through_idle files key _ _ _ turns so.through idle.through) (inl (so.count, idle.closing)) so.accepted printed c.close-in-Ok-Over.ensures
+    let idle = rw c.in-Ok-Over.field-0-is at (c.in-Ok-Over.ensures list (spec.rows_of done_rows) so.read) in
+    let printed = subst (λ w. Appends first w (spec.lines_from 1 done_rows)) (sym idle.output) so.printed in
+    closed files key _ _ list first _ _ done_rows c.loop-number.number c.in-Ok-Over.closing c.loop-number.accepted c.close-in-Ok-Over.result
+    (are_first g.L.Read.remaining list done_rows _ so.read) (through_idle files key _ _ _ done_rows so.through idle.through)
+    (inl (so.count, idle.closing)) so.accepted printed c.close-in-Ok-Over.ensures
 
 pub loop-number-preserved : goal.loop-number-preserved
 loop-number-preserved g c =
-    let (turns, so) = c.loop-number.invariant in
+    let (done_rows, so) = c.loop-number.invariant in
     let files = g.F.Sources.known c.args.sources.now in
     let key = c.args.key.now in
     let list = g.L.Read.remaining c.args.list in
-    let (t, takes, is, more) = rw c.in-Ok-Row.field-0-is at (c.in-Ok-Row.ensures list (spec.rows_of turns) so.read) in (
-      turns ++ t ∷ [],
+    let (t, takes, is, more) = rw c.in-Ok-Row.field-0-is at (c.in-Ok-Row.ensures list (spec.rows_of done_rows) so.read) in (
+      done_rows ++ t ∷ [],
       record {
-        through = through_more files key _ _ _ turns t so.through takes.through;
-        read = subst (λ rows. HasRead g.L.Read.remaining list rows c.import_next.new.reader) (rows_more turns t) takes.read;
-        printed = lines_more _ _ _ c.loop-number.number turns t so.count so.printed more;
-        accepted = c.both-accepted.ensures ∙ ap (λ b. b && c.in-Ok-Row.accepts) so.accepted ∙ ap (λ b. list_all spec.is_accepted turns && b) is ∙ sym (all_more turns t);
+        through = through_more files key _ _ _ done_rows t so.through takes.through;
+        read = subst (λ rows. HasRead g.L.Read.remaining list rows c.import_next.new.reader) (rows_more done_rows t) takes.read;
+        printed = lines_more _ _ _ c.loop-number.number done_rows t so.count so.printed more;
+        accepted = c.both-accepted.ensures ∙ ap (λ b. b && c.in-Ok-Row.accepts) so.accepted ∙ ap (λ b. list_all spec.is_accepted done_rows && b) is ∙ sym (all_more done_rows t);
         count = simp length-append (omega (arith, so.count));
       },
     )
 
 pub returns : goal.returns
 returns g c =
-    let (turns, so) = c.loop-number.invariant in
+    let (done_rows, so) = c.loop-number.invariant in
     let n : ℕ = 18446744073709551615 in
-    closed (g.F.Sources.known c.args.sources.now) c.args.key.now _ _ (g.L.Read.remaining c.args.list) _ _ _ turns n Unread c.loop-number.accepted c.close-2.result
-    (are_first g.L.Read.remaining (g.L.Read.remaining c.args.list) turns _ so.read) so.through (inl (omega (arith, so.count), tt)) so.accepted so.printed c.close-2.ensures
+    closed (g.F.Sources.known c.args.sources.now) c.args.key.now _ _ (g.L.Read.remaining c.args.list) _ _ _ done_rows n Unread c.loop-number.accepted c.close-2.result
+    (are_first g.L.Read.remaining (g.L.Read.remaining c.args.list) done_rows _ so.read) so.through (inl (omega (arith, so.count), tt)) so.accepted so.printed c.close-2.ensures

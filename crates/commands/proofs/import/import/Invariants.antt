@@ -1,7 +1,7 @@
 use Rattle.std.proofs.Common.{◌≡◌, ◌+◌, List, length}
 use Rattle.std.specs.Io.KnownBytes.{Appends}
 use Rattle.std.specs.List.{list_all}
-use Rattle.commands.specs.Import.{GoesThrough, Turn, is_accepted, lines_from, rows_of}
+use Rattle.commands.specs.Import.{GoesThrough, DoneRow, is_accepted, lines_from, rows_of}
 use Rattle.commands.specs.ImportList.{HasRead}
 use Rattle.commands.proofs.import.import.Given as goal
 
@@ -9,10 +9,10 @@ use Rattle.commands.proofs.import.import.Given as goal
 abbrev pub invariant-loop-number : goal.invariant-loop-number
 invariant-loop-number g l =
     let s = g.S.Shelves in
-    (turns : List Turn) × record {
-      through : GoesThrough (s.shown l.fn.shelves) (s.shown l.shelves) (g.F.Sources.known l.sources) l.key turns;
-      read : HasRead g.L.Read.remaining (g.L.Read.remaining l.fn.list) (rows_of turns) l.reader;
-      printed : Appends (g.O.Write.contents l.fn.output) (g.O.Write.contents l.output) (lines_from 1 turns);
-      accepted : l.accepted ≡ list_all is_accepted turns;
-      count : l.number ≡ length turns + 1;
+    (done_rows : List DoneRow) × record {
+      through : GoesThrough (s.shown l.fn.shelves) (s.shown l.shelves) (g.F.Sources.known l.sources) l.key done_rows;
+      read : HasRead g.L.Read.remaining (g.L.Read.remaining l.fn.list) (rows_of done_rows) l.reader;
+      printed : Appends (g.O.Write.contents l.fn.output) (g.O.Write.contents l.output) (lines_from 1 done_rows);
+      accepted : l.accepted ≡ list_all is_accepted done_rows;
+      count : l.number ≡ length done_rows + 1;
     }

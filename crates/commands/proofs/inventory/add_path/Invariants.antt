@@ -1,7 +1,7 @@
 use Rattle.std.proofs.Common.{drop}
 use Rattle.commands.specs.InventoryLines.{lines_at, lines_of_path}
 use Rattle.commands.specs.Lines.{IsBetweenLines, text_in}
-use Rattle.commands.proofs.Gathered.{Keeps, Gathers}
+use Rattle.commands.proofs.Gathered.{HoldsThroughout, Gathers}
 use Rattle.commands.proofs.inventory.add_path.Given as goal
 
 -- the lines of the versions so far are written, and those of the other versions are left
@@ -10,6 +10,6 @@ invariant-loop-version g l =
     let s = g.S.Shelves in
     record {
       between : IsBetweenLines l.lines;
-      gathers : Keeps (s.shown l.fn.shelves) (s.shown l.shelves)
+      gathers : HoldsThroughout (s.shown l.fn.shelves) (s.shown l.shelves)
           (Gathers (λ w. lines_at w l.shelf l.path) (text_in l.fn.lines) (λ w. lines_of_path w l.shelf l.path) (text_in l.lines) (drop l.version-index l.version-items));
     }

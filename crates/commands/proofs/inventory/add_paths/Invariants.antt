@@ -1,7 +1,7 @@
 use Rattle.std.specs.Prelude.{map as each, string_bytes}
 use Rattle.commands.specs.InventoryLines.{lines_of_text, lines_seen}
 use Rattle.commands.specs.Lines.{IsBetweenLines, text_in}
-use Rattle.commands.proofs.Gathered.{Keeps, Gathers}
+use Rattle.commands.proofs.Gathered.{HoldsThroughout, Gathers}
 use Rattle.commands.proofs.inventory.add_paths.Given as goal
 
 -- the lines of the paths so far are written, and those of the other paths are left
@@ -10,6 +10,6 @@ invariant-loop-text g l =
     let s = g.S.Shelves in
     record {
       between : IsBetweenLines l.lines;
-      gathers : Keeps (s.shown l.fn.shelves) (s.shown l.shelves)
+      gathers : HoldsThroughout (s.shown l.fn.shelves) (s.shown l.shelves)
           (Gathers (λ w. lines_of_text w l.shelf) (text_in l.fn.lines) (λ w. lines_seen w l.shelf) (text_in l.lines) (each string_bytes l.text-iterator));
     }

@@ -4,7 +4,6 @@ use Rattle.std.specs.Io.KnownBytes.{Appends}
 use Rattle.world.specs.Store.{Shown}
 use Rattle.socket.specs.Connections.{GoesThroughMost}
 use Rattle.control.specs.Copying.{GoesOnRead}
-use Rattle.control.specs.Turns.{GoesOn}
 use Rattle.control.specs.declared.copies.CopyRefusal.{CopyRefusal}
 use Rattle.commands.specs.declared.refusal.CommandRefusal.{CommandRefusal}
 use Rattle.commands.specs.declared.refusal.CommandRefusal.TheVariants.{Io}
@@ -57,9 +56,7 @@ abbrev pub ListensToBoth :
     → Option (List ℕ) → Option (List ℕ) → Result (Unit {0}) CommandRefusal → Type 0
 ListensToBoth shown copied counted old new entrance connections written written_new result =
     MatchResult result
-    (λ _. Announces entrance written written_new
-    × GoesOn (shown old) (shown new) connections
-    × GoesOnRead shown copied counted old new connections)
+    (λ _. Announces entrance written written_new × GoesOnRead shown copied counted old new connections)
     (λ e. (e ≡ Io) × (new ≡ old))
 
 -- serving without a socket of operators, or with one

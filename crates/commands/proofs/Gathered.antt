@@ -1,7 +1,7 @@
 -- Gathering a list from a store, piece by piece.
 use Rattle.std.proofs.Common.{◌≡◌, ◌≤◌, ◌++◌, ◌∷◌, List, Ok, ◌∙◌, ap, subst, append_assoc, arith}
 use Rattle.std.specs.List.{flat_map}
-use Rattle.world.specs.Store.{Shown}
+use Rattle.world.specs.Store.{Shown, Reads}
 use Rattle.world.specs.World.{World}
 use Rattle.commands.specs.Reading.{Adds}
 
@@ -21,6 +21,22 @@ module _ {X T : Type 0} (f : World → X → List T) (before : List T) (goal : W
   -- the items gathered, and those of what is left, are those that were there first and the goal
   abbrev pub Gathers : List T → List X → World → Type 0
   Gathers items rest w = items ++ flat_map (f w) rest ≡ before ++ goal w
+
+  -- gathering begins once the pieces were read, if the items of all pieces are the goal
+  pub gathers_first : {A : Type 0} (list : A → List X) (a b : Shown) (got : A) (pieces : List X) (of : World → A)
+      → ((w : World) → flat_map (f w) (list (of w)) ≡ goal w) → pieces ≡ list got → Reads a b (Ok got) of
+      → HoldsThroughout a b (Gathers before pieces)
+  gathers_first list a b got pieces of all are read = record {
+    honest = read.honest;
+    at = λ h w stands.
+        let here = read.at h w stands in
+        record {
+          holds = ap (λ xs. before ++ flat_map (f w) xs) (are ∙ ap list here.answer) ∙ ap (λ l. before ++ l) (all w);
+          stays = here.stays;
+          left = here.left;
+        };
+    no_fewer = read.cause.no_fewer;
+  }
 
   -- if the items of one more piece were added, gathering goes on
   pub gathered_more : (a b c : Shown) (items more : List T) (x : X) (rest : List X)

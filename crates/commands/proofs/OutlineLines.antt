@@ -7,8 +7,7 @@ use Rattle.world.specs.declared.entry.Seen.{Seen}
 use Rattle.world.specs.Store.{Shown, Reads}
 use Rattle.world.specs.World.{view}
 use Rattle.world.proofs.Causes.{answers}
-use Rattle.commands.specs.Inventory.{row_of, line, fields}
-use Rattle.commands.specs.InventoryLines.{outlined, lines_of, lines_at}
+use Rattle.commands.specs.Inventory.{row_of, row_at, outlined, line, lines_of, fields}
 use Rattle.commands.specs.Reading.{Adds}
 use Rattle.commands.specs.declared.inventory.InventoryRow.{InventoryRow}
 
@@ -20,7 +19,7 @@ same_row p v (Some seen) = refl
 -- once the outline of a version was read
 module _ (old new : Shown) (s p : List ℕ) (v : SemanticVersion) (found : Option Outline) (read : Reads old new (Ok found) (λ w. outline w s p (version_text v))) (before after : List ℕ) where
   -- adding the lines of the outline adds those of the version
-  adds_lines : (o : Option Outline) → found ≡ o → after ≡ before ++ lines_of (outlined p v o) → Adds old new before after (Ok tt) (λ w. lines_at w s p v)
+  adds_lines : (o : Option Outline) → found ≡ o → after ≡ before ++ lines_of (outlined p v o) → Adds old new before after (Ok tt) (λ w. lines_of (row_at w s p v))
   adds_lines o is says = record {
     honest = read.honest;
     at = λ honest w stands.
@@ -35,11 +34,11 @@ module _ (old new : Shown) (s p : List ℕ) (v : SemanticVersion) (found : Optio
   }
 
   -- without an outline, adding nothing adds the lines of the version
-  pub adds_none : found ≡ None → after ≡ before → Adds old new before after (Ok tt) (λ w. lines_at w s p v)
+  pub adds_none : found ≡ None → after ≡ before → Adds old new before after (Ok tt) (λ w. lines_of (row_at w s p v))
   adds_none is same = adds_lines None is (same ∙ sym (append-nil before))
 
   -- with an outline, adding the line of its row adds those of the version
   pub adds_one : (it : Outline) (row : InventoryRow) → found ≡ Some it → row ∷ [] ≡ outlined p v (Some it)
-      → after ≡ before ++ line (fields row) → Adds old new before after (Ok tt) (λ w. lines_at w s p v)
+      → after ≡ before ++ line (fields row) → Adds old new before after (Ok tt) (λ w. lines_of (row_at w s p v))
   adds_one it row is rows says =
       adds_lines (Some it) is (says ∙ (ap (λ l. before ++ l) (sym (append-nil (line (fields row)))) ∙ ap (λ rs. before ++ lines_of rs) rows))

@@ -7,6 +7,7 @@ use Rattle.modver.specs.Class.{class_of}
 use Rattle.modver.specs.SemanticVersion.{SemanticVersion, version_text}
 use Rattle.modver.specs.declared.version.Class.{Class}
 use Rattle.modver.specs.declared.version.Class.TheVariants as class
+use Rattle.outline.specs.declared.outlines.Outline.{Outline}
 use Rattle.world.specs.Versions.{versions_of}
 use Rattle.world.specs.Forms.{path_of}
 use Rattle.world.specs.Lines.{in_order}
@@ -36,6 +37,12 @@ row_of p v (Some seen) =
       zip_bytes = length seen.entry.zip;
     }
     ∷ []
+
+-- the row of a version, by the outline of what is seen of it; none if nothing is
+abbrev pub outlined : List ℕ → SemanticVersion → Option Outline → List InventoryRow
+outlined p v None = []
+outlined p v (Some it) =
+    record { path = p; version = v; shelf = it.shelf; time = it.time; gomod_bytes = it.gomod_bytes; zip_bytes = it.zip_bytes } ∷ []
 
 -- the row of a version that the shelf sees, or none if it does not
 abbrev pub row_at : World → List ℕ → List ℕ → SemanticVersion → List InventoryRow
@@ -81,9 +88,13 @@ fields r =
 unfoldable pub line : List (List ℕ) → List ℕ
 line fs = row_text default_writer fs
 
--- the header, and a line for each row
+-- the lines of these rows
+abbrev pub lines_of : List InventoryRow → List ℕ
+lines_of rows = flat_map (λ r. line (fields r)) rows
+
+-- the header, and the lines of these rows
 abbrev pub text_of : List InventoryRow → List ℕ
-text_of rows = line header ++ flat_map (λ r. line (fields r)) rows
+text_of rows = line header ++ lines_of rows
 
 -- ---- the inventory
 

@@ -7,7 +7,6 @@ pub mod ImportFiles
 pub mod ImportLine
 pub mod ImportList
 pub mod Inventory
-pub mod InventoryLines
 pub mod Rows
 pub mod Lines
 pub mod Opening

@@ -3,7 +3,6 @@ ghost use Rattle.std.specs.Prelude.{◌≡◌, [], ◌∷◌, Some, IfOk, OnOk};
 ghost use Rattle.std.specs.FinMap as map;
 ghost use Rattle.world.specs.Store.{Reads};
 ghost use Rattle.commands.specs.Inventory as spec;
-ghost use Rattle.commands.specs.InventoryLines.{outlined, lines_at, lines_of_path, lines_of_text, lines_seen};
 ghost use Rattle.commands.specs.Lines.{IsBetweenLines, text_in};
 ghost use Rattle.commands.specs.Reading.{Adds};
 ghost use Rattle.commands.specs.Rows.{IsWhole};
@@ -101,7 +100,7 @@ fn add_paths<S: Outlines>(
 ) -> Result<(), StoreFault>
     requires { IsBetweenLines lines.old }
     ensures { Adds (S.shown shelves.old) (S.shown shelves.new) (text_in lines.old) (text_in lines.new) result
-        (λ w. lines_seen w shelf.now) }
+        (λ w. spec.lines_of (spec.rows_seen w shelf.now)) }
 {
     let paths = shelves.paths(shelf)?;
     for text in paths.iter() {
@@ -121,7 +120,7 @@ fn add_text<S: Outlines>(
     requires between { IsBetweenLines lines.old }
     ensures between { OnOk result (IsBetweenLines lines.new) }
     ensures adds { Adds (S.shown shelves.old) (S.shown shelves.new) (text_in lines.old) (text_in lines.new) result
-        (λ w. lines_of_text w shelf.now text.now) }
+        (λ w. spec.lines_of (spec.rows_of_text w shelf.now text.now)) }
 {
     let Some(path) = path_of(alloc, text)? else {
         return Ok(());
@@ -140,7 +139,7 @@ fn add_path<S: Outlines>(
     requires between { IsBetweenLines lines.old }
     ensures between { OnOk result (IsBetweenLines lines.new) }
     ensures adds { Adds (S.shown shelves.old) (S.shown shelves.new) (text_in lines.old) (text_in lines.new) result
-        (λ w. lines_of_path w shelf.now path.now) }
+        (λ w. spec.lines_of (spec.rows_of_path w shelf.now path.now)) }
 {
     let versions = shelves.versions(shelf, path)?;
     for version in versions.as_slice() {
@@ -161,7 +160,7 @@ fn add_version<S: Outlines>(
     requires between { IsBetweenLines lines.old }
     ensures between { OnOk result (IsBetweenLines lines.new) }
     ensures adds { Adds (S.shown shelves.old) (S.shown shelves.new) (text_in lines.old) (text_in lines.new) result
-        (λ w. lines_at w shelf.now path.now version.now) }
+        (λ w. spec.lines_of (spec.row_at w shelf.now path.now version.now)) }
 {
     let Some(outline) = shelves.outline(shelf, path, version)? else {
         return Ok(());
@@ -177,7 +176,7 @@ fn row_of(
     version: &Version,
     outline: Outline,
 ) -> Result<InventoryRow, AllocError>
-    ensures { IfOk result (λ row. row ∷ [] ≡ outlined path.now version.now (Some outline)) }
+    ensures { IfOk result (λ row. row ∷ [] ≡ spec.outlined path.now version.now (Some outline)) }
 {
     let path = Text::copy_of(alloc, path.as_str())?;
     let version = version.copy(alloc)?;

@@ -1,5 +1,5 @@
 use Rattle.std.specs.Prelude.{map as each, string_bytes}
-use Rattle.commands.specs.InventoryLines.{lines_of_text, lines_seen}
+use Rattle.commands.specs.Inventory.{lines_of, rows_of_text, rows_seen}
 use Rattle.commands.specs.Lines.{IsBetweenLines, text_in}
 use Rattle.commands.proofs.Gathered.{HoldsThroughout, Gathers}
 use Rattle.commands.proofs.inventory.add_paths.Given as goal
@@ -11,5 +11,6 @@ invariant-loop-text g l =
     record {
       between : IsBetweenLines l.lines;
       gathers : HoldsThroughout (s.shown l.fn.shelves) (s.shown l.shelves)
-          (Gathers (λ w. lines_of_text w l.shelf) (text_in l.fn.lines) (λ w. lines_seen w l.shelf) (text_in l.lines) (each string_bytes l.text-iterator));
+          (Gathers (λ w t. lines_of (rows_of_text w l.shelf t)) (text_in l.fn.lines)
+          (λ w. lines_of (rows_seen w l.shelf)) (text_in l.lines) (each string_bytes l.text-iterator));
     }

@@ -20,6 +20,12 @@ EndsShown DisplayVersion ended = (ended ≡ Done) ⊎ (ended ≡ Refused Io)
 EndsShown OutOfMemory ended = ended ≡ Refused Memory
 EndsShown other ended = ended ≡ BadUsage
 
+-- only help and the version are shown on the output
+abbrev pub SparesOutput : ErrorKind → Option (List ℕ) → Option (List ℕ) → Type 0
+SparesOutput DisplayHelp written written_new = Unit {0}
+SparesOutput DisplayVersion written written_new = Unit {0}
+SparesOutput other written written_new = written_new ≡ written
+
 -- What running a command does: relates the runner before and after, the bytes left on the input before and after, the bytes
 -- on the output before and after, the result, and the command.
 abbrev pub Ran : Type 0 → Type 1
@@ -51,6 +57,7 @@ module _ {P : Type 0} (ran : Ran P) (old new : P) (unread unread_new written wri
     pub ends : EndsShown kind ended
     pub idle : new ≡ old
     pub input : unread_new ≡ unread
+    pub output : SparesOutput kind written written_new
     pub silent : IsSilent errors errors_new ended
 
   -- a command was run, or the parser's text was shown

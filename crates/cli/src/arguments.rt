@@ -52,7 +52,7 @@ static STORE_COMMANDS: [CommandRow; 9] = [
     },
     CommandRow {
         name: "key-revoke",
-        about: "Takes a key away",
+        about: "Revokes a key",
         options: &KEY_REVOKE,
         forms: Some(KEY_REVOKE_FORMS),
         example: "",
@@ -87,8 +87,8 @@ static STORE_COMMANDS: [CommandRow; 9] = [
     },
 ];
 
-/// The commands behind them, which make one store of another, or serve one.
-static SERVER_COMMANDS: [CommandRow; 7] = [
+/// The other commands, in the order of the help.
+static OTHER_COMMANDS: [CommandRow; 7] = [
     CommandRow {
         name: "extract",
         about: "Makes a store of the part of one team or more: their shelves, their groups' and common, with their versions and keys",
@@ -112,7 +112,7 @@ static SERVER_COMMANDS: [CommandRow; 7] = [
     },
     CommandRow {
         name: "serve",
-        about: "Answers one HTTP request on each of some connections to 127.0.0.1",
+        about: "Answers one HTTP request on each connection to 127.0.0.1",
         options: &SERVE,
         forms: Some(SERVE_FORMS),
         example: SERVE_EXAMPLE,
@@ -189,17 +189,17 @@ Example, and the go command that asks it with the key K:
 /// Returns the parser of the whole command line. Calls here fail only if memory runs out.
 pub fn parser<'a>(alloc: Global) -> Result<Command<'a>, AllocError> {
     let program = with_commands(alloc, program(alloc)?, store_commands())?;
-    with_commands(alloc, program, server_commands())
+    with_commands(alloc, program, other_commands())
 }
 
-/// Returns the first table. The two tables are two functions', because the prover reads all texts of a table at once.
+/// Returns the first table. Each table has a function of its own, because the prover reads all texts of a table at once.
 fn store_commands() -> &'static [CommandRow] {
     STORE_COMMANDS.as_slice()
 }
 
 /// Returns the second table.
-fn server_commands() -> &'static [CommandRow] {
-    SERVER_COMMANDS.as_slice()
+fn other_commands() -> &'static [CommandRow] {
+    OTHER_COMMANDS.as_slice()
 }
 
 /// Returns the program with the commands of a table.

@@ -3,7 +3,7 @@ ghost use Rattle.std.specs.Prelude.{◌≡◌};
 ghost use Rattle.clap.specs.Values.{kind_of};
 ghost use Rattle.commands.specs.Exit.{IsSilent, Says, status_of};
 ghost use Rattle.commands.specs.ImportLine.{PrintsFront};
-ghost use Rattle.cli.specs.Run.{EndsShown, Exits, RefusesWords, Tells, new_store_line};
+ghost use Rattle.cli.specs.Run.{EndsShown, Exits, RefusesWords, SparesOutput, Tells, new_store_line};
 
 use crate::arguments::parser;
 use crate::asked::command_of;
@@ -19,7 +19,7 @@ use std::alloc::Global;
 use std::io::{self, Read, Write};
 use std::rt::HostRuntime;
 
-/// Runs the program by the words after its name and returns the exit status: 0 done, 1 refused, 2 bad usage.
+/// Runs the program by the words after its name and returns the exit status: 0 done, 1 refused or not accepted, 2 bad usage.
 ///
 /// A refusal prints one line `goshelf: <word>` on `errors`; `publish` prints its outcome on `output` instead, and `import` a line
 /// for each row. Bad usage prints the parser's text on `errors`, and `serve` a line if its store is new. The texts of the parser are
@@ -107,6 +107,7 @@ fn write_new_store<E: Write>(errors: &mut E)
 /// `errors`. If the output fails, the run ends with `goshelf: io`.
 fn show<O: Write, E: Write>(error: clap::Error, output: &mut O, errors: &mut E) -> Exit
     ensures ends { EndsShown (kind_of error) result }
+    ensures output { SparesOutput (kind_of error) (O.contents output.old) (O.contents output.new) }
     ensures silent { IsSilent (E.contents errors.old) (E.contents errors.new) result }
 {
     match error.kind() {

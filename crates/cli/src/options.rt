@@ -77,7 +77,7 @@ pub(crate) const TEAM_ADD: [OptionRow; 4] = [
         name: "group",
         value: Value::Text("G"),
         needed: Needed::Never,
-        help: "The group that the team is a member of, for good; without this it is of none",
+        help: "The group that the team joins, for good; without it, the team is in no group",
     },
 ];
 
@@ -125,7 +125,7 @@ pub(crate) const KEY_REVOKE: [OptionRow; 3] = [
     DB_OR_CONTROL,
     CONTROL,
     OptionRow {
-        help: "The key to take away; it is free again then",
+        help: "The key to revoke; its text can be added again",
         ..KEY
     },
 ];
@@ -214,7 +214,7 @@ pub(crate) const EXTRACT: [OptionRow; 3] = [
         name: "team",
         value: Value::Texts("T"),
         needed: Needed::Always,
-        help: "A team, or several, each with its own --team; common and groups are none",
+        help: "A team; repeat --team for more; common and groups are not teams",
     },
     TO,
 ];
@@ -270,13 +270,13 @@ pub(crate) const SERVE: [OptionRow; 5] = [
         name: "connections",
         value: Value::Number("M", u32::MAX as u64),
         needed: Needed::Never,
-        help: "How many connections to serve, one after another, 0 to 4294967295, which it is without this; one that fails counts",
+        help: "How many connections to serve, one after another; one that fails counts; 4294967295 at most, and by default",
     },
     OptionRow {
         name: "control",
         value: Value::Text("S"),
         needed: Needed::Never,
-        help: "A socket to make, for the commands that take --control; the user who runs serve alone may connect to it",
+        help: "A socket to make, for the commands that take --control; only the user who runs serve, and root, may connect to it",
     },
 ];
 

@@ -7,7 +7,7 @@ pub returns-in-Err : goal.returns-in-Err
 returns-in-Err g c = record {
   ended = c.show.result;
   errors_run = _;
-  runs = inr (record { kind = kind_of c.in-Err.error; ends = c.show.ensures.ends; idle = refl; input = refl; silent = c.show.ensures.silent });
+  runs = inr (record { kind = kind_of c.in-Err.error; ends = c.show.ensures.ends; idle = refl; input = refl; output = c.show.ensures.output; silent = c.show.ensures.silent });
   says = c.end.ensures.says;
   tells = c.end.ensures.status;
 }
@@ -16,7 +16,7 @@ pub returns-in_default : goal.returns-in_default
 returns-in_default g c = record {
   ended = _;
   errors_run = _;
-  runs = inr (record { kind = MissingSubcommand; ends = refl; idle = refl; input = refl; silent = tt });
+  runs = inr (record { kind = MissingSubcommand; ends = refl; idle = refl; input = refl; output = refl; silent = tt });
   says = c.end-in_default.ensures.says;
   tells = c.end-in_default.ensures.status;
 }

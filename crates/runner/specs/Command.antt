@@ -16,7 +16,7 @@ use Rattle.commands.specs.declared.action.Action.TheVariants.{Open}
 use Rattle.runner.specs.Copies.{CopiesFile, CountsIn}
 use Rattle.runner.specs.Extract.{ExtractsFile}
 use Rattle.runner.specs.Migrate.{MigratesFile}
-use Rattle.runner.specs.Opened.{unopened, unmade, HasBegun}
+use Rattle.runner.specs.Opened.{unopened, unmade, OnOpened}
 use Rattle.runner.specs.declared.Command.{Command}
 use Rattle.runner.specs.declared.Command.TheVariants as command
 
@@ -50,21 +50,13 @@ module _ (unread unread_new written written_new : Option (List ℕ)) (result : R
     pub input : unread_new ≡ unread
 
 module _ {S : Type 0} (shown : S → Shown) (copied : Copied S) (held : Image) where
-  -- the store of files that held this was opened, and the action was done on it
-  pub record ActsOpened
-      (unread unread_new written written_new : Option (List ℕ)) (action : Action) (result : Result Bool CommandRefusal) : Type 0 where
-    pub begun : S
-    pub ended : S
-    pub begins : HasBegun shown held begun
-    pub acts : Acts shown copied (CountsIn shown)
-        (record { store = begun; unread = unread; written = written })
-        (record { store = ended; unread = unread_new; written = written_new }) result action
-
   -- the store of a file was opened and the action was done on it, or it was not opened, and the result says why
   abbrev pub ActsOnFile :
       Option (List ℕ) → Option (List ℕ) → Option (List ℕ) → Option (List ℕ) → Action → Result Bool CommandRefusal → Type 0
   ActsOnFile unread unread_new written written_new action result =
-      ActsOpened unread unread_new written written_new action result
+      OnOpened shown held (λ begun ended. Acts shown copied (CountsIn shown)
+      (record { store = begun; unread = unread; written = written })
+      (record { store = ended; unread = unread_new; written = written_new }) result action)
       ⊎ ((why : Unopened) × TellsAlone unread unread_new written written_new result (Err (unopened why)))
 
   -- the file has bytes, and the result says so; or its store was opened or not, and nothing else was done

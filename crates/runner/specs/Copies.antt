@@ -10,7 +10,7 @@ use Rattle.store.specs.declared.refusal.Refusal.{Refusal as Unopened}
 use Rattle.store.specs.declared.refusal.Refusal.TheVariants as store
 use Rattle.control.specs.declared.copies.CopyRefusal.{CopyRefusal}
 use Rattle.control.specs.declared.copies.CopyRefusal.TheVariants as copy
-use Rattle.runner.specs.Opened.{HasBegun}
+use Rattle.runner.specs.Opened.{OnOpened}
 
 -- why no copy was made, by why the store was not opened or copied; other tables than a store's are bytes too, and `NoTeam` never comes
 abbrev pub uncopied : Unopened → CopyRefusal
@@ -39,18 +39,14 @@ module _ {S F : Type 0} (shown : S → Shown) (shown_too : F → Shown) where
     pub ends : result ≡ copied told
 
   module _ (held : Image) where
-    -- the store of files that held this was opened, and made a copy or not
-    pub record CopiesOpened (source source_new : S) (result : Result (Unit {0}) CopyRefusal) : Type 0 where
-      pub fresh : F
-      pub fresh_new : F
-      pub begins : HasBegun shown_too held fresh
-      pub copies : CopiesInto source source_new fresh fresh_new result
-
-    -- nothing was done with the served store: the file is its own, or its store was not opened, and the result says why
+    -- nothing was done with the served store: the new store's file is its own, or the new store was not opened, and the result says why
     pub record CopiesNone (source source_new : S) (result : Result (Unit {0}) CopyRefusal) : Type 0 where
       pub same : source_new ≡ source
       pub tells : (result ≡ Err copy.NotEmpty) ⊎ ((why : Unopened) × (result ≡ Err (uncopied why)))
 
-    -- a store was opened or not, whatever the path is, because no clause ties a path to the bytes of a file
+    -- The store of files that held this was made a copy, or not; or the served store was left as it was. It may be either, whatever
+    -- the path is, because no clause ties a path to the bytes of a file.
     abbrev pub CopiesFile : S → S → List ℕ → Result (Unit {0}) CopyRefusal → Type 0
-    CopiesFile source source_new path result = CopiesOpened source source_new result ⊎ CopiesNone source source_new result
+    CopiesFile source source_new path result =
+        OnOpened shown_too held (λ fresh fresh_new. CopiesInto source source_new fresh fresh_new result)
+        ⊎ CopiesNone source source_new result

@@ -12,8 +12,7 @@ use Rattle.store.specs.Older.{FindsOlder}
 use Rattle.setup.specs.declared.refusal.Refusal.{Refusal as Unopened}
 use Rattle.commands.specs.declared.refusal.CommandRefusal.{CommandRefusal}
 use Rattle.commands.specs.declared.refusal.CommandRefusal.TheVariants.{NotEmpty}
-use Rattle.runner.specs.Extract.{extracted}
-use Rattle.runner.specs.Opened.{unopened, unmade, HasBegun}
+use Rattle.runner.specs.Opened.{unopened, store_result, OnOpened, LeavesSource}
 
 module _ {C F : Type 0} (state_of : C → State) (shown : F → Shown) (old old_new : C) where
   -- what the older store has was put into an open one, or it was not, and the result says why
@@ -21,22 +20,12 @@ module _ {C F : Type 0} (state_of : C → State) (shown : F → Shown) (old old_
     pub told : Result (Unit {0}) Unopened
     pub migrates : Migrates (state_of old) (state_of old_new) (shown fresh) (shown fresh_new) told
     pub cause : HasCauseInOne (state_of old) (state_of old_new) (shown fresh).failures (shown fresh_new).failures told
-    pub ends : result ≡ extracted told
+    pub ends : result ≡ store_result told
 
-  -- the store of files that held this was opened, and what the older one has was put into it or not
-  pub record MigratesIntoOpened (held : Image) (result : Result (Unit {0}) CommandRefusal) : Type 0 where
-    pub fresh : F
-    pub fresh_new : F
-    pub begins : HasBegun shown held fresh
-    pub migrates : MigratesInto fresh fresh_new result
-
-  -- nothing was done with the older store: the file is its own, or its store was not opened, and the result says why
-  pub record MigratesIntoNone (result : Result (Unit {0}) CommandRefusal) : Type 0 where
-    pub same : old_new ≡ old
-    pub tells : (result ≡ Err NotEmpty) ⊎ ((why : Unopened) × (result ≡ Err (unmade (unopened why))))
-
+  -- what the older store has was put, or not, into the store of files that held this; or the older store was left as it was
   abbrev pub MigratesTo : Image → Result (Unit {0}) CommandRefusal → Type 0
-  MigratesTo held result = MigratesIntoOpened held result ⊎ MigratesIntoNone result
+  MigratesTo held result =
+      OnOpened shown held (λ fresh fresh_new. MigratesInto fresh fresh_new result) ⊎ LeavesSource old old_new result
 
 module _ {F : Type 0} (shown : F → Shown) (held_too : Image) where
   -- there is no older file, or it has no bytes, so there are no older tables

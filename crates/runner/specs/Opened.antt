@@ -1,5 +1,5 @@
 -- Opening a store, and why a command is refused whose store is not opened.
-use Rattle.std.specs.Prelude.{◌≡◌}
+use Rattle.std.specs.Prelude.{◌≡◌, ◌⊎◌, Result, Ok, Err}
 use Rattle.sqlite_wal.specs.Recovery.{Image}
 use Rattle.world.specs.Store.{Shown}
 use Rattle.world.specs.World.{World}
@@ -18,6 +18,11 @@ unopened store.BadSchema = refusal.BadSchema
 unopened store.NotEmpty = refusal.NotEmpty
 unopened store.NoTeam = refusal.NoTeam
 
+-- the result of the command, by that of the store
+abbrev pub store_result : Result (Unit {0}) Unopened → Result (Unit {0}) CommandRefusal
+store_result (Ok u) = Ok tt
+store_result (Err why) = Err (unopened why)
+
 -- the refusal of a file that a new store is made in, whose tables are not judged: a file that has any has bytes
 abbrev pub unmade : CommandRefusal → CommandRefusal
 unmade refusal.BadSchema = refusal.NotEmpty
@@ -29,3 +34,15 @@ pub record HasBegun {S : Type 0} (shown : S → Shown) (held : Image) (store : S
   pub world : (shown store).is_honest → (w : World) × BeginsAt (shown store) w
   pub found : (shown store).is_honest → (w : World) → HoldsStore held w → BeginsAt (shown store) w
   pub none_failed : (shown store).failures ≡ 0
+
+-- the store of files that held this was opened, and this was done with it
+pub record OnOpened {S : Type 0} (shown : S → Shown) (held : Image) (Does : S → S → Type 0) : Type 0 where
+  pub begun : S
+  pub ended : S
+  pub begins : HasBegun shown held begun
+  pub does : Does begun ended
+
+-- nothing was done with the source: the new store's file is the source's, or the new store was not opened, and the result says why
+pub record LeavesSource {S : Type 0} (source source_new : S) (result : Result (Unit {0}) CommandRefusal) : Type 0 where
+  pub same : source_new ≡ source
+  pub tells : (result ≡ Err refusal.NotEmpty) ⊎ ((why : Unopened) × (result ≡ Err (unmade (unopened why))))

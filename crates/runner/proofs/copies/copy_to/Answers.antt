@@ -14,8 +14,8 @@ returns-clause-reads g c = only_read _ _ c.copy_into-told.ensures.copies.reads c
 
 pub returns-clause-came : goal.returns-clause-came
 returns-clause-came g c = inl (record {
-  fresh = c.in-Ok.shelves;
-  fresh_new = c.copy_into-told.new.fresh;
+  begun = c.in-Ok.shelves;
+  ended = c.copy_into-told.new.fresh;
   begins = record { world = c.in-Ok.ensures.begins; found = c.in-Ok.ensures.found; none_failed = c.in-Ok.ensures.none_failed };
-  copies = c.copy_into-told.ensures;
+  does = c.copy_into-told.ensures;
 })

@@ -3,8 +3,8 @@ use Rattle.runner.proofs.extract.extract_to.Goals as goal
 
 pub returns : goal.returns
 returns g c = inl (record {
-  fresh = c.in-Ok.shelves;
-  fresh_new = c.extract_part-told.new.fresh;
+  begun = c.in-Ok.shelves;
+  ended = c.extract_part-told.new.fresh;
   begins = record { world = c.in-Ok.ensures.begins; found = c.in-Ok.ensures.found; none_failed = c.in-Ok.ensures.none_failed };
-  extracts = c.extract_part-told.ensures;
+  does = c.extract_part-told.ensures;
 })

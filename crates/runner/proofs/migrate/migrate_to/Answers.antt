@@ -3,8 +3,8 @@ use Rattle.runner.proofs.migrate.migrate_to.Goals as goal
 
 pub returns : goal.returns
 returns g c = inl (record {
-  fresh = c.in-Ok.shelves;
-  fresh_new = c.migrate_into-told.new.fresh;
+  begun = c.in-Ok.shelves;
+  ended = c.migrate_into-told.new.fresh;
   begins = record { world = c.in-Ok.ensures.begins; found = c.in-Ok.ensures.found; none_failed = c.in-Ok.ensures.none_failed };
-  migrates = c.migrate_into-told.ensures;
+  does = c.migrate_into-told.ensures;
 })

@@ -117,7 +117,7 @@ fn uncopied(refusal: Unopened) -> CopyRefusal
     }
 }
 
-/// Counts the versions of the served store.
+/// Returns how many versions the served store has. Fails if the store meets a fault or memory runs out.
 fn count_in<S: Alter>(served: &mut SqlShelves<S>) -> Result<u64, StoreFault>
     ensures reads { IsOnlyRead
         (⟦<SqlShelves<S> as Shelves>⟧.shown served.old) (⟦<SqlShelves<S> as Shelves>⟧.shown served.new) }

@@ -4,7 +4,7 @@ ghost use Rattle.std.specs.Prelude.{◌≡◌, map as each};
 ghost use Rattle.sqlite_wal.specs.Files.{image_at};
 ghost use Rattle.runner.specs.Extract.{ExtractsFile, ExtractsPart, Fills};
 
-use crate::{open_refusal, unmade};
+use crate::{command_refusal, unmade};
 use commands::files::{is_empty_file, is_same_file};
 use commands::refusal::CommandRefusal;
 use sqlite::{Alter, Start};
@@ -15,8 +15,10 @@ use world::shelves::Shelves;
 
 /// Puts some teams' part of the store of one file into the store of another. Fails with the refusals of the store, and with
 /// `NotEmpty` if both paths lead to one file; if that is empty, it stays so.
-/// It compares the files before it opens the first if that is empty, and otherwise after it and before it opens the second, whose
-/// lock would be `Device`. A hard link to the first file is `Device`, because sqlite refuses the first one itself.
+///
+/// If the first file is empty, it compares the files before it opens either. Otherwise it compares them after it opened the first,
+/// because opening the second would meet the first one's lock and fail with `Device`. If a file with bytes has two names, it fails
+/// with `Device`, because sqlite refuses hard links.
 pub(crate) fn extract_file<T: Start, U: Start>(
     rt: &HostRuntime,
     db: &str,
@@ -34,7 +36,7 @@ pub(crate) fn extract_file<T: Start, U: Start>(
     }
     let mut source = match FileShelves::open_from(rt, db, start) {
         Ok(shelves) => shelves,
-        Err((unopened, _)) => return Err(open_refusal(unopened)),
+        Err((unopened, _)) => return Err(command_refusal(unopened)),
     };
     let told = extract_to(rt, db, &mut source, teams, to, target);
     drop(source.close());
@@ -60,7 +62,7 @@ fn extract_to<S: Alter, U: Start>(
     }
     let mut fresh = match FileShelves::open_from(rt, to, target) {
         Ok(shelves) => shelves,
-        Err((unopened, _)) => return Err(unmade(open_refusal(unopened))),
+        Err((unopened, _)) => return Err(unmade(command_refusal(unopened))),
     };
     let told = extract_part(source, teams, &mut fresh);
     drop(fresh.close());
@@ -78,6 +80,6 @@ fn extract_part<S: Alter, F: Alter>(
 {
     match source.extract_teams(teams, fresh) {
         Ok(()) => Ok(()),
-        Err(refusal) => Err(open_refusal(refusal)),
+        Err(refusal) => Err(command_refusal(refusal)),
     }
 }

@@ -12,8 +12,9 @@
 //! | [`Command::Ping`] | opens no store, asks the `serve` that has one open for its health, and prints it |
 //! | [`Command::Stop`] | opens no store, and has the `serve` end that has one open |
 //!
-//! A store of a file is held by one function for each kind of command: that of an action, that of what is extracted or migrated from, that
-//! of what this is put into. Each ends it by `close`. Nothing here reads the words of a command line.
+//! One function opens each store and closes it before it returns: `on_file` for an action, `extract_file` for the store that is
+//! extracted from, and `extract_to`, `migrate_to` and `copy_to` for a new store. `migrate_file` drops its connection to the older file
+//! when it returns. Nothing here reads the words of a command line.
 #![tactic(auto)]
 
 ghost use Rattle.std.specs.Prelude.{◌≡◌};
@@ -168,8 +169,8 @@ fn unmade(refusal: CommandRefusal) -> CommandRefusal
     }
 }
 
-/// Returns the refusal of a command whose store is not opened, extracted or migrated.
-fn open_refusal(unopened: Unopened) -> CommandRefusal
+/// Returns the refusal of a command, by that of the store.
+fn command_refusal(unopened: Unopened) -> CommandRefusal
     ensures { result ≡ spec.unopened unopened }
 {
     match unopened {
@@ -201,7 +202,7 @@ fn on_file<T: Start, U: Start + Copy, I: Read, O: Write>(
 {
     let mut shelves = match FileShelves::open_from(rt, path, start) {
         Ok(shelves) => shelves,
-        Err((unopened, _)) => return Err(open_refusal(unopened)),
+        Err((unopened, _)) => return Err(command_refusal(unopened)),
     };
     let mut copies = FileCopies {
         rt,

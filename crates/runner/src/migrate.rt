@@ -7,7 +7,7 @@ ghost use Rattle.sqlite_wal.specs.Files.{image_at};
 ghost use Rattle.runner.specs.Migrate.{MigratesEmpty, MigratesFile, MigratesInto, MigratesTo};
 
 use crate::old_file::OldFile;
-use crate::{open_refusal, unmade};
+use crate::{command_refusal, unmade};
 use commands::files::{is_missing_or_empty, is_same_file};
 use commands::refusal::CommandRefusal;
 use sqlite::{Alter, Connection, FileFrom, FileStore, Start};
@@ -21,8 +21,8 @@ use store::refusal::Refusal as Unopened;
 use store::store::SqlShelves;
 use world::shelves::Shelves;
 
-/// Puts what a file has, whose tables have an older schema, into the store of another. The older file is only read. Fails with the
-/// refusals of the store, and with `NotEmpty` if both names lead to one file, which stays as it was.
+/// Copies the older store in one file into the store of another. The older file is only read. Fails with the refusals of the store,
+/// and with `NotEmpty` if both names lead to one file, which stays as it was.
 ///
 /// It opens the older file before the other, and judges its tables after it opened the other. An older file that has no bytes, or is
 /// missing, has no tables: it is neither opened nor made.
@@ -43,13 +43,13 @@ pub(crate) fn migrate_file<T: Start, U: Start>(
         Ok(file) => file,
         // no copy can be made beside it, because it is the new store
         Err(_) if is_one_file(rt, from, to) => return Err(CommandRefusal::NotEmpty),
-        Err(unread) => return Err(open_refusal(unread)),
+        Err(unread) => return Err(command_refusal(unread)),
     };
     let mut old = match open_older(rt, file.path.as_str(), start) {
         Ok(conn) => conn,
         Err((unopened, left)) => {
             file.unlink(rt, left.is_some());
-            return Err(open_refusal(unopened));
+            return Err(command_refusal(unopened));
         }
     };
     file.unlink(rt, true);
@@ -74,7 +74,7 @@ fn migrate_nothing<U: Start>(
     ensures { MigratesEmpty ⟦<FileShelves<U> as Shelves>⟧.shown (image_at U.Start) result }
 {
     let Ok(mut none) = Connection::open_in_memory(rt.alloc()) else {
-        return Err(open_refusal(Unopened::Memory));
+        return Err(command_refusal(Unopened::Memory));
     };
     migrate_to(rt, from, &mut none, to, target)
 }
@@ -97,7 +97,7 @@ fn migrate_to<S: Alter, U: Start>(
     }
     let mut fresh = match FileShelves::open_from(rt, to, target) {
         Ok(shelves) => shelves,
-        Err((unopened, _)) => return Err(unmade(open_refusal(unopened))),
+        Err((unopened, _)) => return Err(unmade(command_refusal(unopened))),
     };
     let told = migrate_into(old, &mut fresh);
     drop(fresh.close());
@@ -114,6 +114,6 @@ fn migrate_into<S: Alter, F: Alter>(
 {
     match migrate(old, fresh) {
         Ok(()) => Ok(()),
-        Err(refusal) => Err(open_refusal(refusal)),
+        Err(refusal) => Err(command_refusal(refusal)),
     }
 }

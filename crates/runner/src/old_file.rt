@@ -73,17 +73,17 @@ fn find_file(rt: &HostRuntime, path: &str, to: &str) -> io::Result<OldFile> {
         return original(rt, path);
     }
     let log = log_of(rt, real.as_str())?;
-    let db = held(rt, real.as_str())?;
+    let db = open_locked(rt, real.as_str())?;
     let is_written = may_log(rt, log.as_str(), to)? && may_write(rt, real.as_str());
     // what sqlite refuses for its names is not copied either
     if is_written || db.metadata()?.nlink() != 1 || has_journal(rt, real.as_str())? {
         return original(rt, real.as_str());
     }
-    copied(rt, &db, log.as_str(), to)
+    copy_beside(rt, &db, log.as_str(), to)
 }
 
 /// Opens a database file and returns it; until it is dropped, no other process can open it to write. Fails if one has it open so.
-fn held(rt: &HostRuntime, path: &str) -> io::Result<File> {
+fn open_locked(rt: &HostRuntime, path: &str) -> io::Result<File> {
     let db = File::open(rt, path)?;
     if os::try_lock_range(db.as_raw_fd(), RangeLock::Shared, LOCKS.0, LOCKS.1) != 0 {
         return Err(ErrorKind::WouldBlock.into());
@@ -177,7 +177,7 @@ fn may_log(rt: &HostRuntime, log: &str, to: &str) -> io::Result<bool> {
 }
 
 /// Copies a database file and its log to files beside the new store, and returns them. If that fails, it removes what it wrote.
-fn copied(rt: &HostRuntime, db: &File, log: &str, to: &str) -> io::Result<OldFile> {
+fn copy_beside(rt: &HostRuntime, db: &File, log: &str, to: &str) -> io::Result<OldFile> {
     let number = RandomState::new(rt)?.hash_one(&0u8);
     let copy = format!(in rt.alloc(); "{to}-from-{number}")?;
     let copy_log = log_of(rt, copy.as_str())?;

@@ -1,6 +1,6 @@
 -- A command with `--control`, and the `serve` that gets its line.
 use Rattle.std.proofs.Common.{◌≡◌, ℕ, List, [], ◌∷◌, ◌++◌, Bool, true, false, Some, Result, Ok, Err, refl, ◌∙◌, sym, ap, subst, inl, inr, true≢false}
-use Rattle.std.specs.Prelude.{◌&&◌, bytes_eq, codes}
+use Rattle.std.specs.Prelude.{bytes_eq, codes}
 use Rattle.std.proofs.lemmas.List.Folds.{list_all-append}
 use Rattle.world.specs.Store.{Shown}
 use Rattle.world.specs.World.{World, IsWorld}
@@ -28,23 +28,19 @@ use Rattle.control.specs.declared.order.Order.{Order}
 use Rattle.control.specs.declared.order.Order.TheVariants.{TeamAdd, GroupAdd, KeyAdd, KeyRevoke}
 use Rattle.control.proofs.LineLemmas.{one_line}
 use Rattle.control.proofs.OrderLemmas.{one_event}
-use Rattle.control.proofs.WordLemmas.{one_saying}
+use Rattle.control.proofs.WordLemmas.{false_after, one_saying}
 use Rattle.commands.specs.Controlled.{EndsAt, EndsAsOnTheStore}
 use Rattle.commands.specs.Order.{ComeToTheSame, told_ending}
 use Rattle.commands.specs.declared.refusal.CommandRefusal.{CommandRefusal}
 
 -- ---- the line of an order is not one word, as that which ends a server, or asks for its health
 
-never : (b : Bool) → (b && false) ≡ true → ⊥
-never true both = true≢false (sym both)
-never false both = true≢false (sym both)
-
 no_word : (word : List ℕ) → is_word word ≡ true → (order : Order) → ¬ IsSent (word ++ line_end ∷ []) order
 no_word word passes order sent =
     let said = said_in order in
     let line = one_line (word ++ line_end ∷ []) word sent.line refl sent.ends in
     let words : is_word (said.verb ++ space ∷ (said.first ++ behind said.second)) ≡ true = ap is_word (sym sent.says.is ∙ line) ∙ passes in
-    never (is_word said.verb) (sym (list_all-append is_word_byte said.verb (space ∷ (said.first ++ behind said.second))) ∙ words)
+    false_after (is_word said.verb) (sym (list_all-append is_word_byte said.verb (space ∷ (said.first ++ behind said.second))) ∙ words)
 
 -- ---- nor one that orders a copy
 

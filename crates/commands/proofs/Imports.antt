@@ -1,5 +1,5 @@
 -- An import row by row.
-use Rattle.std.proofs.Common.{◌≡◌, ◌+◌, ◌⊎◌, ℕ, List, [], ◌∷◌, ◌++◌, ◌&&◌, Bool, true, false, Option, Some, None, Ok, Err, Result, length, refl, sym, ap, subst, ◌∙◌, inl, inr, arith, append_assoc}
+use Rattle.std.proofs.Common.{◌≡◌, ◌+◌, ℕ, List, [], ◌∷◌, ◌++◌, ◌&&◌, Bool, true, false, Option, Some, None, Ok, Err, Result, length, refl, sym, ap, subst, ◌∙◌, inl, inr, arith, append_assoc}
 use Rattle.std.proofs.lemmas.List.{append-nil, map-append}
 use Rattle.std.proofs.KnownBytes.{Appends-trans}
 use Rattle.std.specs.Io.KnownBytes.{Appends}
@@ -8,13 +8,13 @@ use Rattle.csv.specs.declared.parser.State.{State}
 use Rattle.csv.specs.declared.reader.Reader.{Reader}
 use Rattle.engine.specs.declared.fault.Io.{Io}
 use Rattle.engine.specs.declared.fault.Io.TheVariants as io
+use Rattle.engine.proofs.RunLemmas.{met_either}
 use Rattle.shelf.proofs.Runs.{runs_begun, runs_replied, runs_failed, runs_joined}
 use Rattle.shelf.specs.Machine.{ask_reply, after_ask, MetDevice}
 use Rattle.shelf.specs.Runs.{Runs}
 use Rattle.shelf.specs.declared.ask.Ask.{Ask}
 use Rattle.shelf.specs.declared.ask.Body.{Body}
 use Rattle.shelf.specs.declared.ask.Event.TheVariants.{Asked}
-use Rattle.shelf.specs.declared.reply.Answer.{Answer}
 use Rattle.shelf.specs.declared.reply.Answer.TheVariants.{Replied, Failed}
 use Rattle.shelf.specs.declared.reply.Reply.{Reply}
 use Rattle.wire.specs.declared.reply.Fixed.{Fixed}
@@ -43,11 +43,6 @@ pub answers_more : (done_rows : List DoneRow) (t : DoneRow) → spec.answers (do
 answers_more [] t = refl
 answers_more (u ∷ done_rows) t =
     ap (λ es. spec.answers_of u.done ++ es) (answers_more done_rows t) ∙ sym (append_assoc (spec.answers_of u.done) (spec.answers done_rows) (spec.answers (t ∷ [])))
-
-met_either : (first last : List Answer) → MetDevice (first ++ last) → MetDevice first ⊎ MetDevice last
-met_either [] last met = inr met
-met_either (a ∷ first) last (inl here) = inl (inl here)
-met_either (a ∷ first) last (inr later) = elim (met_either first last later) [ inl x ↦ inl (inr x) | inr x ↦ inr x ]
 
 -- ---- one row
 

@@ -1,14 +1,13 @@
 -- The rows of an inventory are whole: one for each path and version that the shelf sees.
 use Rattle.std.proofs.Common.{◌≡◌, ℕ, List, [], ◌∷◌, ◌++◌, Bool, true, false, cond, refl, ◌∙◌, sym, ap, subst, Option, Some, None, inl, inr}
-use Rattle.std.specs.Prelude.{◌&&◌, Contains, filter, bytes_eq, is_some, map as each}
+use Rattle.std.specs.Prelude.{Contains, filter, bytes_eq, is_some, map as each}
 use Rattle.std.specs.Cmp.{IsTotalOrder, tied_itself}
 use Rattle.std.specs.FinMap as map
 use Rattle.std.specs.FinMap.Entries.{below_all}
 use Rattle.std.specs.FinSet as set
 use Rattle.std.specs.List.{flat_map}
-use Rattle.std.specs.Ordering.{eq_by_cmp, is_eq, is_lt}
+use Rattle.std.specs.Ordering.{eq_by_cmp, is_eq}
 use Rattle.std.specs.declared.cmp.Ordering.{Ordering}
-use Rattle.std.specs.declared.cmp.Ordering.TheVariants.{Less, Equal, Greater}
 use Rattle.std.proofs.lemmas.Bool.{true≢false, false_from_ne_true}
 use Rattle.std.proofs.lemmas.List.{append-nil}
 use Rattle.std.proofs.lemmas.List.Elements.{Contains-append_cases, filter-append}
@@ -23,6 +22,8 @@ use Rattle.world.specs.Lines.{in_order}
 use Rattle.world.specs.Versions.{by_precedence, named, version_cmp, versions_of, versions_total}
 use Rattle.world.specs.Visible.{IsSeen, paths_seen, versions_seen}
 use Rattle.world.specs.World.{World, IsWorld, text_cmp, view}
+use Rattle.world.proofs.InOrder.{first, second}
+use Rattle.world.proofs.MapsPlaces.{is_apart}
 use Rattle.world.proofs.Members.{no_member, first_member, later_member, member_cases, in_order_of}
 use Rattle.world.proofs.Orders.{texts_total, texts_exact, text_self, text_same}
 use Rattle.world.proofs.Places.{seen_places_read}
@@ -35,19 +36,6 @@ use Rattle.commands.specs.declared.inventory.InventoryRow.{InventoryRow}
 
 -- ---- what is gathered from one member of a set
 
-first : (a b : Bool) → T (a && b) → T a
-first true b h = tt
-first false b h = absurd h
-
-second : (a b : Bool) → T (a && b) → T b
-second true b h = h
-second false b h = absurd h
-
-not_tied : (r : Ordering) → T (is_lt r) → is_eq r ≡ false
-not_tied Less h = refl
-not_tied Equal h = absurd h
-not_tied Greater h = absurd h
-
 module _ {K B : Type 0} {R : K → K → Ordering} (o : IsTotalOrder R) (exact : map.IsAntisymmetric R) (f : K → List B) (k : K) where
   -- nothing is gathered from the other members
   abbrev pub OfNoOther : List K → Type 0
@@ -56,7 +44,7 @@ module _ {K B : Type 0} {R : K → K → Ordering} (o : IsTotalOrder R) (exact :
   none_above : (es : List (K × Unit {0})) → T (below_all R k es) → OfNoOther (each (λ e. e.0) es) → flat_map f (each (λ e. e.0) es) ≡ []
   none_above [] below others = refl
   none_above (e ∷ es) below others =
-      ap (λ l. l ++ flat_map f (each (λ x. x.0) es)) (others e.0 (first_member e.0 (each (λ x. x.0) es)) (not_tied (R k e.0) (first _ _ below)))
+      ap (λ l. l ++ flat_map f (each (λ x. x.0) es)) (others e.0 (first_member e.0 (each (λ x. x.0) es)) (is_apart (R k e.0) (first _ _ below)))
       ∙ none_above es (second _ _ below) (λ x at. others x (later_member e.0 x (each (λ y. y.0) es) at))
 
   -- gathering from sorted members gives what one of them gives, if the others give nothing

@@ -1,19 +1,12 @@
 -- Cutting a text into words.
 use Rattle.std.proofs.Common.{◌≡◌, ◌≢◌, ℕ, zero, suc, ◌<◌, Bool, true, false, ◌&&◌, List, [], ◌∷◌, ◌++◌, length, get_or, arith, refl, sym, ap, ◌∙◌, subst, Option, Some, None, lit<, append-nil}
-use Rattle.std.proofs.lemmas.Bool.{false≢true}
+use Rattle.std.proofs.lemmas.Bool.{false≢true, and_parts}
 use Rattle.std.proofs.lemmas.List.Folds.{list_all-append}
 use Rattle.std.proofs.lemmas.Str.Pattern.{IsSplitOnceResult, split_parts, split_after}
 use denote.Ref.{Bor}
 use Rattle.control.specs.Words.{space, is_word, is_word_byte, Said, behind, are_words, IsTextOf, HasNoWords, IsCut}
 
--- ---- both of two tests
-
-both_true : (a b : Bool) → (a && b) ≡ true → (a ≡ true) × (b ≡ true)
-both_true true true both = (refl, refl)
-both_true true false both = absurd (false≢true both)
-both_true false b both = absurd (false≢true both)
-
-false_after : (a : Bool) → (a && false) ≡ true → ⊥
+pub false_after : (a : Bool) → (a && false) ≡ true → ⊥
 false_after true both = false≢true both
 false_after false both = false≢true both
 
@@ -24,8 +17,8 @@ no_space_byte b passes is = false≢true (subst (λ x. is_word_byte x ≡ true) 
 
 pub no_space : (word : List ℕ) → is_word word ≡ true → (i : ℕ) → i < length word → get_or word i 0 ≢ space
 no_space [] passes i below = absurd (omega (arith, below))
-no_space (b ∷ bs) passes zero below = no_space_byte b (both_true (is_word_byte b) (is_word bs) passes).0
-no_space (b ∷ bs) passes (suc i) below = no_space bs (both_true (is_word_byte b) (is_word bs) passes).1 i (omega (arith, below))
+no_space (b ∷ bs) passes zero below = no_space_byte b (and_parts (is_word_byte b) (is_word bs) passes).0
+no_space (b ∷ bs) passes (suc i) below = no_space bs (and_parts (is_word_byte b) (is_word bs) passes).1 i (omega (arith, below))
 
 has_space : (front rest : List ℕ) → is_word (front ++ space ∷ rest) ≡ true → ⊥
 has_space front rest passes = false_after (is_word front) (sym (list_all-append is_word_byte front (space ∷ rest)) ∙ passes)
@@ -56,7 +49,7 @@ cut_none text split = (sym (append-nil text), unique)
 pub no_cut : (line : List ℕ) → IsSplitOnceResult space line None → HasNoWords line
 no_cut line split s given =
     split_after space line s.verb (s.first ++ behind s.second) None split (lit< tt) given.is
-    (no_space s.verb (both_true (is_word s.verb) _ given.words).0)
+    (no_space s.verb (and_parts (is_word s.verb) _ given.words).0)
 
 module _ (line : List ℕ) (x : Bor (List ℕ) × Bor (List ℕ)) (split : IsSplitOnceResult space line (Some x))
     (first : List ℕ) (second : Option (List ℕ)) (cut : IsCut x.1.now first second) where
@@ -71,9 +64,9 @@ module _ (line : List ℕ) (x : Bor (List ℕ) × Bor (List ℕ)) (split : IsSpl
 
   pub no_words : are_words read ≡ false → HasNoWords line
   no_words fails s given =
-      let both = both_true (is_word s.verb) _ given.words in
+      let both = and_parts (is_word s.verb) _ given.words in
       let halves = split_after space line s.verb (s.first ++ behind s.second) (Some x) split (lit< tt) given.is (no_space s.verb both.0) in
-      let same = cut.1 s.first s.second (both_true (is_word s.first) _ both.1).0 halves.1 in
+      let same = cut.1 s.first s.second (and_parts (is_word s.first) _ both.1).0 halves.1 in
       let words : are_words read ≡ true = rw (halves.0, same.0, same.1) given.words in
       false≢true (sym fails ∙ words)
 
@@ -91,12 +84,12 @@ head_of (b ∷ bs) = b
 word_ends : (a b x y : List ℕ) → is_word a ≡ true → is_word b ≡ true → a ++ space ∷ x ≡ b ++ space ∷ y → (a ≡ b) × (x ≡ y)
 word_ends [] [] x y passes passes_too e = (refl, ap tail_of e)
 word_ends [] (d ∷ ds) x y passes passes_too e =
-    absurd (no_space_byte d (both_true (is_word_byte d) (is_word ds) passes_too).0 (sym (ap head_of e)))
+    absurd (no_space_byte d (and_parts (is_word_byte d) (is_word ds) passes_too).0 (sym (ap head_of e)))
 word_ends (c ∷ cs) [] x y passes passes_too e =
-    absurd (no_space_byte c (both_true (is_word_byte c) (is_word cs) passes).0 (ap head_of e))
+    absurd (no_space_byte c (and_parts (is_word_byte c) (is_word cs) passes).0 (ap head_of e))
 word_ends (c ∷ cs) (d ∷ ds) x y passes passes_too e =
     let rest =
-    word_ends cs ds x y (both_true (is_word_byte c) (is_word cs) passes).1 (both_true (is_word_byte d) (is_word ds) passes_too).1 (ap tail_of e) in
+    word_ends cs ds x y (and_parts (is_word_byte c) (is_word cs) passes).1 (and_parts (is_word_byte d) (is_word ds) passes_too).1 (ap tail_of e) in
     ((λ i. ap head_of e i ∷ rest.0 i), rest.1)
 
 last_ends : (a b : List ℕ) (p q : Option (List ℕ)) → is_word a ≡ true → is_word b ≡ true → a ++ behind p ≡ b ++ behind q → (a ≡ b) × (p ≡ q)
@@ -109,8 +102,8 @@ last_ends a b (Some x) (Some y) passes passes_too e = let same = word_ends a b x
 
 pub one_saying : (text : List ℕ) (s t : Said) → IsTextOf text s → IsTextOf text t → s ≡ t
 one_saying text s t one two =
-    let both = both_true (is_word s.verb) _ one.words in
-    let both_too = both_true (is_word t.verb) _ two.words in
+    let both = and_parts (is_word s.verb) _ one.words in
+    let both_too = and_parts (is_word t.verb) _ two.words in
     let front = word_ends s.verb t.verb _ _ both.0 both_too.0 (sym one.is ∙ two.is) in
-    let rest = last_ends s.first t.first s.second t.second (both_true (is_word s.first) _ both.1).0 (both_true (is_word t.first) _ both_too.1).0 front.1 in
+    let rest = last_ends s.first t.first s.second t.second (and_parts (is_word s.first) _ both.1).0 (and_parts (is_word t.first) _ both_too.1).0 front.1 in
     λ i. record { verb = front.0 i; first = rest.0 i; second = rest.1 i }

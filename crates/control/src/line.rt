@@ -36,7 +36,7 @@ impl From<AllocError> for Unread {
     }
 }
 
-/// Reads a line of at most `LONGEST_COPY` bytes, with what comes behind its end in the same read, and returns the bytes. They may
+/// Reads a line of at most `LONGEST_COPY` bytes, with what comes after its end in the same read, and returns the bytes. They may
 /// have no end of a line if the stream ends, or if the line is longer. Fails with `Io` if a read fails or `TRIES` reads do not end
 /// the line, and with `Memory` if memory runs out.
 pub(crate) fn read_line<R: Read>(alloc: Global, reader: &mut R) -> Result<Vec<u8>, Unread>
@@ -63,7 +63,7 @@ pub(crate) fn read_to<R: Read>(
     Err(Unread::Io)
 }
 
-/// Reads once, behind what was read, and returns whether no more has to be read. A read that is interrupted reads nothing.
+/// Reads once, after what was read, and returns whether no more has to be read. A read that is interrupted reads nothing.
 fn read_on<R: Read>(reader: &mut R, got: &mut Vec<u8>, most: usize) -> Result<bool, Unread>
     ensures { IfOk result (λ done.
         spec.ReadsOn most (R.remaining reader.old) (R.remaining reader.new) got.old.items got.new.items done) }

@@ -12,7 +12,6 @@ use Rattle.engine.specs.Turn.{IsNext, TakesNext, Turns, EndsBy, turn_of, turn_st
 use Rattle.engine.specs.declared.fault.Io.{Io}
 use Rattle.engine.specs.declared.fault.Io.TheVariants as io
 use Rattle.engine.specs.declared.session.Turn.{Turn}
-use Rattle.engine.specs.declared.session.Turn.TheVariants as turn
 use Rattle.engine.proofs.ServedLemmas.{left_of, Tells_left, Tells_after}
 
 -- what comes next comes first if nothing is held

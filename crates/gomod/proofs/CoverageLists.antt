@@ -1,6 +1,6 @@
 -- Which of some versions intervals cover.
 use Rattle.std.proofs.Common.{◌+◌, ◌-◌, ◌++◌, length, get_or, arith, ◌≡◌, ◌<◌, ◌≤◌, ℕ, zero, suc, List, [], ◌∷◌, Bool, true}
-use Rattle.std.proofs.Common.{◌↔◌, false, not, refl, sym, ap, subst, ◌∙◌, inl, inr, ◌&&◌, ◌||◌, map, take, drop, replicate}
+use Rattle.std.proofs.Common.{◌↔◌, false, not, refl, sym, ap, subst, ◌∙◌, inl, inr, ◌||◌, map, take, drop, replicate}
 use Rattle.std.proofs.lemmas.Bool.{cases_Bool, not-true, not-false, not_from_false, true≢false}
 use Rattle.std.proofs.lemmas.Cmp.{upto}
 use Rattle.std.proofs.Math.Seq.{take-length}

@@ -8,7 +8,7 @@ use Rattle.gomod.specs.declared.fault.GoModFault.{GoModFault}
 use Rattle.gomod.specs.declared.fault.GoModFault.TheVariants as faults
 use Rattle.modlex.specs.Symbols.{Symbol, is_name_kind}
 use Rattle.gomod.specs.Keywords.{Keywords, keyword_named, is_module, has_block, opens_block_kind, closes_block_kind}
-use Rattle.gomod.specs.Reading.{Context, Contents, nothing, last_path, ◌⊕◌, ◌>>=◌, is_repeated, header, with_entry, entry}
+use Rattle.gomod.specs.Reading.{Context, Contents, nothing, ◌⊕◌, ◌>>=◌, is_repeated, header, with_entry, entry}
 use Rattle.gomod.specs.Reading.{entry_says, is_opening, is_closing, directive, line_outside, line_inside, line_says}
 use Rattle.gomod.specs.declared.keyword.Keyword.TheVariants.{Module}
 use Rattle.gomod.specs.Reads.{Pointwise}

@@ -1,20 +1,15 @@
 -- Cached lists stay right when one more is cached, when some are dropped, and when the world grows.
-use Rattle.std.proofs.Common.{◌≡◌, ◌∙◌, ◌⊎◌, ℕ, List, [], ◌∷◌, false, Option, None, Some, inl, inr, refl, sym, ap, subst, IfSome}
-use Rattle.std.specs.Prelude.{bytes_eq, is_some, IsTrue}
+use Rattle.std.proofs.Common.{◌≡◌, ◌∙◌, ◌⊎◌, ℕ, List, [], false, Option, None, Some, inl, inr, refl, sym, ap, subst, IfSome}
+use Rattle.std.specs.Prelude.{bytes_eq, IsTrue}
 use Rattle.std.specs.FinMap as map
-use Rattle.std.specs.FinSet.{same_set}
-use Rattle.std.specs.Option.{option_or}
 use Rattle.std.proofs.lemmas.Bool.{and_parts}
 use Rattle.modver.specs.SemanticVersion.{SemanticVersion, version_text}
 use Rattle.world.specs.declared.entry.Entry.{Entry}
-use Rattle.world.specs.declared.entry.Place.{Place}
 use Rattle.world.specs.Latest.{highest, highest_left, module_of, latest_by, latest_of}
-use Rattle.world.specs.Lines.{in_order}
-use Rattle.world.specs.Versions.{named, by_precedence, versions_of}
-use Rattle.world.specs.Visible.{versions_seen}
-use Rattle.world.specs.World.{World, place, chain, seen_at, first_on, without_zip, heading, with_entry, with_group}
-use Rattle.world.proofs.Orders.{texts_total, texts_exact, places_total, places_exact, get_elsewhere, text_apart, text_same}
-use Rattle.world.proofs.Seen.{contains_versions}
+use Rattle.world.specs.Versions.{versions_of}
+use Rattle.world.specs.World.{World, place, chain, without_zip, heading, with_entry, with_group}
+use Rattle.world.proofs.Orders.{text_same}
+use Rattle.world.proofs.KeptListLemmas.{on_others, versions_still}
 use Rattle.kept.specs.declared.lists.KeptList.{KeptList}
 use Rattle.kept.specs.Lists.{is_of, IsListIn, AreLists}
 use Rattle.kept.specs.Recent.{Holds}
@@ -64,24 +59,12 @@ module _ (w x : World) (s p : List ℕ) (versions : versions_of w s p ≡ versio
   same_list list is = (is.0 ∙ versions, subst (λ latest. IfSome list.latest (λ l. l ≡ latest)) same_latest is.1)
 
 -- a list stays right when another path gets a version
-module _ (w : World) (s p v : List ℕ) (e : Entry) (other : List ℕ) (apart : bytes_eq other p ≡ false) where
-  on_others : (ss : List (List ℕ)) (u : List ℕ) → first_on (with_entry w (place s p v) e) ss other u ≡ first_on w ss other u
-  on_others [] u = refl
-  on_others (t ∷ ts) u =
-      ap (λ o. option_or (seen_at o t) (first_on (with_entry w (place s p v) e) ts other u))
-      (get_elsewhere places_total places_exact w.entries (place s p v) e (place t other u) (λ i. text_apart other p apart (ap (λ (q : Place). q.path) i)))
-      ∙ ap (λ o. option_or (seen_at (map.get w.entries (place t other u)) t) o) (on_others ts u)
-
-  seen_still : (t : List ℕ) → versions_seen (with_entry w (place s p v) e) t other ≡ versions_seen w t other
-  seen_still t =
-      same_set texts_total texts_exact (versions_seen (with_entry w (place s p v) e) t other) (versions_seen w t other)
-      (λ u. contains_versions (with_entry w (place s p v) e) t other u ∙ (ap is_some (on_others (chain w t) u) ∙ sym (contains_versions w t other u)))
-
-  still : (t : List ℕ) (list : KeptList) → IsListOf w list t other → IsListOf (with_entry w (place s p v) e) list t other
-  still t list is =
-      same_list w (with_entry w (place s p v) e) t other
-      (ap (λ texts. in_order (by_precedence (named (in_order texts)))) (sym (seen_still t)))
-      (λ u. ap without_zip (sym (on_others (chain w t) u))) list is
+still : (w : World) (s p v : List ℕ) (e : Entry) (other : List ℕ) → bytes_eq other p ≡ false
+    → (t : List ℕ) (list : KeptList) → IsListOf w list t other → IsListOf (with_entry w (place s p v) e) list t other
+still w s p v e other apart t list is =
+    same_list w (with_entry w (place s p v) e) t other
+    (sym (versions_still w s p v e other apart t))
+    (λ u. ap without_zip (sym (on_others w s p v e other apart (chain w t) u))) list is
 
 pub others_still : (w : World) (s p v : List ℕ) (e : Entry) (lists : Kept)
     → ((list : KeptList) → Holds lists list → bytes_eq list.path p ≡ false) → AreLists w lists → AreLists (with_entry w (place s p v) e) lists

@@ -17,7 +17,7 @@ use Rattle.tables.proofs.PieceLemmas.{no_piece, same_zip}
 use Rattle.tables.proofs.RowFits.{time_read}
 use Rattle.older.specs.declared.schema.Format.{Format}
 use Rattle.older.specs.declared.schema.Format.TheVariants.{One, Two}
-use Rattle.older.specs.Means.{Means, IsShelf, IsEntryIn, parent_of}
+use Rattle.older.specs.Means.{IsShelf, IsEntryIn, parent_of}
 use Rattle.older.specs.Laws.{MeanOne}
 
 -- if a row is of one thing at most, and a table tabulates both P and Q, then Q holds wherever P does

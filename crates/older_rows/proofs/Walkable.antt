@@ -1,5 +1,5 @@
 -- The queries of the walks are walkable: only a limit on its steps refuses one, and only a vast table makes it show too many rows.
-use Rattle.std.proofs.Common.{◌≡◌, ◌≤◌, ◌<◌, ◌+◌, ◌*◌, ◌^◌, Bool, not, List, [], ◌∷◌, codes, length, filter, flat_map}
+use Rattle.std.proofs.Common.{◌≡◌, ◌≤◌, ◌<◌, ◌+◌, ◌*◌, ◌^◌, not, List, [], ◌∷◌, codes, length, filter, flat_map}
 use Rattle.std.proofs.Common.{None, inl, inr, refl, sym, arith, true≢false, lit≤, nat_lt, ltb-true, ltb-false, length-append}
 use Rattle.std.proofs.lemmas.Bool.{cases_Bool}
 use Rattle.std.proofs.lemmas.List.{length-map}

@@ -1,43 +1,27 @@
 -- A store of some teams' part replies to them as the whole does.
-use Rattle.std.proofs.Common.{◌≡◌, ℕ, List, [], ◌∷◌, ◌++◌, Bool, true, false, cond, inl, inr, refl, ◌∙◌, sym, ap, subst, Option, Some, None, true≢false}
-use Rattle.std.specs.Prelude.{bytes_eq, is_some}
+use Rattle.std.proofs.Common.{◌≡◌, ℕ, List, [], ◌∷◌, ◌++◌, true, inl, inr, refl, ◌∙◌, sym, ap, subst, Some, None}
 use Rattle.std.specs.FinMap as map
+use Rattle.std.proofs.lemmas.Bool.{cond-true, cond-false}
 use Rattle.sqlite_rules.specs.Lists.{Has}
-use Rattle.world.specs.declared.entry.Place.{Place}
-use Rattle.world.specs.declared.entry.Entry.{Entry}
 use Rattle.world.specs.declared.entry.Holder.{Holder}
-use Rattle.world.specs.World.{World, IsWorld, place, on_shelf, group_in, above, is_among, sees}
+use Rattle.world.specs.World.{World, IsWorld, place, group_in, above, is_among, sees}
 use Rattle.world.specs.Part.{is_held}
-use Rattle.world.proofs.Orders.{places_total, get_put_both, text_self, test_alike}
 use Rattle.world.proofs.Sees.{sees_itself, sees_common, same_chain}
-use Rattle.shelf.specs.declared.ask.Publish.{Publish}
 use Rattle.shelf.specs.declared.ask.Ask.{Ask}
 use Rattle.shelf.specs.declared.ask.Ask.TheVariants.{Unreadable, Get, Put}
 use Rattle.shelf.specs.declared.ask.Event.{Event}
 use Rattle.shelf.specs.declared.ask.Event.TheVariants.{Asked, TeamAdd, GroupAdd, KeyAdd, KeyRevoke}
-use Rattle.shelf.specs.declared.reply.Decision.{Decision}
-use Rattle.shelf.specs.declared.reply.Decision.TheVariants.{Published}
-use Rattle.shelf.specs.declared.reply.Reply.TheVariants as reply
-use Rattle.shelf.specs.Machine.{decision, after_decision, stored, offered, place_of, ask_reply, after_ask, after_all, replies, answered, is_readable}
+use Rattle.shelf.specs.Machine.{decision, after_decision, ask_reply, after_ask, after_all, replies, answered}
 use Rattle.shelf.specs.Isolation.{key_of, Low}
-use Rattle.shelf.specs.Parts.{IsNotFound, AllAsked}
-use Rattle.shelf.proofs.Views.{SameOn}
-use Rattle.shelf.proofs.Blind.{blind, same_whole}
+use Rattle.shelf.proofs.Blind.{blind, same_whole, low_decided, no_key}
 use Rattle.shelf.proofs.Sound.{sound}
-use Rattle.shelf.proofs.Parts.{told_by_machine}
+use Rattle.shelf.proofs.Parts.{told_by_machine, SameRegistry, registry_asked, unknown_asked, keys_through}
+use Rattle.shelf.proofs.Served.{decided_of}
 use Rattle.store.specs.Parts.{part_of, chains, AreTeams}
 use Rattle.store.proofs.PartLemmas.{parent_at, key_at, entry_at, held_key, chains_has, chains_from, chains_world}
 use Rattle.runner.specs.Parts.{AllOf, TeamsAreToldTheSame, OthersOfTeamsAreNotFound}
 
 -- ---- the part is the same to each of the teams
-
-left : {X : Type 0} (b : Bool) (o : Option X) → b ≡ true → cond b o None ≡ o
-left true o e = refl
-left false o e = absurd (true≢false (sym e))
-
-left_out : {X : Type 0} (b : Bool) (o : Option X) → b ≡ false → cond b o None ≡ None
-left_out true o e = absurd (true≢false e)
-left_out false o e = refl
 
 -- the worlds are the same to each of these
 abbrev AllLow : World → World → List (List ℕ) → Type 0
@@ -51,70 +35,23 @@ module _ (w : World) (ts : List (List ℕ)) (t : List ℕ) (there : Has ts t) wh
   seen_among s seen = chains_has w ts t s there seen
 
   itself_same : map.get w.shelves t ≡ map.get part.shelves t
-  itself_same = sym (parent_at w (chains w ts) t ∙ left (is_among (chains w ts) t) (map.get w.shelves t) (seen_among t (sees_itself w t)))
+  itself_same = sym (parent_at w (chains w ts) t ∙ cond-true (is_among (chains w ts) t) (map.get w.shelves t) None (seen_among t (sees_itself w t)))
 
   part_low : Low w part t
   part_low = record {
     chains = same_chain w part t itself_same;
-    entries = λ s seen. same_whole w part s (λ p v. sym (entry_at w (chains w ts) (place s p v) ∙ left (is_among (chains w ts) s) (map.get w.entries (place s p v)) (seen_among s seen)));
+    entries = λ s seen. same_whole w part s (λ p v. sym (entry_at w (chains w ts) (place s p v) ∙ cond-true (is_among (chains w ts) s) (map.get w.entries (place s p v)) None (seen_among s seen)));
     keys = λ k h seen. (
-      (λ at. key_at w (chains w ts) k ∙ left (is_held (chains w ts) (map.get w.keys k)) (map.get w.keys k) (ap (is_held (chains w ts)) at ∙ seen_among h.shelf seen) ∙ at),
+      (λ at. key_at w (chains w ts) k ∙ cond-true (is_held (chains w ts) (map.get w.keys k)) (map.get w.keys k) None (ap (is_held (chains w ts)) at ∙ seen_among h.shelf seen) ∙ at),
       (λ at. (held_key w (chains w ts) k h at).0),
     );
   }
-
--- ---- requests leave the registry
-
-record SameRegistry (w x : World) : Type 0 where
-  keys : x.keys ≡ w.keys
-  shelves : x.shelves ≡ w.shelves
-
-same_stored : (w : World) (q : Place) (o : Option Entry) → SameRegistry w (stored w q o)
-same_stored w q None = record { keys = refl; shelves = refl }
-same_stored w q (Some e) = record { keys = refl; shelves = refl }
-
-same_decided : (w : World) (h : Option Holder) (p : Publish) (d : Decision) → SameRegistry w (after_decision w h p d)
-same_decided w (Some h) p Published = same_stored w (place_of h.shelf p) (offered p)
-same_decided w h p d = record { keys = refl; shelves = refl }
-
-same_asked : (w : World) (a : Ask) → SameRegistry w (after_ask w a)
-same_asked w Unreadable = record { keys = refl; shelves = refl }
-same_asked w (Get k q) = record { keys = refl; shelves = refl }
-same_asked w (Put k p) = same_decided w (map.get w.keys k) p (decision w (map.get w.keys k) p)
 
 still_of : (w x : World) (ss : List (List ℕ)) (es : List Event) → SameRegistry w x → AllOf w ss es → AllOf x ss es
 still_of w x ss [] same of = tt
 still_of w x ss (e ∷ es) same of = let it = of.0 in ((it.0, it.1, it.2, ap (λ m. map.get m it.0) same.keys ∙ it.3, it.4), still_of w x ss es same of.1)
 
-same_sight : (w x : World) (s t : List ℕ) → x.shelves ≡ w.shelves → sees x s t ≡ sees w s t
-same_sight w x s t e = ap (λ m. is_among (s ∷ above (group_in (map.get m s))) t) e
-
--- ---- a publish into both
-
-get_on : (w : World) (t : List ℕ) (q : Place) → map.get (on_shelf w t) q ≡ cond (bytes_eq q.shelf t) (map.get w.entries q) None
-get_on w t q = map.get-retain_keys w.entries (λ r. bytes_eq r.shelf t) q (test_alike (λ r. bytes_eq r.shelf t) q)
-
-get_own : (w : World) (t p v : List ℕ) → map.get (on_shelf w t) (place t p v) ≡ map.get w.entries (place t p v)
-get_own w t p v = get_on w t (place t p v) ∙ ap (λ b. cond b (map.get w.entries (place t p v)) None) (text_self t)
-
-same_places : (w x : World) (t : List ℕ) → on_shelf w t ≡ on_shelf x t → SameOn w x t
-same_places w x t same p v = sym (get_own w t p v) ∙ ap (λ m. map.get m (place t p v)) same ∙ get_own x t p v
-
-low_stored : (w x : World) (s : List ℕ) (q : Place) (o : Option Entry) → Low w x s → Low (stored w q o) (stored x q o) s
-low_stored w x s q None low = low
-low_stored w x s q (Some e) low = record {
-  chains = low.chains;
-  entries = λ u su. same_whole (stored w q (Some e)) (stored x q (Some e)) u (λ p v. get_put_both places_total w.entries x.entries q e (place u p v) (same_places w x u (low.entries u su) p v));
-  keys = low.keys;
-}
-
-low_decided : (w x : World) (s : List ℕ) (o : Option Holder) (p : Publish) (d : Decision) → Low w x s → Low (after_decision w o p d) (after_decision x o p d) s
-low_decided w x s (Some h) p Published low = low_stored w x s (place_of h.shelf p) (offered p) low
-low_decided w x s o p d low = low
-
--- equal replies with decisions have equal decisions
-same_decision : (a b : Decision) → reply.Decided a ≡ reply.Decided b → a ≡ b
-same_decision a b e = cc
+-- ---- one request, and a list
 
 -- a request with a key that both worlds hold alike, and that gets equal replies, leaves worlds that are the same to a shelf
 low_asked : (w x : World) (s : List ℕ) (a : Ask) (k : List ℕ) → key_of a ≡ Some k → map.get w.keys k ≡ map.get x.keys k
@@ -124,14 +61,9 @@ low_asked w x s (Get j q) k by held alike low = low
 low_asked w x s (Put j p) k by held alike low =
     let same : j ≡ k = cc in
     let both : map.get w.keys j ≡ map.get x.keys j = ap (map.get w.keys) same ∙ (held ∙ ap (map.get x.keys) (sym same)) in
-    let decided = same_decision (decision w (map.get w.keys j) p) (decision x (map.get x.keys j) p) alike in
+    let decided = decided_of (decision w (map.get w.keys j) p) (decision x (map.get x.keys j) p) alike in
     subst (λ d. Low (after_ask w (Put j p)) (after_decision x (map.get x.keys j) p d) s) decided
     (subst (λ o. Low (after_ask w (Put j p)) (after_decision x o p (decision w (map.get w.keys j) p)) s) both (low_decided w x s (map.get w.keys j) p (decision w (map.get w.keys j) p) low))
-
--- ---- one request, and a list
-
-no_key : (k : List ℕ) → None ≡ Some k → ⊥
-no_key k e = true≢false (sym (ap is_some e))
 
 -- one of the teams sees a shelf that is among theirs
 one_sees : (w : World) (ts : List (List ℕ)) (s : List ℕ) → AreTeams w ts → is_among (chains w ts) s ≡ true → (t : List ℕ) × Has ts t × (sees w t s ≡ true)
@@ -157,7 +89,7 @@ module _ (ts : List (List ℕ)) where
       let it = of.0 in
       let by = one_sees w ts it.1.shelf are it.4 in
       let one = team_blind w x a it.0 it.1 by.0 by.1 is_w is_x low it.2 it.3 by.2 in
-      let still = same_asked w a in
+      let still = registry_asked w a in
       let next : World = after_ask w a in
       let again : AreTeams next ts = (are.0, λ t there. let team = are.1 t there in (team.0, ap (λ m. map.get m t) still.shelves ∙ team.1)) in
       let chained = chains_alike w next ts still.shelves in
@@ -182,29 +114,8 @@ teams_are_told_the_same w new other ts first second told heard is are run again 
 
 -- ---- requests of others
 
-unknown_put : (w : World) (p : Publish) → IsNotFound (reply.Decided (decision w None p))
-unknown_put w p = go (is_readable p) refl
-  where
-    go : (b : Bool) → is_readable p ≡ b → IsNotFound (reply.Decided (decision w None p))
-    go true e = rw e tt
-    go false e = rw e tt
-
-unknown_asked : (x : World) (k : List ℕ) (a : Ask) → map.get x.keys k ≡ None → key_of a ≡ Some k → IsNotFound (ask_reply x a)
-unknown_asked x k Unreadable none by = tt
-unknown_asked x k (Get j q) none by = let same : j ≡ k = cc in rw (same, none) tt
-unknown_asked x k (Put j p) none by =
-    let same : j ≡ k = cc in subst (λ o. IsNotFound (reply.Decided (decision x o p))) (sym (ap (map.get x.keys) same ∙ none)) (unknown_put x p)
-
-same_keys : (x : World) (es : List Event) → AllAsked es → (after_all x es).keys ≡ x.keys
-same_keys x [] asked = refl
-same_keys x (Asked a ∷ es) asked = same_keys (after_ask x a) es asked ∙ (same_asked x a).keys
-same_keys x (TeamAdd t group ∷ es) asked = absurd asked
-same_keys x (GroupAdd g ∷ es) asked = absurd asked
-same_keys x (KeyAdd t k right ∷ es) asked = absurd asked
-same_keys x (KeyRevoke k ∷ es) asked = absurd asked
-
 pub others_of_teams_are_not_found : OthersOfTeamsAreNotFound
 others_of_teams_are_not_found w ts k before a far by asked =
     let part : World = part_of w (chains w ts) in
     unknown_asked (after_all part before) k a
-    (ap (λ m. map.get m k) (same_keys part before asked) ∙ key_at w (chains w ts) k ∙ left_out (is_held (chains w ts) (map.get w.keys k)) (map.get w.keys k) far) by
+    (ap (λ m. map.get m k) (keys_through part before asked) ∙ key_at w (chains w ts) k ∙ cond-false (is_held (chains w ts) (map.get w.keys k)) (map.get w.keys k) None far) by

@@ -1,5 +1,5 @@
 -- Extracting from the store of one file into that of another.
-use Rattle.std.specs.Prelude.{ℕ, List, ◌≡◌, ◌⊎◌, Result, Ok, Err}
+use Rattle.std.specs.Prelude.{ℕ, List, ◌≡◌, ◌⊎◌, Result, Err}
 use Rattle.sqlite_wal.specs.Recovery.{Image}
 use Rattle.world.specs.Store.{Shown}
 use Rattle.store.specs.Extracted.{HasCauseInEither}

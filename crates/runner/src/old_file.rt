@@ -1,6 +1,6 @@
 //! The file of an older store, which a migration only reads.
 //!
-//! sqlite opens the files of a store to write, makes the log if there is none, and puts a few bytes behind the last commit of a log
+//! sqlite opens the files of a store to write, makes the log if there is none, and puts a few bytes after the last commit of a log
 //! that another program wrote. So a file that is read-only, or is in a read-only folder, is first copied beside the new store, with
 //! its log. The copies, and a log that opening made, lose their names as soon as they are open, so the system frees them when the
 //! run ends, however it ends; a log that was there gets its length back.

@@ -4,7 +4,6 @@ use Rattle.std.proofs.Common.{subst, Option, Some, None, length, get_or, zero, s
 use Rattle.std.specs.Borrow.{Bor}
 use Rattle.std.specs.Prelude.{bytes_eq, ◌&&◌, ◌||◌, is_some, map as each}
 use Rattle.std.specs.FinMap as map
-use Rattle.std.specs.declared.cmp.Ordering.TheVariants.{Equal}
 use Rattle.std.proofs.lemmas.Bool.{and_parts, and_from, or_left, or_right, or_cases}
 use Rattle.sqlite_rules.specs.Lists.{Has}
 use Rattle.sqlite_rules.proofs.ListLemmas.{some_from, some_has, has_either, has_at}
@@ -12,19 +11,16 @@ use Rattle.sqlite_rules.proofs.ProbeLemmas.{mapped_has}
 use Rattle.world.specs.declared.entry.Place.{Place}
 use Rattle.world.specs.declared.entry.Entry.{Entry}
 use Rattle.world.specs.declared.entry.Holder.{Holder}
-use Rattle.world.specs.World.{World, IsWorld, common, chain, above, group_in, is_among, sees, text_cmp, place_cmp, count, version_limit}
+use Rattle.world.specs.World.{World, IsWorld, common, chain, above, group_in, is_among, sees, place_cmp, count, version_limit}
 use Rattle.world.specs.Part.{part, IsTeam, is_held}
 use Rattle.world.proofs.Orders.{texts_total, texts_exact, places_total, places_exact, text_self, text_same, test_alike}
-use Rattle.world.proofs.Parts.{passed}
+use Rattle.world.proofs.Parts.{text_alike, some_left, passed}
 use Rattle.world.proofs.Sees.{sees_common, sees_parent, sees_through, only_common}
 use Rattle.statements.specs.Shelves.{names_of, added, AreShelves, AreAllShelves}
 use Rattle.statements.specs.declared.shelf_list.Shelf.{Shelf}
-use Rattle.statements.proofs.ShelfListLemmas.{added_names, added_has}
+use Rattle.statements.proofs.ShelfListLemmas.{or_apart, added_names, added_has}
 use Rattle.setup.specs.Parts.{part_of, chains, AreOf, AddsTeam, ListsTeams, Chooses}
 use Rattle.setup.specs.declared.choice.Wanted.TheVariants as wanted
-
-text_alike : (f : List ℕ → Bool) (q x : List ℕ) → text_cmp q x ≡ Equal → f x ≡ f q
-text_alike f q x e = ap f (sym (texts_exact q x e))
 
 pub is_there : (ss : List (List ℕ)) (s : List ℕ) → Has ss s → is_among ss s ≡ true
 is_there ss s h = some_from (bytes_eq s) ss s h (text_self s)
@@ -37,12 +33,6 @@ has_there ss s among = let it = some_has (bytes_eq s) ss among in subst (Has ss)
 module _ (w : World) (ss : List (List ℕ)) where
   pub parent_at : (s : List ℕ) → map.get (part_of w ss).shelves s ≡ cond (is_among ss s) (map.get w.shelves s) None
   parent_at s = map.get-retain_keys w.shelves (is_among ss) s (text_alike (is_among ss) s)
-
-  some_left : {X : Type 0} (b : Bool) (o : Option X) → is_some (cond b o None) ≡ (is_some o && b)
-  some_left true None = refl
-  some_left true (Some x) = refl
-  some_left false None = refl
-  some_left false (Some x) = refl
 
   shelf_at : (s : List ℕ) → map.contains_key (part_of w ss).shelves s ≡ (map.contains_key w.shelves s && is_among ss s)
   shelf_at s = ap is_some (parent_at s) ∙ some_left (is_among ss s) (map.get w.shelves s)
@@ -144,10 +134,6 @@ part_all w ss is all =
     λ i. record { keys = keys i; shelves = shelves i; entries = entries i }
 
 -- ---- the shelves that some teams see
-
-or_apart : (a b c : Bool) → (a || (b || c)) ≡ ((a || b) || c)
-or_apart true b c = refl
-or_apart false b c = refl
 
 pub among_either : (xs ys : List (List ℕ)) (s : List ℕ) → is_among (xs ++ ys) s ≡ (is_among xs s || is_among ys s)
 among_either [] ys s = refl
@@ -311,7 +297,7 @@ all_chosen w is shelves all = (tt, all.are, part_all w (common ∷ names_of shel
 
 -- ---- whether a team is named
 
-not_cons : (t : List ℕ) (ts : List (List ℕ)) → t ∷ ts ≡ [] → ⊥
+pub not_cons : (t : List ℕ) (ts : List (List ℕ)) → t ∷ ts ≡ [] → ⊥
 not_cons t ts e = cc e
 
 pub some_named : {X : Type 0} (f : X → List ℕ) (xs : List X) → (length xs ≡ 0 → ⊥) → each f xs ≢ []

@@ -1,5 +1,5 @@
 -- What two worlds that agree on the shelves that a shelf sees decide and answer to it.
-use Rattle.std.proofs.Common.{◌≡◌, ℕ, List, Bool, true, false, refl, ◌∙◌, sym, ap, Option, Some, None}
+use Rattle.std.proofs.Common.{◌≡◌, ℕ, List, refl, ◌∙◌, sym, ap, Option, Some, None}
 use Rattle.std.specs.Prelude.{option_map, is_some}
 use Rattle.std.specs.FinSet as set
 use Rattle.modver.specs.SemanticVersion.{SemanticVersion, version_text}
@@ -15,6 +15,7 @@ use Rattle.world.specs.Visible.{versions_seen, paths_seen}
 use Rattle.world.specs.Versions.{named, by_precedence, versions_of}
 use Rattle.world.specs.Latest.{highest, module_of, highest_left, latest_by, latest_of}
 use Rattle.shelf.specs.Machine.{decided, decision, gomod_of, offered, standing_if, standing_of, latest_reply, query_reply, gomod_reply, zip_reply, info_reply, list_reply}
+use Rattle.world.proofs.InOrder.{same_bool}
 use Rattle.world.proofs.Orders.{texts_total, texts_exact}
 use Rattle.world.proofs.Seen.{contains_versions, contains_paths}
 use Rattle.shelf.proofs.Views.{SameSeen, sees_itself, view_same, heading_same, count_same}
@@ -34,16 +35,11 @@ module _ (w x : World) (s : List ℕ) (chains : chain w s ≡ chain x s) (same :
   versions_of_same : (p : List ℕ) → versions_of w s p ≡ versions_of x s p
   versions_of_same p = ap (λ vs. in_order (by_precedence (named (in_order vs)))) (versions_same p)
 
-  both_or_none : (a b : Bool) → (a ≡ true → b ≡ true) → (b ≡ true → a ≡ true) → a ≡ b
-  both_or_none true b to back = sym (to refl)
-  both_or_none false true to back = back refl
-  both_or_none false false to back = refl
-
   pub paths_same : paths_seen w s ≡ paths_seen x s
   paths_same = set.same_set texts_total texts_exact _ _ (λ p.
       let one = contains_paths w s p in
       let other = contains_paths x s p in
-      both_or_none _ _
+      same_bool _ _
       (λ at. let found = one.0 at in other.1 (found.0, ap is_some (sym (view_same w x s p found.0 chains same)) ∙ found.1))
       (λ at. let found = other.0 at in one.1 (found.0, ap is_some (view_same w x s p found.0 chains same) ∙ found.1)))
 

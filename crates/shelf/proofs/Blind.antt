@@ -71,9 +71,9 @@ low_stored w x s q (Some e) low = record {
   keys = low.keys;
 }
 
-low_decided : (w x : World) (s : List ℕ) (h : Holder) (p : Publish) (d : Decision) → Low w x s → Low (after_decision w (Some h) p d) (after_decision x (Some h) p d) s
-low_decided w x s h p Published low = low_stored w x s (place_of h.shelf p) (offered p) low
-low_decided w x s h p d low = low
+pub low_decided : (w x : World) (s : List ℕ) (o : Option Holder) (p : Publish) (d : Decision) → Low w x s → Low (after_decision w o p d) (after_decision x o p d) s
+low_decided w x s (Some h) p Published low = low_stored w x s (place_of h.shelf p) (offered p) low
+low_decided w x s o p d low = low
 
 -- ---- a request
 
@@ -110,12 +110,12 @@ low_put w x s k h p low both =
     subst (λ y. Low (after_ask w (Put k p)) y s) (sym (after_known x k h p both.second))
     (subst (λ y. Low y (after_decision x (Some h) p (decision x (Some h) p)) s) (sym (after_known w k h p both.first))
     (subst (λ d. Low (after_decision w (Some h) p (decision w (Some h) p)) (after_decision x (Some h) p d) s) (decision_same w x h p both.chains both.seen)
-    (low_decided w x s h p (decision w (Some h) p) low)))
+    (low_decided w x s (Some h) p (decision w (Some h) p) low)))
 
 same_key : (j k : List ℕ) → Some j ≡ Some k → k ≡ j
 same_key j k e = cc
 
-no_key : (k : List ℕ) → None ≡ Some k → ⊥
+pub no_key : (k : List ℕ) → None ≡ Some k → ⊥
 no_key k e = true≢false (sym (ap is_some e))
 
 pub blind : IsBlind

@@ -1,8 +1,7 @@
 -- What a shelf sees, as a world of its own, answers the shelf as the whole world does.
-use Rattle.std.proofs.Common.{◌≡◌, ℕ, List, [], ◌∷◌, Bool, true, false, cond, refl, ◌∙◌, sym, ap, subst, Option, Some, None}
-use Rattle.std.specs.Prelude.{is_some}
+use Rattle.std.proofs.Common.{◌≡◌, ℕ, List, [], ◌∷◌, Bool, true, false, refl, ◌∙◌, sym, ap, subst, Option, Some, None}
 use Rattle.std.specs.FinMap as map
-use Rattle.std.proofs.lemmas.Bool.{true≢false}
+use Rattle.std.proofs.lemmas.Bool.{cond-true, cond-false}
 use Rattle.world.specs.declared.entry.Entry.{Entry}
 use Rattle.world.specs.declared.entry.Holder.{Holder}
 use Rattle.shelf.specs.declared.ask.Publish.{Publish}
@@ -22,26 +21,18 @@ use Rattle.world.proofs.Sees.{sees_itself, same_chain}
 use Rattle.shelf.specs.Machine.{decision, after_decision, stored, offered, place_of, ask_reply, after_ask, reply_to, after, after_all, replies, Run, answered, replies_of, is_readable}
 use Rattle.shelf.specs.Isolation.{key_of, Low}
 use Rattle.shelf.specs.Parts.{PartIsLow, IsOwn, AllOwn, IsBlindThroughout, PartTellsTheSame, IsNotFound, AllAsked, OthersAreNotFound}
-use Rattle.shelf.proofs.Blind.{blind, same_whole}
+use Rattle.shelf.proofs.Blind.{blind, same_whole, no_key}
 use Rattle.shelf.proofs.Chains.{Later}
 use Rattle.shelf.proofs.Sound.{sound}
 
 -- ---- it is the same to the shelf
 
-left : {X : Type 0} (b : Bool) (o : Option X) → b ≡ true → cond b o None ≡ o
-left true o e = refl
-left false o e = absurd (true≢false (sym e))
-
-left_out : {X : Type 0} (b : Bool) (o : Option X) → b ≡ false → cond b o None ≡ None
-left_out true o e = absurd (true≢false e)
-left_out false o e = refl
-
 pub part_is_low : PartIsLow
 part_is_low w s is = record {
   chains = same_chain w (part w s) s (sym (parent_left w s s (sees_itself w s)));
-  entries = λ t seen. same_whole w (part w s) t (λ p v. sym (entry_at w s (place t p v) ∙ left (sees w s t) (map.get w.entries (place t p v)) seen));
+  entries = λ t seen. same_whole w (part w s) t (λ p v. sym (entry_at w s (place t p v) ∙ cond-true (sees w s t) (map.get w.entries (place t p v)) None seen));
   keys = λ k h seen. (
-    (λ at. key_at w s k ∙ left (is_held (chain w s) (map.get w.keys k)) (map.get w.keys k) (ap (is_held (chain w s)) at ∙ seen) ∙ at),
+    (λ at. key_at w s k ∙ cond-true (is_held (chain w s) (map.get w.keys k)) (map.get w.keys k) None (ap (is_held (chain w s)) at ∙ seen) ∙ at),
     (λ at. (held_key w s k h at).0),
   );
 }
@@ -49,7 +40,7 @@ part_is_low w s is = record {
 -- ---- requests leave the registry
 
 -- the keys and the shelves are those that were
-record SameRegistry (w x : World) : Type 0 where
+record pub SameRegistry (w x : World) : Type 0 where
   keys : x.keys ≡ w.keys
   shelves : x.shelves ≡ w.shelves
 
@@ -61,7 +52,7 @@ registry_decided : (w : World) (h : Option Holder) (p : Publish) (d : Decision) 
 registry_decided w (Some h) p Published = registry_stored w h p (offered p)
 registry_decided w h p d = record { keys = refl; shelves = refl }
 
-registry_asked : (w : World) (a : Ask) → SameRegistry w (after_ask w a)
+pub registry_asked : (w : World) (a : Ask) → SameRegistry w (after_ask w a)
 registry_asked w Unreadable = record { keys = refl; shelves = refl }
 registry_asked w (Get k q) = record { keys = refl; shelves = refl }
 registry_asked w (Put k p) = registry_decided w (map.get w.keys k) p (decision w (map.get w.keys k) p)
@@ -77,9 +68,6 @@ still_own w x s (e ∷ es) same own =
     ((it.0, it.1, it.2, ap (λ m. map.get m it.0) same.keys ∙ it.3, same_sight w x s it.1.shelf same.shelves ∙ it.4), still_own w x s es same own.1)
 
 -- ---- one request, and a list
-
-no_key : (k : List ℕ) → None ≡ Some k → ⊥
-no_key k e = true≢false (sym (ap is_some e))
 
 own_blind : (w x : World) (s : List ℕ) (e : Event) → IsWorld w → IsWorld x → Low w x s → IsOwn w s e
     → (a : Ask) × (e ≡ Asked a) × (ask_reply w a ≡ ask_reply x a) × Low (after_ask w a) (after_ask x a) s
@@ -132,13 +120,13 @@ unknown_put w p = go (is_readable p) refl
     go true e = rw e tt
     go false e = rw e tt
 
-unknown_asked : (x : World) (k : List ℕ) (a : Ask) → map.get x.keys k ≡ None → key_of a ≡ Some k → IsNotFound (ask_reply x a)
+pub unknown_asked : (x : World) (k : List ℕ) (a : Ask) → map.get x.keys k ≡ None → key_of a ≡ Some k → IsNotFound (ask_reply x a)
 unknown_asked x k Unreadable none by = tt
 unknown_asked x k (Get j q) none by = let same : j ≡ k = cc in rw (same, none) tt
 unknown_asked x k (Put j p) none by =
     let same : j ≡ k = cc in subst (λ o. IsNotFound (reply.Decided (decision x o p))) (sym (ap (map.get x.keys) same ∙ none)) (unknown_put x p)
 
-keys_through : (x : World) (es : List Event) → AllAsked es → (after_all x es).keys ≡ x.keys
+pub keys_through : (x : World) (es : List Event) → AllAsked es → (after_all x es).keys ≡ x.keys
 keys_through x [] asked = refl
 keys_through x (Asked a ∷ es) asked = keys_through (after_ask x a) es asked ∙ (registry_asked x a).keys
 keys_through x (TeamAdd t group ∷ es) asked = absurd asked
@@ -172,4 +160,4 @@ later_than_asked w new later es answers asked run then =
 pub others_are_not_found : OthersAreNotFound
 others_are_not_found w s k before a far by asked =
     unknown_asked (after_all (part w s) before) k a
-    (ap (λ m. map.get m k) (keys_through (part w s) before asked) ∙ key_at w s k ∙ left_out (is_held (chain w s) (map.get w.keys k)) (map.get w.keys k) far) by
+    (ap (λ m. map.get m k) (keys_through (part w s) before asked) ∙ key_at w s k ∙ cond-false (is_held (chain w s) (map.get w.keys k)) (map.get w.keys k) None far) by

@@ -16,7 +16,7 @@ pub fn soundness()
     ensures run { RunsKeepWorlds }
 {}
 
-/// Runs remove no shelf, and each shelf keeps seeing the same shelves.
+/// Runs remove no shelf, and each shelf still sees the same shelves.
 pub fn chains()
     ensures { ChainsStay }
 {}

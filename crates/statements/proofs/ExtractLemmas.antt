@@ -63,7 +63,7 @@ copied r Makes s t a b looks same goes_on makes =
       makes = λ clean good ready w means filling done. when_ok r done (makes clean good (has ready clean) w means filling);
     }
 
-unchanged_itself : (s : State) → IsTrue s.is_open → IsUnchanged s s
+pub unchanged_itself : (s : State) → IsTrue s.is_open → IsUnchanged s s
 unchanged_itself s is = (record { was_open = is; is_open = is; now_is = refl; committed_is = refl; mode = refl }, record { changes = refl; last_rowid = refl }, refl)
 
 untouched : (s : State) (done : Bool) → IsReady s → IsReadBy s s done

@@ -28,6 +28,7 @@ use Rattle.statements.specs.Reading.{IsRowOf, entry_with}
 use Rattle.statements.specs.Lookup.{lookup, passes, FirstFound}
 use Rattle.tables.proofs.ValueLemmas.{equals_text, equals_itself}
 use Rattle.statements.proofs.LookupLemmas.{Picks, picked_found}
+use Rattle.statements.proofs.ShelfLemmas.{same_option}
 use Rattle.tables.proofs.CountedRows.{same_place}
 
 abbrev by_place : List Term
@@ -38,13 +39,6 @@ row_shown = col 1 0 ∷ col 1 2 ∷ col 1 5 ∷ col 1 6 ∷ []
 
 abbrev pub row_query : Query
 row_query = lookup 6 by_place row_shown
-
--- a column shows one time at most, or NULL for none
-same_time : (a b : Option (List ℕ)) → or_null Text a ≡ or_null Text b → a ≡ b
-same_time None None e = refl
-same_time None (Some t) e = absurd (cc)
-same_time (Some s) None e = absurd (cc)
-same_time (Some s) (Some t) e = let same : s ≡ t = cc in ap Some same
 
 abbrev pub place_params : Place → Row
 place_params p = Text p.shelf ∷ Text p.path ∷ Text p.version ∷ []
@@ -71,7 +65,7 @@ module _ (p : Place) (db : Database) (w : World) (means : Means db.trees w) wher
       let holds : map.get w.entries p ≡ Some it.0.1 = subst (λ q. map.get w.entries q ≡ Some it.0.1) same it.2 in
       let shelves : p.shelf ≡ v.shelf = let e = sym (ap (λ (r : Row). column r 1) found.3 ∙ at.0) ∙ shelf in cc in
       let mods : v.heading.gomod ≡ it.0.1.gomod = let e = sym gomod ∙ (ap (λ (r : Row). column r 3) found.3 ∙ it.1.gomod) in cc in
-      let times = same_time v.heading.time it.0.1.time (sym time ∙ (ap (λ (r : Row). column r 2) found.3 ∙ it.1.time)) in
+      let times = same_option v.heading.time it.0.1.time (sym time ∙ (ap (λ (r : Row). column r 2) found.3 ∙ it.1.time)) in
       let number : rowid found.0 ≡ Int v.id = sym (ap (λ (r : Row). column r 0) found.3) ∙ id in
       record {
         entry = it.0.1;

@@ -5,7 +5,6 @@ use Rattle.std.specs.Ordering.{is_lt, is_gt, ordering_reverse, int_cmp}
 use Rattle.std.specs.declared.cmp.Ordering.{Ordering}
 use Rattle.std.specs.declared.cmp.Ordering.TheVariants.{Less, Equal, Greater}
 use Rattle.std.specs.Cmp.{upto, int_cmp_is}
-use Rattle.std.specs.FinMap.{int_cmp-IsAntisymmetric}
 use Rattle.std.proofs.lemmas.Int.{by_lt_z, ints}
 use Rattle.std.proofs.lemmas.Bool.{and_parts}
 use Rattle.std.proofs.lemmas.List.Sorted.{IsPermutation-sym}
@@ -28,7 +27,8 @@ use Rattle.sqlite_rules.proofs.ProbeLemmas.{mapped_has, has_mapped}
 use Rattle.tables.specs.Fit.{number_shown}
 use Rattle.tables.proofs.Ascending.{Adjacent, ascends, adjacent_among, has_permuted}
 use Rattle.tables.proofs.ListingLemmas.{listing, IsListing, is_listing, by_number, listed_rows, of_table, listed_in_order}
-use Rattle.tables.proofs.ValueLemmas.{equal_gives, int_itself, tied}
+use Rattle.tables.proofs.SoundLemmas.{ints_equal}
+use Rattle.tables.proofs.ValueLemmas.{int_itself}
 use Rattle.statements.specs.Lookup.{lookup}
 use Rattle.statements.specs.Numbers.{last, first, HasNumber, IsBelowEach, LacksOrHasFirst, IsChosen}
 use Rattle.statements.proofs.LookupLemmas.{asks, Picks, picked_found}
@@ -49,14 +49,11 @@ PicksNumber q params db None = Picks q params db None
 
 -- ---- the last number
 
-same_int : (m n : ℤ) → equal Binary (Int m) (Int n) ≡ true → m ≡ n
-same_int m n h = int_cmp-IsAntisymmetric m n (sym (value_cmp-Int m n) ∙ tied _ (equal_gives (Int m) (Int n) h).2)
-
 pub last_found : (db : Database) (found : Option ℤ) → PicksNumber last_query (Int last ∷ []) db found → Decides (is_some found) (HasNumber (db.trees 6) last)
 last_found db (Some n) shows =
     let it = picked_found (Int last ∷ []) db 6 by_id (col 1 0 ∷ []) [] (λ _. refl) (Some shows.0) shows.1 in
     let id : rowid it.0 ≡ Int n = sym (ap (λ (r : Row). column r 0) it.3) ∙ shows.2 in
-    let same : n ≡ last = same_int n last (sym (ap (λ v. equal Binary v (Int last)) id) ∙ (and_parts _ _ it.2).0) in
+    let same : n ≡ last = ints_equal n last (sym (ap (λ v. equal Binary v (Int last)) id) ∙ (and_parts _ _ it.2).0) in
     (λ _. (it.0, it.1, id ∙ ap Int same), λ _. refl)
 last_found db None shows =
     let none = picked_found (Int last ∷ []) db 6 by_id (col 1 0 ∷ []) [] (λ _. refl) None shows in

@@ -4,9 +4,7 @@ use Rattle.std.specs.List.{AllByRecursion}
 use Rattle.std.specs.FinMap as map
 use Rattle.std.specs.Ordering.{eq_by_cmp}
 use Rattle.std.proofs.lemmas.Bool.{false_from_ne_true, and_parts}
-use Rattle.std.proofs.lemmas.Bool.Decides.{nat_tests}
 use Rattle.std.proofs.lemmas.Cmp.{tied_itself}
-use Rattle.std.proofs.lemmas.Int.{ints}
 use Rattle.std.proofs.lemmas.Map.Views.{tells_apart}
 use Rattle.sqlite.specs.declared.types.Value.TheVariants.{Int, Text}
 use Rattle.sqlite.specs.Order.{Row, column}
@@ -30,7 +28,7 @@ use Rattle.sqlite_rules.proofs.ProbeLemmas.{has_mapped, mapped_has}
 use Rattle.sqlite_rules.proofs.TableLemmas.{without_all_has}
 use Rattle.sqlite_schema.specs.declared.program.Program.{Program}
 use Rattle.sqlite_schema.specs.declared.schema.Keys.TheVariants.{Enforced}
-use Rattle.sqlite_value.proofs.OrderLemmas.{value_cmp-Int, value_cmp_total}
+use Rattle.sqlite_value.proofs.OrderLemmas.{value_cmp_total}
 use Rattle.sqlite_value.specs.Order.{value_cmp}
 use Rattle.world.specs.declared.registry.Registered.TheVariants.{Done, NoKey}
 use Rattle.world.specs.World.{World, text_cmp, without_key}
@@ -40,7 +38,8 @@ use Rattle.tables.specs.Schema.{store_schema, access_table}
 use Rattle.tables.specs.Means.{Holds, IsAccess, IsNumbered, Tabulates}
 use Rattle.statements.specs.Views.{with_key_revoked}
 use Rattle.statements.specs.Lookup.{lookup, AreFound}
-use Rattle.tables.proofs.ValueLemmas.{tied, equals_text, equals_itself}
+use Rattle.tables.proofs.ValueLemmas.{equals_text, equals_itself}
+use Rattle.tables.proofs.SoundLemmas.{same_int}
 use Rattle.statements.proofs.LookupLemmas.{all_found}
 use Rattle.statements.proofs.KeyLemmas.{by_token}
 use Rattle.tables.proofs.InsertLemmas.{went, same_value, enforced}
@@ -102,9 +101,6 @@ not_left (i ∷ ids) rows x id (inl same) is h =
     true≢false (sym left.1 ∙ ap not (ap (λ j. has_rowid j x) (sym same) ∙ is))
 not_left (i ∷ ids) rows x id (inr later) is h = not_left ids (without_rowid i rows) x id later is h
 
-same_number : (m n : ℤ) → is_eq (value_cmp (Int m) (Int n)) ≡ true → m ≡ n
-same_number m n h = let same = sym (value_cmp-Int m n) ∙ tied _ h in grind (arith, ints, nat_tests)
-
 -- a relation of each two rows still holds of the rows that are left
 ascending_left : (P : Row → Row → Type 0) (ids : List ℤ) (rows : List Row) → IsAscending P rows → IsAscending P (without_all rows ids)
 ascending_left P [] rows up = up
@@ -139,7 +135,7 @@ module _ (w : World) (token : List ℕ) where
             let own = numbered.number row there in
             let its = numbered.number from.0 from.1 in
             let id_is : id ≡ its.0 = shown.2 ∙ (ap (λ (r : Row). id_in (rowid r)) from.3 ∙ ap id_in its.1) in
-            let number : own.0 ≡ id = same_number own.0 id (sym (ap (λ v. is_eq (value_cmp v (Int id))) own.1) ∙ has) in
+            let number : own.0 ≡ id = same_int own.0 id (sym (ap (λ v. is_eq (value_cmp v (Int id))) own.1) ∙ has) in
             let same : row ≡ from.0 = numbered.own row from.0 there from.1 (own.1 ∙ (ap Int (number ∙ id_is) ∙ sym its.1)) in
             let text : column from.0 1 ≡ Text token = equals_text (column from.0 1) token (and_parts _ _ from.2).0 in
             other (let e = sym is ∙ (ap (λ (r : Row). column r 1) same ∙ text) in cc)

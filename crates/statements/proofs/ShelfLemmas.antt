@@ -27,7 +27,7 @@ abbrev pub shelf_query : Query
 shelf_query = lookup 2 by_name shown
 
 -- a column shows one text at most, or NULL for none
-same_option : (a b : Option (List ℕ)) → or_null Text a ≡ or_null Text b → a ≡ b
+pub same_option : (a b : Option (List ℕ)) → or_null Text a ≡ or_null Text b → a ≡ b
 same_option None None e = refl
 same_option None (Some b) e = cc
 same_option (Some a) None e = cc

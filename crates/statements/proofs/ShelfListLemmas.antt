@@ -11,9 +11,8 @@ use Rattle.sqlite_rules.specs.Lists.{Has}
 use Rattle.sqlite_rules.proofs.ListLemmas.{has_left, has_right, has_either}
 use Rattle.world.specs.World.{World, common, is_among, text_cmp}
 use Rattle.world.proofs.Orders.{texts_total, text_self, text_same}
-use Rattle.sqlite.specs.declared.types.Value.TheVariants.{Text}
+use Rattle.world.proofs.MapsSeen.{or_turn}
 use Rattle.sqlite.specs.Order.{Row, column}
-use Rattle.sqlite.specs.Values.{or_null}
 use Rattle.sqlite.specs.Term.{Term, col, eval_all}
 use Rattle.sqlite.specs.Query.{Query}
 use Rattle.sqlite.specs.Effect.{Database, Reads}
@@ -24,6 +23,7 @@ use Rattle.tables.specs.Means.{Means}
 use Rattle.statements.specs.Lookup.{AreFound}
 use Rattle.statements.specs.Shelves.{names_of, behind, AreNew, added, AreAllShelves, ShowsShelf, ListsRows}
 use Rattle.statements.proofs.LookupLemmas.{ordered, asks, all_found}
+use Rattle.statements.proofs.ShelfLemmas.{same_option}
 use Rattle.statements.specs.declared.shelf_list.Shelf.{Shelf}
 
 -- ---- names one behind another
@@ -31,11 +31,6 @@ use Rattle.statements.specs.declared.shelf_list.Shelf.{Shelf}
 or_end : (a : Bool) → a ≡ (a || false)
 or_end true = refl
 or_end false = refl
-
-or_turn : (a b c : Bool) → ((a || b) || c) ≡ (b || (a || c))
-or_turn true true c = refl
-or_turn true false c = refl
-or_turn false b c = refl
 
 or_first : (a b : Bool) → ((a || false) || b) ≡ (a || b)
 or_first true b = refl
@@ -93,13 +88,13 @@ module _ (shelves : List Shelf) (one : Shelf) (names : set.FinSet text_cmp) (are
 
 -- ---- a shelf that was added
 
+pub or_apart : (a b c : Bool) → (a || (b || c)) ≡ ((a || b) || c)
+or_apart true b c = refl
+or_apart false b c = refl
+
 among_more : (ns : List (List ℕ)) (n s : List ℕ) → is_among (ns ++ n ∷ []) s ≡ (is_among ns s || bytes_eq s n)
 among_more [] n s = sym (or_end (bytes_eq s n))
 among_more (m ∷ ns) n s = ap (λ b. bytes_eq s m || b) (among_more ns n s) ∙ or_apart (bytes_eq s m) (is_among ns s) (bytes_eq s n)
-  where
-    or_apart : (a b c : Bool) → (a || (b || c)) ≡ ((a || b) || c)
-    or_apart true b c = refl
-    or_apart false b c = refl
 
 or_taken : (a b : Bool) → (b ≡ true → a ≡ true) → a ≡ (a || b)
 or_taken true b h = refl
@@ -156,13 +151,6 @@ by_parent = (col 1 2, ascending Binary) ∷ []
 
 abbrev pub all_query : Query
 all_query = ordered 2 [] shown by_parent
-
--- a column shows one text at most, or NULL for none
-same_option : (a b : Option (List ℕ)) → or_null Text a ≡ or_null Text b → a ≡ b
-same_option None None e = refl
-same_option None (Some b) e = cc
-same_option (Some a) None e = cc
-same_option (Some a) (Some b) e = let same : a ≡ b = cc in ap Some same
 
 -- the list of the rows that the query of all shelves shows has all shelves of the world
 pub all_listed : (db : Database) (w : World) (means : Means db.trees w) (rows : List Row)

@@ -17,6 +17,7 @@ use Rattle.world.specs.declared.entry.Entry.{Entry}
 use Rattle.world.specs.World.{World, place, text_cmp}
 use Rattle.world.specs.Visible.{versions_among, versions_on, paths_among, paths_on}
 use Rattle.world.proofs.Orders.{texts_total, texts_exact}
+use Rattle.world.proofs.InOrder.{turned}
 use Rattle.world.proofs.Sound.{still}
 use Rattle.world.proofs.Seen.{contains_among, path_among}
 use Rattle.world.proofs.SeenVersions.{some_of}
@@ -133,15 +134,10 @@ module _ (shelf : List ℕ) (db : Database) (w : World) (means : Means db.trees 
 
 -- ---- shelf by shelf
 
-or_swap : (x y z : Bool) → (x || (y || z)) ≡ (y || (x || z))
-or_swap true true z = refl
-or_swap true false z = refl
-or_swap false y z = refl
-
 -- it does not matter which set is added first
 swapped : (a b c : set.FinSet text_cmp) → set.union a (set.union b c) ≡ set.union b (set.union a c)
 swapped a b c = same_set texts_total texts_exact (set.union a (set.union b c)) (set.union b (set.union a c))
-    (λ t. member a b t ∙ (or_swap (set.contains a t) (set.contains b t) (set.contains c t) ∙ sym (member b a t)))
+    (λ t. member a b t ∙ (turned (set.contains a t) (set.contains b t) (set.contains c t) ∙ sym (member b a t)))
   where
     member : (x y : set.FinSet text_cmp) (t : List ℕ) → set.contains (set.union x (set.union y c)) t ≡ (set.contains x t || (set.contains y t || set.contains c t))
     member x y t = set.contains-union texts_total x (set.union y c) t ∙ ap (λ h. set.contains x t || h) (set.contains-union texts_total y c t)

@@ -16,7 +16,7 @@ use Rattle.setup.specs.Extracted.{IsRead, IsUnfit}
 use Rattle.setup.specs.Parts.{AreTeams, wanted_part, Tells, FillsAt, FillsBy, Extracts, ExtractsTeams}
 use Rattle.setup.specs.declared.choice.Wanted.{Wanted}
 use Rattle.setup.specs.declared.choice.Wanted.TheVariants as wanted
-use Rattle.setup.proofs.PartLemmas.{chains_world, part_of_one}
+use Rattle.setup.proofs.PartLemmas.{chains_world, part_of_one, not_cons}
 use Rattle.setup.specs.declared.refusal.Refusal.{Refusal}
 use Rattle.setup.specs.declared.refusal.Refusal.TheVariants as refusal
 use Rattle.store.proofs.StoreLemmas.{narrow}
@@ -105,11 +105,8 @@ fills_kept There next a a_new b b_new kept kept_new old new n n_new m m_new r sa
 
 -- ---- one team
 
-not_none : (t : List ℕ) (ts : List (List ℕ)) → t ∷ ts ≡ [] → ⊥
-not_none t ts e = cc e
-
 one_team : (w : World) (t : List ℕ) → IsTeam w t → AreTeams w (t ∷ [])
-one_team w t is = (not_none t [], λ u there. elim there [ inl same ↦ subst (IsTeam w) (sym same) is | inr none ↦ absurd none ])
+one_team w t is = (not_cons t [], λ u there. elim there [ inl same ↦ subst (IsTeam w) (sym same) is | inr none ↦ absurd none ])
 
 one_tells : (w x : World) (t : List ℕ) (r : Result (Unit {0}) Refusal) → Tells (AreTeams w (t ∷ [])) x r → Tells (IsTeam w t) x r
 one_tells w x t (Ok u) h = (h.0.1 t (inl refl), h.1)

@@ -45,6 +45,7 @@ use Rattle.tables.proofs.Ascending.{has_permuted, Adjacent, adjacent_both, adjac
 use Rattle.tables.proofs.ListingLemmas.{all_listed, first_listed, meta_rows_is, shelf_rows_is, key_rows_is, number_rows_is, entry_rows_is, meta_listed, shelves_listed}
 use Rattle.tables.proofs.ListingLemmas.{keys_listed, numbers_listed, entries_listed, InOrder, shelves_in_order, keys_in_order, numbers_in_order, entries_in_order, place_columns}
 use Rattle.tables.proofs.RunLemmas.{adjacent_apart, last_of, many_on, many_more, push_on, run_within, few_in_all}
+use Rattle.tables.proofs.WorldOf.{held_text}
 
 -- ---- a walk as a test
 
@@ -378,24 +379,21 @@ PlacesApart a b = Fit.place_in a ≡ Fit.place_in b → ⊥
 places_turned : (a b : Row) → PlacesApart a b → PlacesApart b a
 places_turned a b apart same = apart (sym same)
 
-abbrev IsPlaced : Row → Type 0
+abbrev pub IsPlaced : Row → Type 0
 IsPlaced row = (column row 0 ≡ Text (Fit.place_in row).shelf) × (column row 1 ≡ Text (Fit.place_in row).path) × (column row 2 ≡ Text (Fit.place_in row).version)
-
-held_text : (v : Value) (t : List ℕ) → v ≡ Text t → v ≡ Text (Fit.text_in v)
-held_text v t is = is ∙ ap (λ x. Text (Fit.text_in x)) (sym is)
 
 placed : (row : Row) → Fit.IsEntryRow row → IsPlaced row
 placed row it = (held_text (column row 0) it.0.shelf it.2.shelf, held_text (column row 1) it.0.path it.2.path, held_text (column row 2) it.0.version it.2.version)
 
 -- places in SQL's order are in ours
-places_in_order : (a b : Row) → IsPlaced a → IsPlaced b
+pub places_in_order : (a b : Row) → IsPlaced a → IsPlaced b
     → key_cmp 0 (ascending Binary ∷ ascending Binary ∷ ascending Binary ∷ []) (place_columns a) (place_columns b) ≡ place_cmp (Fit.place_in a) (Fit.place_in b)
 places_in_order a b one two = rw (one.0, one.1, one.2, two.0, two.1, two.2)
     (λ i. ordering_then (value_cmp-Text (Fit.place_in a).shelf (Fit.place_in b).shelf i)
     (ordering_then (value_cmp-Text (Fit.place_in a).path (Fit.place_in b).path i)
     ((then-Equal _ ∙ value_cmp-Text (Fit.place_in a).version (Fit.place_in b).version) i)))
 
-may_differ : (o : Option Place) (many : ℕ) (q : Place) → MayFollow o many q → o ≡ Some q → ⊥
+pub may_differ : (o : Option Place) (many : ℕ) (q : Place) → MayFollow o many q → o ≡ Some q → ⊥
 may_differ None many q may is = let e = is in absurd (cc)
 may_differ (Some p) many q may is = may.0 (let e = is in cc)
 

@@ -11,16 +11,15 @@ use Rattle.world.specs.declared.entry.Holder.{Holder}
 use Rattle.world.specs.declared.entry.Right.{Right}
 use Rattle.world.specs.declared.entry.Right.TheVariants.{Reads, Publishes}
 use Rattle.world.proofs.Orders.{texts_total, texts_exact, places_total, places_exact}
-use Rattle.tables.specs.Means.{may_publish}
 use Rattle.tables.specs.Pieces.{begin, piece, HasPiece}
-use Rattle.tables.specs.Means.{Tabulates, IsAccess, IsVersion, IsShelf, ArePieces, is_of}
+use Rattle.tables.specs.Means.{may_publish, Tabulates, IsAccess, IsVersion, IsShelf, ArePieces, is_of}
 use Rattle.tables.specs.Laws.{StandForOne}
 use Rattle.tables.proofs.PieceLemmas.{no_piece, same_zip}
 use Rattle.tables.proofs.RowFits.{time_read}
 use Rattle.tables.proofs.CountedRows.{same_place}
 
 -- where a row is of one thing alone, the things of a table are the same however they are named
-carried : {X : Type 0} (IsRow : Row → X → Type 0) (rows : List Row) (P Q : X → Type 0)
+pub carried : {X : Type 0} (IsRow : Row → X → Type 0) (rows : List Row) (P Q : X → Type 0)
     → ((row : Row) (x y : X) → IsRow row x → IsRow row y → y ≡ x) → Tabulates IsRow rows P → Tabulates IsRow rows Q → (x : X) → P x → Q x
 carried IsRow rows P Q one p q x holds =
     let from = p.found x holds in
@@ -39,7 +38,7 @@ same_got {K} {X} {R} m n k there back = go (map.get m k) (map.get n k) refl refl
 pub texts_same : (v : Value) (s t : List ℕ) → v ≡ Text s → v ≡ Text t → t ≡ s
 texts_same v s t one two = let e = sym two ∙ one in cc
 
-ints_same : (v : Value) (m n : ℕ) → v ≡ Int (pos m) → v ≡ Int (pos n) → n ≡ m
+pub ints_same : (v : Value) (m n : ℕ) → v ≡ Int (pos m) → v ≡ Int (pos n) → n ≡ m
 ints_same v m n one two = let e = sym two ∙ one in cc
 
 pub blobs_same : (v : Value) (s t : List ℕ) → v ≡ Blob s → v ≡ Blob t → t ≡ s
@@ -51,7 +50,7 @@ rights_same v Publishes Publishes one two = refl
 rights_same v Reads Publishes one two = let e = sym two ∙ one in absurd (cc)
 rights_same v Publishes Reads one two = let e = sym two ∙ one in absurd (cc)
 
-one_access : (row : Row) (x y : List ℕ × Holder) → IsAccess row x → IsAccess row y → y ≡ x
+pub one_access : (row : Row) (x y : List ℕ × Holder) → IsAccess row x → IsAccess row y → y ≡ x
 one_access row x y one two =
     let key = texts_same (column row 1) x.0 y.0 one.0 two.0 in
     let shelf = texts_same (column row 2) x.1.shelf y.1.shelf one.1 two.1 in
@@ -67,7 +66,7 @@ same_piece rows a b one two n has =
     let bytes : piece b to.0 ≡ piece a n = blobs_same (column from.0 3) (piece a n) (piece b to.0) from.2.bytes to.1.bytes in
     (subst (HasPiece b) number to.2, sym bytes ∙ ap (piece b) number)
 
-one_zip : (rows : List Row) (a b : List ℕ) → ArePieces rows a → ArePieces rows b → a ≡ b
+pub one_zip : (rows : List Row) (a b : List ℕ) → ArePieces rows a → ArePieces rows b → a ≡ b
 one_zip rows a b one two = same_zip a b (λ n. go n (nat_lt (begin n) (length a)) (nat_lt (begin n) (length b)) refl refl)
   where
     go : (n : ℕ) (p q : Bool) → nat_lt (begin n) (length a) ≡ p → nat_lt (begin n) (length b) ≡ q → piece a n ≡ piece b n
@@ -83,7 +82,7 @@ one_version pieces row x y one two =
     let time : y.1.time ≡ x.1.time = time_read (column row 5) y.1.time two.time ∙ sym (time_read (column row 5) x.1.time one.time) in
     λ i. (place i, record { gomod = gomod i; zip = zip i; time = time i })
 
-one_shelf : (row : Row) (x y : List ℕ × Option (List ℕ)) → IsShelf row x → IsShelf row y → y ≡ x
+pub one_shelf : (row : Row) (x y : List ℕ × Option (List ℕ)) → IsShelf row x → IsShelf row y → y ≡ x
 one_shelf row x y one two =
     let name = texts_same (column row 1) x.0 y.0 one.0 two.0 in
     let parent : y.1 ≡ x.1 = time_read (column row 2) y.1 two.1 ∙ sym (time_read (column row 2) x.1 one.1) in

@@ -69,7 +69,7 @@ module _ {X K : Type 0} (Fits : X → Row → Type 0) (Keeps : X → Row → X �
 abbrev pub many_on : List ℕ → List ℕ → List Row → ℕ
 many_on s p rows = length (filter (λ row. is_on s p (place_in row)) rows)
 
-is_on_itself : (q : Place) → is_on q.shelf q.path q ≡ true
+pub is_on_itself : (q : Place) → is_on q.shelf q.path q ≡ true
 is_on_itself q = rw (text_self q.shelf, text_self q.path) refl
 
 same_path : (s p : List ℕ) (q : Place) → is_on s p q ≡ true → (q.shelf ≡ s) × (q.path ≡ p)

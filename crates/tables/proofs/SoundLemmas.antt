@@ -49,7 +49,7 @@ one_of true b h = inl refl
 one_of false true h = inr refl
 one_of false false h = absurd (true≢false (sym h))
 
-same_int : (m n : ℤ) → is_eq (value_cmp (Int m) (Int n)) ≡ true → m ≡ n
+pub same_int : (m n : ℤ) → is_eq (value_cmp (Int m) (Int n)) ≡ true → m ≡ n
 same_int m n h = int_cmp-IsAntisymmetric m n (sym (value_cmp-Int m n) ∙ tied _ h)
 
 -- numbers that SQL's = takes for equal are equal

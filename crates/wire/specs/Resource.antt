@@ -1,5 +1,5 @@
 -- What a GET asks for by the rest after the key. (Go Modules Reference, "GOPROXY protocol"; `-/` is this server's own.)
-use Rattle.std.specs.Prelude.{◌≡◌, ℕ, List, [], ◌++◌, bytes_eq, codes, Option, Some, None, option_map, if◌then◌else◌}
+use Rattle.std.specs.Prelude.{◌≡◌, ℕ, List, [], ◌++◌, bytes_eq, codes, Option, Some, option_map, if◌then◌else◌}
 use Rattle.std.specs.Option.{option_and_then, option_or}
 use Rattle.percent_encoding.specs.Percent.{percent_decode}
 use Rattle.modver.specs.SemanticVersion.{SemanticVersion}

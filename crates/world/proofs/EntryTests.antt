@@ -1,7 +1,7 @@
 -- The test of an entry passes exactly those that may stand.
 use Rattle.std.proofs.Common.{◌≡◌, ◌≤◌, ℕ, List, [], ◌∷◌, Bool, true, false, cond, refl, ◌∙◌, sym, ap, Option, Some, None, length}
 use Rattle.std.specs.Prelude.{◌&&◌, bytes_eq, is_none, is_ok, nat_le, not}
-use Rattle.std.proofs.lemmas.Bool.{and_parts, le-leb, leb-true, not-false, true≢false}
+use Rattle.std.proofs.lemmas.Bool.{and_parts, and_from, le-leb, leb-true, not-false, true≢false}
 use Rattle.modver.proofs.Readings.{version-of}
 use Rattle.modver.proofs.Times.{time-exact}
 use Rattle.modver.specs.Class.{class_of}
@@ -19,10 +19,6 @@ use Rattle.world.specs.GoMods.{IsGoModOf, reading_of}
 use Rattle.world.specs.World.{IsEntry, IsTimeOf, gomod_limit, place, zip_limit}
 use Rattle.world.proofs.PathForm.{path_form}
 use Rattle.world.proofs.Orders.{text_same, text_self}
-
-both : (a b : Bool) → a ≡ true → b ≡ true → (a && b) ≡ true
-both true b p q = q
-both false b p q = p
 
 -- none of three checks fails
 none_fails : {A : Type 0} (a b c : Bool) (x y z : A) → is_none (first_failing ((a, x) ∷ (b, y) ∷ (c, z) ∷ [])) ≡ true → (a ≡ false) × (b ≡ false) × (c ≡ false)
@@ -109,7 +105,7 @@ gomod_passes path is_marked bytes is =
 entry_passes : (s path version : List ℕ) (e : Entry) → IsEntry (place s path version) e → is_entry path version e ≡ true
 entry_passes s path version e is =
     let v : SemanticVersion = is.version.0 in
-    let small : is_small e ≡ true = both (nat_le (length e.gomod) gomod_limit) _ (le-leb (length e.gomod) gomod_limit is.gomod) (le-leb (length e.zip) zip_limit is.zip) in
+    let small : is_small e ≡ true = and_from (nat_le (length e.gomod) gomod_limit) _ (le-leb (length e.gomod) gomod_limit is.gomod) (le-leb (length e.zip) zip_limit is.zip) in
     ap (λ b. goes_with (cond b (Some path) None) (version_of version) e) (ap is_ok is.path)
     ∙ ap (λ o. goes_with (Some path) o e) ((version-of version v).1 is.version.1)
     ∙ both (is_none (own_misfit path v e)) _

@@ -28,7 +28,7 @@ twice : (a b : Bool) → (a || b) ≡ (a || (a || b))
 twice true b = refl
 twice false b = refl
 
-turned : (a b c : Bool) → (a || (b || c)) ≡ (b || (a || c))
+pub turned : (a b c : Bool) → (a || (b || c)) ≡ (b || (a || c))
 turned true true c = refl
 turned true false c = refl
 turned false b c = refl
@@ -90,15 +90,20 @@ less_is Less e = tt
 less_is Equal e = cc e
 less_is Greater e = cc e
 
+pub same_bool : (a b : Bool) → (a ≡ true → b ≡ true) → (b ≡ true → a ≡ true) → a ≡ b
+same_bool true b f g = sym (f refl)
+same_bool false true f g = g refl
+same_bool false false f g = refl
+
 pub both : (a b : Bool) → T a → T b → T (a && b)
 both true b p q = q
 both false b p q = p
 
-first : (a b : Bool) → T (a && b) → T a
+pub first : (a b : Bool) → T (a && b) → T a
 first true b h = tt
 first false b h = absurd h
 
-second : (a b : Bool) → T (a && b) → T b
+pub second : (a b : Bool) → T (a && b) → T b
 second true b h = h
 second false b h = absurd h
 

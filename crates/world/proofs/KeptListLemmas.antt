@@ -54,7 +54,7 @@ fewer_left p lists =
 
 -- a version of another path
 module _ (w : World) (s p v : List ℕ) (e : Entry) (other : List ℕ) (apart : bytes_eq other p ≡ false) where
-  on_others : (ss : List (List ℕ)) (u : List ℕ) → first_on (with_entry w (place s p v) e) ss other u ≡ first_on w ss other u
+  pub on_others : (ss : List (List ℕ)) (u : List ℕ) → first_on (with_entry w (place s p v) e) ss other u ≡ first_on w ss other u
   on_others [] u = refl
   on_others (t ∷ ts) u =
       ap (λ o. option_or (seen_at o t) (first_on (with_entry w (place s p v) e) ts other u))
@@ -66,7 +66,7 @@ module _ (w : World) (s p v : List ℕ) (e : Entry) (other : List ℕ) (apart : 
       same_set texts_total texts_exact (versions_seen (with_entry w (place s p v) e) t other) (versions_seen w t other)
       (λ u. contains_versions (with_entry w (place s p v) e) t other u ∙ (ap is_some (on_others (chain w t) u) ∙ sym (contains_versions w t other u)))
 
-  versions_still : (t : List ℕ) → versions_of (with_entry w (place s p v) e) t other ≡ versions_of w t other
+  pub versions_still : (t : List ℕ) → versions_of (with_entry w (place s p v) e) t other ≡ versions_of w t other
   versions_still t = ap (λ texts. in_order (by_precedence (named (in_order texts)))) (seen_still t)
 
 pub left_still : (w : World) (s p v : List ℕ) (e : Entry) (lists : List KeptList) → AreLists w lists → AreLists (with_entry w (place s p v) e) (filter (is_of_another p) lists)

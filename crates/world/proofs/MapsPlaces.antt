@@ -1,6 +1,6 @@
 -- What nested maps of texts have at each place.
 use Rattle.std.proofs.Common.{◌≡◌, ℕ, List, [], ◌∷◌, ◌++◌, Bool, true, false, cond, refl, ◌∙◌, sym, ap, subst, Some, None, Option}
-use Rattle.std.specs.Prelude.{map as each, ◌&&◌, unwrap_or, option_and_then}
+use Rattle.std.specs.Prelude.{map as each, unwrap_or, option_and_then}
 use Rattle.std.specs.Option.{option_or}
 use Rattle.std.specs.List.{flat_map}
 use Rattle.std.specs.Ordering.{eq_by_cmp, is_eq, is_lt, ordering_then}
@@ -15,6 +15,7 @@ use Rattle.world.specs.declared.entry.Place.{Place}
 use Rattle.world.specs.declared.entry.Entry.{Entry}
 use Rattle.world.specs.World.{text_cmp, place_cmp, place}
 use Rattle.world.specs.FinMaps.{Nested, placed, placed_on, by_place, get_under, map_at, put_under, put_at}
+use Rattle.world.proofs.InOrder.{first, second}
 use Rattle.world.proofs.Orders.{texts_total, texts_exact, places_total, places_exact}
 use Rattle.world.proofs.MapsNested.{get_put_under}
 
@@ -24,17 +25,9 @@ or_none : {X : Type 0} (o : Option X) → option_or o None ≡ o
 or_none None = refl
 or_none (Some x) = refl
 
-neither : {X : Type 0} (b : Bool) → ◌≡◌ {A = Option X} (cond b None None) None
+pub neither : {X : Type 0} (b : Bool) → ◌≡◌ {A = Option X} (cond b None None) None
 neither true = refl
 neither false = refl
-
-first_of_and : (a b : Bool) → T (a && b) → T a
-first_of_and true b h = tt
-first_of_and false b h = h
-
-second_of_and : (a b : Bool) → T (a && b) → T b
-second_of_and true b h = h
-second_of_and false b h = absurd h
 
 module _ {K X : Type 0} (R : K → K → Ordering) (q : K) where
   find_either : (b : Bool) (x : X) (found rest : Option X) → cond b (Some x) (option_or found rest) ≡ option_or (cond b (Some x) found) rest
@@ -45,7 +38,7 @@ module _ {K X : Type 0} (R : K → K → Ordering) (q : K) where
   find_append [] fs = refl
   find_append (e ∷ es) fs = ap (cond (eq_by_cmp R q e.0) (Some e.1)) (find_append es fs) ∙ find_either (eq_by_cmp R q e.0) e.1 (map.find R q es) (map.find R q fs)
 
-is_apart : (r : Ordering) → T (is_lt r) → is_eq r ≡ false
+pub is_apart : (r : Ordering) → T (is_lt r) → is_eq r ≡ false
 is_apart Less h = refl
 is_apart Equal h = absurd h
 is_apart Greater h = refl
@@ -55,10 +48,10 @@ module _ {K X : Type 0} {R : K → K → Ordering} (o : IsTotalOrder R) (q k : K
   gone_after : (es : List (K × X)) → T (below_all R k es) → map.find R q es ≡ None
   gone_after [] h = refl
   gone_after (e ∷ es) h =
-      ap (λ b. cond b (Some e.1) (map.find R q es)) (is_apart (R q e.0) (subst (λ r. T (is_lt r)) (sym (o.congr q k e.0 tied)) (first_of_and _ _ h)))
-      ∙ gone_after es (second_of_and _ _ h)
+      ap (λ b. cond b (Some e.1) (map.find R q es)) (is_apart (R q e.0) (subst (λ r. T (is_lt r)) (sym (o.congr q k e.0 tied)) (first _ _ h)))
+      ∙ gone_after es (second _ _ h)
 
-is_tied : (r : Ordering) → is_eq r ≡ true → r ≡ Equal
+pub is_tied : (r : Ordering) → is_eq r ≡ true → r ≡ Equal
 is_tied Less e = cc
 is_tied Equal e = refl
 is_tied Greater e = cc
@@ -70,12 +63,12 @@ module _ {A Y K X : Type 0} {R : A → A → Ordering} (o : IsTotalOrder R) (S :
   pub find_blocks : (es : List (A × Y)) → T (map.is_sorted R es) → map.find S q (flat_map block es) ≡ option_and_then inner (map.find R a es)
   find_blocks [] h = refl
   find_blocks (e ∷ es) h =
-      let rest = find_blocks es (second_of_and _ _ h) in
+      let rest = find_blocks es (second _ _ h) in
       find_append S q (block e) (flat_map block es)
       ∙ ap (λ f. option_or f (map.find S q (flat_map block es))) (in_block e)
       ∙ elim (eq_by_cmp R a e.0)
       as (λ b. eq_by_cmp R a e.0 ≡ b → option_or (cond b (inner e.1) None) (map.find S q (flat_map block es)) ≡ option_and_then inner (cond b (Some e.1) (map.find R a es))) [
-        | true ↦ λ same. ap (option_or (inner e.1)) (rest ∙ ap (option_and_then inner) (gone_after o a e.0 (is_tied _ same) es (first_of_and _ _ h))) ∙ or_none (inner e.1)
+        | true ↦ λ same. ap (option_or (inner e.1)) (rest ∙ ap (option_and_then inner) (gone_after o a e.0 (is_tied _ same) es (first _ _ h))) ∙ or_none (inner e.1)
         | false ↦ λ _. rest
       ] refl
 

@@ -11,7 +11,7 @@ use Rattle.world.specs.Visible.{versions_among, paths_among}
 use Rattle.world.specs.World.{text_cmp, place}
 use Rattle.world.specs.FinMaps.{Nested, EachHasVersion, by_place, get_under, map_at, put_at, with_texts}
 use Rattle.world.specs.Lines.{in_order}
-use Rattle.world.proofs.InOrder.{in_order-keys, in_order-nothing}
+use Rattle.world.proofs.InOrder.{same_bool, in_order-keys, in_order-nothing}
 use Rattle.world.proofs.Orders.{texts_total, texts_exact, get_put}
 use Rattle.world.proofs.MapsNested.{get_put_under}
 use Rattle.world.proofs.MapsPlaces.{get_by_place}
@@ -19,10 +19,10 @@ use Rattle.world.proofs.Seen.{contains_among, path_among}
 
 -- ---- a set with more texts
 
-regroup : (a b c : Bool) → ((a || b) || c) ≡ (b || (a || c))
-regroup true true c = refl
-regroup true false c = refl
-regroup false b c = refl
+pub or_turn : (a b c : Bool) → ((a || b) || c) ≡ (b || (a || c))
+or_turn true true c = refl
+or_turn true false c = refl
+or_turn false b c = refl
 
 or_false : (a : Bool) → (a || false) ≡ a
 or_false true = refl
@@ -33,7 +33,7 @@ contains_more s [] t = sym (or_false (set.contains s t))
 contains_more s (x ∷ ts) t =
     contains_more (set.insert s x) ts t
     ∙ ap (λ b. b || list_any (eq_by_cmp text_cmp t) ts) (set.contains-insert texts_total s x t)
-    ∙ regroup (eq_by_cmp text_cmp t x) (set.contains s t) _
+    ∙ or_turn (eq_by_cmp text_cmp t x) (set.contains s t) _
 
 -- the keys of a map, as a set
 pub has_keys : {X : Type 0} (m : map.FinMap text_cmp X) (t : List ℕ) → set.contains (with_texts set.empty (map.keys m)) t ≡ is_some (map.get m t)
@@ -89,11 +89,6 @@ module _ (m : Nested) (s : List ℕ) where
   the_versions p versions found = in_order-keys texts_total texts_exact _ versions (λ v. has_version p v ∙ ap (λ o. is_some (option_and_then (λ versions. map.get versions v) o)) (sym found))
 
 -- ---- paths
-
-same_bool : (a b : Bool) → (a ≡ true → b ≡ true) → (b ≡ true → a ≡ true) → a ≡ b
-same_bool true b f g = sym (f refl)
-same_bool false true f g = g refl
-same_bool false false f g = refl
 
 some_before : {A B : Type 0} (f : A → Option B) (o : Option A) → is_some (option_and_then f o) ≡ true → is_some o ≡ true
 some_before f None e = e

@@ -1,6 +1,6 @@
 -- The members of lists, and of sets in their order.
-use Rattle.std.proofs.Common.{◌≡◌, ◌<◌, ℕ, zero, suc, List, [], ◌∷◌, Bool, true, false, refl, ◌∙◌, sym, ap, subst, inl, inr, ◌⊎◌, length, get_or, arith}
-use Rattle.std.specs.Prelude.{◌&&◌, Contains, map as each}
+use Rattle.std.proofs.Common.{◌≡◌, ◌<◌, ℕ, zero, suc, List, [], ◌∷◌, true, refl, ◌∙◌, sym, ap, subst, inl, inr, ◌⊎◌, length, get_or, arith}
+use Rattle.std.specs.Prelude.{Contains, map as each}
 use Rattle.std.specs.Cmp.{IsTotalOrder, tied_itself}
 use Rattle.std.specs.FinMap as map
 use Rattle.std.specs.FinSet as set
@@ -11,7 +11,7 @@ use Rattle.std.proofs.lemmas.List.Folds.{Any-from_list_any, list_any-from_Any}
 use Rattle.std.proofs.lemmas.Map.Views.{tells_apart}
 use lib.Dec.{T}
 use Rattle.world.specs.Lines.{in_order, EachToNext}
-use Rattle.world.proofs.InOrder.{in_order-members}
+use Rattle.world.proofs.InOrder.{first, second, in_order-members}
 
 -- ---- lists
 
@@ -32,14 +32,6 @@ member_cases x y xs at = by_place at.0 at.1 at.2
     by_place (suc k) less is = inr (k, omega (arith, less), is)
 
 -- ---- sets
-
-first : (a b : Bool) → T (a && b) → T a
-first true b h = tt
-first false b h = absurd h
-
-second : (a b : Bool) → T (a && b) → T b
-second true b h = h
-second false b h = absurd h
 
 less : (o : Ordering) → T (is_lt o) → o ≡ Less
 less Less h = refl

@@ -8,6 +8,7 @@ use Rattle.std.proofs.lemmas.Map.Views.{tells_apart}
 use Rattle.world.specs.declared.entry.Place.{Place}
 use Rattle.world.specs.declared.entry.Entry.{Entry}
 use Rattle.world.specs.World.{IsWorld, only_common, common, text_cmp, place_cmp}
+use Rattle.world.proofs.MapsPlaces.{neither}
 use Rattle.world.proofs.Orders.{texts_total, texts_exact, places_total, places_exact, get_put}
 
 none_is_none : {X : Type 0} (x : X) → ◌≡◌ {A = Option X} None (Some x) → ⊥
@@ -33,11 +34,7 @@ some_there (Some x) e = (x, refl)
 pub has_nothing_else : {X : Type 0} (t : List ℕ) (x : X) (u : List ℕ) → map.contains_key (map.insert (map.empty {R = text_cmp}) t x) u ≡ true → u ≡ t
 has_nothing_else t x u h = let at = some_there _ h in (only_one t x u at.0 at.1).0
 
-neither : {X : Type 0} (b : Bool) → ◌≡◌ {A = Option X} (cond b None None) None
-neither true = refl
-neither false = refl
-
-none_retained : (p : Place → Bool) → map.len (map.retain_keys (map.empty {X = Entry} {R = place_cmp}) p) ≡ 0
+pub none_retained : (p : Place → Bool) → map.len (map.retain_keys (map.empty {X = Entry} {R = place_cmp}) p) ≡ 0
 none_retained p =
     ap map.len (map.same_map places_total places_exact _ _ (λ q.
     map.get-retain_keys map.empty p q (λ x e. ap p (sym (places_exact q x e)))

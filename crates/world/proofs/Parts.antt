@@ -3,7 +3,7 @@ use Rattle.std.proofs.Common.{◌≡◌, ℕ, ◌≤◌, List, Bool, true, false
 use Rattle.std.specs.Prelude.{bytes_eq, ◌&&◌, is_some}
 use Rattle.std.specs.FinMap as map
 use Rattle.std.specs.declared.cmp.Ordering.TheVariants.{Equal}
-use Rattle.std.proofs.lemmas.Bool.{true≢false, and_parts}
+use Rattle.std.proofs.lemmas.Bool.{true≢false, and_parts, and_from}
 use Rattle.world.specs.declared.entry.Place.{Place}
 use Rattle.world.specs.declared.entry.Entry.{Entry}
 use Rattle.world.specs.declared.entry.Holder.{Holder}
@@ -12,7 +12,7 @@ use Rattle.world.specs.Part.{part, is_held, PartIsWorld, PartHasTheChain}
 use Rattle.world.proofs.Orders.{texts_exact, places_total, places_exact, text_same, test_alike}
 use Rattle.world.proofs.Sees.{sees_common, sees_parent, sees_through, seen_stands}
 
-text_alike : (f : List ℕ → Bool) (q x : List ℕ) → text_cmp q x ≡ Equal → f x ≡ f q
+pub text_alike : (f : List ℕ → Bool) (q x : List ℕ) → text_cmp q x ≡ Equal → f x ≡ f q
 text_alike f q x e = ap f (sym (texts_exact q x e))
 
 -- ---- what it has
@@ -20,7 +20,7 @@ text_alike f q x e = ap f (sym (texts_exact q x e))
 pub parent_at : (w : World) (t s : List ℕ) → map.get (part w t).shelves s ≡ cond (sees w t s) (map.get w.shelves s) None
 parent_at w t s = map.get-retain_keys w.shelves (is_among (chain w t)) s (text_alike (is_among (chain w t)) s)
 
-some_left : {X : Type 0} (b : Bool) (o : Option X) → is_some (cond b o None) ≡ (is_some o && b)
+pub some_left : {X : Type 0} (b : Bool) (o : Option X) → is_some (cond b o None) ≡ (is_some o && b)
 some_left true None = refl
 some_left true (Some x) = refl
 some_left false None = refl
@@ -42,11 +42,6 @@ entry_at w t q = let test : Place → Bool = λ r. sees w t r.shelf in map.get-r
 pub passed : {X : Type 0} (b : Bool) (o : Option X) (x : X) → cond b o None ≡ Some x → (b ≡ true) × (o ≡ Some x)
 passed true o x e = (refl, e)
 passed false o x e = cc
-
-both : (a b : Bool) → a ≡ true → b ≡ true → (a && b) ≡ true
-both true true p q = refl
-both true false p q = q
-both false b p q = p
 
 -- a key that it has
 pub held_key : (w : World) (t k : List ℕ) (h : Holder) → map.get (part w t).keys k ≡ Some h → (map.get w.keys k ≡ Some h) × (sees w t h.shelf ≡ true)
@@ -104,9 +99,9 @@ part_is_world w t is = record {
       let it = passed (sees w t s) (map.get w.shelves s) (Some parent) (sym (parent_at w t s) ∙ at) in
       parent_left w t parent (sees_through w is t s parent it.0 (sees_parent w s parent it.1)) ∙ is.parents s parent it.1;
   key_names = λ k h at. is.key_names k h (held_key w t k h at).0;
-  keys_stand = λ k h at. let it = held_key w t k h at in shelf_at w t h.shelf ∙ both _ _ (is.keys_stand k h it.0) it.1;
+  keys_stand = λ k h at. let it = held_key w t k h at in shelf_at w t h.shelf ∙ and_from _ _ (is.keys_stand k h it.0) it.1;
   entries_fit = λ q e at. is.entries_fit q e (held_entry w t q e at).0;
-  entries_stand = λ q e at. let it = held_entry w t q e at in shelf_at w t q.shelf ∙ both _ _ (is.entries_stand q e it.0) it.1;
+  entries_stand = λ q e at. let it = held_entry w t q e at in shelf_at w t q.shelf ∙ and_from _ _ (is.entries_stand q e it.0) it.1;
   few = λ s p. few_left w t s p (is.few s p);
 }
 

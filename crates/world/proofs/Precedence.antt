@@ -1,5 +1,5 @@
 -- The versions of a list by precedence are its versions, and those of one path stand each below the next.
-use Rattle.std.proofs.Common.{◌≡◌, ℕ, List, [], ◌∷◌, Bool, true, false, refl, ◌∙◌, sym, ap, subst, inl, inr, ◌⊎◌}
+use Rattle.std.proofs.Common.{◌≡◌, ℕ, List, [], ◌∷◌, true, false, refl, ◌∙◌, sym, ap, subst, inl, inr, ◌⊎◌}
 use Rattle.std.specs.Prelude.{◌↔◌, Contains}
 use Rattle.std.specs.Ordering.{eq_by_cmp, is_eq, ordering_then}
 use Rattle.std.specs.declared.cmp.Ordering.{Ordering}
@@ -16,15 +16,11 @@ use Rattle.modpath.specs.Path.{suffix_of}
 use Rattle.world.specs.Latest.{AllOf}
 use Rattle.world.specs.Lines.{in_order, EachToNext}
 use Rattle.world.specs.Versions.{version_cmp, versions_total, by_precedence}
+use Rattle.world.proofs.InOrder.{same_bool}
 use Rattle.world.proofs.Members.{no_member, first_member, later_member, member_cases, in_order_of, in_set_of}
 use Rattle.world.proofs.VersionOrder.{versions_exact}
 
 -- ---- their members
-
-same_bool : (a b : Bool) → (a ≡ true → b ≡ true) → (b ≡ true → a ≡ true) → a ≡ b
-same_bool true b f g = sym (f refl)
-same_bool false true f g = g refl
-same_bool false false f g = refl
 
 one_more : (vs : List SemanticVersion) (x v : SemanticVersion) → (set.contains (by_precedence (x ∷ vs)) v ≡ true) ↔ ((x ≡ v) ⊎ (set.contains (by_precedence vs) v ≡ true))
 one_more vs x v =

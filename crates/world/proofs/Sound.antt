@@ -86,7 +86,7 @@ module _ (w : World) (s : List ℕ) (parent : Option (List ℕ)) where
 
 -- ---- one more entry, one key more or less
 
-at_most_one_more : (b : Bool) (n : ℕ) → cond b n (n + 1) ≤ n + 1
+pub at_most_one_more : (b : Bool) (n : ℕ) → cond b n (n + 1) ≤ n + 1
 at_most_one_more true n = omega arith
 at_most_one_more false n = omega arith
 
@@ -200,7 +200,7 @@ pub new_group : (w : World) (g : List ℕ) → group_added w g ≡ Done → (is_
 new_group w g e = shelf_is_fit (is_team_name g) (map.contains_key w.shelves g) e
 
 -- a shelf that is there and has no parent
-top_is : (o : Option (Option (List ℕ))) → is_top o ≡ true → o ≡ Some None
+pub top_is : (o : Option (Option (List ℕ))) → is_top o ≡ true → o ≡ Some None
 top_is None e = absurd (true≢false (sym e))
 top_is (Some None) e = refl
 top_is (Some (Some parent)) e = absurd (true≢false (sym e))

@@ -28,6 +28,6 @@ HoldsNoDatabase image = ¬ (((db : Trees) × HoldsDatabase image db) ⊎ IsNothi
 abbrev pub IsLeft : State → Image → Type 0
 IsLeft s image = (db : Trees) × s.may_leave db × HoldsDatabase image db
 
--- if a crash leaves one world alone, files that it leaves hold that world
+-- if a crash leaves only one world, files that it leaves hold that world
 abbrev pub IsThereAfterRestart : State → Type 0
 IsThereAfterRestart s = (w : World) (image : Image) → (shown_of s).leaves w w → IsLeft s image → HoldsWorld image w

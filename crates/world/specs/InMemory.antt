@@ -12,7 +12,7 @@ in_memory m = record {
   failures = 0;
 }
 
--- the disks are honest, the store stands for this world and no other, and a crash leaves this world alone, and no other alone
+-- the disks are honest, the store stands for this world and no other, and a crash leaves only this world
 pub record IsJust (shown : Shown) (w : World) : Type 0 where
   pub honest : shown.is_honest
   pub stands : shown.stands w

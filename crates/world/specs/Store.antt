@@ -31,14 +31,14 @@ pub record HasCause {T : Type 0} (old new : Shown) (result : Result T StoreFault
   pub no_fewer : old.failures ≤ new.failures
   pub device : IsErrOf result Device → GrewOrFull old.failures new.failures
 
--- What a crash leaves once a call has ended that leads from the world w to the next one. A crash within a call is one after a call
--- whose disk fails from there on, and which so fails itself.
+-- What a crash leaves after a call that leads from the world w to the next one. It covers a crash in the middle of a call too: to
+-- the call that is a disk which fails from there on, so it ends with a fault, and `failed` says what is left.
 pub record AfterCrash {T : Type 0} (old new : Shown) (w : World) (result : Result T StoreFault) (next : World) : Type 0 where
-  -- if a crash before the call left w alone, one after it leaves w or the next world
+  -- if a crash before the call left only w, one after it leaves w or the next world
   pub either : old.leaves w w → new.leaves w next
-  -- and after Ok the next world alone
+  -- and after Ok only the next world
   pub alone : old.leaves w w → OnOk result (new.leaves next next)
-  -- whatever a crash left before, after Ok it leaves the next world alone, or the call changed nothing and added nothing to it
+  -- whatever a crash left before, after Ok it leaves only the next world, or the call changed nothing and added nothing to it
   pub settled : OnOk result (new.leaves next next ⊎ ((next ≡ w) × AddsNothing old new))
   -- whatever a crash left before, after a failure it leaves w or the next world, or the call added nothing to it
   pub failed : OnErr result (new.leaves w next ⊎ AddsNothing old new)

@@ -124,6 +124,6 @@ pub trait Shelves {
     // Each world that a store stands for is well formed.
     ghost sound: { (s : Self) (w : World) → (shown s).stands w → IsWorld w };
 
-    // If a crash leaves this world alone, it leaves this world or any other, which says less.
+    // Where a crash leaves only this world, it leaves this world or any other, which says less.
     ghost wider: { (s : Self) (w x : World) → (shown s).leaves w w → (shown s).leaves w x };
 }

@@ -106,9 +106,9 @@ fn is_encoded(bytes: &[u8], headers: &[HeaderSpan]) -> bool
     }
 }
 
-/// Returns what the bytes begin with if their head is whole: the head, or its failure if it is malformed, or if it or its body is
-/// too long.
-fn within_limits(bytes: &[u8], headers: &[HeaderSpan], spans: RequestSpans) -> Front
+/// Checks a whole head. Returns what the bytes begin with: the head, or its failure if it is malformed, or if it or its body is
+/// longer than the limits.
+fn check_limits(bytes: &[u8], headers: &[HeaderSpan], spans: RequestSpans) -> Front
     requires room { length headers.now ≡ header_limit }
     requires within { IsRequestWithin bytes.now headers.now spans }
     requires whole { IsRequestOf bytes.now headers.now spans }
@@ -134,7 +134,7 @@ pub(crate) fn front_of(bytes: &[u8], headers: &mut [HeaderSpan]) -> Front
         return Front::Unfinished;
     }
     match parse_request(bytes, headers) {
-        Ok(Status::Complete(spans)) => within_limits(bytes, headers, spans),
+        Ok(Status::Complete(spans)) => check_limits(bytes, headers, spans),
         Ok(Status::Partial) if bytes.len() < HEAD_LIMIT => Front::Unfinished,
         Ok(Status::Partial) => Front::Failed(Bad::BadRequest),
         Err(_) => Front::Failed(Bad::BadRequest),

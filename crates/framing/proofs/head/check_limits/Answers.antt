@@ -1,8 +1,8 @@
 use Rattle.std.proofs.Common.{drop}
 use Rattle.framing.proofs.HeadLemmas.{never_from_long, never_from_encoded, never_from_unannounced, good_head}
 use Rattle.framing.proofs.StreamLemmas.{bad_head, too_large_ends}
-use Rattle.framing.proofs.head.within_limits.Goals as goal
-use Rattle.framing.proofs.head.within_limits.Goals.{then-spans-gt-HEAD_LIMIT-via-then-spans-gt-HEAD_LIMIT, then-spans-gt-HEAD_LIMIT-via-else-spans-gt-HEAD_LIMIT+then-is_encoded}
+use Rattle.framing.proofs.head.check_limits.Goals as goal
+use Rattle.framing.proofs.head.check_limits.Goals.{then-spans-gt-HEAD_LIMIT-via-then-spans-gt-HEAD_LIMIT, then-spans-gt-HEAD_LIMIT-via-else-spans-gt-HEAD_LIMIT+then-is_encoded}
 
 pub returns-then-spans-gt-HEAD_LIMIT : goal.returns-then-spans-gt-HEAD_LIMIT
 returns-then-spans-gt-HEAD_LIMIT c =

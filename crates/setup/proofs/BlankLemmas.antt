@@ -16,7 +16,7 @@ use Rattle.sqlite.specs.Command.TheVariants.{Select}
 use Rattle.sqlite.proofs.Callers.{IsPlain, command_of}
 use Rattle.sqlite_tied.specs.Compute.{everything}
 use Rattle.world.specs.World.{World, IsWorld, common, only_common, text_cmp, place_cmp}
-use Rattle.world.proofs.OnlyCommon.{only_common_stands, only_one, has_nothing_else}
+use Rattle.world.proofs.OnlyCommon.{only_common_stands, only_one, some_there, has_nothing_else}
 use Rattle.world.proofs.Orders.{texts_total, texts_exact, places_total, places_exact, text_self, text_same}
 use Rattle.tables.specs.Schema.{store_schema}
 use Rattle.tables.specs.Means.{Means}
@@ -73,10 +73,6 @@ unfolding understood everything
 all_paths_tables = refl
 
 -- ---- their answers
-
-some_there : {X : Type 0} (o : Option X) → is_some o ≡ true → (x : X) × (o ≡ Some x)
-some_there None e = absurd (true≢false (sym e))
-some_there (Some x) e = (x, refl)
 
 apart_from : (s : List ℕ) → s ≢ common → differ (Text s) (Text common) ≡ true
 apart_from s other = differ_is (Text s) (Text common) refl refl ∙ ap not (false_from_ne_true (equal Binary (Text s) (Text common)) (λ e. other (texts_equal s common e)))

@@ -13,8 +13,9 @@ use Rattle.world.specs.declared.entry.Entry.{Entry}
 use Rattle.world.specs.declared.entry.Holder.{Holder}
 use Rattle.world.specs.World.{World, IsWorld, common, chain, above, group_in, is_among, sees, place_cmp, count, version_limit}
 use Rattle.world.specs.Part.{part, IsTeam, is_held}
+use Rattle.world.proofs.MapsPlaces.{neither}
 use Rattle.world.proofs.Orders.{texts_total, texts_exact, places_total, places_exact, text_self, text_same, test_alike}
-use Rattle.world.proofs.Parts.{text_alike, some_left, passed}
+use Rattle.world.proofs.Parts.{text_alike, some_left, passed, still, gone}
 use Rattle.world.proofs.Sees.{sees_common, sees_parent, sees_through, only_common}
 use Rattle.statements.specs.Shelves.{names_of, added, AreShelves, AreAllShelves}
 use Rattle.statements.specs.declared.shelf_list.Shelf.{Shelf}
@@ -55,20 +56,6 @@ module _ (w : World) (ss : List (List ℕ)) where
   held_entry q e at = let it = passed (is_among ss q.shelf) (map.get w.entries q) e (sym (entry_at q) ∙ at) in (it.1, it.0)
 
 -- ---- how many versions of a path
-
-neither : {X : Type 0} (b : Bool) → ◌≡◌ {A = Option X} (cond b None None) None
-neither true = refl
-neither false = refl
-
-still : {X : Type 0} (b c : Bool) (o : Option X) → (b ≡ true → c ≡ true) → cond b (cond c o None) None ≡ cond b o None
-still true true o h = refl
-still true false o h = absurd (true≢false (sym (h refl)))
-still false c o h = refl
-
-gone : {X : Type 0} (b c : Bool) (o : Option X) → (b ≡ true → c ≡ false) → cond b (cond c o None) None ≡ None
-gone true true o h = absurd (true≢false (h refl))
-gone true false o h = refl
-gone false c o h = refl
 
 -- a part has at most as many versions of a path on a shelf as are allowed, if the world does
 few_left : (w : World) (ss : List (List ℕ)) (s p : List ℕ) → count w s p ≤ version_limit → count (part_of w ss) s p ≤ version_limit

@@ -25,6 +25,7 @@ use Rattle.world.specs.Visible.{versions_among, paths_among, versions_on, paths_
 use Rattle.world.specs.Visible as visible
 use Rattle.world.specs.World.{World, IsWorld, common, is_team_name, is_key, place, text_cmp, chain, seen_at, first_on, without_zip, with_shelf}
 use Rattle.world.specs.World as world
+use Rattle.world.proofs.MapsPlaces.{or_none}
 use Rattle.world.proofs.Groups.{sees_itself_and_common}
 use Rattle.world.proofs.MapsSeen.{none_put, has_keys}
 use Rattle.world.proofs.Orders.{texts_total}
@@ -41,10 +42,6 @@ use Rattle.shelf.specs.Machine as machine
 use Rattle.shelf.specs.Ungrouped as alone
 use Rattle.shelf.specs.Ungrouped.{Ungrouped, Event, Asked, TeamAdd, KeyAdd, KeyRevoke, event_in, IsOf, EachIsOfOne, RepliesWithoutGroups, ListsWithoutGroups}
 use Rattle.shelf.proofs.Sound.{sound}
-
-or_none : {X : Type 0} (o : Option X) → option_or o None ≡ o
-or_none None = refl
-or_none (Some x) = refl
 
 -- the world as one without groups, with these names of its shelves
 abbrev named_so : World → set.FinSet text_cmp → Ungrouped

@@ -108,7 +108,7 @@ entry_passes s path version e is =
     let small : is_small e ≡ true = and_from (nat_le (length e.gomod) gomod_limit) _ (le-leb (length e.gomod) gomod_limit is.gomod) (le-leb (length e.zip) zip_limit is.zip) in
     ap (λ b. goes_with (cond b (Some path) None) (version_of version) e) (ap is_ok is.path)
     ∙ ap (λ o. goes_with (Some path) o e) ((version-of version v).1 is.version.1)
-    ∙ both (is_none (own_misfit path v e)) _
+    ∙ and_from (is_none (own_misfit path v e)) _
     (all_pass (not (is_small e)) (not (fits (suffix_of path) v)) (not (is_time_of (class_of v) e.time)) _ _ _ (ap not small) (ap not is.fits) (ap not (time_passes (class_of v) e.time is.time)))
     (gomod_passes path v.marked e.gomod is.reads)
 

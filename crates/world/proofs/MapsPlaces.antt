@@ -21,7 +21,7 @@ use Rattle.world.proofs.MapsNested.{get_put_under}
 
 -- ---- lists of entries, one after another
 
-or_none : {X : Type 0} (o : Option X) → option_or o None ≡ o
+pub or_none : {X : Type 0} (o : Option X) → option_or o None ≡ o
 or_none None = refl
 or_none (Some x) = refl
 

@@ -27,7 +27,7 @@ only_one t x u y e =
     let at = one_text (eq_by_cmp text_cmp u t) x y (sym (map.get-insert texts_total map.empty t x u ∙ ap (cond (eq_by_cmp text_cmp u t) (Some x)) (map.get-empty text_cmp u)) ∙ e) in
     (tells_apart texts_exact u t at.0, at.1)
 
-some_there : {X : Type 0} (o : Option X) → is_some o ≡ true → (x : X) × (o ≡ Some x)
+pub some_there : {X : Type 0} (o : Option X) → is_some o ≡ true → (x : X) × (o ≡ Some x)
 some_there None e = absurd (true≢false (sym e))
 some_there (Some x) e = (x, refl)
 

@@ -55,17 +55,13 @@ held_entry w t q e at = let it = passed (sees w t q.shelf) (map.get w.entries q)
 
 -- ---- how many versions of a path
 
-neither : {X : Type 0} (b : Bool) → ◌≡◌ {A = Option X} (cond b None None) None
-neither true = refl
-neither false = refl
-
 -- a test that the other has no say in, or that passes nothing of what it leaves
-still : {X : Type 0} (b c : Bool) (o : Option X) → (b ≡ true → c ≡ true) → cond b (cond c o None) None ≡ cond b o None
+pub still : {X : Type 0} (b c : Bool) (o : Option X) → (b ≡ true → c ≡ true) → cond b (cond c o None) None ≡ cond b o None
 still true true o h = refl
 still true false o h = absurd (true≢false (sym (h refl)))
 still false c o h = refl
 
-gone : {X : Type 0} (b c : Bool) (o : Option X) → (b ≡ true → c ≡ false) → cond b (cond c o None) None ≡ None
+pub gone : {X : Type 0} (b c : Bool) (o : Option X) → (b ≡ true → c ≡ false) → cond b (cond c o None) None ≡ None
 gone true true o h = absurd (true≢false (h refl))
 gone true false o h = refl
 gone false c o h = refl

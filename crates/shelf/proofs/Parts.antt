@@ -40,9 +40,9 @@ part_is_low w s is = record {
 -- ---- requests leave the registry
 
 -- the keys and the shelves are those that were
-record pub SameRegistry (w x : World) : Type 0 where
-  keys : x.keys ≡ w.keys
-  shelves : x.shelves ≡ w.shelves
+pub record SameRegistry (w x : World) : Type 0 where
+  pub keys : x.keys ≡ w.keys
+  pub shelves : x.shelves ≡ w.shelves
 
 registry_stored : (w : World) (h : Holder) (p : Publish) (o : Option Entry) → SameRegistry w (stored w (place_of h.shelf p) o)
 registry_stored w h p None = record { keys = refl; shelves = refl }

@@ -1,6 +1,6 @@
 -- The rows of an inventory are whole: one for each path and version that the shelf sees.
 use Rattle.std.proofs.Common.{◌≡◌, ℕ, List, [], ◌∷◌, ◌++◌, Bool, true, false, cond, refl, ◌∙◌, sym, ap, subst, Option, Some, None, inl, inr}
-use Rattle.std.specs.Prelude.{Contains, filter, bytes_eq, is_some, map as each}
+use Rattle.std.specs.Prelude.{◌&&◌, Contains, filter, bytes_eq, is_some, map as each}
 use Rattle.std.specs.Cmp.{IsTotalOrder, tied_itself}
 use Rattle.std.specs.FinMap as map
 use Rattle.std.specs.FinMap.Entries.{below_all}

@@ -1,4 +1,6 @@
 //! The command that the words of the command line ask for.
+ghost use Rattle.std.specs.Prelude.{◌≡◌, if◌then◌else◌};
+
 use clap::ArgMatches;
 use commands::action::Action;
 use commands::publish::{Files, Words};
@@ -35,8 +37,8 @@ pub fn command_of<'m, 'a>(matches: &'m ArgMatches<'a>) -> Option<Command<'m>> {
         "stop" => Some(Command::Stop {
             control: text(matches, "control"),
         }),
-        _ => match order_command(name, matches) {
-            Some(command) => Some(command),
+        _ => match order_of(name, matches) {
+            Some(order) => Some(registry_command(order, matches)),
             None => Some(Command::OnStore {
                 db: text(matches, "db"),
                 action: action_of(name, matches)?,
@@ -45,11 +47,15 @@ pub fn command_of<'m, 'a>(matches: &'m ArgMatches<'a>) -> Option<Command<'m>> {
     }
 }
 
-/// Returns a registry command that names the socket of a server, or None for any other command.
-fn order_command<'a>(name: &str, matches: &ArgMatches<'a>) -> Option<Command<'a>> {
-    let order = order_of(name, matches)?;
-    let control = matches.get_str("control")?;
-    Some(Command::Order { control, order })
+/// Returns a registry command: on the running server whose socket the words name, or on the store of a file.
+fn registry_command<'a>(order: Order<'a>, matches: &ArgMatches<'a>) -> Command<'a> {
+    match matches.get_str("control") {
+        Some(control) => Command::Order { control, order },
+        None => Command::OnStore {
+            db: text(matches, "db"),
+            action: Action::Register { order },
+        },
+    }
 }
 
 /// Returns the order of a registry command, or None for another command.
@@ -75,7 +81,9 @@ fn order_of<'a>(name: &str, matches: &ArgMatches<'a>) -> Option<Order<'a>> {
 }
 
 /// Returns the right of a key that may only read, or that may publish too.
-fn right_of(read_only: bool) -> Right {
+fn right_of(read_only: bool) -> Right
+    ensures { result ≡ (if read_only then Right.Reads else Right.Publishes) }
+{
     if read_only {
         Right::Reads
     } else {
@@ -97,24 +105,9 @@ fn answer_command<'a>(matches: &ArgMatches<'a>) -> Command<'a> {
     }
 }
 
-/// Returns the action of a command on its store, or None for a command that has none.
+/// Returns the action of a command that only the store of a file can do, or None for a command that has none.
 fn action_of<'a>(name: &str, matches: &ArgMatches<'a>) -> Option<Action<'a>> {
     match name {
-        "team-add" => Some(Action::TeamAdd {
-            team: text(matches, "team"),
-            group: matches.get_str("group"),
-        }),
-        "group-add" => Some(Action::GroupAdd {
-            group: text(matches, "group"),
-        }),
-        "key-add" => Some(Action::KeyAdd {
-            shelf: text(matches, "shelf"),
-            key: text(matches, "key"),
-            read_only: matches.get_flag("read-only"),
-        }),
-        "key-revoke" => Some(Action::KeyRevoke {
-            key: text(matches, "key"),
-        }),
         "publish" => Some(publish_of(matches)),
         "import" => Some(Action::Import {
             key: text(matches, "key"),

@@ -1,11 +1,7 @@
 -- What an action does on a store.
-use Rattle.std.specs.Prelude.{ℕ, List, ◌≡◌, if◌then◌else◌, true, Bool, Option, option_copied, Result, Ok, Err}
-use Rattle.world.specs.Registry.{team_added, after_team_add, group_added, after_group_add}
-use Rattle.world.specs.Registry.{key_added, after_key_add, key_revoked, after_key_revoke}
+use Rattle.std.specs.Prelude.{ℕ, List, ◌≡◌, true, Bool, Option, option_copied, Result, Ok, Err}
 use Rattle.world.specs.Store.{Shown}
-use Rattle.world.specs.World.{World}
-use Rattle.world.specs.declared.entry.Right.TheVariants.{Publishes, Reads}
-use Rattle.world.specs.declared.registry.Registered.{Registered}
+use Rattle.control.specs.declared.order.Order.{Order}
 use Rattle.commands.specs.Ending.{Registers}
 use Rattle.commands.specs.ImportFile.{ImportsFile}
 use Rattle.commands.specs.Opening.{AnswersAll}
@@ -34,10 +30,10 @@ acceptance (Ok u) = Ok true
 acceptance (Err refusal) = Err refusal
 
 module _ {S : Type 0} (shown : S → Shown) (copied : Copied S) (counted : Counted S) (old new : Moment S) where
-  -- the store did a command of the registry, with this outcome and this next world, and nothing was read or written
-  pub record RegistersAlone (outcome : World → Registered) (next : World → World) (result : Result Bool CommandRefusal) : Type 0 where
+  -- the order was carried out on the store, and nothing was read or written
+  pub record RegistersAlone (order : Order) (result : Result Bool CommandRefusal) : Type 0 where
     pub ended : Result (Unit {0}) CommandRefusal
-    pub registers : Registers (shown old.store) (shown new.store) outcome next ended
+    pub registers : Registers (shown old.store) (shown new.store) order ended
     pub told : result ≡ acceptance ended
     pub streams : KeepsStreams old new
 
@@ -60,16 +56,7 @@ module _ {S : Type 0} (shown : S → Shown) (copied : Copied S) (counted : Count
   -- and orders, copies and pings between them.
   abbrev pub Acts : Result Bool CommandRefusal → Action → Type 0
   Acts result action.Open = (new ≡ old) × (result ≡ Ok true)
-  Acts result (action.TeamAdd team group) =
-      RegistersAlone (λ w. team_added w team.now (option_copied group))
-      (λ w. after_team_add w team.now (option_copied group) (team_added w team.now (option_copied group))) result
-  Acts result (action.GroupAdd group) =
-      RegistersAlone (λ w. group_added w group.now) (λ w. after_group_add w group.now (group_added w group.now)) result
-  Acts result (action.KeyAdd shelf key read_only) =
-      RegistersAlone (λ w. key_added w shelf.now key.now)
-      (λ w. after_key_add w shelf.now key.now (if read_only then Reads else Publishes) (key_added w shelf.now key.now)) result
-  Acts result (action.KeyRevoke key) =
-      RegistersAlone (λ w. key_revoked w key.now) (λ w. after_key_revoke w key.now (key_revoked w key.now)) result
+  Acts result (action.Register order) = RegistersAlone order result
   Acts result (action.Publish words files) =
       PublishesFiles shown old.store new.store (asked_by words) old.written new.written result × (new.unread ≡ old.unread)
   Acts result (action.Import key list) =

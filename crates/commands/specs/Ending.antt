@@ -1,11 +1,13 @@
 -- How a command ends, by the result of the store.
 use Rattle.std.specs.Prelude.{ℕ, ◌≡◌, List, codes, Result, Ok, Err}
-use Rattle.world.specs.World.{World}
 use Rattle.world.specs.Store.{Shown, Does}
 use Rattle.world.specs.declared.registry.Registered.{Registered}
 use Rattle.world.specs.declared.registry.Registered.TheVariants as registered
 use Rattle.world.specs.declared.registry.StoreFault.{StoreFault}
 use Rattle.world.specs.declared.registry.StoreFault.TheVariants as fault
+use Rattle.shelf.specs.Machine.{after}
+use Rattle.control.specs.Order.{event_of, outcome_in}
+use Rattle.control.specs.declared.order.Order.{Order}
 use Rattle.commands.specs.declared.refusal.CommandRefusal.{CommandRefusal}
 use Rattle.commands.specs.declared.refusal.CommandRefusal.TheVariants as refusal
 
@@ -35,11 +37,9 @@ ending (Ok registered.NoGroup) = Err refusal.NoGroup
 ending (Err fault.Device) = Err refusal.Device
 ending (Err fault.Memory) = Err refusal.Memory
 
--- From old to new the store did a registry command, with this outcome and this next world in each world that it stood for, or
--- met a fault and changed nothing; and the command ends by that.
-pub record Registers
-    (old new : Shown) (outcome : World → Registered) (next : World → World) (result : Result (Unit {0}) CommandRefusal)
-    : Type 0 where
+-- From old to new the order was carried out: in each world that the store stood for, it gave the machine's reply and made the world
+-- after the order's event, or met a fault and changed nothing; and the command ends by that.
+pub record Registers (old new : Shown) (order : Order) (result : Result (Unit {0}) CommandRefusal) : Type 0 where
   pub told : Result Registered StoreFault
-  pub does : Does old new told outcome next
+  pub does : Does old new told (λ w. outcome_in w order) (λ w. after w (event_of order))
   pub ends : result ≡ ending told

@@ -6,10 +6,10 @@ use crate::answer::answer_from;
 use crate::import_file::import_file;
 use crate::publish::{Files, Words, publish};
 use crate::refusal::CommandRefusal;
-use crate::registry::{add_group, add_key, add_team, revoke_key};
+use crate::registry::register;
 use crate::report::{Named, print_inventory, print_requirements};
 use crate::serve::{Entrance, serve};
-use control::Copies;
+use control::{Copies, Order};
 use outline::outlines::Outlines;
 use std::io::{Read, Write};
 use std::rt::HostRuntime;
@@ -19,24 +19,9 @@ use std::rt::HostRuntime;
 pub enum Action<'a> {
     /// Nothing: opening the store makes it.
     Open,
-    /// `team-add`: adds a team, as a member of a group or of none.
-    TeamAdd {
-        team: &'a str,
-        group: Option<&'a str>,
-    },
-    /// `group-add`: adds a group.
-    GroupAdd {
-        group: &'a str,
-    },
-    /// `key-add`: adds a key to a shelf.
-    KeyAdd {
-        shelf: &'a str,
-        key: &'a str,
-        read_only: bool,
-    },
-    /// `key-revoke`: revokes a key.
-    KeyRevoke {
-        key: &'a str,
+    /// `team-add`, `group-add`, `key-add` or `key-revoke`: carries out a registry command.
+    Register {
+        order: Order<'a>,
     },
     /// `publish`: publishes a version from files.
     Publish {
@@ -85,14 +70,7 @@ pub fn act_on<S: Outlines, K: Copies<S>, I: Read, O: Write>(
 {
     match action {
         Action::Open => Ok(true),
-        Action::TeamAdd { team, group } => acceptance(add_team(shelves, team, *group)),
-        Action::GroupAdd { group } => acceptance(add_group(shelves, group)),
-        Action::KeyAdd {
-            shelf,
-            key,
-            read_only,
-        } => acceptance(add_key(shelves, shelf, key, *read_only)),
-        Action::KeyRevoke { key } => acceptance(revoke_key(shelves, key)),
+        Action::Register { order } => acceptance(register(shelves, order)),
         Action::Publish { words, files } => publish(rt, shelves, words, files, output),
         Action::Import { key, list } => import_file(rt, shelves, key, list, output),
         Action::Inventory { key } => print_inventory(rt.alloc(), shelves, key, output),

@@ -9,10 +9,7 @@ use world::shelves::Shelves;
 
 /// Carries out an order and returns the machine's reply: exactly the order's event happens. Fails if the store meets a fault, and
 /// then no event happens.
-pub(crate) fn carry_out<S: Shelves>(
-    shelves: &mut S,
-    order: &Order,
-) -> Result<Registered, StoreFault>
+pub fn carry_out<S: Shelves>(shelves: &mut S, order: &Order) -> Result<Registered, StoreFault>
     ensures does { Does (S.shown shelves.old) (S.shown shelves.new) result
         (λ w. outcome_in w order.now) (λ w. after w (event_of order.now)) }
 {

@@ -2,9 +2,10 @@
 use commands::import::{Ending, import};
 use commands::inventory::inventory;
 use commands::refusal::CommandRefusal;
-use commands::registry::{add_group, add_key, add_team};
+use commands::registry::register;
 use commands::requirements::requirements;
 use commands::sources::Sources;
+use control::Order;
 use engine::Io;
 use outline::outlines::Outlines;
 use std::alloc::Global;
@@ -13,6 +14,7 @@ use std::str::from_utf8;
 use std::test::Fail;
 use test_support::doubles::Sink;
 use test_support::rows::{cell, with_lines};
+use world::entry::Right;
 use world::shelves::Shelves;
 
 /// Returns the first row of a script that is answered otherwise, or the empty text if each row has its own answer. A row is a
@@ -55,12 +57,36 @@ fn answered<S: Outlines, F: Sources>(
         "import" => import_file(alloc, shelves, files, key, asked),
         "inventory" => seen_by(alloc, shelves, key),
         "requires" => required(alloc, shelves, key, asked),
-        "team-add" => ended(alloc, add_team(shelves, asked, None)),
-        "member-add" => ended(alloc, add_team(shelves, asked, Some(key))),
-        "group-add" => ended(alloc, add_group(shelves, asked)),
-        "key-add" => ended(alloc, add_key(shelves, asked, key, false)),
-        "reader-add" => ended(alloc, add_key(shelves, asked, key, true)),
-        _ => Ok(String::from_str(alloc, "no such command")?),
+        command => match order_of(command, key, asked) {
+            Some(order) => ended(alloc, register(shelves, &order)),
+            None => Ok(String::from_str(alloc, "no such command")?),
+        },
+    }
+}
+
+/// Returns the order of a row, or None if it has no registry command.
+fn order_of<'a>(command: &str, key: &'a str, asked: &'a str) -> Option<Order<'a>> {
+    match command {
+        "team-add" => Some(Order::TeamAdd {
+            name: asked,
+            group: None,
+        }),
+        "member-add" => Some(Order::TeamAdd {
+            name: asked,
+            group: Some(key),
+        }),
+        "group-add" => Some(Order::GroupAdd { name: asked }),
+        "key-add" => Some(Order::KeyAdd {
+            shelf: asked,
+            key,
+            right: Right::Publishes,
+        }),
+        "reader-add" => Some(Order::KeyAdd {
+            shelf: asked,
+            key,
+            right: Right::Reads,
+        }),
+        _ => None,
     }
 }
 

@@ -1,12 +1,10 @@
 -- The first team and its key are accepted.
-use Rattle.std.proofs.Common.{◌≡◌, ℕ, List, true, false, refl, ◌∙◌, ap, subst, Ok, Option, Some, None, Result}
-use Rattle.std.specs.Prelude.{◌&&◌, ◌||◌, not, nat_le, nat_eq, length, bytes_eq, is_some}
-use Rattle.std.specs.List.{list_all}
+use Rattle.std.proofs.Common.{◌≡◌, ℕ, List, true, false, refl, ◌∙◌, sym, ap, subst, Ok, Option, Some, None, Result, true≢false}
+use Rattle.std.specs.Prelude.{is_some}
 use Rattle.std.specs.FinMap as map
-use Rattle.std.proofs.lemmas.Bool.{and_parts, false_from_ne_true, not-true}
+use Rattle.std.proofs.lemmas.Bool.{false_from_ne_true}
 use Rattle.world.specs.InMemory.{in_memory}
 use Rattle.world.specs.Registry.{team_added, after_team_add, key_added, after_key_add}
-use Rattle.world.specs.Names.{begins_lower, is_lower, is_digit}
 use Rattle.world.specs.Store.{Does}
 use Rattle.world.specs.World.{World, IsWorld, only_common, with_team, is_team_name, is_key, common, text_cmp}
 use Rattle.world.specs.declared.entry.Right.TheVariants.{Publishes}
@@ -16,16 +14,14 @@ use Rattle.world.proofs.MapsDone.{team_done, key_done}
 use Rattle.world.proofs.OnlyCommon.{only_common_stands, has_nothing_else}
 use Rattle.shelf.proofs.Sound.{sound}
 use Rattle.shelf.specs.declared.ask.Event.TheVariants.{TeamAdd}
-use Rattle.world.proofs.Orders.{texts_total, text_apart, get_put}
+use Rattle.world.proofs.Orders.{texts_total, get_put}
 use Rattle.engine.specs.Served.{Serves}
 use Rattle.engine.specs.declared.fault.Io.{Io as Failure}
 use Rattle.commands.specs.Opening.{ServedFrom, opening}
 
 -- no team is named `common`
 not_common : (t : List ℕ) → is_team_name t ≡ true → t ≡ common → ⊥
-not_common t named =
-    let last = (and_parts (nat_le (length t) 32 && begins_lower t && list_all (λ c. is_lower c || is_digit c || nat_eq c 45) t) (not (bytes_eq t common)) named).1 in
-    text_apart t common (not-true (bytes_eq t common) last)
+not_common t named same = true≢false (sym named ∙ ap is_team_name same)
 
 is_new : (t : List ℕ) → is_team_name t ≡ true → map.contains_key only_common.shelves t ≡ false
 is_new t named = false_from_ne_true (map.contains_key only_common.shelves t) (λ e. not_common t named (has_nothing_else common None t e))

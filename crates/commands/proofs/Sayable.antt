@@ -6,7 +6,7 @@ use Rattle.std.specs.Prelude.{◌&&◌, ◌||◌, not, if◌then◌else◌, code
 use Rattle.std.specs.List.{list_all}
 use Rattle.std.specs.Str.{IsAscii}
 use Rattle.std.specs.FinMap as map
-use Rattle.std.proofs.lemmas.Bool.{and_parts, and_from}
+use Rattle.std.proofs.lemmas.Bool.{and_parts, and_from, and_right}
 use Rattle.std.proofs.lemmas.Bool.Decides.{nat_tests}
 use Rattle.std.proofs.lemmas.List.{length-append}
 use Rattle.std.proofs.lemmas.Str.{IsUtf8-from_ascii, IsAscii-append}
@@ -151,13 +151,8 @@ group_fits : (group : Option (List ℕ)) → IsGroupSayable group → FitsIf 32 
 group_fits None sayable = tt
 group_fits (Some g) sayable = shelf_fits g sayable
 
-never : (b : Bool) → (b && false) ≡ false
-never true = refl
-never false = refl
-
 common_no_group : (w : World) → is_group w common ≡ false
-common_no_group w =
-    let top = is_top (map.get w.shelves common) in ap (λ b. top && not b) (text_self common) ∙ never top
+common_no_group w = and_right (is_top (map.get w.shelves common)) (not (bytes_eq common common)) (ap not (text_self common))
 
 no_group : (w : World) (g : List ℕ) → IsWorld w → is_team_name g ≡ false → is_group w g ≡ false
 no_group w g is unnamed = go (map.get w.shelves g) refl

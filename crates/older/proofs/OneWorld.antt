@@ -1,65 +1,25 @@
 -- Tables of an older schema stand for at most one world.
-use Rattle.std.proofs.Common.{◌≡◌, ℕ, Bool, true, false, pos, List, length, filter, Option, Some, refl, sym, ap, subst, ◌∙◌, nat_lt, ltb-true, ltb-false}
+use Rattle.std.proofs.Common.{◌≡◌, ℕ, List, filter, Option, Some, sym, ap, ◌∙◌}
 use Rattle.std.specs.FinMap as map
-use Rattle.sqlite.specs.declared.types.Value.{Value}
-use Rattle.sqlite.specs.declared.types.Value.TheVariants.{Int}
 use Rattle.sqlite.specs.Order.{Row, column}
 use Rattle.sqlite.specs.Tree.{Trees}
 use Rattle.world.specs.declared.entry.Place.{Place}
 use Rattle.world.specs.declared.entry.Entry.{Entry}
-use Rattle.world.specs.declared.entry.Holder.{Holder}
 use Rattle.world.proofs.Orders.{texts_total, texts_exact, places_total, places_exact}
-use Rattle.tables.specs.Means.{Tabulates, IsAccess, ArePieces, is_of}
-use Rattle.tables.specs.Pieces.{begin, piece, HasPiece}
+use Rattle.tables.specs.Means.{IsAccess, is_of}
 use Rattle.tables.proofs.CountedRows.{same_place}
-use Rattle.tables.proofs.OneWorld.{same_got, texts_same, blobs_same, rights_same}
-use Rattle.tables.proofs.PieceLemmas.{no_piece, same_zip}
+use Rattle.tables.proofs.OneWorld.{carried, same_got, texts_same, blobs_same, one_access, one_zip}
 use Rattle.tables.proofs.RowFits.{time_read}
 use Rattle.older.specs.declared.schema.Format.{Format}
 use Rattle.older.specs.declared.schema.Format.TheVariants.{One, Two}
 use Rattle.older.specs.Means.{IsShelf, IsEntryIn, parent_of}
 use Rattle.older.specs.Laws.{MeanOne}
 
--- if a row is of one thing at most, and a table tabulates both P and Q, then Q holds wherever P does
-carried : {X : Type 0} (IsRow : Row → X → Type 0) (rows : List Row) (P Q : X → Type 0)
-    → ((row : Row) (x y : X) → IsRow row x → IsRow row y → y ≡ x) → Tabulates IsRow rows P → Tabulates IsRow rows Q → (x : X) → P x → Q x
-carried IsRow rows P Q one p q x holds =
-    let from = p.found x holds in
-    let to = q.each from.0 from.1 in
-    subst Q (one from.0 x to.0 from.2 to.1) to.2
-
-ints_same : (v : Value) (m n : ℕ) → v ≡ Int (pos m) → v ≡ Int (pos n) → n ≡ m
-ints_same v m n one two = let e = sym two ∙ one in cc
-
-one_access : (row : Row) (x y : List ℕ × Holder) → IsAccess row x → IsAccess row y → y ≡ x
-one_access row x y one two =
-    let key = texts_same (column row 1) x.0 y.0 one.0 two.0 in
-    let shelf = texts_same (column row 2) x.1.shelf y.1.shelf one.1 two.1 in
-    let right = rights_same (column row 3) x.1.right y.1.right one.2 two.2 in
-    λ i. (key i, record { shelf = shelf i; right = right i })
-
 one_shelf : (row : Row) (x y : List ℕ × Option (List ℕ)) → IsShelf row x → IsShelf row y → y ≡ x
 one_shelf row x y one two =
     let name = texts_same (column row 1) x.0 y.0 one.0 two.0 in
     let parent : y.1 ≡ x.1 = two.1 ∙ (ap parent_of name ∙ sym one.1) in
     λ i. (name i, parent i)
-
--- rows that are the pieces of two zips show the same pieces of both
-same_piece : (rows : List Row) (a b : List ℕ) → ArePieces rows a → ArePieces rows b → (n : ℕ) → HasPiece a n → HasPiece b n × (piece a n ≡ piece b n)
-same_piece rows a b one two n has =
-    let from = one.found n has in
-    let to = two.each from.0 from.1 in
-    let number : to.0 ≡ n = ints_same (column from.0 2) n to.0 from.2.number to.1.number in
-    let bytes : piece b to.0 ≡ piece a n = blobs_same (column from.0 3) (piece a n) (piece b to.0) from.2.bytes to.1.bytes in
-    (subst (HasPiece b) number to.2, sym bytes ∙ ap (piece b) number)
-
-one_zip : (rows : List Row) (a b : List ℕ) → ArePieces rows a → ArePieces rows b → a ≡ b
-one_zip rows a b one two = same_zip a b (λ n. go n (nat_lt (begin n) (length a)) (nat_lt (begin n) (length b)) refl refl)
-  where
-    go : (n : ℕ) (p q : Bool) → nat_lt (begin n) (length a) ≡ p → nat_lt (begin n) (length b) ≡ q → piece a n ≡ piece b n
-    go n true q in_a in_b = (same_piece rows a b one two n (ltb-true (begin n) (length a) in_a)).1
-    go n false true in_a in_b = sym (same_piece rows b a two one n (ltb-true (begin n) (length b) in_b)).1
-    go n false false in_a in_b = no_piece a n (ltb-false (begin n) (length a) in_a) ∙ sym (no_piece b n (ltb-false (begin n) (length b) in_b))
 
 -- a row of `version` is that of at most one entry
 one_entry : (format : Format) (db : Trees) (row : Row) (x y : Place × Entry) → IsEntryIn format db row x → IsEntryIn format db row y → y ≡ x

@@ -1,17 +1,16 @@
 //! Writes rows into a fresh store.
 
-ghost use Rattle.std.specs.Prelude.{◌≡◌, Some, OnOk, is_ok, IsTrue};
+ghost use Rattle.std.specs.Prelude.{◌≡◌, OnOk, is_ok, IsTrue};
 ghost use Rattle.sqlite.specs.declared.types.Value.TheVariants.{Text};
 ghost use Rattle.sqlite.specs.Held.{state};
 ghost use Rattle.sqlite.specs.State.{KeepsCommit, Survives};
 ghost use Rattle.sqlite.specs.Values.{or_null};
-ghost use Rattle.world.specs.World.{common, place};
+ghost use Rattle.world.specs.World.{place};
 ghost use Rattle.tables.specs.Calls.{Honestly};
 ghost use Rattle.tables.specs.Inserted.{Inserted};
 ghost use Rattle.tables.specs.Schema.{version_table};
 ghost use Rattle.tables.specs.VersionKeys.{order_key_at, rank_key_at};
 ghost use Rattle.statements.specs.Added.{version_row};
-ghost use Rattle.statements.specs.Extract.{PutsShelf};
 ghost use Rattle.statements.specs.Rows.{Filling, GoesOn};
 ghost use Rattle.older_rows.specs.Entries.{AddsAs};
 
@@ -19,7 +18,6 @@ use modver::TimeText;
 use sqlite::{Alter, Error, Transaction, params};
 use statements::pieces::insert_zip;
 use world::entry::EntryRef;
-use world::names::COMMON;
 
 /// An entry as a row shows it, with its place.
 #[derive(Drop)]
@@ -37,24 +35,6 @@ pub(crate) struct Keyed<'r> {
     pub(crate) shown: Shown<'r>,
     pub(crate) order: Vec<u8>,
     pub(crate) rank: Vec<u8>,
-}
-
-/// Writes the row of a team that is in no group.
-pub(crate) fn put_team<F: Alter>(tx: &mut Transaction<'_, F>, name: &str) -> Result<(), Error>
-    ensures same_reference { tx.new.conn.ghost_name ≡ tx.old.conn.ghost_name }
-    ensures survives { Survives (state F.Store tx.old.conn.now) (state F.Store tx.new.conn.now) (λ _. ⊥) }
-    ensures commit { Honestly (state F.Store tx.old.conn.now) (state F.Store tx.new.conn.now) (λ old new.
-        IsTrue old.in_transaction → KeepsCommit old new) }
-    ensures inside { Honestly (state F.Store tx.old.conn.now) (state F.Store tx.new.conn.now) (λ old new.
-        IsTrue old.in_transaction → OnOk result (IsTrue new.in_transaction)) }
-    ensures puts { Honestly (state F.Store tx.old.conn.now) (state F.Store tx.new.conn.now) (λ old new. Filling old
-        → OnOk result (PutsShelf name.now (Some common) old.now.trees new.now.trees × Filling new)) }
-{
-    tx.execute(
-        "INSERT INTO shelf (name, parent) VALUES (?1, ?2)",
-        params![name, COMMON],
-    )?;
-    Ok(())
 }
 
 /// Returns the text of a time, or None for None.

@@ -6,11 +6,11 @@ ghost use Rattle.older_rows.specs.Causes.{FailsAs};
 ghost use Rattle.older_rows.specs.Visits.{Moves, is_done};
 ghost use Rattle.older_rows.specs.Registry.{IsCommonRow, IsTeamRow, PutsShelves};
 
-use crate::put::put_team;
 use crate::walk::{Visit, visit_rows};
 use older::schema::Format;
 use sqlite::{Alter, Connection, Error, Row, Transaction};
 use statements::extract_rows::CopyError;
+use statements::rows::put_shelf;
 use std::alloc::Global;
 use tables::columns::text_at;
 use world::names::{COMMON, is_team_name};
@@ -41,7 +41,7 @@ impl Visit for ShelfRows {
         if !is_team_name(name) || self.names.contains(name) {
             return Ok(false);
         }
-        put_team(tx, name)?;
+        put_shelf(tx, name, Some(COMMON))?;
         self.names.insert(String::from_str(self.alloc, name)?)?;
         Ok(true)
     }

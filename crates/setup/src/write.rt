@@ -1,20 +1,19 @@
 //! Writes some shelves of a store into a fresh one, in one transaction.
 
-ghost use Rattle.std.specs.Prelude.{◌≡◌, ◌≤◌, ◌∷◌, option_copied, OnOk, is_ok, IsTrue};
+ghost use Rattle.std.specs.Prelude.{◌≡◌, ◌≤◌, ◌∷◌, is_ok};
 ghost use Rattle.sqlite.specs.Held.{state};
-ghost use Rattle.sqlite.specs.State.{HasCleanDisk, KeepsCommit, Survives};
+ghost use Rattle.sqlite.specs.State.{HasCleanDisk};
 ghost use Rattle.sqlite_trees.specs.View.{doubt};
 ghost use Rattle.world.specs.World.{IsWorld, common, only_common};
 ghost use Rattle.tables.specs.Means.{Stands};
 ghost use Rattle.statements.specs.Calls.{IsOpenIfHonest, Spares, ChangesAt};
-ghost use Rattle.tables.specs.Calls.{Honestly};
-ghost use Rattle.statements.specs.Rows.{Filling};
 ghost use Rattle.statements.specs.Extract.{IsReady, Copies, PutsShelf, Along};
 ghost use Rattle.statements.specs.Shelves.{names_of, AreShelves};
 ghost use Rattle.setup.specs.Parts.{part_of, Puts, PutsShelves, CopiesRows, MakesPart};
 
-use sqlite::{Alter, Connection, Error, ErrorCode, Transaction, params};
+use sqlite::{Alter, Connection, Error, ErrorCode, Transaction};
 use statements::extract_rows::{CopyError, copy_keys, copy_pieces, copy_versions};
+use statements::rows::put_shelf;
 use statements::shelf_list::{Shelf, ShelfList};
 use statements::transaction::commit_if;
 use world::names::COMMON;
@@ -28,28 +27,6 @@ enum Rows {
     Versions,
     /// The pieces of their zips.
     Pieces,
-}
-
-/// Writes the row of a shelf that does not exist, with its parent.
-fn put_shelf<F: Alter>(
-    tx: &mut Transaction<'_, F>,
-    name: &str,
-    parent: Option<&str>,
-) -> Result<(), Error>
-    ensures same_reference { tx.new.conn.ghost_name ≡ tx.old.conn.ghost_name }
-    ensures survives { Survives (state F.Store tx.old.conn.now) (state F.Store tx.new.conn.now) (λ _. ⊥) }
-    ensures commit { Honestly (state F.Store tx.old.conn.now) (state F.Store tx.new.conn.now) (λ old new.
-        IsTrue old.in_transaction → KeepsCommit old new) }
-    ensures inside { Honestly (state F.Store tx.old.conn.now) (state F.Store tx.new.conn.now) (λ old new.
-        IsTrue old.in_transaction → OnOk result (IsTrue new.in_transaction)) }
-    ensures puts { Honestly (state F.Store tx.old.conn.now) (state F.Store tx.new.conn.now) (λ old new. Filling old
-        → OnOk result (PutsShelf name.now (option_copied parent.entry) old.now.trees new.now.trees × Filling new)) }
-{
-    tx.execute(
-        "INSERT INTO shelf (name, parent) VALUES (?1, ?2)",
-        params![name, parent],
-    )?;
-    Ok(())
 }
 
 /// Writes the row of a shelf of a list.

@@ -25,6 +25,7 @@
 //! | `registry::add_key` | those of `find_shelf` and `find_key`, then write a row of `access` |
 //! | `revoke::revoke_key` | that of `find_key`, then delete the row of `access` |
 //! | `transaction::commit_if` | the end of a transaction |
+//! | `rows::put_shelf` | write a row of `shelf` |
 //! | `pieces::insert_zip` | write a row of `piece` for each piece of the zip |
 //! | `extract_rows::copy_keys`, `copy_versions`, `copy_pieces` | read the rows of one shelf, and write each into another store |
 //! | `extract_rows::RowSink::put` | write a row with the values of a row of another store |
@@ -47,6 +48,7 @@ pub mod pieces;
 pub mod query;
 pub mod registry;
 pub mod revoke;
+pub mod rows;
 pub mod shelf_list;
 pub mod shelves;
 pub mod transaction;

@@ -11,5 +11,5 @@ returns-clause-puts g c clean filling done =
     let new : set.contains names name ≡ false = search rules in
     let more : c.insert.new.self ≡ set.insert names name = search rules in
     let shown = rw c.in-Some.is at c.in_ok-name.ensures.found in
-    let put = c.in_ok-put_team.ensures.puts clean filling in
+    let put = c.in_ok-put_shelf.ensures.puts clean filling in
     (inr (record { name = name; shows = shown.0; good = good; new = new; noted = more; puts = put.0 }, refl), put.1)

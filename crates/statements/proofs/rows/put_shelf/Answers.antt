@@ -4,7 +4,7 @@ use Rattle.sqlite.specs.Listing.{understood}
 use Rattle.sqlite.specs.State.{ExecutesInside}
 use Rattle.sqlite_tied.specs.Compute.{everything}
 use Rattle.statements.proofs.AddTeamLemmas.{shelf_params, shelf_put, parent_bound}
-use Rattle.setup.proofs.write.put_shelf.Goals as goal
+use Rattle.statements.proofs.rows.put_shelf.Goals as goal
 
 pub returns-clause-puts : goal.returns-clause-puts
 unfolding understood everything

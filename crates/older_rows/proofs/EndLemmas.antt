@@ -1,5 +1,5 @@
 -- What the tables mean once the rows of the entries are put in.
-use Rattle.std.proofs.Common.{◌≡◌, ◌∙◌, ℕ, true, List, map as mapped, filter, Option, Some, sym, ap, subst, arith, IsPermutation}
+use Rattle.std.proofs.Common.{◌≡◌, ◌∙◌, ℕ, true, List, map as mapped, filter, Some, sym, ap, subst, arith, IsPermutation}
 use Rattle.std.specs.FinMap as map
 use Rattle.std.proofs.lemmas.List.Sorted.{IsPermutation-sym}
 use Rattle.sqlite.specs.Collation.TheVariants.{Binary}
@@ -10,15 +10,13 @@ use Rattle.sqlite_schema.specs.Rules.{equal}
 use Rattle.sqlite_rules.proofs.ProbeLemmas.{has_mapped, mapped_has}
 use Rattle.world.specs.declared.entry.Place.{Place}
 use Rattle.world.specs.declared.entry.Entry.{Entry}
-use Rattle.world.specs.declared.entry.Holder.{Holder}
 use Rattle.world.specs.World.{World}
 use Rattle.world.proofs.Orders.{texts_total, texts_exact}
 use Rattle.tables.specs.Fit.{AreFit, ArePiecesFit, piece_shown}
 use Rattle.tables.specs.Means.{Means as Today, Tabulates, IsShelf as IsShelfToday, IsAccess, IsVersion, ArePieces, is_of}
 use Rattle.tables.specs.Schema.{store_schema, piece_table}
 use Rattle.tables.proofs.Ascending.{has_permuted}
-use Rattle.tables.proofs.OneWorld.{same_got, texts_same, rights_same}
-use Rattle.tables.proofs.RowFits.{time_read}
+use Rattle.tables.proofs.OneWorld.{carried, same_got, one_access, one_shelf}
 use Rattle.tables.proofs.WorldFits.{world_fits}
 use Rattle.tables.proofs.WorldOf.{world_of, fit_means, fit_world}
 use Rattle.statements.specs.Rows.{IsElseSame, version_read, piece_read}
@@ -38,14 +36,6 @@ alike read rows others same = record {
       has_mapped read others _ (has_permuted (mapped read others) (mapped read rows) (read row) (IsPermutation-sym _ _ same) (mapped_has read rows row at)) in (it.0, it.1, sym it.2);
   back = λ other at. let it = has_mapped read rows _ (has_permuted (mapped read rows) (mapped read others) (read other) same (mapped_has read others other at)) in (it.0, it.1, it.2);
 }
-
--- if a row is of one thing at most, and a table tabulates both P and Q, then Q holds wherever P does
-carried : {X : Type 0} (IsRow : Row → X → Type 0) (rows : List Row) (P Q : X → Type 0)
-    → ((row : Row) (x y : X) → IsRow row x → IsRow row y → y ≡ x) → Tabulates IsRow rows P → Tabulates IsRow rows Q → (x : X) → P x → Q x
-carried IsRow rows P Q one p q x holds =
-    let from = p.found x holds in
-    let to = q.each from.0 from.1 in
-    subst Q (one from.0 x to.0 from.2 to.1) to.2
 
 -- ---- the zips of schema 2
 
@@ -84,19 +74,6 @@ module _ (old db after : Trees) (was : HasEntries Two old db) (sound : IsSound s
   means = fit_means after sound fits
 
   -- ---- the registry is as it was
-
-  one_shelf : (row : Row) (x y : List ℕ × Option (List ℕ)) → IsShelfToday row x → IsShelfToday row y → y ≡ x
-  one_shelf row x y one two =
-      let name = texts_same (column row 1) x.0 y.0 one.0 two.0 in
-      let parent : y.1 ≡ x.1 = time_read (column row 2) y.1 two.1 ∙ sym (time_read (column row 2) x.1 one.1) in
-      λ i. (name i, parent i)
-
-  one_access : (row : Row) (x y : List ℕ × Holder) → IsAccess row x → IsAccess row y → y ≡ x
-  one_access row x y one two =
-      let key = texts_same (column row 1) x.0 y.0 one.0 two.0 in
-      let shelf = texts_same (column row 2) x.1.shelf y.1.shelf one.1 two.1 in
-      let right = rights_same (column row 3) x.1.right y.1.right one.2 two.2 in
-      λ i. (key i, record { shelf = shelf i; right = right i })
 
   shelves_then : Tabulates IsShelfToday (db 2) (λ it. map.get w.shelves it.0 ≡ Some it.1)
   shelves_then = subst (λ l. Tabulates IsShelfToday l (λ it. map.get w.shelves it.0 ≡ Some it.1)) shelf_stays means.shelves

@@ -3,16 +3,14 @@ use Rattle.std.proofs.Common.{◌≡◌, ◌≤◌, ◌+◌, ◌++◌, ◌∙◌
 use Rattle.std.proofs.Common.{inl, inr, refl, sym, ap, subst, subst₂, arith, append_assoc, append-nil, Less}
 use Rattle.std.specs.Prelude.{bytes_eq, ◌&&◌}
 use Rattle.std.specs.FinMap as map
-use Rattle.std.specs.Ordering.{is_lt, ordering_then}
-use Rattle.sqlite.specs.declared.types.Value.{Value}
-use Rattle.sqlite.specs.declared.types.Value.TheVariants.{Int, Text}
+use Rattle.std.specs.Ordering.{is_lt}
+use Rattle.sqlite.specs.declared.types.Value.TheVariants.{Int}
 use Rattle.sqlite.specs.Order.{Row, column}
 use Rattle.sqlite.specs.Query.{key_cmp}
 use Rattle.sqlite.specs.Collation.TheVariants.{Binary}
 use Rattle.sqlite.specs.Edit.{put_all, are_fresh}
 use Rattle.sqlite.specs.Tree.{Trees}
 use Rattle.sqlite_value.specs.Keys.{ascending}
-use Rattle.sqlite_value.proofs.OrderLemmas.{value_cmp-Text, then-Equal}
 use Rattle.sqlite_trees.specs.Tree.{IsAscending}
 use Rattle.sqlite_rules.specs.Lists.{Has}
 use Rattle.sqlite_rules.proofs.ListLemmas.{has_left, has_right, has_either}
@@ -23,21 +21,23 @@ use Rattle.world.specs.declared.entry.Place.{Place}
 use Rattle.world.specs.declared.entry.Entry.{Entry}
 use Rattle.world.specs.EntryTest.{fitting_version}
 use Rattle.world.specs.World.{World, IsWorld, place as place_of, place_cmp, version_limit, count, with_entry}
-use Rattle.world.proofs.Orders.{places_total, places_exact, text_self, get_put}
+use Rattle.world.proofs.OnlyCommon.{none_retained}
+use Rattle.world.proofs.Orders.{places_total, places_exact, get_put}
 use Rattle.world.proofs.Retained.{stays, goes}
-use Rattle.world.proofs.Sound.{entry_added}
+use Rattle.world.proofs.Sound.{entry_added, at_most_one_more}
 use Rattle.tables.specs.Fit.{text_in, place_in, is_on}
 use Rattle.tables.specs.Means.{StandFor}
 use Rattle.tables.specs.VersionKeys.{order_key_at, rank_key_at}
 use Rattle.tables.specs.Walks.{Pass, MayFollow, run_with}
 use Rattle.tables.proofs.Ascending.{Adjacent, adjacent_both, adjacent_among, ascends, across, apart_below, filter_push}
 use Rattle.tables.proofs.EntryTests.{fitting_some}
-use Rattle.tables.proofs.FitTests.{pass_each, not_itself}
+use Rattle.tables.proofs.FitTests.{IsPlaced, places_in_order, may_differ, pass_each, not_itself}
 use Rattle.tables.proofs.ListingLemmas.{place_columns}
 use Rattle.tables.proofs.Maps.{put_keeps, put_splits, none_in_empty}
 use Rattle.tables.proofs.OneWorld.{texts_same}
-use Rattle.tables.proofs.RunLemmas.{adjacent_apart, many_on, many_more, push_on, few_in_all}
+use Rattle.tables.proofs.RunLemmas.{is_on_itself, adjacent_apart, many_on, many_more, push_on, few_in_all}
 use Rattle.tables.proofs.SoundLemmas.{version_shelf}
+use Rattle.tables.proofs.WorldOf.{held_text}
 use Rattle.tables.proofs.VersionKeyLemmas.{order_at, rank_at}
 use Rattle.statements.specs.Added.{version_row}
 use Rattle.statements.proofs.TransactionLemmas.{entry_means}
@@ -51,30 +51,12 @@ Puts so_far row db next after = (next.format ≡ so_far.format) × PutsEntry so_
 
 -- ---- places
 
-abbrev IsPlaced : Row → Type 0
-IsPlaced row = (column row 0 ≡ Text (place_in row).shelf) × (column row 1 ≡ Text (place_in row).path) × (column row 2 ≡ Text (place_in row).version)
-
-held : (v : Value) (t : List ℕ) → v ≡ Text t → v ≡ Text (text_in v)
-held v t is = is ∙ ap (λ x. Text (text_in x)) (sym is)
-
 -- a row shows one place
 pub place_is : (row : Row) (q : Place) (e : Entry) → ShowsEntry row q e → place_in row ≡ q
 place_is row q e shows = λ i. record { shelf = text_in (shows.shelf i); path = text_in (shows.path i); version = text_in (shows.version i) }
 
 placed : (row : Row) (q : Place) (e : Entry) → ShowsEntry row q e → IsPlaced row
-placed row q e shows = (held (column row 0) q.shelf shows.shelf, held (column row 1) q.path shows.path, held (column row 2) q.version shows.version)
-
--- SQL orders places as we do
-places_in_order : (a b : Row) → IsPlaced a → IsPlaced b
-    → key_cmp 0 (ascending Binary ∷ ascending Binary ∷ ascending Binary ∷ []) (place_columns a) (place_columns b) ≡ place_cmp (place_in a) (place_in b)
-places_in_order a b one two = rw (one.0, one.1, one.2, two.0, two.1, two.2)
-    (λ i. ordering_then (value_cmp-Text (place_in a).shelf (place_in b).shelf i)
-    (ordering_then (value_cmp-Text (place_in a).path (place_in b).path i)
-    ((then-Equal _ ∙ value_cmp-Text (place_in a).version (place_in b).version) i)))
-
-may_differ : (o : Option Place) (many : ℕ) (q : Place) → MayFollow o many q → o ≡ Some q → ⊥
-may_differ None many q may is = let e = is in absurd (cc)
-may_differ (Some p) many q may is = may.0 (let e = is in cc)
+placed row q e shows = (held_text (column row 0) q.shelf shows.shelf, held_text (column row 1) q.path shows.path, held_text (column row 2) q.version shows.version)
 
 -- a row is fit for an entry if it shows the entry, its zip, its number and the order keys of its version, and the entry may stand
 pub fit_row : (format : Format) (row : Row) (id : ℤ) (s p v zip : List ℕ) (e : Entry) (x : SemanticVersion) (order rank : List ℕ)
@@ -156,13 +138,6 @@ pub record Shows (format : Format) (x : World) (db : Trees) (done : List Row) : 
   pub version : (r : Row) → Has (db 6) r → (row : Row) × Has done row × ((it : IsIn format x db row) × (r ≡ version_row it.id it.place it.entry))
   pub counted : (s p : List ℕ) → count x s p ≤ many_on s p done
 
-on_itself : (q : Place) → is_on q.shelf q.path q ≡ true
-on_itself q = rw (text_self q.shelf, text_self q.path) refl
-
-at_most_one_more : (b : Bool) (n : ℕ) → cond b n (n + 1) ≤ n + 1
-at_most_one_more true n = omega arith
-at_most_one_more false n = omega arith
-
 -- one more entry adds at most one to the versions of its path on its shelf, and nothing to those of others
 count_more : (x : World) (q : Place) (e : Entry) (s p : List ℕ) → count (with_entry x q e) s p ≤ count x s p + cond (is_on s p q) 1 0
 count_more x q e s p =
@@ -222,7 +197,7 @@ module _ (format : Format) (x : World) (db after : Trees) (done : List Row) (row
     free = free;
     room =
         let was = shows.counted q.shelf q.path in
-        let one = push_on q.shelf q.path done row (ap (is_on q.shelf q.path) at ∙ on_itself q) in
+        let one = push_on q.shelf q.path done row (ap (is_on q.shelf q.path) at ∙ is_on_itself q) in
         let more = many_more q.shelf q.path (done ++ row ∷ []) rows in
         let most = subst (λ l. many_on q.shelf q.path l ≤ version_limit) (sym (append_assoc done (row ∷ []) rows)) (small q.shelf q.path) in
         omega (arith, was, one, more, most);
@@ -284,18 +259,6 @@ module _ (format : Format) (x : World) (db after : Trees) (done : List Row) (row
         let push = many_push s p done row ∙ ap (λ r. many_on s p done + cond (is_on s p r) 1 0) at in
         omega (arith, was, more, push);
   }
-
--- a map without entries counts none
-neither : (b : Bool) → ◌≡◌ {A = Option Entry} (cond b None None) None
-neither true = refl
-neither false = refl
-
-none_retained : (p : Place → Bool) → map.len (map.retain_keys (map.empty {X = Entry} {R = place_cmp}) p) ≡ 0
-none_retained p =
-    ap map.len (map.same_map places_total places_exact _ _ (λ q.
-    map.get-retain_keys map.empty p q (λ x e. ap p (sym (places_exact q x e)))
-    ∙ ap (λ o. cond (p q) o None) (map.get-empty place_cmp q) ∙ neither (p q) ∙ sym (map.get-empty place_cmp q)))
-    ∙ map.len-empty place_cmp Entry
 
 -- y is the world x with the entries that the rows show, and the tables stand for it
 pub record Entered (format : Format) (x y : World) (after : Trees) (rows : List Row) : Type 0 where

@@ -1,9 +1,9 @@
 -- The rows of `shelf`: each but common becomes a team without a group.
-use Rattle.std.proofs.Common.{◌≡◌, ◌⊎◌, ◌∙◌, ℕ, Bool, true, false, not, cond, List, [], ◌∷◌, Option, Some, None, is_some, inl, inr, refl, sym, ap, subst, true≢false}
+use Rattle.std.proofs.Common.{◌≡◌, ◌⊎◌, ◌∙◌, ℕ, true, false, cond, List, [], ◌∷◌, Option, Some, None, is_some, inl, inr, refl, sym, ap, subst, true≢false}
 use Rattle.std.specs.Prelude.{bytes_eq}
 use Rattle.std.specs.FinMap as map
 use Rattle.std.specs.FinSet as set
-use Rattle.std.proofs.lemmas.Bool.{and_parts}
+use Rattle.std.proofs.lemmas.Bool.{and_parts, not-true}
 use Rattle.sqlite.specs.declared.types.Value.TheVariants.{Text}
 use Rattle.sqlite.specs.Order.{Row, column}
 use Rattle.sqlite.specs.Tree.{Trees}
@@ -163,13 +163,9 @@ top_came so_far db (r ∷ rows) end after visited has = elim (top_came visited.0
 
 -- ---- the shelves of the old tables
 
-apart : (b : Bool) → not b ≡ true → b ≡ false
-apart true h = absurd (true≢false (sym h))
-apart false h = refl
-
 -- the parent of a team is `common`
 parent_common : (s : List ℕ) → is_team_name s ≡ true → parent_of s ≡ Some common
-parent_common s good = ap (λ b. cond b None (Some common)) (apart (bytes_eq s common) (and_parts _ _ good).1)
+parent_common s good = ap (λ b. cond b None (Some common)) (not-true (bytes_eq s common) (and_parts _ _ good).1)
 
 module _ (old : Trees) (so_far end : ShelfRows) (db after : Trees) (rows : List Row) (new : so_far.names ≡ set.empty) (unseen : so_far.has_common ≡ false) (has : end.has_common ≡ true)
     (found : AreFound (old 2) [] shelf_columns [] rows) (visited : Visits Puts so_far db rows end after) where

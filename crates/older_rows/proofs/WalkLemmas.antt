@@ -13,6 +13,7 @@ use Rattle.tables.proofs.FailureLemmas.{was_clean}
 use Rattle.tables.proofs.WalkLemmas.{outcome_then}
 use Rattle.statements.specs.Extract.{IsReadBy, Then}
 use Rattle.statements.specs.Rows.{Filling, GoesOn}
+use Rattle.statements.proofs.ExtractLemmas.{unchanged_itself}
 use Rattle.statements.proofs.GoingLemmas.{goes_on_itself, goes_on_then, stays_quiet}
 use Rattle.older.specs.declared.schema.Format.{Format}
 use Rattle.older.specs.Schemas.{schema_of}
@@ -159,9 +160,6 @@ moves_none format P Q s t a b p = record {
   goes_on = p.goes_on;
   makes = λ clean good ready filling all. absurd (true≢false (sym all));
 }
-
-pub unchanged_itself : (s : State) → IsTrue s.is_open → IsUnchanged s s
-unchanged_itself s is = (record { was_open = is; is_open = is; now_is = refl; committed_is = refl; mode = refl }, record { changes = refl; last_rowid = refl }, refl)
 
 -- nothing is moved
 pub moves_nothing : (format : Format) (Makes : Trees → Trees → Trees → Type 0) (s a : State) → ((old db : Trees) → Makes old db db) → Moves format Makes s s a a true

@@ -1,10 +1,9 @@
 -- The rows of `piece`, put into a store that has none.
-use Rattle.std.proofs.Common.{◌≡◌, ◌++◌, ◌∙◌, ◌||◌, Bool, true, false, List, [], ◌∷◌, map, Some}
+use Rattle.std.proofs.Common.{◌≡◌, ◌++◌, ◌∙◌, true, false, List, [], ◌∷◌, map, Some}
 use Rattle.std.proofs.Common.{refl, sym, ap, subst, true≢false, append-nil, IsPermutation, Less, Equal, Greater}
-use Rattle.std.specs.Prelude.{not}
 use Rattle.std.specs.Ordering.{is_eq, match_ordering}
 use Rattle.std.specs.declared.cmp.Ordering.{Ordering}
-use Rattle.std.proofs.lemmas.Bool.{and_parts}
+use Rattle.std.proofs.lemmas.Bool.{and_parts, or_parts, not-true}
 use Rattle.std.proofs.lemmas.List.Sorted.{IsPermutation-refl, IsPermutation-sym, IsPermutation-cons, IsPermutation-trans, IsPermutation-map, IsPermutation-middle, IsPermutation-append_right}
 use Rattle.sqlite.specs.Order.{Row, column}
 use Rattle.sqlite.specs.Edit.{put_all, are_fresh}
@@ -33,25 +32,17 @@ Put o new r rows = match_ordering o (r ∷ put_row new rows) (new ∷ rows) (new
 flipped : (a b : Row) (rows : List Row) → IsPermutation (a ∷ b ∷ rows) (b ∷ a ∷ rows)
 flipped a b rows = IsPermutation-middle (a ∷ []) b rows
 
-not_either : (a b : Bool) → (a || b) ≡ false → (a ≡ false) × (b ≡ false)
-not_either true b h = absurd (true≢false h)
-not_either false b h = (refl, h)
-
 put_permuted : (new : Row) (rows : List Row) → is_taken rows new ≡ false → IsPermutation (new ∷ rows) (put_row new rows)
 put_permuted new [] free = IsPermutation-refl (new ∷ [])
-put_permuted new (r ∷ rows) free = go (value_cmp (rowid r) (rowid new)) (not_either _ _ free).0 (put_permuted new rows (not_either _ _ free).1)
+put_permuted new (r ∷ rows) free = go (value_cmp (rowid r) (rowid new)) (or_parts _ _ free).0 (put_permuted new rows (or_parts _ _ free).1)
   where
     go : (o : Ordering) → is_eq o ≡ false → IsPermutation (new ∷ rows) (put_row new rows) → IsPermutation (new ∷ r ∷ rows) (Put o new r rows)
     go Less other later = IsPermutation-trans _ _ _ (flipped new r rows) (IsPermutation-cons r _ _ later)
     go Equal other later = absurd (true≢false other)
     go Greater other later = IsPermutation-refl (new ∷ r ∷ rows)
 
-not_true : (b : Bool) → not b ≡ true → b ≡ false
-not_true true h = absurd (true≢false (sym h))
-not_true false h = refl
-
 one_permuted : (new : Row) (rows : List Row) → are_fresh rows (new ∷ []) ≡ true → IsPermutation (new ∷ rows) (put_all rows (new ∷ []))
-one_permuted new rows fresh = put_permuted new rows (not_true _ (and_parts _ _ fresh).0)
+one_permuted new rows fresh = put_permuted new rows (not-true _ (and_parts _ _ fresh).0)
 
 -- ---- the rows that were put in
 

@@ -16,10 +16,10 @@ use Rattle.statements.specs.Extract.{IsReadBy}
 use Rattle.statements.specs.declared.extract_rows.CopyError.{CopyError}
 use Rattle.statements.specs.declared.extract_rows.CopyError.TheVariants.{Source, Fresh}
 use Rattle.statements.proofs.ChangeLemmas.{spares_at}
+use Rattle.statements.proofs.ExtractLemmas.{unchanged_itself}
 use Rattle.migration.specs.Causes.{HasReasonIf}
 use Rattle.migration.specs.Filled.{IsOfTables}
 use Rattle.migration.specs.Filled.{Migrates as WritesWorld}
-use Rattle.migration.proofs.WalkLemmas.{unchanged_itself}
 use Rattle.kept.specs.Kept.{IsNothing}
 use Rattle.store.specs.Shown.{shown_with}
 use Rattle.store.specs.Migrated.{IsForeign, IsVastOlder, IsOldOr, IsMigrated, is_whole, HasOlderReason, MigratesRows, Tells, MigratesAt, Migrates, HasCauseInOne}

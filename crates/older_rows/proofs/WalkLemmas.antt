@@ -1,14 +1,12 @@
 -- Rows of an older store that are read one at a time, and one walk after another.
-use Rattle.std.proofs.Common.{◌≡◌, ◌≤◌, ◌⊎◌, Bool, true, false, ℕ, List, [], ◌∷◌, ◌++◌, Ok, Err, Result, inl, inr, refl, sym, ap, subst, ◌∙◌, arith, IsTrue, IsErr, is_ok, IfOk, true≢false}
+use Rattle.std.proofs.Common.{◌≡◌, ◌≤◌, ◌⊎◌, Bool, true, false, List, [], ◌∷◌, ◌++◌, Ok, Err, Result, inl, inr, refl, sym, ap, subst, ◌∙◌, arith, IsTrue, IsErr, is_ok, IfOk, true≢false}
 use Rattle.sqlite_trees.specs.View.{doubt}
 use Rattle.sqlite.specs.Tree.{Trees}
 use Rattle.sqlite.specs.Order.{Row}
-use Rattle.sqlite.specs.Schema.{Schema}
-use Rattle.sqlite.specs.Effect.{Database, Reads}
-use Rattle.sqlite.specs.Listing.{understood, reads_listing}
-use Rattle.sqlite.specs.State.{State, HasCleanDisk, IsUnchanged, IsRolledBack, Survives, CommitsShowing, Shown}
-use Rattle.sqlite.proofs.Callers.{IsPlain, never_commits, command_of, reads_as, unchanged_then}
-use Rattle.sqlite.proofs.StateLemmas.{survives_then, survives_weaker}
+use Rattle.sqlite.specs.Effect.{Database}
+use Rattle.sqlite.specs.State.{State, HasCleanDisk, IsUnchanged, IsRolledBack, Survives}
+use Rattle.sqlite.proofs.Callers.{unchanged_then}
+use Rattle.sqlite.proofs.StateLemmas.{survives_then}
 use Rattle.tables.proofs.FailureLemmas.{was_clean}
 use Rattle.tables.proofs.WalkLemmas.{outcome_then}
 use Rattle.statements.specs.Extract.{IsReadBy, Then}
@@ -18,19 +16,6 @@ use Rattle.statements.proofs.GoingLemmas.{goes_on_itself, goes_on_then, stays_qu
 use Rattle.older.specs.declared.schema.Format.{Format}
 use Rattle.older.specs.Schemas.{schema_of}
 use Rattle.older_rows.specs.Visits.{Visits, IsReadyAs, Moves, is_done}
-
--- ---- a query of a schema, one row at a time
-
-module _ (schema : Schema) (sql : List ℕ) (plain : IsPlain (understood schema sql)) where
-  -- a query with no RETURNING commits nothing
-  pub commits_nothing : (old new : State) → Survives old new (CommitsShowing sql [] old) → old.now.schema ≡ schema → Survives old new (λ _. ⊥)
-  commits_nothing old new survives has = survives_weaker old new _ _ (λ _ db. never_commits sql [] old db (subst (λ s. IsPlain (understood s sql)) (sym has) plain)) survives
-
-  pub all_shown : reads_listing schema sql ≡ false → (old mid new : State) → old.now.schema ≡ schema → IsUnchanged old mid
-      → (rows : List Row) → Shown sql [] mid new rows → Reads (command_of (understood schema sql)) old.now [] rows
-  all_shown unlisted old mid new has same rows shown =
-      subst (λ db. Reads (command_of (understood schema sql)) db [] rows) same.0.now_is
-      (reads_as sql [] mid new schema (ap (λ (d : Database). d.schema) same.0.now_is ∙ has) _ refl plain unlisted rows shown)
 
 -- a store is only read if nothing is committed and it is unchanged, or rolled back by a call that is not done
 pub quiet_read : (old new : State) (done : Bool) → Survives old new (λ _. ⊥) → (HasCleanDisk new → IsUnchanged old new ⊎ IsRolledBack old new)

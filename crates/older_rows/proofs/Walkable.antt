@@ -16,14 +16,14 @@ use Rattle.sqlite_sql.specs.Query.{or_nulls}
 use Rattle.sqlite_tied.specs.Compute.{everything}
 use Rattle.sqlite_rules.specs.Lists.{Has}
 use Rattle.tables.specs.Schema.{meta_table, access_table, version_table, piece_table}
-use Rattle.tables.specs.Walks.{IsAlone}
+use Rattle.tables.specs.Walks.{IsAlone, ShowsTooManyOver}
 use Rattle.tables.proofs.ListingLemmas.{listing, by_place, piece_columns, piece_names, by_piece}
 use Rattle.tables.proofs.Texts.{piece_rows_text}
+use Rattle.tables.proofs.WalkCauses.{is_allowed, many_listed, table_vast}
 use Rattle.older.specs.declared.schema.Format.{Format}
 use Rattle.older.specs.declared.schema.Format.TheVariants.{One, Two}
 use Rattle.older.specs.Schemas.{schema_of, schema_1, schema_2, shelf_table, keyless_table, body_table}
-use Rattle.older_rows.specs.Causes.{IsVastAs, ShowsTooMany, IsWalkableAs}
-use Rattle.older_rows.proofs.CauseLemmas.{walkable, many_listed, table_vast}
+use Rattle.older_rows.specs.Causes.{IsVastAs, IsWalkableAs}
 use Rattle.older_rows.proofs.ListedLemmas.{meta_text, meta_columns, meta_whole, shelf_text, shelf_columns, shelf_whole, key_text, key_columns, key_names, key_whole}
 use Rattle.older_rows.proofs.OneLemmas.{one_text, one_columns, one_names, one_is, with_body, goes_with, bodies_of}
 use Rattle.older_rows.proofs.PieceWalk.{piece_is}
@@ -47,9 +47,10 @@ meta_there Two = inl refl
 
 pub meta_walkable : (f : Format) → IsWalkableAs f meta_text
 meta_walkable f =
-    let names = codes "name" ∷ codes "value" ∷ [] in
-    walkable f meta_text (inner 0 end) meta_columns [] names (meta_whole.is f) refl (meta_typed f) (meta_alone f)
-    (table_vast f meta_text 0 meta_columns [] names (meta_whole.is f) meta_table (meta_there f) refl (λ db. refl))
+    let names = codes "name" ∷ codes "value" ∷ [] in record {
+      query = is_allowed (schema_of f) meta_text (inner 0 end) meta_columns [] names (meta_whole.is f) refl (meta_typed f) (meta_alone f);
+      vast = table_vast (schema_of f) meta_text 0 meta_columns [] names (meta_whole.is f) meta_table (meta_there f) refl (λ db. refl);
+    }
 
 -- ---- shelves
 
@@ -69,9 +70,10 @@ shelf_there Two = inr (inl refl)
 
 pub shelf_walkable : (f : Format) → IsWalkableAs f shelf_text
 shelf_walkable f =
-    let names = codes "name" ∷ [] in
-    walkable f shelf_text (inner 2 end) shelf_columns [] names (shelf_whole.is f) refl (shelf_typed f) (shelf_alone f)
-    (table_vast f shelf_text 2 shelf_columns [] names (shelf_whole.is f) shelf_table (shelf_there f) refl (λ db. refl))
+    let names = codes "name" ∷ [] in record {
+      query = is_allowed (schema_of f) shelf_text (inner 2 end) shelf_columns [] names (shelf_whole.is f) refl (shelf_typed f) (shelf_alone f);
+      vast = table_vast (schema_of f) shelf_text 2 shelf_columns [] names (shelf_whole.is f) shelf_table (shelf_there f) refl (λ db. refl);
+    }
 
 -- ---- keys
 
@@ -90,9 +92,10 @@ key_there One = inr (inr (inl refl))
 key_there Two = inr (inr (inl refl))
 
 pub key_walkable : (f : Format) → IsWalkableAs f key_text
-key_walkable f =
-    walkable f key_text (inner 4 end) key_columns [] key_names (key_whole.is f) refl (key_typed f) (key_alone f)
-    (table_vast f key_text 4 key_columns [] key_names (key_whole.is f) access_table (key_there f) refl (λ db. refl))
+key_walkable f = record {
+  query = is_allowed (schema_of f) key_text (inner 4 end) key_columns [] key_names (key_whole.is f) refl (key_typed f) (key_alone f);
+  vast = table_vast (schema_of f) key_text 4 key_columns [] key_names (key_whole.is f) access_table (key_there f) refl (λ db. refl);
+}
 
 -- ---- versions of schema 2, and their pieces
 
@@ -105,9 +108,10 @@ unfolding understood everything
 two_alone = (lit≤ tt, refl)
 
 pub two_walkable : IsWalkableAs Two two_text
-two_walkable =
-    walkable Two two_text (inner 6 end) two_columns by_place two_names two_is refl two_typed two_alone
-    (table_vast Two two_text 6 two_columns by_place two_names two_is version_table (inr (inr (inr (inl refl)))) refl (λ db. refl))
+two_walkable = record {
+  query = is_allowed schema_2 two_text (inner 6 end) two_columns by_place two_names two_is refl two_typed two_alone;
+  vast = table_vast schema_2 two_text 6 two_columns by_place two_names two_is version_table (inr (inr (inr (inl refl)))) refl (λ db. refl);
+}
 
 piece_typed : (db : Database) → db.schema ≡ schema_2 → RefusesQuery None db (record { lets = []; body = listing (inner 8 end) piece_columns by_piece }) [] (SqliteFailure TypeMismatch) → ⊥
 unfolding understood everything
@@ -118,9 +122,10 @@ unfolding understood everything
 piece_alone = (lit≤ tt, refl)
 
 pub piece_walkable : IsWalkableAs Two piece_rows_text
-piece_walkable =
-    walkable Two piece_rows_text (inner 8 end) piece_columns by_piece piece_names piece_is refl piece_typed piece_alone
-    (table_vast Two piece_rows_text 8 piece_columns by_piece piece_names piece_is piece_table (inr (inr (inr (inr (inl refl))))) refl (λ db. refl))
+piece_walkable = record {
+  query = is_allowed schema_2 piece_rows_text (inner 8 end) piece_columns by_piece piece_names piece_is refl piece_typed piece_alone;
+  vast = table_vast schema_2 piece_rows_text 8 piece_columns by_piece piece_names piece_is piece_table (inr (inr (inr (inr (inl refl))))) refl (λ db. refl);
+}
 
 -- ---- versions of schema 1, each with its row of `body`
 
@@ -159,10 +164,10 @@ few_pairs bodies few row =
     let both = length-filter_both (goes_with row) (λ b. not (goes_with row b)) (λ _. refl) bodies in
     omega (arith, each, some, both, few)
 
-module _ (db : Database) (has : db.schema ≡ schema_1) (h : ShowsTooMany One one_text db) where
+module _ (db : Database) (has : db.schema ≡ schema_1) (h : ShowsTooManyOver schema_1 one_text db) where
   not_both : length (db.trees 6) < 2 ^ 64 → length (db.trees 8) < 2 ^ 64 → ⊥
   not_both few less =
-      let long = many_listed One one_text with_body one_columns by_place one_names one_is db h in
+      let long = many_listed schema_1 one_text with_body one_columns by_place one_names one_is db h in
       let each = length-map (matches (overlay db.trees []) [] with_body ([] ∷ [])) (eval_all one_columns) in
       let most : length (matches (overlay db.trees []) [] with_body ([] ∷ [])) ≤ 2 ^ 64 * length (db.trees 6) = few_each (pairs_of (db.trees 8)) (db.trees 6) (few_pairs (db.trees 8) less) in
       omega (arith, long, each, most, few)
@@ -177,4 +182,7 @@ module _ (db : Database) (has : db.schema ≡ schema_1) (h : ShowsTooMany One on
   ]
 
 pub one_walkable : IsWalkableAs One one_text
-one_walkable = walkable One one_text with_body one_columns by_place one_names one_is refl one_typed one_alone one_vast
+one_walkable = record {
+  query = is_allowed schema_1 one_text with_body one_columns by_place one_names one_is refl one_typed one_alone;
+  vast = one_vast;
+}

@@ -4,13 +4,13 @@ use Rattle.sqlite.specs.Held.{state}
 use Rattle.sqlite.specs.Listing.{understood}
 use Rattle.sqlite.proofs.Callers.{IsPlain, given_begin, begun_plain, unchanged_then}
 use Rattle.tables.proofs.FailureLemmas.{was_clean, failed_query}
-use Rattle.tables.proofs.WalkCauses.{excused_same, error_says}
+use Rattle.tables.proofs.WalkLemmas.{commits_nothing, all_walked}
+use Rattle.tables.proofs.WalkCauses.{query_excused, next_excused, too_many, excused_same, error_says}
 use Rattle.older.specs.Schemas.{schema_of}
 use Rattle.statements.specs.Extract.{IsReadBy}
 use Rattle.statements.proofs.ChangeLemmas.{not_ok}
 use Rattle.statements.proofs.GoingLemmas.{goes_on_itself, goes_on_then}
-use Rattle.older_rows.proofs.CauseLemmas.{query_excused, next_excused, too_vast}
-use Rattle.older_rows.proofs.WalkLemmas.{commits_nothing, all_shown, quiet_read, then_survives, one_more}
+use Rattle.older_rows.proofs.WalkLemmas.{quiet_read, then_survives, one_more}
 use Rattle.older_rows.proofs.walk.visit_each.Goals as goal
 
 -- ---- the query is refused
@@ -39,7 +39,7 @@ returns-in_err-rows-clause-cause g c clean has =
     let new = state g.S.Store c.query.follows.lender-at-none in
     let held = rw c.in_err-rows.was at c.query.follows.holds-at-none in
     error_says _ c.from_residual.result c.in_err-rows.field-0.0 c.from_residual.ensures.1
-    (inl (query_excused c.args.format c.args.sql.now c.requires.walkable c.requires.plain c.requires.tables old new _ has (held.err clean)))
+    (inl (query_excused (schema_of c.args.format) c.args.sql.now c.requires.walkable.query c.requires.plain c.requires.tables old new _ has (held.err clean)))
 
 -- ---- the rows
 
@@ -110,7 +110,7 @@ returns-in_err-row-clause-cause g c clean has =
     let failed = (rw c.in_err-row.was at (moved.err late)) c.args.sql.now [] was.0 was.1 in
     error_says _ c.from_residual-in_err-row.result c.in_err-row.field-0.0 c.from_residual-in_err-row.ensures.1
     (excused_same g.S.Store old now c.source-in_err-row-1.given.0 _ _ same
-    (next_excused c.args.format c.args.sql.now c.requires.walkable c.requires.plain c.requires.tables old mid has
+    (next_excused (schema_of c.args.format) c.args.sql.now c.requires.walkable.query c.requires.plain c.requires.tables old mid has
     (c.rows.invariant.3 before has) (state g.S.Store now) _ (c.rows.invariant.2 has) failed))
 
 -- ---- each row was visited
@@ -127,7 +127,7 @@ returns-in_default-clause-puts g c clean good has filling =
       was.0,
       (
         was.1,
-        all_shown (schema_of c.args.format) c.args.sql.now c.requires.plain c.requires.tables (state g.S.Store c.args.source.now)
+        all_walked (schema_of c.args.format) c.args.sql.now c.requires.plain c.requires.tables (state g.S.Store c.args.source.now)
             (state g.S.Store c.rows.rows.conn.now) (state g.S.Store now) has (c.rows.invariant.3 before has) was.1 shown,
         was.3,
       ),
@@ -141,5 +141,8 @@ returns-clause-cause g c clean has =
     let late : HasCleanDisk now = search rules in
     let was = c.rows.invariant.7 late has in
     let many = was.2 in
-    inr (too_vast c.args.format c.args.sql.now c.requires.walkable c.requires.plain c.requires.tables (state g.S.Store c.args.source.now) now has (c.rows.invariant.3 late has) was.0
-    (given_begin g.S.Store c.args.sql.now [] c.rows.rows.conn.now _ was.1) (omega (arith, many, c.rows-test.false)))
+    let old = state g.S.Store c.args.source.now in
+    let shown =
+    too_many (schema_of c.args.format) c.args.sql.now c.requires.walkable.query c.requires.plain c.requires.tables old now has (c.rows.invariant.3 late has) was.0
+    (given_begin g.S.Store c.args.sql.now [] c.rows.rows.conn.now _ was.1) (omega (arith, many, c.rows-test.false)) in
+    inr (c.requires.walkable.vast old.now has shown)

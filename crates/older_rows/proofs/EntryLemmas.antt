@@ -1,6 +1,6 @@
 -- The rows of `version` in the order of their places, put into a store that has no entry.
 use Rattle.std.proofs.Common.{◌≡◌, ◌≤◌, ◌+◌, ◌++◌, ◌∙◌, ℕ, ℤ, Bool, true, false, cond, List, [], ◌∷◌, Option, Some, None, is_some}
-use Rattle.std.proofs.Common.{inl, inr, refl, sym, ap, subst, subst₂, arith, append_assoc, append-nil, Less}
+use Rattle.std.proofs.Common.{inl, inr, refl, sym, ap, subst, arith, append_assoc, append-nil, Less}
 use Rattle.std.specs.Prelude.{bytes_eq, ◌&&◌}
 use Rattle.std.specs.FinMap as map
 use Rattle.std.specs.Ordering.{is_lt}
@@ -12,11 +12,12 @@ use Rattle.sqlite.specs.Edit.{put_all, are_fresh}
 use Rattle.sqlite.specs.Tree.{Trees}
 use Rattle.sqlite_value.specs.Keys.{ascending}
 use Rattle.sqlite_trees.specs.Tree.{IsAscending}
+use Rattle.sqlite_catalog.specs.Listing.{IsSound}
 use Rattle.sqlite_rules.specs.Lists.{Has}
 use Rattle.sqlite_rules.proofs.ListLemmas.{has_left, has_right, has_either}
 use Rattle.sqlite_rules.proofs.TableLemmas.{put_all_has, put_all_keeps, put_all_adds}
-use Rattle.modver.specs.Keys.{order_key_of, rank_key_of}
-use Rattle.modver.specs.SemanticVersion.{SemanticVersion}
+use Rattle.modver.specs.SemanticVersion.{SemanticVersion, version_text}
+use Rattle.modver.proofs.Readings.{version-of}
 use Rattle.world.specs.declared.entry.Place.{Place}
 use Rattle.world.specs.declared.entry.Entry.{Entry}
 use Rattle.world.specs.EntryTest.{fitting_version}
@@ -27,7 +28,7 @@ use Rattle.world.proofs.Retained.{stays, goes}
 use Rattle.world.proofs.Sound.{entry_added, at_most_one_more}
 use Rattle.tables.specs.Fit.{text_in, place_in, is_on}
 use Rattle.tables.specs.Means.{StandFor}
-use Rattle.tables.specs.VersionKeys.{order_key_at, rank_key_at}
+use Rattle.tables.specs.Schema.{store_schema}
 use Rattle.tables.specs.Walks.{Pass, MayFollow, run_with}
 use Rattle.tables.proofs.Ascending.{Adjacent, adjacent_both, adjacent_among, ascends, across, apart_below, filter_push}
 use Rattle.tables.proofs.EntryTests.{fitting_some}
@@ -38,12 +39,11 @@ use Rattle.tables.proofs.OneWorld.{texts_same}
 use Rattle.tables.proofs.RunLemmas.{is_on_itself, adjacent_apart, many_on, many_more, push_on, few_in_all}
 use Rattle.tables.proofs.SoundLemmas.{version_shelf}
 use Rattle.tables.proofs.WorldOf.{held_text}
-use Rattle.tables.proofs.VersionKeyLemmas.{order_at, rank_at}
-use Rattle.statements.specs.Added.{version_row}
+use Rattle.statements.specs.Added.{HasAdded, version_row}
 use Rattle.statements.proofs.TransactionLemmas.{entry_means}
 use Rattle.older.specs.declared.schema.Format.{Format}
 use Rattle.older_rows.specs.declared.entries.EntryRows.{EntryRows}
-use Rattle.older_rows.specs.Entries.{ShowsEntry, ShowsZip, ShowsKeys, IsFitRow, AddsAs, PutsEntry}
+use Rattle.older_rows.specs.Entries.{ShowsEntry, ShowsZip, ShowsKeys, IsFitRow, PutsEntry}
 use Rattle.older_rows.specs.Visits.{Visits}
 
 abbrev pub Puts : EntryRows → Row → Trees → EntryRows → Trees → Type 0
@@ -58,21 +58,18 @@ place_is row q e shows = λ i. record { shelf = text_in (shows.shelf i); path = 
 placed : (row : Row) (q : Place) (e : Entry) → ShowsEntry row q e → IsPlaced row
 placed row q e shows = (held_text (column row 0) q.shelf shows.shelf, held_text (column row 1) q.path shows.path, held_text (column row 2) q.version shows.version)
 
--- a row is fit for an entry if it shows the entry, its zip, its number and the order keys of its version, and the entry may stand
-pub fit_row : (format : Format) (row : Row) (id : ℤ) (s p v zip : List ℕ) (e : Entry) (x : SemanticVersion) (order rank : List ℕ)
-    → ShowsZip format row zip → ShowsEntry row (place_of s p v) e × (e.zip ≡ zip) → Some x ≡ fitting_version p v e
-    → order ≡ order_key_of x → rank ≡ rank_key_of x → ShowsKeys format row order rank → column row 5 ≡ Int id
-    → ((order ≡ order_key_at v) × (rank ≡ rank_key_at v)) × IsFitRow format row id (place_of s p v) e
-fit_row format row id s p v zip e x order rank shows_zip shows fits order_is rank_is shows_keys number =
-    let it = fitting_some p v e x fits in
-    let first = order_is ∙ sym (order_at v x it.1) in
-    let second = rank_is ∙ sym (rank_at v x it.1) in (
-      (first, second),
-      record {
+-- a row that shows an entry that may stand, its zip and its number is fit if it also shows the order keys of the version
+pub fit_row : (format : Format) (row : Row) (id : ℤ) (s p v zip : List ℕ) (e : Entry) (x : SemanticVersion)
+    → ShowsZip format row zip → ShowsEntry row (place_of s p v) e × (e.zip ≡ zip) → Some x ≡ fitting_version p v e → column row 5 ≡ Int id
+    → (version_text x ≡ v) × (ShowsKeys format row v → IsFitRow format row id (place_of s p v) e)
+fit_row format row id s p v zip e x shows_zip shows fits number =
+    let it = fitting_some p v e x fits in (
+      ((version-of v x).0 it.1).same,
+      λ keys. record {
         shows = shows.0;
         number = number;
         zip = subst (ShowsZip format row) (sym shows.1) shows_zip;
-        keys = subst₂ (ShowsKeys format row) first second shows_keys;
+        keys = keys;
         may = it.0 s;
       },
     )
@@ -169,7 +166,7 @@ shelf_there after y stand q e at =
 
 module _ (format : Format) (x : World) (db after : Trees) (done : List Row) (row : Row) (rows : List Row)
     (up : Rises (done ++ row ∷ rows)) (small : (s p : List ℕ) → many_on s p (done ++ row ∷ rows) ≤ version_limit)
-    (is : IsWorld x) (stand : StandFor db x) (shows : Shows format x db done) (id : ℤ) (q : Place) (e : Entry) (fits : IsFitRow format row id q e) (adds : AddsAs id q e db after) where
+    (is : IsWorld x) (stand : StandFor db x) (shows : Shows format x db done) (id : ℤ) (q : Place) (e : Entry) (fits : IsFitRow format row id q e) (adds : HasAdded (Some id) db after q e) (sound : IsSound store_schema after) where
   abbrev next : World
   next = with_entry x q e
 
@@ -188,7 +185,7 @@ module _ (format : Format) (x : World) (db after : Trees) (done : List Row) (row
           absurd (not_itself places_total (place_in it.0) (place_in row) below (place_is it.0 q d it.2.1.shows ∙ sym at))
 
   pub next_stands : StandFor after next
-  next_stands = record { sound = adds.sound; means = entry_means x q e free db after stand.sound adds.added stand.means }
+  next_stands = record { sound = sound; means = entry_means x q e free (Some id) db after stand.sound adds stand.means }
 
   -- the world with the entry of the next row is a world
   pub next_is : IsWorld next
@@ -210,10 +207,10 @@ module _ (format : Format) (x : World) (db after : Trees) (done : List Row) (row
 
   rows_are : after 6 ≡ put_all (db 6) (new ∷ [])
   rows_are =
-      adds.added.zip.tables.1.1.1.0 (λ f. omega (arith, f)) ∙ (adds.added.version.rows ∙ ap (λ n. put_all (db 6) (version_row n q e ∷ [])) adds.number)
+      adds.zip.tables.1.1.1.0 (λ f. omega (arith, f)) ∙ (adds.version.rows ∙ ap (λ n. put_all (db 6) (version_row n q e ∷ [])) adds.is_given)
 
   is_fresh : are_fresh (db 6) (new ∷ []) ≡ true
-  is_fresh = ap (λ n. are_fresh (db 6) (version_row n q e ∷ [])) (sym adds.number) ∙ adds.added.version.fresh
+  is_fresh = ap (λ n. are_fresh (db 6) (version_row n q e ∷ [])) (sym adds.is_given) ∙ adds.version.fresh
 
   stays_there : (r : Row) → Has (db 6) r → Has (after 6) r
   stays_there r there = subst (λ l. Has l r) (sym rows_are) (put_all_keeps (new ∷ []) (db 6) r is_fresh there)
@@ -291,9 +288,9 @@ entered format done (row ∷ rows) up small so_far end db after own visited x is
     let rest = entered format (done ++ row ∷ []) rows (subst Rises (sym assoc) up)
     (λ s p. subst (λ l. many_on s p l ≤ version_limit) (sym assoc) (small s p)) visited.0 end mid after (visited.2.0 ∙ own) visited.3
     (with_entry x put.place put.entry)
-    (next_is format x db mid done row rows up small is stand shows put.id put.place put.entry fits put.adds)
-    (next_stands format x db mid done row rows up small is stand shows put.id put.place put.entry fits put.adds)
-    (next_shows format x db mid done row rows up small is stand shows put.id put.place put.entry fits put.adds) in
+    (next_is format x db mid done row rows up small is stand shows put.id put.place put.entry fits put.adds put.sound)
+    (next_stands format x db mid done row rows up small is stand shows put.id put.place put.entry fits put.adds put.sound)
+    (next_shows format x db mid done row rows up small is stand shows put.id put.place put.entry fits put.adds put.sound) in
     let it = rest.1 in
     (rest.0, record { is = it.is; stand = it.stand; keys = it.keys; shelves = it.shelves; shows = subst (λ l. Shows format rest.0 after l) assoc it.shows })
 

@@ -14,7 +14,6 @@ use Rattle.tables.specs.Walks.{MayFollow, run_with}
 use Rattle.older.specs.declared.schema.Format.{Format}
 use Rattle.older.specs.declared.schema.Format.TheVariants.{One, Two}
 use Rattle.statements.specs.Added.{HasAdded}
-use Rattle.older_rows.specs.declared.put.Keyed.{Keyed}
 
 -- a row shows the place, the time and the go.mod of an entry
 pub record ShowsEntry (row : Row) (q : Place) (e : Entry) : Type 0 where
@@ -29,28 +28,18 @@ abbrev pub ShowsZip : Format → Row → List ℕ → Type 0
 ShowsZip One row zip = column row 6 ≡ Blob zip
 ShowsZip Two row zip = zip ≡ []
 
--- In schema 2 a row shows the order keys. In schema 1 it has none.
-abbrev pub ShowsKeys : Format → Row → List ℕ → List ℕ → Type 0
-ShowsKeys One row order rank = Unit {0}
-ShowsKeys Two row order rank = (column row 6 ≡ Blob order) × (column row 7 ≡ Blob rank)
+-- In schema 2 a row shows the order keys of the version. In schema 1 it has none.
+abbrev pub ShowsKeys : Format → Row → List ℕ → Type 0
+ShowsKeys One row version = Unit {0}
+ShowsKeys Two row version = (column row 6 ≡ Blob (order_key_at version)) × (column row 7 ≡ Blob (rank_key_at version))
 
 -- a row shows an entry that may stand at its place, its number and its order keys
 pub record IsFitRow (format : Format) (row : Row) (id : ℤ) (q : Place) (e : Entry) : Type 0 where
   pub shows : ShowsEntry row q e
   pub number : column row 5 ≡ Int id
   pub zip : ShowsZip format row e.zip
-  pub keys : ShowsKeys format row (order_key_at q.version) (rank_key_at q.version)
+  pub keys : ShowsKeys format row q.version
   pub may : IsEntry q e
-
--- the order keys are those of the version
-abbrev pub IsKeyed : Keyed → Type 0
-IsKeyed k = (k.order.items ≡ order_key_at k.shown.version.now) × (k.rank.items ≡ rank_key_at k.shown.version.now)
-
--- the rows of an entry are put in under this number
-pub record AddsAs (id : ℤ) (q : Place) (e : Entry) (db after : Trees) : Type 0 where
-  pub added : HasAdded db after q e
-  pub number : added.id ≡ id
-  pub sound : IsSound store_schema after
 
 -- a row shows an entry that may follow the last one, and the rows of the entry are put in
 pub record PutsEntry (format : Format) (last : Option Place) (many : ℕ)
@@ -62,4 +51,5 @@ pub record PutsEntry (format : Format) (last : Option Place) (many : ℕ)
   pub follows : MayFollow last many place
   pub last_is : now ≡ Some place
   pub many_is : more ≡ run_with last many place
-  pub adds : AddsAs id place entry db after
+  pub adds : HasAdded (Some id) db after place entry
+  pub sound : IsSound store_schema after

@@ -2,27 +2,46 @@
 
 ghost use Rattle.std.specs.Prelude.{◌≡◌, IfOk, IfSome, IsTrue, Some};
 ghost use Rattle.sqlite.specs.Held.{state};
+ghost use Rattle.modver.specs.SemanticVersion.{version_text};
 ghost use Rattle.world.specs.World.{place};
 ghost use Rattle.tables.specs.Walks.{MayFollow, run_with};
 ghost use Rattle.older_rows.specs.Causes.{FailsAs};
 ghost use Rattle.older_rows.specs.Visits.{Moves, is_done};
-ghost use Rattle.older_rows.specs.Entries.{ShowsEntry, ShowsZip, ShowsKeys, IsFitRow, IsKeyed, PutsEntry};
+ghost use Rattle.older_rows.specs.Entries.{ShowsEntry, ShowsZip, ShowsKeys, IsFitRow, PutsEntry};
 ghost use Rattle.older_rows.specs.Entered.{PutsEntries};
 
-use crate::put::{Keyed, Shown, put_entry};
 use crate::walk::{Visit, visit_rows};
-use modver::{order_key, rank_key};
+use modver::Version;
 use older::schema::Format;
 use sqlite::{Alter, Connection, Error, Row, Transaction};
 use statements::extract_rows::CopyError;
+use statements::keyed::KeyedVersion;
+use statements::rows::put_entry;
 use std::alloc::{AllocError, Global};
 use tables::columns::{blob_at, int_at, is_blob_at, text_at};
 use tables::fit::{run_up_to, time_at};
 use world::entry::{EntryRef, Place};
 use world::entry_test::fitting_version;
 
+/// An entry as a row shows it, with its place.
+#[derive(Drop)]
+struct EntryAt<'r> {
+    shelf: &'r str,
+    path: &'r str,
+    version: &'r str,
+    entry: EntryRef<'r>,
+}
+
+/// An entry that may stand at its place, with the number of its row and its version.
+#[derive(Drop)]
+struct FitEntry<'r> {
+    id: i64,
+    shown: EntryAt<'r>,
+    version: Version,
+}
+
 /// Returns the entry that a row shows, with this zip. Returns None if a column is not of its type.
-fn entry_at<'r>(row: &'r Row, zip: &'r [u8]) -> Result<Option<Shown<'r>>, Error>
+fn entry_at<'r>(row: &'r Row, zip: &'r [u8]) -> Result<Option<EntryAt<'r>>, Error>
     ensures { IfOk result (λ found. IfSome found (λ s.
         ShowsEntry row.now (place s.shelf.now s.path.now s.version.now) s.entry × (s.entry.zip ≡ zip.now))) }
 {
@@ -42,7 +61,7 @@ fn entry_at<'r>(row: &'r Row, zip: &'r [u8]) -> Result<Option<Shown<'r>>, Error>
         return Ok(None);
     };
     let entry = EntryRef { gomod, zip, time };
-    Ok(Some(Shown {
+    Ok(Some(EntryAt {
         shelf,
         path,
         version,
@@ -61,21 +80,24 @@ fn zip_at(format: Format, row: &Row) -> Result<Option<&[u8]>, Error>
     }
 }
 
-/// Reports whether a row shows these order keys. In schema 1 a row has none, and the answer is true.
-fn shows_keys(format: Format, row: &Row, order: &[u8], rank: &[u8]) -> Result<bool, Error>
-    ensures { IfOk result (λ shows. IsTrue shows → ShowsKeys format row.now order.now rank.now) }
+/// Reports whether a row shows the order keys of a version. In schema 1 a row has none, and the answer is true.
+fn shows_keys(format: Format, row: &Row, version: &KeyedVersion) -> Result<bool, Error>
+    ensures { IfOk result (λ shows. IsTrue shows → ShowsKeys format row.now version.now) }
 {
     match format {
         Format::One => Ok(true),
-        Format::Two => Ok(is_blob_at(row, 6, order)? && is_blob_at(row, 7, rank)?),
+        Format::Two => Ok(
+            is_blob_at(row, 6, version.order())? && is_blob_at(row, 7, version.rank())?,
+        ),
     }
 }
 
-/// Returns the entry that a row shows, with its number and order keys. Returns None if the row does not show them, or the
-/// entry may not stand at its place.
-fn fit_row<'r>(alloc: Global, format: Format, row: &'r Row) -> Result<Option<Keyed<'r>>, Error>
-    ensures { IfOk result (λ found. IfSome found (λ k. IsKeyed k × IsFitRow format row.now k.id
-        (place k.shown.shelf.now k.shown.path.now k.shown.version.now) k.shown.entry)) }
+/// Returns the entry that a row shows, with its number and its version. Returns None if the row does not show them, or the
+/// entry may not stand at its place. The order keys are not tested yet.
+fn fit_row<'r>(alloc: Global, format: Format, row: &'r Row) -> Result<Option<FitEntry<'r>>, Error>
+    ensures { IfOk result (λ found. IfSome found (λ f. (version_text f.version ≡ f.shown.version.now)
+        × (ShowsKeys format row.now f.shown.version.now → IsFitRow format row.now f.id
+        (place f.shown.shelf.now f.shown.path.now f.shown.version.now) f.shown.entry))) }
 {
     let Some(zip) = zip_at(format, row)? else {
         return Ok(None);
@@ -86,20 +108,10 @@ fn fit_row<'r>(alloc: Global, format: Format, row: &'r Row) -> Result<Option<Key
     let Some(version) = fitting_version(alloc, shown.path, shown.version, &shown.entry)? else {
         return Ok(None);
     };
-    let order = order_key(alloc, &version)?;
-    let rank = rank_key(alloc, &version)?;
-    if !shows_keys(format, row, &order, &rank)? {
-        return Ok(None);
-    }
     let Some(id) = int_at(row, 5)? else {
         return Ok(None);
     };
-    Ok(Some(Keyed {
-        id,
-        shown,
-        order,
-        rank,
-    }))
+    Ok(Some(FitEntry { id, shown, version }))
 }
 
 /// Visits the rows of `version` in the order of their places. It refuses an entry that may not stand at its place, a place that
@@ -114,7 +126,7 @@ struct EntryRows {
 
 impl EntryRows {
     /// Reports whether an entry may follow the last one, and if so makes it the last one.
-    fn follows(&mut self, shown: &Shown) -> Result<bool, AllocError>
+    fn follows(&mut self, shown: &EntryAt) -> Result<bool, AllocError>
         ensures { IfOk result (λ may. IsTrue may
             → MayFollow self.old.last self.old.many (place shown.now.shelf.now shown.now.path.now shown.now.version.now)
             × ((self.new.format ≡ self.old.format)
@@ -137,22 +149,24 @@ impl Visit for EntryRows {
         × PutsEntry so_far.format so_far.last so_far.many row db after next.last next.many };
 
     fn visit<F: Alter>(&mut self, tx: &mut Transaction<'_, F>, row: &Row) -> Result<bool, Error> {
-        let Some(keyed) = fit_row(self.alloc, self.format, row)? else {
+        let Some(fit) = fit_row(self.alloc, self.format, row)? else {
             return Ok(false);
         };
-        if !self.follows(&keyed.shown)? {
+        let keyed = KeyedVersion::of(self.alloc, &fit.version)?;
+        if !shows_keys(self.format, row, &keyed)? {
             return Ok(false);
         }
-        let shown = &keyed.shown;
+        if !self.follows(&fit.shown)? {
+            return Ok(false);
+        }
+        let shown = &fit.shown;
         put_entry(
             tx,
-            keyed.id,
+            Some(fit.id),
             shown.shelf,
             shown.path,
-            shown.version,
+            &keyed,
             &shown.entry,
-            &keyed.order,
-            &keyed.rank,
         )?;
         Ok(true)
     }

@@ -16,6 +16,5 @@ pub mod entries;
 pub mod keys;
 pub mod meta;
 pub mod pieces;
-mod put;
 pub mod shelves;
 mod walk;

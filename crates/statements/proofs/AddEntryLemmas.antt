@@ -1,5 +1,6 @@
 -- What the INSERTs of an entry do.
 use Rattle.std.proofs.Common.{◌≡◌, ℕ, ℤ, List, [], ◌∷◌, Option, Some, None, unwrap_or, Ok, refl, ap, subst, ◌∙◌}
+use Rattle.std.specs.Prelude.{IfSome}
 use Rattle.sqlite.specs.declared.types.Value.TheVariants.{Null, Int, Text, Blob}
 use Rattle.sqlite.specs.Order.{Row}
 use Rattle.sqlite.specs.Values.{or_null, bound_value}
@@ -57,6 +58,11 @@ version_params number p e = or_null Int number ∷ version_values p e
 abbrev pub number_of : Option ℤ → List Row → ℤ
 number_of None rows = next_rowid rows
 number_of (Some n) rows = n
+
+-- a given number is that of the row
+pub number_given : (number : Option ℤ) (rows : List Row) → IfSome number (λ given. number_of number rows ≡ given)
+number_given None rows = tt
+number_given (Some n) rows = refl
 
 module _ (limit : Option ℕ) (p : Place) (e : Entry) where
   version_added : (number : Option ℤ) (db : Database) (tally : Tally) (after : Database) → db.schema ≡ store_schema

@@ -1,5 +1,5 @@
 -- How a transaction ends in which the tables came to stand for another world.
-use Rattle.std.proofs.Common.{◌≡◌, ◌≤◌, ◌⊎◌, Bool, true, false, None, inl, inr, refl, sym, ap, subst, ◌∙◌, IsTrue, true≢false}
+use Rattle.std.proofs.Common.{◌≡◌, ◌≤◌, ◌⊎◌, ℤ, Bool, true, false, Option, None, inl, inr, refl, sym, ap, subst, ◌∙◌, IsTrue, true≢false}
 use Rattle.sqlite_trees.specs.View.{doubt}
 use Rattle.sqlite_trees.specs.declared.store.Store.{Ghosts}
 use Rattle.sqlite.specs.Tree.{Trees}
@@ -134,8 +134,8 @@ module _ {S : Type 0} (g : Ghosts S) (h : Held S) (last exit : State) (w next : 
       ]
 
 -- once the rows of an entry are added inside a transaction, its tables stand for the world with the entry
-pub entry_written : (begun last : State) (w : World) (p : Place) (e : Entry) → map.get w.entries p ≡ None → Writing begun w
-    → (Filling begun → HasAdded begun.now.trees last.now.trees p e × Filling last) → Writing last (with_entry w p e)
-entry_written begun last w p e unused writing add =
+pub entry_written : (number : Option ℤ) (begun last : State) (w : World) (p : Place) (e : Entry) → map.get w.entries p ≡ None → Writing begun w
+    → (Filling begun → HasAdded number begun.now.trees last.now.trees p e × Filling last) → Writing last (with_entry w p e)
+entry_written number begun last w p e unused writing add =
     let it = add (filling_of begun w writing) in
-    writing_of last (with_entry w p e) it.1 (entry_means w p e unused begun.now.trees last.now.trees writing.trees.sound it.0 writing.trees.means)
+    writing_of last (with_entry w p e) it.1 (entry_means w p e unused number begun.now.trees last.now.trees writing.trees.sound it.0 writing.trees.means)

@@ -76,8 +76,8 @@ module _ (w : World) (p : Place) (e : Entry) (unused : map.get w.entries p ≡ N
       let none : ◌≡◌ {A = Option Entry} (Some it.0.1) None = sym it.2 ∙ (ap (map.get w.entries) same ∙ unused) in absurd (cc)
 
   -- tables that mean `w` mean `w` with the entry once the rows of the entry are added
-  pub entry_means : (db after : Trees) → IsSound store_schema db → HasAdded db after p e → Means db w → Means after (with_entry w p e)
-  entry_means db after sound a means =
+  pub entry_means : (number : Option ℤ) (db after : Trees) → IsSound store_schema db → HasAdded number db after p e → Means db w → Means after (with_entry w p e)
+  entry_means number db after sound a means =
       let row = version_row a.id p e in
       let rows : after 6 ≡ a.mid 6 = a.zip.tables.1.1.1.0 (λ f. omega (arith, f)) in
       let same : a.mid 8 ≡ db 8 = a.version.tables.1.1.1.1.0 (λ f. omega (arith, f)) in

@@ -1,5 +1,5 @@
 -- What the tables become when the rows of an entry are put in.
-use Rattle.std.specs.Prelude.{◌≡◌, ◌≢◌, ℕ, ℤ, pos, List, [], ◌∷◌}
+use Rattle.std.specs.Prelude.{◌≡◌, ◌≢◌, ℕ, ℤ, pos, List, [], ◌∷◌, Option, IfSome}
 use Rattle.sqlite.specs.declared.types.Value.TheVariants.{Null, Int, Text, Blob}
 use Rattle.sqlite.specs.Order.{Row, column}
 use Rattle.sqlite.specs.Values.{or_null}
@@ -36,9 +36,10 @@ pub record AddsZip (id : ℤ) (zip : List ℕ) (db after : Trees) : Type 0 where
       → IsEachPieceOnce (db piece_table.tree) → IsEachPieceOnce (after piece_table.tree)
   pub tables : IsElseSame piece_table db after
 
--- a row of `version` is put in, and then the rows of its zip
-pub record HasAdded (db after : Trees) (p : Place) (e : Entry) : Type 0 where
+-- a row of `version` is put in, under this number if one is given, and then the rows of its zip
+pub record HasAdded (number : Option ℤ) (db after : Trees) (p : Place) (e : Entry) : Type 0 where
   pub id : ℤ
+  pub is_given : IfSome number (λ given. id ≡ given)
   pub mid : Trees
   pub version : Inserted db mid version_table (version_row id p e)
   pub zip : AddsZip id e.zip mid after

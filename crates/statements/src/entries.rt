@@ -6,29 +6,25 @@ ghost use Rattle.sqlite.specs.declared.types.Value.TheVariants.{Int, Text as Sto
 ghost use Rattle.sqlite.specs.Order.{column};
 ghost use Rattle.sqlite.specs.Values.{or_null};
 ghost use Rattle.sqlite.specs.Held.{state};
-ghost use Rattle.sqlite.specs.State.{KeepsCommit, Survives};
 ghost use Rattle.sqlite_trees.specs.View.{doubt};
 ghost use Rattle.modver.specs.SemanticVersion.{version_text};
 ghost use Rattle.world.specs.World.{place, first_on, count, with_entry};
 ghost use Rattle.outline.specs.Seen.{seen_heading};
-ghost use Rattle.tables.specs.Schema.{version_table};
 ghost use Rattle.tables.specs.Means.{StandsFor};
-ghost use Rattle.tables.specs.Inserted.{Inserted};
 ghost use Rattle.statements.specs.Counted.{versions_in};
 ghost use Rattle.statements.specs.Calls.{InEachWorld, IsOpenIfHonest, Spares, ChangesAt};
 ghost use Rattle.tables.specs.Calls.{Honestly};
 ghost use Rattle.statements.specs.Reading.{HasRow};
-ghost use Rattle.statements.specs.Rows.{Filling, GoesOn};
-ghost use Rattle.statements.specs.Added.{HasAdded, version_row};
 
 use crate::keyed::KeyedVersion;
 use crate::numbers::chosen_number;
-use crate::pieces::{find_zip, insert_zip};
+use crate::pieces::find_zip;
 use crate::query::find_row;
+use crate::rows::put_entry;
 use crate::transaction::commit_if;
 use modver::{TimeText, Version, read_time};
 use outline::seen::SeenHeading;
-use sqlite::{Alter, Connection, Error, ErrorCode, Row, Transaction, params};
+use sqlite::{Alter, Connection, Error, ErrorCode, Row, params};
 use std::alloc::Global;
 use text::Text;
 use world::bytes::Bytes;
@@ -217,73 +213,6 @@ pub fn count_versions<S: Alter>(conn: &mut Connection<S>) -> Result<u64, Error>
     }
 }
 
-/// Returns the text of a time, or None for None.
-fn time_text(time: &Option<TimeText>) -> Option<&str>
-    ensures { or_null (λ text. StoredText text.now) result ≡ or_null StoredText time.now }
-{
-    match time {
-        Some(time) => Some(time.as_str()),
-        None => None,
-    }
-}
-
-/// Writes the row of a version and returns its number: the given one, or one that sqlite chooses.
-fn insert_version<'p, S: Alter>(
-    tx: &mut Transaction<'_, S>,
-    number: Option<i64>,
-    shelf: &'p str,
-    path: &'p str,
-    version: &'p KeyedVersion<'p>,
-    entry: &'p EntryRef<'p>,
-) -> Result<i64, Error>
-    ensures same_reference { tx.new.conn.ghost_name ≡ tx.old.conn.ghost_name }
-    ensures survives { Survives (state S.Store tx.old.conn.now) (state S.Store tx.new.conn.now) (λ _. ⊥) }
-    ensures commit { Honestly (state S.Store tx.old.conn.now) (state S.Store tx.new.conn.now) (λ old new.
-        IsTrue old.in_transaction → KeepsCommit old new) }
-    ensures inside { Honestly (state S.Store tx.old.conn.now) (state S.Store tx.new.conn.now) (λ old new.
-        IsTrue old.in_transaction → OnOk result (IsTrue new.in_transaction)) }
-    ensures puts { Honestly (state S.Store tx.old.conn.now) (state S.Store tx.new.conn.now) (λ old new.
-        Filling old → IfOk result (λ id. Inserted old.now.trees new.now.trees version_table
-        (version_row id (place shelf.now path.now version.now) entry.now) × Filling new)) }
-{
-    let time = time_text(&entry.time);
-    tx.execute(
-        "INSERT INTO version (id, shelf, path, version, time, mod, order_key, rank_key) VALUES (?1, ?2, ?3, ?4, ?5, ?6, ?7, ?8)",
-        params![
-            number,
-            shelf,
-            path,
-            version.as_str(),
-            time,
-            entry.gomod,
-            version.order(),
-            version.rank()
-        ],
-    )?;
-    Ok(tx.last_insert_rowid())
-}
-
-/// Writes the rows of an entry: the row of its version, then the rows of its zip.
-/// The contracts say which rows were added, not what the tables mean before the commit. The foreign key and the free number
-/// show that no row of `piece` had this version before.
-fn insert_rows<'p, S: Alter>(
-    tx: &mut Transaction<'_, S>,
-    number: Option<i64>,
-    shelf: &'p str,
-    path: &'p str,
-    version: &'p KeyedVersion<'p>,
-    entry: &'p EntryRef<'p>,
-) -> Result<(), Error>
-    ensures same_reference { tx.new.conn.ghost_name ≡ tx.old.conn.ghost_name }
-    ensures goes_on { GoesOn (state S.Store tx.old.conn.now) (state S.Store tx.new.conn.now) (is_ok result) }
-    ensures added { Honestly (state S.Store tx.old.conn.now) (state S.Store tx.new.conn.now) (λ old new.
-        Filling old → OnOk result (HasAdded old.now.trees new.now.trees (place shelf.now path.now version.now) entry.now
-        × Filling new)) }
-{
-    let id = insert_version(tx, number, shelf, path, version, entry)?;
-    insert_zip(tx, id, entry.zip)
-}
-
 /// Stores an entry at a place that has none, with all its rows or none of them. Fails with `TransactionState` inside a
 /// transaction.
 fn insert_entry<S: Alter>(
@@ -304,7 +233,7 @@ fn insert_entry<S: Alter>(
         return Err(Error::SqliteFailure(ErrorCode::TransactionState));
     }
     let mut tx = conn.transaction();
-    let written = insert_rows(&mut tx, number, shelf, path, version, entry);
+    let written = put_entry(&mut tx, number, shelf, path, version, entry);
     commit_if(tx, written.is_ok())?;
     written
 }

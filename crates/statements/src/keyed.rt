@@ -11,7 +11,7 @@ use std::marker::Model;
 /// The text of a version and its order keys. Contracts see the text.
 /// The row holds the keys so that the database can order by precedence and by rank.
 #[derive(Drop)]
-pub(crate) struct KeyedVersion<'v> {
+pub struct KeyedVersion<'v> {
     text: &'v str,
     order: Vec<u8>,
     rank: Vec<u8>,
@@ -30,7 +30,7 @@ impl<'v> Model for KeyedVersion<'v> {
 
 impl<'v> KeyedVersion<'v> {
     /// Returns a version with its order keys. Fails if memory for the keys runs out.
-    pub(crate) fn of(alloc: Global, version: &'v Version) -> Result<KeyedVersion<'v>, AllocError>
+    pub fn of(alloc: Global, version: &'v Version) -> Result<KeyedVersion<'v>, AllocError>
         ensures { IfOk result (λ keyed. keyed ≡ version_text version.now) }
     {
         let order = order_key(alloc, version)?;
@@ -43,21 +43,21 @@ impl<'v> KeyedVersion<'v> {
     }
 
     /// The text of the version.
-    pub(crate) fn as_str(&self) -> &str
+    pub fn as_str(&self) -> &str
         ensures { result.now ≡ self.now }
     {
         self.text
     }
 
     /// Its key for ordering by precedence.
-    pub(crate) fn order(&self) -> &[u8]
+    pub fn order(&self) -> &[u8]
         ensures { result.now ≡ order_key_at self.now }
     {
         self.order.as_slice()
     }
 
     /// Its key for ordering by rank.
-    pub(crate) fn rank(&self) -> &[u8]
+    pub fn rank(&self) -> &[u8]
         ensures { result.now ≡ rank_key_at self.now }
     {
         self.rank.as_slice()

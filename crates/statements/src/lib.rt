@@ -26,6 +26,7 @@
 //! | `revoke::revoke_key` | that of `find_key`, then delete the row of `access` |
 //! | `transaction::commit_if` | the end of a transaction |
 //! | `rows::put_shelf` | write a row of `shelf` |
+//! | `rows::put_entry` | write the rows of an entry |
 //! | `pieces::insert_zip` | write a row of `piece` for each piece of the zip |
 //! | `extract_rows::copy_keys`, `copy_versions`, `copy_pieces` | read the rows of one shelf, and write each into another store |
 //! | `extract_rows::RowSink::put` | write a row with the values of a row of another store |
@@ -41,7 +42,7 @@
 pub mod compare;
 pub mod entries;
 pub mod extract_rows;
-mod keyed;
+pub mod keyed;
 mod numbers;
 pub mod outlines;
 pub mod pieces;

@@ -18,14 +18,14 @@ returns-clause-changes g c opened w unused =
     let e : Entry = c.args.entry.now in
     let next = with_entry w p e in
     let start = state g.S.Store (record h { in_transaction = true }) in
-    let written = c.insert_rows-written.result in
-    let last = state g.S.Store c.insert_rows-written.new.tx.conn.now in
+    let written = c.put_entry-written.result in
+    let last = state g.S.Store c.put_entry-written.new.tx.conn.now in
     let end = c.commit_if.new.tx.0 in
     let begun = c.transaction-tx.ensures.begun in
-    let goes_on = rw begun at c.insert_rows-written.ensures.goes_on in
-    let add = rw begun at c.insert_rows-written.ensures.added in
+    let goes_on = rw begun at c.put_entry-written.ensures.goes_on in
+    let add = rw begun at c.put_entry-written.ensures.added in
     let made = λ (late : HasCleanDisk last) (stands : Stands (state g.S.Store h) w) (whole : IsTrue (is_ok written)).
-    entry_written start last w p e unused (begins_writing g.S.Store h last (state g.S.Store end) w next opened (was_clean start last goes_on.survives.clean late) stands)
+    entry_written c.args.number start last w p e unused (begins_writing g.S.Store h last (state g.S.Store end) w next opened (was_clean start last goes_on.survives.clean late) stands)
     (λ filling. when_ok written whole (add late filling)) in
     let ends = rw c.is_ok.ensures.value at c.in_ok-commit_if.ensures in
     let done : ChangesAt (state g.S.Store h) (state g.S.Store end) (is_ok written) w next =
@@ -42,14 +42,14 @@ returns-in_err-commit_if-clause-changes g c opened w unused =
     let e : Entry = c.args.entry.now in
     let next = with_entry w p e in
     let start = state g.S.Store (record h { in_transaction = true }) in
-    let written = c.insert_rows-written.result in
-    let last = state g.S.Store c.insert_rows-written.new.tx.conn.now in
+    let written = c.put_entry-written.result in
+    let last = state g.S.Store c.put_entry-written.new.tx.conn.now in
     let end = c.commit_if.new.tx.0 in
     let begun = c.transaction-tx.ensures.begun in
-    let goes_on = rw begun at c.insert_rows-written.ensures.goes_on in
-    let add = rw begun at c.insert_rows-written.ensures.added in
+    let goes_on = rw begun at c.put_entry-written.ensures.goes_on in
+    let add = rw begun at c.put_entry-written.ensures.added in
     let made = λ (late : HasCleanDisk last) (stands : Stands (state g.S.Store h) w) (whole : IsTrue (is_ok written)).
-    entry_written start last w p e unused (begins_writing g.S.Store h last (state g.S.Store end) w next opened (was_clean start last goes_on.survives.clean late) stands)
+    entry_written c.args.number start last w p e unused (begins_writing g.S.Store h last (state g.S.Store end) w next opened (was_clean start last goes_on.survives.clean late) stands)
     (λ filling. when_ok written whole (add late filling)) in
     let ends = rw c.is_ok.ensures.value at c.in_err-commit_if.ensures in
     let done : ChangesAt (state g.S.Store h) (state g.S.Store end) false w next =

@@ -1,4 +1,5 @@
-use Rattle.std.proofs.Common.{Ok, ap, subst, sym, ◌∙◌, to_z-of_z, w64, SFits, rules, refl}
+use Rattle.std.proofs.Common.{◌≡◌, Ok, ap, subst, sym, ◌∙◌, to_z-of_z, w64, SFits, rules, refl}
+use Rattle.std.specs.Prelude.{IfSome}
 use Rattle.sqlite.specs.Held.{state}
 use Rattle.sqlite.specs.Listing.{understood}
 use Rattle.sqlite_tied.specs.Compute.{everything}
@@ -8,8 +9,8 @@ use Rattle.tables.specs.Schema.{version_table}
 use Rattle.world.specs.declared.entry.Place.{Place}
 use Rattle.world.specs.declared.entry.Entry.{Entry}
 use Rattle.statements.specs.Added.{version_row}
-use Rattle.statements.proofs.AddEntryLemmas.{version_put, version_params, number_bound, text_bound}
-use Rattle.statements.proofs.entries.insert_version.Goals as goal
+use Rattle.statements.proofs.AddEntryLemmas.{version_put, version_params, number_given, number_bound, text_bound}
+use Rattle.statements.proofs.rows.put_version.Goals as goal
 
 pub returns-clause-puts : goal.returns-clause-puts
 unfolding understood everything
@@ -39,5 +40,8 @@ returns-clause-puts g c clean filling =
     ) at (c.in_ok-execute.ensures.runs clean filling.inside) in
     let put = version_put _ refl (refl, refl) c.args.number p e old new c.in_ok-execute.field-0 filling ran in
     let range : SFits w64 c.last_insert_rowid.result = search rules in
-    let numbered = to_z-of_z {w = w64} {z = c.last_insert_rowid.result} range ∙ (c.last_insert_rowid.ensures ∙ put.1) in
-    (subst (λ n. Inserted old.now.trees new.now.trees version_table (version_row n p e)) (sym numbered) put.0, put.2)
+    let numbered = to_z-of_z {w = w64} {z = c.last_insert_rowid.result} range ∙ (c.last_insert_rowid.ensures ∙ put.1) in (
+      subst (λ n. IfSome c.args.number (λ given. n ≡ given)) (sym numbered) (number_given c.args.number (old.now.trees 6)),
+      subst (λ n. Inserted old.now.trees new.now.trees version_table (version_row n p e)) (sym numbered) put.0,
+      put.2,
+    )

@@ -7,12 +7,13 @@ use Rattle.std.specs.FinSet as set
 use Rattle.std.specs.Ordering.{is_lt, ordering_then, int_cmp}
 use Rattle.std.proofs.lemmas.Bool.{and_parts, and_from}
 use Rattle.std.specs.declared.cmp.Ordering.{Ordering}
-use Rattle.std.specs.Cmp.{IsTotalOrder, tied_itself, int_cmp_total}
-use Rattle.std.specs.FinMap.{IsAntisymmetric, int_cmp-IsAntisymmetric}
+use Rattle.std.specs.Cmp.{IsTotalOrder, tied_itself}
+use Rattle.std.specs.FinMap.{IsAntisymmetric}
 use Rattle.std.proofs.lemmas.List.Sorted.{IsPermutation-sym}
 use Rattle.sqlite.specs.declared.types.Value.{Value}
 use Rattle.sqlite.specs.declared.types.Value.TheVariants.{Null, Int, Real, Text, Blob}
 use Rattle.sqlite.specs.Order.{Row, column}
+use Rattle.sqlite.specs.Term.{col}
 use Rattle.sqlite.specs.Tree.{Trees}
 use Rattle.sqlite.specs.Effect.{Database}
 use Rattle.sqlite.specs.Query.{key_cmp}
@@ -32,18 +33,15 @@ use Rattle.world.proofs.Members.{no_member, first_member, later_member, member_c
 use Rattle.world.proofs.Sound.{still}
 use Rattle.tables.proofs.Maps.{text_put, text_splits}
 use Rattle.world.proofs.Orders.{texts_total, texts_exact, places_total, places_exact}
-use Rattle.tables.specs.Schema.{store_schema}
+use Rattle.tables.specs.Schema.{store_schema, access_table}
 use Rattle.tables.specs.Walks.{Looks, Tests, Pass, Walks, MayFollow, run_with}
 use Rattle.tables.specs.Fit
 use Rattle.tables.specs.declared.fit.MetaRows.{MetaRows}
 use Rattle.tables.specs.declared.fit.ShelfRows.{ShelfRows}
-use Rattle.tables.specs.declared.fit.KeyRows.{KeyRows}
-use Rattle.tables.specs.declared.fit.NumberRows.{NumberRows}
 use Rattle.tables.specs.declared.fit.EntryRows.{EntryRows}
-use Rattle.tables.proofs.Texts.{meta_rows_text, shelf_rows_text, key_rows_text, number_rows_text, entry_rows_text}
-use Rattle.tables.proofs.Ascending.{has_permuted, Adjacent, adjacent_both, adjacent_among, ascends, ascends_permuted, across, apart_below, filter_permuted}
-use Rattle.tables.proofs.ListingLemmas.{all_listed, first_listed, meta_rows_is, shelf_rows_is, key_rows_is, number_rows_is, entry_rows_is, meta_listed, shelves_listed}
-use Rattle.tables.proofs.ListingLemmas.{keys_listed, numbers_listed, entries_listed, InOrder, shelves_in_order, keys_in_order, numbers_in_order, entries_in_order, place_columns}
+use Rattle.tables.proofs.Texts.{meta_rows_text, shelf_rows_text, entry_rows_text}
+use Rattle.tables.proofs.Ascending.{has_permuted, adjacent_both, adjacent_among, ascends, ascends_permuted, across, apart_below, filter_permuted}
+use Rattle.tables.proofs.ListingLemmas.{Lists, meta_rows, shelf_rows, entry_rows, rows_listed, in_its_order, all_shown, first_shown, InOrder, first_column, place_columns}
 use Rattle.tables.proofs.RunLemmas.{adjacent_apart, last_of, many_on, many_more, push_on, run_within, few_in_all}
 use Rattle.tables.proofs.WorldOf.{held_text}
 
@@ -100,7 +98,7 @@ module _ (db : Database) (start end : MetaRows) where
   -- if each row of `meta` passed, the walk saw a row exactly if the rows are those of schema 3
   pub meta_true : start.has_row ≡ false → Walks MetaFits MetaKeeps meta_rows_text db start end true → Decides end.has_row (Fit.IsMetaFit (map Fit.meta_shown (db.trees 0)))
   meta_true new w =
-      let same = meta_listed db.trees w.0 (all_listed store_schema meta_rows_text _ _ _ _ meta_rows_is db w.0 w.1) in
+      let same = rows_listed meta_rows db.trees w.0 (all_shown meta_rows db w.0 w.1) in
       elim (met start w.0 end w.2) [
         | inl none ↦ (
             let unseen : end.has_row ≡ false = ap (λ (x : MetaRows). x.has_row) none.0 ∙ new in
@@ -116,8 +114,8 @@ module _ (db : Database) (start end : MetaRows) where
 
   pub meta_false : Walks MetaFits MetaKeeps meta_rows_text db start end false → Fit.IsMetaFit (map Fit.meta_shown (db.trees 0)) → ⊥
   meta_false w fit =
-      let first = first_listed store_schema meta_rows_text _ _ _ _ meta_rows_is db (w.0 ++ w.1 ∷ []) w.3 in
-      let same = meta_listed db.trees _ first.1 in
+      let first = first_shown meta_rows db (w.0 ++ w.1 ∷ []) w.3 in
+      let same = rows_listed meta_rows db.trees _ first.1 in
       w.5 (fit.each w.1 (has_permuted _ _ w.1 same (at_index w.0 first.0 w.1)))
 
 -- ---- access: rows in the order of a key, each with a key of its own
@@ -139,7 +137,7 @@ module _ {T K : Type 0} {R : K → K → Ordering} (total : IsTotalOrder R) (exa
   turned : (a b : Row) → KeysApart a b → KeysApart b a
   turned a b apart same = apart (sym same)
 
-  rise : (start end : T) (rows : List Row) → InOrder rows → Pass OnceFits OnceKeeps start rows end → IsAscending (λ a b. R (key a) (key b) ≡ Less) rows
+  rise : (start end : T) (rows : List Row) → InOrder (ascending Binary ∷ []) first_column rows → Pass OnceFits OnceKeeps start rows end → IsAscending (λ a b. R (key a) (key b) ≡ Less) rows
   rise start end rows sorted p =
       let apart = adjacent_apart OnceFits OnceKeeps last key (λ x row next keeps. keeps) (λ x row fits. fits.1) start rows end p in
       let each = λ (r : Row) (there : Has rows r). (pass_each OnceFits OnceKeeps start rows end p r there).1.0 in
@@ -147,7 +145,7 @@ module _ {T K : Type 0} {R : K → K → Ordering} (total : IsTotalOrder R) (exa
       ascends (λ a b. R (key a) (key b) ≡ Less)
       (λ a b c. total.trans (key a) (key b) (key c)) rows (adjacent_both _ _ _ (λ a b upto apart. apart_below total exact (key a) (key b) upto apart) rows upto apart)
 
-  once_true : (start end : T) (rows all : List Row) → IsPermutation all rows → InOrder rows → Pass OnceFits OnceKeeps start rows end → Fit.AreOnce IsRow key all
+  once_true : (start end : T) (rows all : List Row) → IsPermutation all rows → InOrder (ascending Binary ∷ []) first_column rows → Pass OnceFits OnceKeeps start rows end → Fit.AreOnce IsRow key all
   once_true start end rows all same sorted p =
       let back = IsPermutation-sym _ _ same in
       record {
@@ -168,47 +166,22 @@ module _ {T K : Type 0} {R : K → K → Ordering} (total : IsTotalOrder R) (exa
         ],
       )
 
+  -- a walk over one column of `access` tests whether its rows are of this form with a key of its own each
+  pub once_tests : {sql : List ℕ} {n : ℕ} (q : Lists sql access_table (col 1 n ∷ []) ((col 1 n, ascending Binary) ∷ [])) (old new : State) (result : Result Bool Error) (start end : T)
+      → last start ≡ None → Looks old new → (HasCleanDisk new → old.now.schema ≡ store_schema → OnOk result (IsUnchanged old new))
+      → (HasCleanDisk new → old.now.schema ≡ store_schema → IfOk result (Walks OnceFits OnceKeeps sql old.now start end))
+      → Tests old new result (λ db. Fit.AreOnce IsRow key (map (λ row. column row n ∷ []) (db 4)))
+  once_tests {sql} q old new result start end fresh looks same answer =
+      walked OnceFits OnceKeeps sql old new result start end _ looks same answer
+      (λ w. let it = all_shown q old.now w.0 w.1 in once_true start end w.0 _ (rows_listed q old.now.trees w.0 it) (in_its_order q old.now.trees w.0 it first_column (λ env. refl)) w.2)
+      (λ w. let first = first_shown q old.now (w.0 ++ w.1 ∷ []) w.3 in once_false start w.2 fresh w.0 w.1 first.0 _ (rows_listed q old.now.trees _ first.1) w.4 w.5)
+
 -- texts in SQL's order are in ours
-texts_in_order : (a b : Row) → Fit.IsKeyRow a → Fit.IsKeyRow b → key_cmp 0 (ascending Binary ∷ []) (column a 0 ∷ []) (column b 0 ∷ []) ≡ text_cmp (Fit.key_in a) (Fit.key_in b)
+pub texts_in_order : (a b : Row) → Fit.IsKeyRow a → Fit.IsKeyRow b → key_cmp 0 (ascending Binary ∷ []) (column a 0 ∷ []) (column b 0 ∷ []) ≡ text_cmp (Fit.key_in a) (Fit.key_in b)
 texts_in_order a b one two = rw (one.1, two.1) (then-Equal _ ∙ value_cmp-Text one.0 two.0)
 
-ints_in_order : (a b : Row) → Fit.IsNumberRow a → Fit.IsNumberRow b → key_cmp 0 (ascending Binary ∷ []) (column a 0 ∷ []) (column b 0 ∷ []) ≡ int_cmp (Fit.number_in a) (Fit.number_in b)
+pub ints_in_order : (a b : Row) → Fit.IsNumberRow a → Fit.IsNumberRow b → key_cmp 0 (ascending Binary ∷ []) (column a 0 ∷ []) (column b 0 ∷ []) ≡ int_cmp (Fit.number_in a) (Fit.number_in b)
 ints_in_order a b one two = rw (one.1, two.1) (then-Equal _ ∙ value_cmp-Int one.0 two.0)
-
-abbrev pub KeyFits : KeyRows → Row → Type 0
-KeyFits rows row = Fit.IsKeyRow row × (rows.last ≡ Some (Fit.key_in row) → ⊥)
-
-abbrev pub KeyKeeps : KeyRows → Row → KeyRows → Type 0
-KeyKeeps rows row next = next.last ≡ Some (Fit.key_in row)
-
-abbrev pub NumberFits : NumberRows → Row → Type 0
-NumberFits rows row = Fit.IsNumberRow row × (rows.last ≡ Some (Fit.number_in row) → ⊥)
-
-abbrev pub NumberKeeps : NumberRows → Row → NumberRows → Type 0
-NumberKeeps rows row next = next.last ≡ Some (Fit.number_in row)
-
-module _ (db : Database) where
-  pub keys_true : (start end : KeyRows) → Walks KeyFits KeyKeeps key_rows_text db start end true → Fit.AreKeysFit (map Fit.name_shown (db.trees 4))
-  keys_true start end w =
-      let it = all_listed store_schema key_rows_text _ _ _ _ key_rows_is db w.0 w.1 in
-      once_true texts_total texts_exact Fit.IsKeyRow Fit.key_in (λ (x : KeyRows). x.last) texts_in_order start end w.0 _ (keys_listed db.trees w.0 it) (keys_in_order db.trees w.0 it) w.2
-
-  pub keys_false : (start end : KeyRows) → start.last ≡ None → Walks KeyFits KeyKeeps key_rows_text db start end false → Fit.AreKeysFit (map Fit.name_shown (db.trees 4)) → ⊥
-  keys_false start end new w =
-      let first = first_listed store_schema key_rows_text _ _ _ _ key_rows_is db (w.0 ++ w.1 ∷ []) w.3 in
-      once_false texts_total texts_exact Fit.IsKeyRow Fit.key_in (λ (x : KeyRows). x.last) texts_in_order start w.2 new w.0 w.1 first.0 _ (keys_listed db.trees _ first.1) w.4 w.5
-
-  pub numbers_true : (start end : NumberRows) → Walks NumberFits NumberKeeps number_rows_text db start end true → Fit.AreNumbersFit (map Fit.number_shown (db.trees 4))
-  numbers_true start end w =
-      let it = all_listed store_schema number_rows_text _ _ _ _ number_rows_is db w.0 w.1 in
-      once_true int_cmp_total int_cmp-IsAntisymmetric Fit.IsNumberRow Fit.number_in
-      (λ (x : NumberRows). x.last) ints_in_order start end w.0 _ (numbers_listed db.trees w.0 it) (numbers_in_order db.trees w.0 it) w.2
-
-  pub numbers_false : (start end : NumberRows) → start.last ≡ None → Walks NumberFits NumberKeeps number_rows_text db start end false → Fit.AreNumbersFit (map Fit.number_shown (db.trees 4)) → ⊥
-  numbers_false start end new w =
-      let first = first_listed store_schema number_rows_text _ _ _ _ number_rows_is db (w.0 ++ w.1 ∷ []) w.3 in
-      once_false int_cmp_total int_cmp-IsAntisymmetric Fit.IsNumberRow Fit.number_in
-      (λ (x : NumberRows). x.last) ints_in_order start w.2 new w.0 w.1 first.0 _ (numbers_listed db.trees _ first.1) w.4 w.5
 
 -- ---- shelf
 
@@ -329,7 +302,7 @@ all_of f (y ∷ xs) each = and_from (f y) (list_all f xs) (each y (first_member 
 
 module _ (db : Database) (start end : ShelfRows) (new : (u : List ℕ) → set.contains start.tops u ≡ true → ⊥) (none : (u : List ℕ) → set.contains start.parents u ≡ true → ⊥) where
   -- if each row of `shelf` passed, the names and parents that the walk noted are whole exactly if the rows of the table fit
-  shelves_pass : (rows : List Row) → IsPermutation (map Fit.shelf_shown (db.trees 2)) rows → InOrder rows → Pass ShelfFits ShelfKeeps start rows end
+  shelves_pass : (rows : List Row) → IsPermutation (map Fit.shelf_shown (db.trees 2)) rows → InOrder (ascending Binary ∷ []) first_column rows → Pass ShelfFits ShelfKeeps start rows end
       → Decides (Fit.are_whole end.tops end.parents) (Fit.AreShelvesFit (map Fit.shelf_shown (db.trees 2)))
   shelves_pass rows same sorted p =
       let back = λ (r : Row) (there : Has (map Fit.shelf_shown (db.trees 2)) r). has_permuted rows _ r (IsPermutation-sym _ _ same) there in
@@ -356,14 +329,14 @@ module _ (db : Database) (start end : ShelfRows) (new : (u : List ℕ) → set.c
 
   pub shelves_true : Walks ShelfFits ShelfKeeps shelf_rows_text db start end true → Decides (Fit.are_whole end.tops end.parents) (Fit.AreShelvesFit (map Fit.shelf_shown (db.trees 2)))
   shelves_true w =
-      let it = all_listed store_schema shelf_rows_text _ _ _ _ shelf_rows_is db w.0 w.1 in
-      shelves_pass w.0 (shelves_listed db.trees w.0 it) (shelves_in_order db.trees w.0 it) w.2
+      let it = all_shown shelf_rows db w.0 w.1 in
+      shelves_pass w.0 (rows_listed shelf_rows db.trees w.0 it) (in_its_order shelf_rows db.trees w.0 it first_column (λ env. refl)) w.2
 
   pub shelves_false : start.last ≡ None → Walks ShelfFits ShelfKeeps shelf_rows_text db start end false → Fit.AreShelvesFit (map Fit.shelf_shown (db.trees 2)) → ⊥
   shelves_false fresh w fit =
-      let first = first_listed store_schema shelf_rows_text _ _ _ _ shelf_rows_is db (w.0 ++ w.1 ∷ []) w.3 in
+      let first = first_shown shelf_rows db (w.0 ++ w.1 ∷ []) w.3 in
       once_false texts_total texts_exact Fit.IsShelfRow Fit.key_in
-      (λ (x : ShelfRows). x.last) shelf_names_in_order start w.2 fresh w.0 w.1 first.0 _ (shelves_listed db.trees _ first.1) (shelf_last start w.0 w.2 w.4) w.5 fit.shelves
+      (λ (x : ShelfRows). x.last) shelf_names_in_order start w.2 fresh w.0 w.1 first.0 _ (rows_listed shelf_rows db.trees _ first.1) (shelf_last start w.0 w.2 w.4) w.5 fit.shelves
 
 -- ---- version
 
@@ -398,8 +371,7 @@ may_differ None many q may is = let e = is in absurd (cc)
 may_differ (Some p) many q may is = may.0 (let e = is in cc)
 
 module _ (db : Database) (start end : EntryRows) where
-  entries_rise : (rows : List Row) → Adjacent (λ a b. is_lt (key_cmp 0 (ascending Binary ∷ ascending Binary ∷ ascending Binary ∷ []) (place_columns b) (place_columns a)) ≡ false) rows
-      → Pass EntryFits EntryKeeps start rows end
+  entries_rise : (rows : List Row) → InOrder (ascending Binary ∷ ascending Binary ∷ ascending Binary ∷ []) place_columns rows → Pass EntryFits EntryKeeps start rows end
       → IsAscending (λ a b. place_cmp (Fit.place_in a) (Fit.place_in b) ≡ Less) rows
   entries_rise rows sorted p =
       let apart = adjacent_apart EntryFits EntryKeeps (λ (x : EntryRows). x.last) Fit.place_in (λ x row next keeps. keeps.0)
@@ -413,10 +385,10 @@ module _ (db : Database) (start end : EntryRows) where
   -- if each row of `version` passed, the rows of the table fit
   pub entries_true : start.last ≡ None → Walks EntryFits EntryKeeps entry_rows_text db start end true → Fit.AreEntriesFit (map Fit.entry_shown (db.trees 6))
   entries_true new w =
-      let it = all_listed store_schema entry_rows_text _ _ _ _ entry_rows_is db w.0 w.1 in
-      let same = entries_listed db.trees w.0 it in
+      let it = all_shown entry_rows db w.0 w.1 in
+      let same = rows_listed entry_rows db.trees w.0 it in
       let back = IsPermutation-sym _ _ same in
-      let rise = entries_rise w.0 (entries_in_order db.trees w.0 it) w.2 in
+      let rise = entries_rise w.0 (in_its_order entry_rows db.trees w.0 it place_columns (λ env. refl)) w.2 in
       record {
         each = λ row there. (pass_each EntryFits EntryKeeps start w.0 end w.2 row (has_permuted w.0 _ row back there)).1.0;
         once = ascends_permuted PlacesApart places_turned w.0 _ back (ascending_weaker _ PlacesApart (λ a b less same. not_itself places_total (Fit.place_in a) (Fit.place_in b) less same) w.0 rise);
@@ -428,8 +400,8 @@ module _ (db : Database) (start end : EntryRows) where
   -- if a row of `version` did not pass, the rows of the table do not fit
   pub entries_false : start.last ≡ None → Walks EntryFits EntryKeeps entry_rows_text db start end false → Fit.AreEntriesFit (map Fit.entry_shown (db.trees 6)) → ⊥
   entries_false new w fit =
-      let first = first_listed store_schema entry_rows_text _ _ _ _ entry_rows_is db (w.0 ++ w.1 ∷ []) w.3 in
-      let same = entries_listed db.trees _ first.1 in
+      let first = first_shown entry_rows db (w.0 ++ w.1 ∷ []) w.3 in
+      let same = rows_listed entry_rows db.trees _ first.1 in
       let once = ascends_permuted PlacesApart places_turned _ _ same fit.once in
       let few = λ (s p : List ℕ). subst (λ n. n ≤ version_limit) (sym (filter_permuted (λ row. Fit.is_on s p (Fit.place_in row)) _ _ same)) (fit.few s p) in
       w.5 (fit.each w.1 (has_permuted _ _ w.1 same (at_index w.0 first.0 w.1)), follows w first.0 once few w.2.last refl)

@@ -1,5 +1,5 @@
 -- What a query that lists all rows answers.
-use Rattle.std.proofs.Common.{◌≡◌, ◌++◌, ℕ, pos, negsuc, false, List, [], ◌∷◌, map, flat_map, None, IsPermutation, refl, sym, ap, subst, subst₂, ◌∙◌, codes}
+use Rattle.std.proofs.Common.{◌≡◌, ◌++◌, ℕ, pos, negsuc, false, List, [], ◌∷◌, map, flat_map, None, IsPermutation, inl, inr, refl, sym, ap, subst, subst₂, ◌∙◌, codes, lit≤, true≢false}
 use Rattle.std.specs.Prelude.{IsSorted}
 use Rattle.std.specs.Ordering.{is_lt}
 use Rattle.std.proofs.lemmas.List.Sorted.{IsPermutation-map}
@@ -9,11 +9,12 @@ use Rattle.sqlite_value.specs.declared.keys.Key.{Key}
 use Rattle.sqlite_value.specs.Keys.{ascending}
 use Rattle.sqlite.specs.Order.{Row, column}
 use Rattle.sqlite.specs.Schema.{Schema}
+use Rattle.sqlite.specs.Table.{Table}
 use Rattle.sqlite.specs.Term.{Term, Env, lit, col, eval_all}
 use Rattle.sqlite.specs.Tree.{Trees}
 use Rattle.sqlite.specs.Query.{Query, Join, inner, end, IsAnswer, Output, output, output_cmp, key_cmp, matches}
 use Rattle.sqlite.specs.Program.{overlay}
-use Rattle.sqlite.specs.Effect.{Database, Reads, ReadsFirst}
+use Rattle.sqlite.specs.Effect.{Database, Reads, ReadsFirst, IsShown}
 use Rattle.sqlite.specs.Listing.{understood, reads_listing}
 use Rattle.sqlite.specs.Command.TheVariants.{Select}
 use Rattle.sqlite.proofs.Callers.{IsPlain, command_of}
@@ -21,8 +22,8 @@ use Rattle.sqlite_tied.specs.Compute.{everything}
 use Rattle.sqlite_trees.proofs.ListLemmas.{map-map}
 use Rattle.sqlite_rules.specs.Lists.{Has}
 use Rattle.sqlite_rules.proofs.ProbeLemmas.{has_mapped}
-use Rattle.tables.specs.Schema.{store_schema}
-use Rattle.tables.specs.Fit.{shelf_shown, meta_shown, name_shown, number_shown, entry_shown, piece_shown}
+use Rattle.tables.specs.Schema.{store_schema, meta_table, shelf_table, access_table, version_table, piece_table}
+use Rattle.tables.specs.Walks.{IsAlone}
 use Rattle.tables.proofs.Texts.{meta_rows_text, shelf_rows_text, key_rows_text, number_rows_text, entry_rows_text, piece_rows_text}
 use Rattle.tables.proofs.Ascending.{has_permuted, Adjacent, adjacent_map, adjacent_among, sorted_adjacent}
 
@@ -56,89 +57,43 @@ is_listing from project order db out answer =
 
 -- ---- the statements
 
-pub meta_rows_is : command_of (understood store_schema meta_rows_text) ≡ Select (record { lets = []; body = listing (inner 0 end) (col 1 1 ∷ col 1 2 ∷ []) [] }) (codes "name" ∷ codes "value" ∷ [])
+-- a text asks for these terms of the rows of one table of a store, in this order
+pub record Lists (sql : List ℕ) (table : Table) (project : List Term) (order : List (Term × Key)) : Type 0 where
+  pub names : List (List ℕ)
+  pub is : command_of (understood store_schema sql) ≡ Select (record { lets = []; body = listing (inner table.tree end) project order }) names
+  pub plain : IsPlain (understood store_schema sql)
+  pub unlisted : reads_listing store_schema sql ≡ false
+  pub alone : IsAlone sql (understood store_schema sql)
+  -- its terms have the types that they need
+  pub typed : (db : Trees) → IsShown (λ (r : Row). r) (record { schema = store_schema; trees = db }) (record { lets = []; body = listing (inner table.tree end) project order }) [] None → ⊥
+  pub there : Has store_schema.tables table
+  pub held : (db : Trees) → overlay db [] table.tree ≡ db table.tree
+
+pub meta_rows : Lists meta_rows_text meta_table (col 1 1 ∷ col 1 2 ∷ []) []
 unfolding understood everything
-meta_rows_is = refl
+meta_rows = record { names = _; is = refl; plain = (refl, refl); unlisted = refl; alone = (lit≤ tt, refl); typed = λ trees. true≢false; there = inl refl; held = λ db. refl }
 
-pub meta_rows_plain : IsPlain (understood store_schema meta_rows_text)
+pub shelf_rows : Lists shelf_rows_text shelf_table (col 1 1 ∷ col 1 2 ∷ []) ((col 1 1, ascending Binary) ∷ [])
 unfolding understood everything
-meta_rows_plain = (refl, refl)
+shelf_rows = record { names = _; is = refl; plain = (refl, refl); unlisted = refl; alone = (lit≤ tt, refl); typed = λ trees. true≢false; there = inr (inl refl); held = λ db. refl }
 
-pub meta_rows_tables : reads_listing store_schema meta_rows_text ≡ false
+pub key_rows : Lists key_rows_text access_table (col 1 1 ∷ []) ((col 1 1, ascending Binary) ∷ [])
 unfolding understood everything
-meta_rows_tables = refl
-
-abbrev pub shelf_columns : List Term
-shelf_columns = col 1 1 ∷ col 1 2 ∷ []
-
-abbrev pub shelf_names : List (List ℕ)
-shelf_names = codes "name" ∷ codes "parent" ∷ []
-
-abbrev pub by_name : List (Term × Key)
-by_name = (col 1 1, ascending Binary) ∷ []
-
-pub shelf_rows_is : command_of (understood store_schema shelf_rows_text) ≡ Select (record { lets = []; body = listing (inner 2 end) shelf_columns by_name }) shelf_names
-unfolding understood everything
-shelf_rows_is = refl
-
-pub shelf_rows_plain : IsPlain (understood store_schema shelf_rows_text)
-unfolding understood everything
-shelf_rows_plain = (refl, refl)
-
-pub shelf_rows_tables : reads_listing store_schema shelf_rows_text ≡ false
-unfolding understood everything
-shelf_rows_tables = refl
-
-abbrev pub by_token : List (Term × Key)
-by_token = (col 1 1, ascending Binary) ∷ []
-
-pub key_rows_is : command_of (understood store_schema key_rows_text) ≡ Select (record { lets = []; body = listing (inner 4 end) (col 1 1 ∷ []) by_token }) (codes "token" ∷ [])
-unfolding understood everything
-key_rows_is = refl
-
-pub key_rows_plain : IsPlain (understood store_schema key_rows_text)
-unfolding understood everything
-key_rows_plain = (refl, refl)
-
-pub key_rows_tables : reads_listing store_schema key_rows_text ≡ false
-unfolding understood everything
-key_rows_tables = refl
+key_rows = record { names = _; is = refl; plain = (refl, refl); unlisted = refl; alone = (lit≤ tt, refl); typed = λ trees. true≢false; there = inr (inr (inl refl)); held = λ db. refl }
 
 abbrev pub by_number : List (Term × Key)
 by_number = (col 1 0, ascending Binary) ∷ []
 
-pub number_rows_is : command_of (understood store_schema number_rows_text) ≡ Select (record { lets = []; body = listing (inner 4 end) (col 1 0 ∷ []) by_number }) (codes "rowid" ∷ [])
+pub number_rows : Lists number_rows_text access_table (col 1 0 ∷ []) by_number
 unfolding understood everything
-number_rows_is = refl
-
-pub number_rows_plain : IsPlain (understood store_schema number_rows_text)
-unfolding understood everything
-number_rows_plain = (refl, refl)
-
-pub number_rows_tables : reads_listing store_schema number_rows_text ≡ false
-unfolding understood everything
-number_rows_tables = refl
-
-abbrev pub entry_columns : List Term
-entry_columns = col 1 2 ∷ col 1 3 ∷ col 1 4 ∷ col 1 5 ∷ col 1 6 ∷ col 1 7 ∷ col 1 8 ∷ []
-
-abbrev pub entry_names : List (List ℕ)
-entry_names = codes "shelf" ∷ codes "path" ∷ codes "version" ∷ codes "time" ∷ codes "mod" ∷ codes "order_key" ∷ codes "rank_key" ∷ []
+number_rows = record { names = _; is = refl; plain = (refl, refl); unlisted = refl; alone = (lit≤ tt, refl); typed = λ trees. true≢false; there = inr (inr (inl refl)); held = λ db. refl }
 
 abbrev pub by_place : List (Term × Key)
 by_place = (col 1 2, ascending Binary) ∷ (col 1 3, ascending Binary) ∷ (col 1 4, ascending Binary) ∷ []
 
-pub entry_rows_is : command_of (understood store_schema entry_rows_text) ≡ Select (record { lets = []; body = listing (inner 6 end) entry_columns by_place }) entry_names
+pub entry_rows : Lists entry_rows_text version_table (col 1 2 ∷ col 1 3 ∷ col 1 4 ∷ col 1 5 ∷ col 1 6 ∷ col 1 7 ∷ col 1 8 ∷ []) by_place
 unfolding understood everything
-entry_rows_is = refl
-
-pub entry_rows_plain : IsPlain (understood store_schema entry_rows_text)
-unfolding understood everything
-entry_rows_plain = (refl, refl)
-
-pub entry_rows_tables : reads_listing store_schema entry_rows_text ≡ false
-unfolding understood everything
-entry_rows_tables = refl
+entry_rows = record { names = _; is = refl; plain = (refl, refl); unlisted = refl; alone = (lit≤ tt, refl); typed = λ trees. true≢false; there = inr (inr (inr (inl refl))); held = λ db. refl }
 
 abbrev pub piece_columns : List Term
 piece_columns = col 1 1 ∷ col 1 2 ∷ col 1 3 ∷ []
@@ -149,17 +104,9 @@ piece_names = codes "version" ∷ codes "number" ∷ codes "bytes" ∷ []
 abbrev pub by_piece : List (Term × Key)
 by_piece = (col 1 1, ascending Binary) ∷ (col 1 2, ascending Binary) ∷ []
 
-pub piece_rows_is : command_of (understood store_schema piece_rows_text) ≡ Select (record { lets = []; body = listing (inner 8 end) piece_columns by_piece }) piece_names
+pub piece_rows : Lists piece_rows_text piece_table piece_columns by_piece
 unfolding understood everything
-piece_rows_is = refl
-
-pub piece_rows_plain : IsPlain (understood store_schema piece_rows_text)
-unfolding understood everything
-piece_rows_plain = (refl, refl)
-
-pub piece_rows_tables : reads_listing store_schema piece_rows_text ≡ false
-unfolding understood everything
-piece_rows_tables = refl
+piece_rows = record { names = _; is = refl; plain = (refl, refl); unlisted = refl; alone = (lit≤ tt, refl); typed = λ trees. true≢false; there = inr (inr (inr (inr (inl refl)))); held = λ db. refl }
 
 -- ---- the rows that are listed
 
@@ -192,6 +139,10 @@ module _ (schema : Schema) (sql : List ℕ) (from : Join) (project : List Term) 
 
 -- ---- their order
 
+-- the keys of the rows come in order
+abbrev pub InOrder : List Key → (Row → Row) → List Row → Type 0
+InOrder keys key = Adjacent (λ a b. is_lt (key_cmp 0 keys (key b) (key a)) ≡ false)
+
 -- what is listed comes with what it is sorted by
 listed_with : (q : Query) (db : Trees) (out : List Row) (it : IsListing q db out) (o : Output) → Has it.ordered o → (env : Env) × (o ≡ output q env)
 listed_with q db out it o there =
@@ -200,73 +151,47 @@ listed_with q db out it o there =
 
 -- where what is shown has the key, the rows come in its order
 pub listed_in_order : (q : Query) (db : Trees) (out : List Row) → IsListing q db out → (key : Row → Row) → ((env : Env) → (output q env).0 ≡ key (output q env).1)
-    → Adjacent (λ a b. is_lt (key_cmp 0 (map (λ k. k.1) q.order) (key b) (key a)) ≡ false) out
+    → InOrder (map (λ k. k.1) q.order) key out
 listed_in_order q db out it key shown_key =
     let keyed = λ (o : Output) (there : Has it.ordered o). (let e = listed_with q db out it o there in ap (λ (x : Output). x.0) e.1 ∙ (shown_key e.0 ∙ ap (λ (x : Output). key x.1) (sym e.1))) in
-    subst (Adjacent (λ a b. is_lt (key_cmp 0 (map (λ k. k.1) q.order) (key b) (key a)) ≡ false)) (sym it.shown)
+    subst (InOrder (map (λ k. k.1) q.order) key) (sym it.shown)
     (adjacent_map _ (λ (o : Output). o.1) it.ordered
     (adjacent_among _ _ it.ordered
     (λ a b here there h. subst₂ (λ x y. is_lt (key_cmp 0 (map (λ k. k.1) q.order) x y) ≡ false) (keyed b there) (keyed a here) h) (sorted_adjacent (output_cmp q) it.ordered it.sorted)))
 
--- ---- the rows of each table
+-- ---- the rows of a table
 
-pub meta_listed : (db : Trees) (out : List Row) → IsListing (listing (inner 0 end) (col 1 1 ∷ col 1 2 ∷ []) []) (overlay db []) out → IsPermutation (map meta_shown (db 0)) out
-meta_listed db out it = subst (λ l. IsPermutation l out) (of_table 0 (col 1 1 ∷ col 1 2 ∷ []) (overlay db [])) (listed_rows (inner 0 end) (col 1 1 ∷ col 1 2 ∷ []) [] (overlay db []) out it)
+module _ {sql : List ℕ} {table : Table} {project : List Term} {order : List (Term × Key)} (q : Lists sql table project order) where
+  abbrev AreListed : Trees → List Row → Type 0
+  AreListed db rows = IsListing (listing (inner table.tree end) project order) (overlay db []) rows
 
-abbrev pub ShelvesListed : Trees → List Row → Type 0
-ShelvesListed db out = IsListing (listing (inner 2 end) shelf_columns by_name) (overlay db []) out
+  -- the rows of the table as the query shows them
+  abbrev shown_of : Trees → List Row
+  shown_of db = map (λ row. eval_all project ([] ∷ row ∷ [])) (db table.tree)
 
-pub shelves_listed : (db : Trees) (out : List Row) → ShelvesListed db out → IsPermutation (map shelf_shown (db 2)) out
-shelves_listed db out it = subst (λ l. IsPermutation l out) (of_table 2 shelf_columns (overlay db [])) (listed_rows (inner 2 end) shelf_columns by_name (overlay db []) out it)
+  pub rows_listed : (db : Trees) (rows : List Row) → AreListed db rows → IsPermutation (shown_of db) rows
+  rows_listed db rows it =
+      subst (λ l. IsPermutation l rows) (of_table table.tree project (overlay db []) ∙ ap (map (λ row. eval_all project ([] ∷ row ∷ []))) (q.held db))
+      (listed_rows (inner table.tree end) project order (overlay db []) rows it)
 
-abbrev pub KeysListed : Trees → List Row → Type 0
-KeysListed db out = IsListing (listing (inner 4 end) (col 1 1 ∷ []) by_token) (overlay db []) out
+  pub in_its_order : (db : Trees) (rows : List Row) → AreListed db rows → (key : Row → Row)
+      → ((env : Env) → (output (listing (inner table.tree end) project order) env).0 ≡ key (output (listing (inner table.tree end) project order) env).1) → InOrder (map (λ k. k.1) order) key rows
+  in_its_order db = listed_in_order (listing (inner table.tree end) project order) (overlay db [])
 
-pub keys_listed : (db : Trees) (out : List Row) → KeysListed db out → IsPermutation (map name_shown (db 4)) out
-keys_listed db out it = subst (λ l. IsPermutation l out) (of_table 4 (col 1 1 ∷ []) (overlay db [])) (listed_rows (inner 4 end) (col 1 1 ∷ []) by_token (overlay db []) out it)
+  -- a walk to the end shows the rows of the table
+  pub all_shown : (db : Database) (rows : List Row) → Reads (command_of (understood store_schema sql)) db [] rows → AreListed db.trees rows
+  all_shown = all_listed store_schema sql (inner table.tree end) project order q.names q.is
 
-abbrev pub NumbersListed : Trees → List Row → Type 0
-NumbersListed db out = IsListing (listing (inner 4 end) (col 1 0 ∷ []) by_number) (overlay db []) out
+  -- a walk that stops shows the first of them
+  pub first_shown : (db : Database) (rows : List Row) → ReadsFirst (command_of (understood store_schema sql)) db [] rows
+      → (tail : List Row) × AreListed db.trees (rows ++ tail)
+  first_shown = first_listed store_schema sql (inner table.tree end) project order q.names q.is
 
-pub numbers_listed : (db : Trees) (out : List Row) → NumbersListed db out → IsPermutation (map number_shown (db 4)) out
-numbers_listed db out it = subst (λ l. IsPermutation l out) (of_table 4 (col 1 0 ∷ []) (overlay db [])) (listed_rows (inner 4 end) (col 1 0 ∷ []) by_number (overlay db []) out it)
-
-abbrev pub EntriesListed : Trees → List Row → Type 0
-EntriesListed db out = IsListing (listing (inner 6 end) entry_columns by_place) (overlay db []) out
-
-pub entries_listed : (db : Trees) (out : List Row) → EntriesListed db out → IsPermutation (map entry_shown (db 6)) out
-entries_listed db out it = subst (λ l. IsPermutation l out) (of_table 6 entry_columns (overlay db [])) (listed_rows (inner 6 end) entry_columns by_place (overlay db []) out it)
-
-abbrev pub PiecesListed : Trees → List Row → Type 0
-PiecesListed db out = IsListing (listing (inner 8 end) piece_columns by_piece) (overlay db []) out
-
-pub pieces_listed : (db : Trees) (out : List Row) → PiecesListed db out → IsPermutation (map piece_shown (db 8)) out
-pieces_listed db out it = subst (λ l. IsPermutation l out) (of_table 8 piece_columns (overlay db [])) (listed_rows (inner 8 end) piece_columns by_piece (overlay db []) out it)
-
--- rows of one column in its order
-abbrev pub InOrder : List Row → Type 0
-InOrder = Adjacent (λ a b. is_lt (key_cmp 0 (ascending Binary ∷ []) (column b 0 ∷ []) (column a 0 ∷ [])) ≡ false)
-
--- the keys come in their order
-pub shelves_in_order : (db : Trees) (out : List Row) → ShelvesListed db out → InOrder out
-shelves_in_order db out it = listed_in_order (listing (inner 2 end) shelf_columns by_name) (overlay db []) out it (λ row. column row 0 ∷ []) (λ env. refl)
-
-pub keys_in_order : (db : Trees) (out : List Row) → KeysListed db out → InOrder out
-keys_in_order db out it = listed_in_order (listing (inner 4 end) (col 1 1 ∷ []) by_token) (overlay db []) out it (λ row. column row 0 ∷ []) (λ env. refl)
-
-pub numbers_in_order : (db : Trees) (out : List Row) → NumbersListed db out → InOrder out
-numbers_in_order db out it = listed_in_order (listing (inner 4 end) (col 1 0 ∷ []) by_number) (overlay db []) out it (λ row. column row 0 ∷ []) (λ env. refl)
-
-abbrev pub place_columns : Row → Row
-place_columns row = column row 0 ∷ column row 1 ∷ column row 2 ∷ []
-
-pub entries_in_order : (db : Trees) (out : List Row) → EntriesListed db out
-    → Adjacent (λ a b. is_lt (key_cmp 0 (ascending Binary ∷ ascending Binary ∷ ascending Binary ∷ []) (place_columns b) (place_columns a)) ≡ false) out
-entries_in_order db out it = listed_in_order (listing (inner 6 end) entry_columns by_place) (overlay db []) out it place_columns (λ env. refl)
+abbrev pub first_column : Row → Row
+first_column row = column row 0 ∷ []
 
 abbrev pub number_columns : Row → Row
 number_columns row = column row 0 ∷ column row 1 ∷ []
 
-pub pieces_in_order : (db : Trees) (out : List Row) → PiecesListed db out
-    → Adjacent (λ a b. is_lt (key_cmp 0 (ascending Binary ∷ ascending Binary ∷ []) (number_columns b) (number_columns a)) ≡ false) out
-pieces_in_order db out it = listed_in_order (listing (inner 8 end) piece_columns by_piece) (overlay db []) out it number_columns (λ env. refl)
+abbrev pub place_columns : Row → Row
+place_columns row = column row 0 ∷ column row 1 ∷ column row 2 ∷ []

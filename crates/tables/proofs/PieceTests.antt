@@ -18,14 +18,13 @@ use Rattle.sqlite_trees.specs.Tree.{IsAscending}
 use Rattle.sqlite_trees.proofs.ListLemmas.{ascending_weaker}
 use Rattle.sqlite_rules.specs.Lists.{Has}
 use Rattle.sqlite_rules.proofs.ListLemmas.{has_right, has_either}
-use Rattle.tables.specs.Schema.{store_schema}
 use Rattle.tables.specs.Fit.{IsPieceRow, ArePiecesFit, piece_key, piece_in, piece_shown, full_piece, int_in, nat_in}
 use Rattle.tables.specs.Walks.{Pass, Walks, GoesOn, MayGoOn}
 use Rattle.tables.specs.declared.pieces.LastPiece.{LastPiece}
 use Rattle.tables.specs.declared.pieces.PieceRows.{PieceRows}
 use Rattle.tables.proofs.Texts.{piece_rows_text}
 use Rattle.tables.proofs.Ascending.{has_permuted, Steps, Adjacent, adjacent_both, adjacent_among, ascends, ascends_permuted, front_ascends, across, apart_below}
-use Rattle.tables.proofs.ListingLemmas.{all_listed, first_listed, piece_rows_is, pieces_listed, pieces_in_order, number_columns}
+use Rattle.tables.proofs.ListingLemmas.{piece_rows, rows_listed, in_its_order, all_shown, first_shown, InOrder, number_columns}
 use Rattle.tables.proofs.RunLemmas.{adjacent_follow, pass_at, last_row}
 use Rattle.tables.proofs.FitTests.{not_itself, pass_each, at_index}
 
@@ -98,7 +97,7 @@ Rises a b = piece_cmp (piece_key a) (piece_key b) ≡ Less
 
 -- what comes in SQL's order, no key twice, rises
 rise : (rows : List Row) → ((r : Row) → Has rows r → IsPieceRow r)
-    → Adjacent (λ a b. is_lt (key_cmp 0 (ascending Binary ∷ ascending Binary ∷ []) (number_columns b) (number_columns a)) ≡ false) rows → Adjacent Apart rows → IsAscending Rises rows
+    → InOrder (ascending Binary ∷ ascending Binary ∷ []) number_columns rows → Adjacent Apart rows → IsAscending Rises rows
 rise rows each sorted apart =
     let upto = adjacent_among _ (λ a b. is_lt (piece_cmp (piece_key b) (piece_key a)) ≡ false) rows (λ a b here there h. ap is_lt (sym (pieces_ordered b a (each b there) (each a here))) ∙ h) sorted in
     ascends Rises (λ a b c. pieces_total.trans (piece_key a) (piece_key b) (piece_key c)) rows
@@ -165,14 +164,14 @@ module _ (db : Database) (start end : PieceRows) (new : start.last ≡ None) whe
   pub pieces_true : Walks PieceFits PieceKeeps piece_rows_text db start end true → ArePiecesFit all
   pieces_true w =
       let rows = w.0 in
-      let listed = all_listed store_schema piece_rows_text _ _ _ _ piece_rows_is db rows w.1 in
-      let same = pieces_listed db.trees rows listed in
+      let it = all_shown piece_rows db rows w.1 in
+      let same = rows_listed piece_rows db.trees rows it in
       let back = IsPermutation-sym _ _ same in
       let each = λ (row : Row) (there : Has rows row). (pass_each PieceFits PieceKeeps start rows end w.2 row there).1.0 in
       let follow = adjacent_follow PieceFits PieceKeeps (λ (x : PieceRows). x.last) piece_in (λ x row next keeps. keeps) GoesOn
       (λ x row k fits is. subst (λ l. MayGoOn l (piece_in row)) is fits.1) start rows end w.2 in
       let apart = adjacent_among _ Apart rows (λ a b here there may. goes_apart a b may) follow in
-      let up = rise rows each (pieces_in_order db.trees rows listed) apart in
+      let up = rise rows each (in_its_order piece_rows db.trees rows it number_columns (λ env. refl)) apart in
       record {
         pieces = record {
           each = λ row there. each row (has_permuted rows all row back there);
@@ -273,15 +272,15 @@ module _ (db : Database) (start end : PieceRows) (new : start.last ≡ None) whe
   pieces_false w fit =
       let rows = w.0 in
       let row = w.1 in
-      let first = first_listed store_schema piece_rows_text _ _ _ _ piece_rows_is db (rows ++ row ∷ []) w.3 in
+      let first = first_shown piece_rows db (rows ++ row ∷ []) w.3 in
       let tail = first.0 in
       let long = (rows ++ row ∷ []) ++ tail in
       let here = map piece_shown (db.trees 8) in
-      let same = pieces_listed db.trees long first.1 in
+      let same = rows_listed piece_rows db.trees long first.1 in
       let back = IsPermutation-sym _ _ same in
       let each = λ (r : Row) (there : Has long r). fit.pieces.each r (has_permuted here long r same there) in
       let apart = ascending_adjacent Apart long (ascends_permuted Apart turned here long same fit.pieces.once) in
-      let up = rise long each (pieces_in_order db.trees long first.1) apart in
+      let up = rise long each (in_its_order piece_rows db.trees long first.1 number_columns (λ env. refl)) apart in
       let there = has_permuted here long row same (at_index rows tail row) in
       let before : (n : ℕ) → nat_in (column row 1) ≡ n + 1 → (other : Row) × Has long other × (piece_in other ≡ full_piece (int_in (column row 0)) n) = λ n is. let it = fit.before row n there is in
       (it.0, has_permuted long here it.0 back it.1, it.2) in

@@ -1,6 +1,6 @@
 -- Why a walk over the rows of the tables fails.
 use Rattle.std.proofs.Common.{◌≡◌, ◌≤◌, ◌⊎◌, ◌+◌, ◌^◌, ◌++◌, ℕ, Bool, true, false, List, [], ◌∷◌, length, map, Option, None, Ok, Err}
-use Rattle.std.proofs.Common.{Result, inl, inr, refl, sym, ap, subst, ◌∙◌, arith, codes, IfErr, true≢false, length-append, lit≤}
+use Rattle.std.proofs.Common.{Result, inl, inr, refl, sym, ap, subst, ◌∙◌, arith, IfErr, true≢false, length-append}
 use Rattle.std.specs.Prelude.{IsSome, IsErrAnd}
 use Rattle.std.proofs.lemmas.List.{length-map}
 use Rattle.std.proofs.lemmas.List.Sorted.{length_permutation}
@@ -12,7 +12,7 @@ use Rattle.sqlite.specs.Table.{Table}
 use Rattle.sqlite_trees.specs.declared.store.Store.{Ghosts}
 use Rattle.sqlite.specs.Held.{Held, state}
 use Rattle.sqlite.specs.Command.TheVariants.{Select}
-use Rattle.sqlite.specs.Term.{Term, col, eval, eval_all}
+use Rattle.sqlite.specs.Term.{Term, eval, eval_all}
 use Rattle.sqlite.specs.Query.{Join, inner, end, matches}
 use Rattle.sqlite.specs.Program.{overlay}
 use Rattle.sqlite.specs.Effect.{Database, ReadsFirst, RefusesToRead, RefusesQuery}
@@ -21,25 +21,21 @@ use Rattle.sqlite_sql.proofs.QueryLemmas.{no_fold_overflows}
 use Rattle.sqlite_value.specs.declared.keys.Key.{Key}
 use Rattle.sqlite_rules.specs.Lists.{Has}
 use Rattle.sqlite_rules.proofs.ProbeLemmas.{has_mapped}
-use Rattle.sqlite_tied.specs.Compute.{everything}
 use Rattle.sqlite.specs.declared.error.Error.{Error}
 use Rattle.sqlite.specs.declared.error.Error.TheVariants.{SqliteFailure}
 use Rattle.sqlite.specs.declared.error.ErrorCode.TheVariants.{TypeMismatch}
 use Rattle.sqlite.specs.Listing.{understood, reads_listing, IsSourceOf}
 use Rattle.sqlite.specs.State.{State, HasCleanDisk, IsUnchanged, Survives, Begins, FailsToQuery}
 use Rattle.sqlite.proofs.Callers.{IsPlain, command_of}
-use Rattle.tables.specs.Schema.{store_schema, meta_table, shelf_table, access_table, version_table, piece_table}
-use Rattle.tables.specs.Fit.{entry_width, piece_width}
+use Rattle.tables.specs.Schema.{store_schema}
 use Rattle.tables.specs.Walks.{Tests, IsAlone, IsAllowed, IsWalkable, ShowsTooMany, ShowsTooManyOver}
 use Rattle.tables.specs.Causes.{IsExcused, IsVast, IsVastOver, HasReason}
-use Rattle.tables.proofs.Texts.{meta_rows_text, shelf_rows_text, key_rows_text, number_rows_text, entry_rows_text, piece_rows_text}
 use Rattle.tables.proofs.FailureLemmas.{was_clean}
 use Rattle.tables.proofs.Ascending.{has_permuted}
 use Rattle.tables.proofs.FitTests.{at_index}
 use Rattle.tables.proofs.WalkLemmas.{unchanged_schema, some_walked}
 use Rattle.tables.proofs.CauseLemmas.{unrun, IsOnItsWay, excused_since, on_its_way}
-use Rattle.tables.proofs.ListingLemmas.{listing, listed_rows, first_listed, IsListing, of_table, shelf_columns, shelf_names, by_name, entry_columns, entry_names, piece_columns}
-use Rattle.tables.proofs.ListingLemmas.{piece_names, by_token, by_number, by_place, by_piece, meta_rows_is, shelf_rows_is, key_rows_is, number_rows_is, entry_rows_is, piece_rows_is}
+use Rattle.tables.proofs.ListingLemmas.{listing, listed_rows, first_listed, IsListing, of_table, Lists}
 
 -- ---- one query
 
@@ -129,109 +125,25 @@ module _ (schema : Schema) (sql : List ℕ) (tree : ℕ) (project : List Term) (
           let there = ap length (plain db) in
           omega (arith, long, all, each, there)
 
--- a query of the tables of a store for terms of a join with no fold and no type error can be walked over
-is_walkable : (sql : List ℕ) (from : Join) (project : List Term) (order : List (Term × Key)) (names : List (List ℕ))
-    → command_of (understood store_schema sql) ≡ Select (record { lets = []; body = listing from project order }) names → has_no_fold from ≡ true
-    → ((db : Database) → db.schema ≡ store_schema → RefusesQuery None db (record { lets = []; body = listing from project order }) [] (SqliteFailure TypeMismatch) → ⊥)
-    → IsAlone sql (understood store_schema sql) → IsWalkable sql (length project)
-is_walkable sql from project order names is foldless typed alone = record {
-  query = is_allowed store_schema sql from project order names is foldless typed alone;
-  wide = shown_wide store_schema sql from project order names is;
-}
+-- a query that lists rows of one table of a store
+module _ {sql : List ℕ} {table : Table} {project : List Term} {order : List (Term × Key)} (q : Lists sql table project order) where
+  pub walkable : IsWalkable sql (length project)
+  walkable = record {
+    query = is_allowed store_schema sql (inner table.tree end) project order q.names q.is refl typed q.alone;
+    wide = shown_wide store_schema sql (inner table.tree end) project order q.names q.is;
+  }
+    where
+      typed : (db : Database) → db.schema ≡ store_schema → RefusesQuery None db (record { lets = []; body = listing (inner table.tree end) project order }) [] (SqliteFailure TypeMismatch) → ⊥
+      typed db has (inl (same, wrong)) = q.typed db.trees (rw has at wrong)
+      typed db has (inr (inl (other, over))) = absurd (cc)
+      typed db has (inr (inr (other, some))) = true≢false (sym some)
 
--- ---- the queries
-
-meta_typed : (db : Database) → db.schema ≡ store_schema → RefusesQuery None db (record { lets = []; body = listing (inner 0 end) (col 1 1 ∷ col 1 2 ∷ []) [] }) [] (SqliteFailure TypeMismatch) → ⊥
-unfolding understood everything
-meta_typed db has h = elim h [ inl (same, wrong) ↦ true≢false (rw has at wrong) | inr (inl (other, over)) ↦ absurd (cc) | inr (inr (other, some)) ↦ true≢false (sym some) ]
-
-meta_alone : IsAlone meta_rows_text (understood store_schema meta_rows_text)
-unfolding understood everything
-meta_alone = (lit≤ tt, refl)
-
-pub meta_walkable : IsWalkable meta_rows_text 2
-meta_walkable = is_walkable meta_rows_text (inner 0 end) (col 1 1 ∷ col 1 2 ∷ []) [] (codes "name" ∷ codes "value" ∷ []) meta_rows_is refl meta_typed meta_alone
-
-pub meta_vast : (db : Database) → db.schema ≡ store_schema → ShowsTooMany meta_rows_text db → IsVast db
-meta_vast = table_vast store_schema meta_rows_text 0 (col 1 1 ∷ col 1 2 ∷ []) [] (codes "name" ∷ codes "value" ∷ []) meta_rows_is meta_table (inl refl) refl (λ db. refl)
-
-shelf_typed : (db : Database) → db.schema ≡ store_schema → RefusesQuery None db (record { lets = []; body = listing (inner 2 end) shelf_columns by_name }) [] (SqliteFailure TypeMismatch) → ⊥
-unfolding understood everything
-shelf_typed db has h = elim h [ inl (same, wrong) ↦ true≢false (rw has at wrong) | inr (inl (other, over)) ↦ absurd (cc) | inr (inr (other, some)) ↦ true≢false (sym some) ]
-
-shelf_alone : IsAlone shelf_rows_text (understood store_schema shelf_rows_text)
-unfolding understood everything
-shelf_alone = (lit≤ tt, refl)
-
-pub shelf_walkable : IsWalkable shelf_rows_text 2
-shelf_walkable = is_walkable shelf_rows_text (inner 2 end) shelf_columns by_name shelf_names shelf_rows_is refl shelf_typed shelf_alone
-
-pub shelf_vast : (db : Database) → db.schema ≡ store_schema → ShowsTooMany shelf_rows_text db → IsVast db
-shelf_vast = table_vast store_schema shelf_rows_text 2 shelf_columns by_name shelf_names shelf_rows_is shelf_table (inr (inl refl)) refl (λ db. refl)
-
-key_typed : (db : Database) → db.schema ≡ store_schema → RefusesQuery None db (record { lets = []; body = listing (inner 4 end) (col 1 1 ∷ []) by_token }) [] (SqliteFailure TypeMismatch) → ⊥
-unfolding understood everything
-key_typed db has h = elim h [ inl (same, wrong) ↦ true≢false (rw has at wrong) | inr (inl (other, over)) ↦ absurd (cc) | inr (inr (other, some)) ↦ true≢false (sym some) ]
-
-key_alone : IsAlone key_rows_text (understood store_schema key_rows_text)
-unfolding understood everything
-key_alone = (lit≤ tt, refl)
-
-pub key_walkable : IsWalkable key_rows_text 1
-key_walkable = is_walkable key_rows_text (inner 4 end) (col 1 1 ∷ []) by_token (codes "token" ∷ []) key_rows_is refl key_typed key_alone
-
-pub key_vast : (db : Database) → db.schema ≡ store_schema → ShowsTooMany key_rows_text db → IsVast db
-key_vast = table_vast store_schema key_rows_text 4 (col 1 1 ∷ []) by_token (codes "token" ∷ []) key_rows_is access_table (inr (inr (inl refl))) refl (λ db. refl)
-
-number_typed : (db : Database) → db.schema ≡ store_schema → RefusesQuery None db (record { lets = []; body = listing (inner 4 end) (col 1 0 ∷ []) by_number }) [] (SqliteFailure TypeMismatch) → ⊥
-unfolding understood everything
-number_typed db has h = elim h [ inl (same, wrong) ↦ true≢false (rw has at wrong) | inr (inl (other, over)) ↦ absurd (cc) | inr (inr (other, some)) ↦ true≢false (sym some) ]
-
-number_alone : IsAlone number_rows_text (understood store_schema number_rows_text)
-unfolding understood everything
-number_alone = (lit≤ tt, refl)
-
-pub number_walkable : IsWalkable number_rows_text 1
-number_walkable = is_walkable number_rows_text (inner 4 end) (col 1 0 ∷ []) by_number (codes "rowid" ∷ []) number_rows_is refl number_typed number_alone
-
-pub number_vast : (db : Database) → db.schema ≡ store_schema → ShowsTooMany number_rows_text db → IsVast db
-number_vast = table_vast store_schema number_rows_text 4 (col 1 0 ∷ []) by_number (codes "rowid" ∷ []) number_rows_is access_table (inr (inr (inl refl))) refl (λ db. refl)
-
-entry_typed : (db : Database) → db.schema ≡ store_schema → RefusesQuery None db (record { lets = []; body = listing (inner 6 end) entry_columns by_place }) [] (SqliteFailure TypeMismatch) → ⊥
-unfolding understood everything
-entry_typed db has h = elim h [ inl (same, wrong) ↦ true≢false (rw has at wrong) | inr (inl (other, over)) ↦ absurd (cc) | inr (inr (other, some)) ↦ true≢false (sym some) ]
-
-entry_alone : IsAlone entry_rows_text (understood store_schema entry_rows_text)
-unfolding understood everything
-entry_alone = (lit≤ tt, refl)
-
-pub entry_walkable : IsWalkable entry_rows_text entry_width
-entry_walkable = is_walkable entry_rows_text (inner 6 end) entry_columns by_place entry_names entry_rows_is refl entry_typed entry_alone
-
-pub entry_vast : (db : Database) → db.schema ≡ store_schema → ShowsTooMany entry_rows_text db → IsVast db
-entry_vast = table_vast store_schema entry_rows_text 6 entry_columns by_place entry_names entry_rows_is version_table (inr (inr (inr (inl refl)))) refl (λ db. refl)
-
-piece_typed : (db : Database) → db.schema ≡ store_schema → RefusesQuery None db (record { lets = []; body = listing (inner 8 end) piece_columns by_piece }) [] (SqliteFailure TypeMismatch) → ⊥
-unfolding understood everything
-piece_typed db has h = elim h [ inl (same, wrong) ↦ true≢false (rw has at wrong) | inr (inl (other, over)) ↦ absurd (cc) | inr (inr (other, some)) ↦ true≢false (sym some) ]
-
-piece_alone : IsAlone piece_rows_text (understood store_schema piece_rows_text)
-unfolding understood everything
-piece_alone = (lit≤ tt, refl)
-
-pub piece_walkable : IsWalkable piece_rows_text piece_width
-piece_walkable = is_walkable piece_rows_text (inner 8 end) piece_columns by_piece piece_names piece_rows_is refl piece_typed piece_alone
-
-pub piece_vast : (db : Database) → db.schema ≡ store_schema → ShowsTooMany piece_rows_text db → IsVast db
-piece_vast = table_vast store_schema piece_rows_text 8 piece_columns by_piece piece_names piece_rows_is piece_table (inr (inr (inr (inr (inl refl))))) refl (λ db. refl)
+  pub walk_reason : (old new : State) (r : Result Bool Error) → old.now.schema ≡ store_schema → IfErr r (λ e. IsExcused old new e ⊎ ShowsTooMany sql old.now) → IfErr r (HasReason old new)
+  walk_reason old new (Ok b) has h = tt
+  walk_reason old new (Err e) has (inl excused) = inl excused
+  walk_reason old new (Err e) has (inr many) = inr (table_vast store_schema sql table.tree project order q.names q.is table q.there refl (λ db. q.held db.trees) old.now has many)
 
 -- ---- one walk after the other
-
-pub walk_reason : (sql : List ℕ) (old new : State) (r : Result Bool Error) → (ShowsTooMany sql old.now → IsVast old.now)
-    → IfErr r (λ e. IsExcused old new e ⊎ ShowsTooMany sql old.now) → IfErr r (HasReason old new)
-walk_reason sql old new (Ok b) vast h = tt
-walk_reason sql old new (Err e) vast (inl excused) = inl excused
-walk_reason sql old new (Err e) vast (inr many) = inr (vast many)
 
 -- after a test that was passed
 module _ (a b c : State) (P : Trees → Type 0) (first : Tests a b (Ok true) P) (up : doubt b.is_clean ≤ doubt c.is_clean) (clean : HasCleanDisk c) (has : a.now.schema ≡ store_schema) where

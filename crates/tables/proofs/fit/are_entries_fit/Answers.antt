@@ -1,19 +1,13 @@
 use Rattle.std.proofs.Common.{refl}
 use Rattle.sqlite.specs.Held.{state}
-use Rattle.tables.proofs.ListingLemmas.{entry_rows_plain, entry_rows_tables}
+use Rattle.tables.proofs.ListingLemmas.{entry_rows}
 use Rattle.tables.proofs.Texts.{entry_rows_text}
 use Rattle.tables.proofs.FitTests.{walked, EntryFits, EntryKeeps, entries_true, entries_false}
-use Rattle.tables.proofs.WalkCauses.{entry_walkable, entry_vast, walk_reason}
+use Rattle.tables.proofs.WalkCauses.{walkable, walk_reason}
 use Rattle.tables.proofs.fit.are_entries_fit.Goals as goal
 
-pub rows_pass-requires-clause-plain : goal.rows_pass-requires-clause-plain
-rows_pass-requires-clause-plain g c = entry_rows_plain
-
-pub rows_pass-requires-clause-tables : goal.rows_pass-requires-clause-tables
-rows_pass-requires-clause-tables g c = entry_rows_tables
-
-pub rows_pass-requires-clause-walkable : goal.rows_pass-requires-clause-walkable
-rows_pass-requires-clause-walkable g c = entry_walkable
+pub rows_pass-requires : goal.rows_pass-requires
+rows_pass-requires g c = record { plain = entry_rows.plain; tables = entry_rows.unlisted; walkable = walkable entry_rows }
 
 pub returns-clause-tests : goal.returns-clause-tests
 returns-clause-tests g c =
@@ -25,4 +19,4 @@ returns-clause-tests g c =
 pub returns-clause-cause : goal.returns-clause-cause
 returns-clause-cause g c clean has =
     let old = state g.S.Store c.args.conn.now in
-    walk_reason entry_rows_text old (state g.S.Store c.rows_pass.new.conn) c.rows_pass.result (entry_vast old.now has) (c.rows_pass.ensures.cause clean has)
+    walk_reason entry_rows old (state g.S.Store c.rows_pass.new.conn) c.rows_pass.result has (c.rows_pass.ensures.cause clean has)

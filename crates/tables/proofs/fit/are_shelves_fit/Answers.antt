@@ -3,24 +3,17 @@ use Rattle.std.specs.FinSet as set
 use Rattle.sqlite.specs.Held.{state}
 use Rattle.world.specs.World.{text_cmp}
 use Rattle.tables.specs.Fit.{AreShelvesFit, shelf_shown}
-use Rattle.tables.proofs.Texts.{shelf_rows_text}
-use Rattle.tables.proofs.ListingLemmas.{shelf_rows_plain, shelf_rows_tables}
+use Rattle.tables.proofs.ListingLemmas.{shelf_rows}
 use Rattle.tables.proofs.FitTests.{answered, refused, shelves_true, shelves_false}
 use Rattle.tables.proofs.Maps.{no_text}
-use Rattle.tables.proofs.WalkCauses.{shelf_walkable, shelf_vast, walk_reason, error_says}
+use Rattle.tables.proofs.WalkCauses.{walkable, walk_reason, error_says}
 use Rattle.tables.proofs.fit.are_shelves_fit.Goals as goal
 
 none_of : (s : set.FinSet text_cmp) → s ≡ set.empty → (u : List ℕ) → set.contains s u ≡ true → ⊥
 none_of s is u h = no_text u (ap (λ x. set.contains x u) (sym is) ∙ h)
 
-pub rows_pass-requires-clause-plain : goal.rows_pass-requires-clause-plain
-rows_pass-requires-clause-plain g c = shelf_rows_plain
-
-pub rows_pass-requires-clause-tables : goal.rows_pass-requires-clause-tables
-rows_pass-requires-clause-tables g c = shelf_rows_tables
-
-pub rows_pass-requires-clause-walkable : goal.rows_pass-requires-clause-walkable
-rows_pass-requires-clause-walkable g c = shelf_walkable
+pub rows_pass-requires : goal.rows_pass-requires
+rows_pass-requires g c = record { plain = shelf_rows.plain; tables = shelf_rows.unlisted; walkable = walkable shelf_rows }
 
 pub returns-then-not-branch-clause-tests : goal.returns-then-not-branch-clause-tests
 returns-then-not-branch-clause-tests g c =
@@ -40,4 +33,4 @@ pub returns-in_err-rows_pass-clause-cause : goal.returns-in_err-rows_pass-clause
 returns-in_err-rows_pass-clause-cause g c clean has =
     let old = state g.S.Store c.args.conn.now in
     error_says _ c.from_residual.result c.in_err-rows_pass.field-0.0 c.from_residual.ensures.1
-    (walk_reason shelf_rows_text old (state g.S.Store c.rows_pass.new.conn) (Err _) (shelf_vast old.now has) (c.in_err-rows_pass.ensures.cause clean has))
+    (walk_reason shelf_rows old (state g.S.Store c.rows_pass.new.conn) (Err _) has (c.in_err-rows_pass.ensures.cause clean has))

@@ -1,23 +1,16 @@
 use Rattle.std.proofs.Common.{false, Err, refl}
-use Rattle.tables.proofs.Texts.{meta_rows_text}
 use Rattle.sqlite.specs.Held.{state}
 use Rattle.tables.specs.declared.fit.MetaRows.{MetaRows}
-use Rattle.tables.proofs.ListingLemmas.{meta_rows_plain, meta_rows_tables}
+use Rattle.tables.proofs.ListingLemmas.{meta_rows}
 use Rattle.tables.proofs.FitTests.{answered, refused, meta_true, meta_false}
-use Rattle.tables.proofs.WalkCauses.{meta_walkable, meta_vast, walk_reason, error_says}
+use Rattle.tables.proofs.WalkCauses.{walkable, walk_reason, error_says}
 use Rattle.tables.proofs.fit.is_meta_fit.Goals as goal
 
 abbrev start : MetaRows
 start = record { has_row = false }
 
-pub rows_pass-requires-clause-plain : goal.rows_pass-requires-clause-plain
-rows_pass-requires-clause-plain g c = meta_rows_plain
-
-pub rows_pass-requires-clause-tables : goal.rows_pass-requires-clause-tables
-rows_pass-requires-clause-tables g c = meta_rows_tables
-
-pub rows_pass-requires-clause-walkable : goal.rows_pass-requires-clause-walkable
-rows_pass-requires-clause-walkable g c = meta_walkable
+pub rows_pass-requires : goal.rows_pass-requires
+rows_pass-requires g c = record { plain = meta_rows.plain; tables = meta_rows.unlisted; walkable = walkable meta_rows }
 
 pub returns-then-not-branch-clause-tests : goal.returns-then-not-branch-clause-tests
 returns-then-not-branch-clause-tests g c =
@@ -35,4 +28,4 @@ pub returns-in_err-rows_pass-clause-cause : goal.returns-in_err-rows_pass-clause
 returns-in_err-rows_pass-clause-cause g c clean has =
     let old = state g.S.Store c.args.conn.now in
     error_says _ c.from_residual.result c.in_err-rows_pass.field-0.0 c.from_residual.ensures.1
-    (walk_reason meta_rows_text old (state g.S.Store c.rows_pass.new.conn) (Err _) (meta_vast old.now has) (c.in_err-rows_pass.ensures.cause clean has))
+    (walk_reason meta_rows old (state g.S.Store c.rows_pass.new.conn) (Err _) has (c.in_err-rows_pass.ensures.cause clean has))

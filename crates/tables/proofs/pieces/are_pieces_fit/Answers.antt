@@ -1,20 +1,14 @@
 use Rattle.std.proofs.Common.{refl}
 use Rattle.sqlite.specs.Held.{state}
-use Rattle.tables.proofs.ListingLemmas.{piece_rows_plain, piece_rows_tables}
+use Rattle.tables.proofs.ListingLemmas.{piece_rows}
 use Rattle.tables.proofs.Texts.{piece_rows_text}
 use Rattle.tables.proofs.FitTests.{walked}
 use Rattle.tables.proofs.PieceTests.{PieceFits, PieceKeeps, pieces_true, pieces_false}
-use Rattle.tables.proofs.WalkCauses.{piece_walkable, piece_vast, walk_reason}
+use Rattle.tables.proofs.WalkCauses.{walkable, walk_reason}
 use Rattle.tables.proofs.pieces.are_pieces_fit.Goals as goal
 
-pub rows_pass-requires-clause-plain : goal.rows_pass-requires-clause-plain
-rows_pass-requires-clause-plain g c = piece_rows_plain
-
-pub rows_pass-requires-clause-tables : goal.rows_pass-requires-clause-tables
-rows_pass-requires-clause-tables g c = piece_rows_tables
-
-pub rows_pass-requires-clause-walkable : goal.rows_pass-requires-clause-walkable
-rows_pass-requires-clause-walkable g c = piece_walkable
+pub rows_pass-requires : goal.rows_pass-requires
+rows_pass-requires g c = record { plain = piece_rows.plain; tables = piece_rows.unlisted; walkable = walkable piece_rows }
 
 pub returns-clause-tests : goal.returns-clause-tests
 returns-clause-tests g c =
@@ -26,4 +20,4 @@ returns-clause-tests g c =
 pub returns-clause-cause : goal.returns-clause-cause
 returns-clause-cause g c clean has =
     let old = state g.S.Store c.args.conn.now in
-    walk_reason piece_rows_text old (state g.S.Store c.rows_pass.new.conn) c.rows_pass.result (piece_vast old.now has) (c.rows_pass.ensures.cause clean has)
+    walk_reason piece_rows old (state g.S.Store c.rows_pass.new.conn) c.rows_pass.result has (c.rows_pass.ensures.cause clean has)

@@ -1,5 +1,6 @@
 use Rattle.std.proofs.Common.{Ok, Err, true, map}
 use Rattle.sqlite.specs.Held.{state}
+use Rattle.sqlite.specs.State.{State}
 use Rattle.sqlite.specs.Tree.{Trees}
 use Rattle.tables.specs.Walks.{Tests}
 use Rattle.tables.specs.Fit.{shelf_shown, IsMetaFit, AreShelvesFit, AreKeysFit, AreNumbersFit, AreEntriesFit, ArePiecesFit, AreFit, meta_shown, name_shown, number_shown, entry_shown, piece_shown}
@@ -37,98 +38,68 @@ FourFit db = ThreeFit db × Numbered db
 abbrev FiveFit : Trees → Type 0
 FiveFit db = FourFit db × Filled db
 
+module _ {a b c : State} (named : Tests a b (Ok true) Named) (shelved : Tests b c (Ok true) Shelved) where
+  two : Tests a c (Ok true) TwoFit
+  two = then_tests a b c (Ok true) Named Shelved named shelved
+
+  module _ {d : State} (keyed : Tests c d (Ok true) Keyed) where
+    three : Tests a d (Ok true) ThreeFit
+    three = then_tests a c d (Ok true) TwoFit Keyed two keyed
+
+    module _ {e : State} (numbered : Tests d e (Ok true) Numbered) where
+      four : Tests a e (Ok true) FourFit
+      four = then_tests a d e (Ok true) ThreeFit Numbered three numbered
+
+      five : {f : State} → Tests e f (Ok true) Filled → Tests a f (Ok true) FiveFit
+      five {f} filled = then_tests a e f (Ok true) FourFit Filled four filled
+
 pub returns-clause-tests : goal.returns-clause-tests
 returns-clause-tests g c =
-    let first = state g.S.Store c.args.conn.now in
-    let second = state g.S.Store c.is_meta_fit.new.conn in
-    let third = state g.S.Store c.are_shelves_fit.new.conn in
-    let fourth = state g.S.Store c.are_keys_fit.new.conn in
-    let fifth = state g.S.Store c.are_numbers_fit.new.conn in
-    let sixth = state g.S.Store c.are_entries_fit.new.conn in
-    let last = state g.S.Store c.are_pieces_fit.new.conn in
-    let named : Tests first second (Ok true) Named = rw c.if-not-branch.false at c.in_ok-is_meta_fit.ensures.tests in
-    let shelved : Tests second third (Ok true) Shelved = rw c.if-not-branch-2.false at c.in_ok-are_shelves_fit.ensures.tests in
-    let keyed : Tests third fourth (Ok true) Keyed = rw c.if-not-branch-3.false at c.in_ok-are_keys_fit.ensures.tests in
-    let numbered : Tests fourth fifth (Ok true) Numbered = rw c.if-not-branch-4.false at c.in_ok-are_numbers_fit.ensures.tests in
-    let filled : Tests fifth sixth (Ok true) Filled = rw c.if-not-branch-5.false at c.in_ok-are_entries_fit.ensures.tests in
-    let two = then_tests first second third (Ok true) Named Shelved named shelved in
-    let three = then_tests first third fourth (Ok true) TwoFit Keyed two keyed in
-    let four = then_tests first fourth fifth (Ok true) ThreeFit Numbered three numbered in
-    let five = then_tests first fifth sixth (Ok true) FourFit Filled four filled in
-    tests_same first last c.are_pieces_fit.result (λ db. FiveFit db × Pieced db) AreFit
+    let named = rw c.if-not-branch.false at c.in_ok-is_meta_fit.ensures.tests in
+    let shelved = rw c.if-not-branch-2.false at c.in_ok-are_shelves_fit.ensures.tests in
+    let keyed = rw c.if-not-branch-3.false at c.in_ok-are_keys_fit.ensures.tests in
+    let numbered = rw c.if-not-branch-4.false at c.in_ok-are_numbers_fit.ensures.tests in
+    let filled = rw c.if-not-branch-5.false at c.in_ok-are_entries_fit.ensures.tests in
+    tests_same _ _ c.are_pieces_fit.result (λ db. FiveFit db × Pieced db) AreFit
     (λ db it. record { named = it.0.0.0.0.0; shelves = it.0.0.0.0.1; access = it.0.0.0.1; numbers = it.0.0.1; entries = it.0.1; pieces = it.1 })
-    (λ db fit. (((((fit.named, fit.shelves), fit.access), fit.numbers), fit.entries), fit.pieces)) (then_tests first sixth last c.are_pieces_fit.result FiveFit Pieced five c.are_pieces_fit.ensures.tests)
+    (λ db fit. (((((fit.named, fit.shelves), fit.access), fit.numbers), fit.entries), fit.pieces))
+    (then_tests _ _ _ c.are_pieces_fit.result FiveFit Pieced (five named shelved keyed numbered filled) c.are_pieces_fit.ensures.tests)
 
 pub returns-in_err-are_shelves_fit-clause-cause : goal.returns-in_err-are_shelves_fit-clause-cause
 returns-in_err-are_shelves_fit-clause-cause g c clean has =
-    let first = state g.S.Store c.args.conn.now in
-    let second = state g.S.Store c.is_meta_fit.new.conn in
-    let third = state g.S.Store c.are_shelves_fit.new.conn in
-    let named : Tests first second (Ok true) Named = rw c.if-not-branch.false at c.in_ok-is_meta_fit.ensures.tests in
+    let named = rw c.if-not-branch.false at c.in_ok-is_meta_fit.ensures.tests in
     error_says _ c.from_residual-in_err-are_shelves_fit.result c.in_err-are_shelves_fit.field-0.0 c.from_residual-in_err-are_shelves_fit.ensures.1
-    (then_reason first second third Named named c.are_shelves_fit.ensures.tests.looks.clean clean has (Err _) c.in_err-are_shelves_fit.ensures.cause)
+    (then_reason _ _ (state g.S.Store c.are_shelves_fit.new.conn) Named named c.are_shelves_fit.ensures.tests.looks.clean clean has (Err _) c.in_err-are_shelves_fit.ensures.cause)
 
 pub returns-in_err-are_keys_fit-clause-cause : goal.returns-in_err-are_keys_fit-clause-cause
 returns-in_err-are_keys_fit-clause-cause g c clean has =
-    let first = state g.S.Store c.args.conn.now in
-    let second = state g.S.Store c.is_meta_fit.new.conn in
-    let third = state g.S.Store c.are_shelves_fit.new.conn in
-    let fourth = state g.S.Store c.are_keys_fit.new.conn in
-    let named : Tests first second (Ok true) Named = rw c.if-not-branch.false at c.in_ok-is_meta_fit.ensures.tests in
-    let shelved : Tests second third (Ok true) Shelved = rw c.if-not-branch-2.false at c.in_ok-are_shelves_fit.ensures.tests in
-    let two = then_tests first second third (Ok true) Named Shelved named shelved in
+    let named = rw c.if-not-branch.false at c.in_ok-is_meta_fit.ensures.tests in
+    let shelved = rw c.if-not-branch-2.false at c.in_ok-are_shelves_fit.ensures.tests in
     error_says _ c.from_residual-in_err-are_keys_fit.result c.in_err-are_keys_fit.field-0.0 c.from_residual-in_err-are_keys_fit.ensures.1
-    (then_reason first third fourth TwoFit two c.are_keys_fit.ensures.tests.looks.clean clean has (Err _) c.in_err-are_keys_fit.ensures.cause)
+    (then_reason _ _ (state g.S.Store c.are_keys_fit.new.conn) TwoFit (two named shelved) c.are_keys_fit.ensures.tests.looks.clean clean has (Err _) c.in_err-are_keys_fit.ensures.cause)
 
 pub returns-in_err-are_numbers_fit-clause-cause : goal.returns-in_err-are_numbers_fit-clause-cause
 returns-in_err-are_numbers_fit-clause-cause g c clean has =
-    let first = state g.S.Store c.args.conn.now in
-    let second = state g.S.Store c.is_meta_fit.new.conn in
-    let third = state g.S.Store c.are_shelves_fit.new.conn in
-    let fourth = state g.S.Store c.are_keys_fit.new.conn in
-    let fifth = state g.S.Store c.are_numbers_fit.new.conn in
-    let named : Tests first second (Ok true) Named = rw c.if-not-branch.false at c.in_ok-is_meta_fit.ensures.tests in
-    let shelved : Tests second third (Ok true) Shelved = rw c.if-not-branch-2.false at c.in_ok-are_shelves_fit.ensures.tests in
-    let keyed : Tests third fourth (Ok true) Keyed = rw c.if-not-branch-3.false at c.in_ok-are_keys_fit.ensures.tests in
-    let two = then_tests first second third (Ok true) Named Shelved named shelved in
-    let three = then_tests first third fourth (Ok true) TwoFit Keyed two keyed in
+    let named = rw c.if-not-branch.false at c.in_ok-is_meta_fit.ensures.tests in
+    let shelved = rw c.if-not-branch-2.false at c.in_ok-are_shelves_fit.ensures.tests in
+    let keyed = rw c.if-not-branch-3.false at c.in_ok-are_keys_fit.ensures.tests in
     error_says _ c.from_residual-in_err-are_numbers_fit.result c.in_err-are_numbers_fit.field-0.0 c.from_residual-in_err-are_numbers_fit.ensures.1
-    (then_reason first fourth fifth ThreeFit three c.are_numbers_fit.ensures.tests.looks.clean clean has (Err _) c.in_err-are_numbers_fit.ensures.cause)
+    (then_reason _ _ (state g.S.Store c.are_numbers_fit.new.conn) ThreeFit (three named shelved keyed) c.are_numbers_fit.ensures.tests.looks.clean clean has (Err _) c.in_err-are_numbers_fit.ensures.cause)
 
 pub returns-in_err-are_entries_fit-clause-cause : goal.returns-in_err-are_entries_fit-clause-cause
 returns-in_err-are_entries_fit-clause-cause g c clean has =
-    let first = state g.S.Store c.args.conn.now in
-    let second = state g.S.Store c.is_meta_fit.new.conn in
-    let third = state g.S.Store c.are_shelves_fit.new.conn in
-    let fourth = state g.S.Store c.are_keys_fit.new.conn in
-    let fifth = state g.S.Store c.are_numbers_fit.new.conn in
-    let sixth = state g.S.Store c.are_entries_fit.new.conn in
-    let named : Tests first second (Ok true) Named = rw c.if-not-branch.false at c.in_ok-is_meta_fit.ensures.tests in
-    let shelved : Tests second third (Ok true) Shelved = rw c.if-not-branch-2.false at c.in_ok-are_shelves_fit.ensures.tests in
-    let keyed : Tests third fourth (Ok true) Keyed = rw c.if-not-branch-3.false at c.in_ok-are_keys_fit.ensures.tests in
-    let numbered : Tests fourth fifth (Ok true) Numbered = rw c.if-not-branch-4.false at c.in_ok-are_numbers_fit.ensures.tests in
-    let two = then_tests first second third (Ok true) Named Shelved named shelved in
-    let three = then_tests first third fourth (Ok true) TwoFit Keyed two keyed in
-    let four = then_tests first fourth fifth (Ok true) ThreeFit Numbered three numbered in
+    let named = rw c.if-not-branch.false at c.in_ok-is_meta_fit.ensures.tests in
+    let shelved = rw c.if-not-branch-2.false at c.in_ok-are_shelves_fit.ensures.tests in
+    let keyed = rw c.if-not-branch-3.false at c.in_ok-are_keys_fit.ensures.tests in
+    let numbered = rw c.if-not-branch-4.false at c.in_ok-are_numbers_fit.ensures.tests in
     error_says _ c.from_residual-in_err-are_entries_fit.result c.in_err-are_entries_fit.field-0.0 c.from_residual-in_err-are_entries_fit.ensures.1
-    (then_reason first fifth sixth FourFit four c.are_entries_fit.ensures.tests.looks.clean clean has (Err _) c.in_err-are_entries_fit.ensures.cause)
+    (then_reason _ _ (state g.S.Store c.are_entries_fit.new.conn) FourFit (four named shelved keyed numbered) c.are_entries_fit.ensures.tests.looks.clean clean has (Err _) c.in_err-are_entries_fit.ensures.cause)
 
 pub returns-clause-cause : goal.returns-clause-cause
 returns-clause-cause g c clean has =
-    let first = state g.S.Store c.args.conn.now in
-    let second = state g.S.Store c.is_meta_fit.new.conn in
-    let third = state g.S.Store c.are_shelves_fit.new.conn in
-    let fourth = state g.S.Store c.are_keys_fit.new.conn in
-    let fifth = state g.S.Store c.are_numbers_fit.new.conn in
-    let sixth = state g.S.Store c.are_entries_fit.new.conn in
-    let last = state g.S.Store c.are_pieces_fit.new.conn in
-    let named : Tests first second (Ok true) Named = rw c.if-not-branch.false at c.in_ok-is_meta_fit.ensures.tests in
-    let shelved : Tests second third (Ok true) Shelved = rw c.if-not-branch-2.false at c.in_ok-are_shelves_fit.ensures.tests in
-    let keyed : Tests third fourth (Ok true) Keyed = rw c.if-not-branch-3.false at c.in_ok-are_keys_fit.ensures.tests in
-    let numbered : Tests fourth fifth (Ok true) Numbered = rw c.if-not-branch-4.false at c.in_ok-are_numbers_fit.ensures.tests in
-    let filled : Tests fifth sixth (Ok true) Filled = rw c.if-not-branch-5.false at c.in_ok-are_entries_fit.ensures.tests in
-    let two = then_tests first second third (Ok true) Named Shelved named shelved in
-    let three = then_tests first third fourth (Ok true) TwoFit Keyed two keyed in
-    let four = then_tests first fourth fifth (Ok true) ThreeFit Numbered three numbered in
-    let five = then_tests first fifth sixth (Ok true) FourFit Filled four filled in
-    then_reason first sixth last FiveFit five c.are_pieces_fit.ensures.tests.looks.clean clean has c.are_pieces_fit.result c.are_pieces_fit.ensures.cause
+    let named = rw c.if-not-branch.false at c.in_ok-is_meta_fit.ensures.tests in
+    let shelved = rw c.if-not-branch-2.false at c.in_ok-are_shelves_fit.ensures.tests in
+    let keyed = rw c.if-not-branch-3.false at c.in_ok-are_keys_fit.ensures.tests in
+    let numbered = rw c.if-not-branch-4.false at c.in_ok-are_numbers_fit.ensures.tests in
+    let filled = rw c.if-not-branch-5.false at c.in_ok-are_entries_fit.ensures.tests in
+    then_reason _ _ (state g.S.Store c.are_pieces_fit.new.conn) FiveFit (five named shelved keyed numbered filled) c.are_pieces_fit.ensures.tests.looks.clean clean has c.are_pieces_fit.result c.are_pieces_fit.ensures.cause

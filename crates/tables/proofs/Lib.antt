@@ -3,8 +3,7 @@ pub mod Maps
 pub mod Ascending
 pub mod ValueLemmas
 pub mod SchemaLemmas
-pub mod FlagLemmas
-pub mod BoundLemmas
+pub mod CheckLemmas
 pub mod FailureLemmas
 pub mod AsciiLemmas
 pub mod RowMapLemmas

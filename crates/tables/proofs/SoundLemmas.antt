@@ -23,10 +23,11 @@ use Rattle.sqlite_catalog.specs.Listing.{IsSound}
 use Rattle.sqlite_rules.specs.Lists.{Has}
 use Rattle.sqlite_rules.proofs.ListLemmas.{some_has}
 use Rattle.sqlite_rules.proofs.RuleLemmas.{keeps_at}
+use Rattle.world.proofs.MapsPlaces.{is_tied}
 use Rattle.tables.specs.Schema.{store_schema, access_table, version_table, piece_table, given, refers}
 use Rattle.tables.specs.Means.{is_of}
 use Rattle.tables.specs.Fit.{text_in}
-use Rattle.tables.proofs.ValueLemmas.{tied, equals_text, equal_turned, equal_chain, equal_gives}
+use Rattle.tables.proofs.ValueLemmas.{equals_text, equal_turned, equal_chain, equal_gives}
 
 -- ---- values of a type
 
@@ -50,7 +51,7 @@ one_of false true h = inr refl
 one_of false false h = absurd (true≢false (sym h))
 
 pub same_int : (m n : ℤ) → is_eq (value_cmp (Int m) (Int n)) ≡ true → m ≡ n
-same_int m n h = int_cmp-IsAntisymmetric m n (sym (value_cmp-Int m n) ∙ tied _ h)
+same_int m n h = int_cmp-IsAntisymmetric m n (sym (value_cmp-Int m n) ∙ is_tied _ h)
 
 -- numbers that SQL's = takes for equal are equal
 pub ints_equal : (m n : ℤ) → equal Binary (Int m) (Int n) ≡ true → m ≡ n

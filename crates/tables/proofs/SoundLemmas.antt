@@ -3,7 +3,7 @@ use Rattle.std.proofs.Common.{◌≡◌, ◌⊎◌, ◌&&◌, ◌||◌, ℕ, ℤ
 use Rattle.std.specs.List.{list_any}
 use Rattle.std.specs.Ordering.{is_eq}
 use Rattle.std.specs.FinMap.{int_cmp-IsAntisymmetric}
-use Rattle.std.proofs.lemmas.Bool.{and_parts}
+use Rattle.std.proofs.lemmas.Bool.{and_parts, not-true}
 use Rattle.sqlite.specs.declared.types.Value.{Value}
 use Rattle.sqlite.specs.declared.types.Value.TheVariants.{Null, Int, Real, Text, Blob}
 use Rattle.sqlite.specs.Collation.TheVariants.{Binary}
@@ -66,9 +66,10 @@ zero_or_one n h = elim (one_of (is_eq (value_cmp (Int n) (Int (pos 0)))) (is_eq 
   | inr one ↦ (true, same_int n (pos 1) one)
 ]
 
-not_null : (b : Bool) → (false || false || not b) ≡ true → b ≡ false
-not_null true h = absurd (true≢false (sym h))
-not_null false h = refl
+-- a foreign key whose column is not NULL is held
+held : (null : Bool) → null ≡ false → (b : Bool) → (((null || false) || b) && true) ≡ true → b ≡ true
+held true is b h = absurd (true≢false is)
+held false is b h = (and_parts _ _ h).0
 
 -- ---- a row of `access`
 
@@ -92,8 +93,8 @@ access_row db sound row there =
     let present = keeps_at NotNull store_schema db access_table row (sound.obeys.rules NotNull) listed there in
     let second = and_parts _ _ (and_parts _ _ present).1 in
     let third = and_parts _ _ second.1 in
-    let shelf = not_null (is_null (column row 2)) second.0 in
-    let publish = not_null (is_null (column row 3)) third.0 in
+    let shelf = not-true (is_null (column row 2)) second.0 in
+    let publish = not-true (is_null (column row 3)) third.0 in
     let typed = typed_access row (and_parts _ _ (keeps_at Datatype store_schema db access_table row (sound.obeys.rules Datatype) listed there)).0 publish in
     let n = int_from (column row 3) typed.1 publish in
     let passes = (and_parts _ _ (keeps_at Check store_schema db access_table row (sound.obeys.rules Check) listed there)).0 in
@@ -107,10 +108,6 @@ parents : (db : Trees) (row : Row)
 unfolding same_name key_joined first_key
 parents db row = refl
 
-held_if : (row : Row) (t : List ℕ) → column row 2 ≡ Text t → (b : Bool) → (((is_null (column row 2) || false) || b) && true) ≡ true → b ≡ true
-held_if row t is true h = refl
-held_if row t is false h = absurd (true≢false (sym h ∙ ap (λ v. ((is_null v || false) || false) && true) is))
-
 parent_of : (db : Trees) (row : Row) (t : List ℕ) → column row 2 ≡ Text t
     → list_any (λ parent. equal Binary (column parent 1) (column row 2) && true) (db 2) ≡ true → (shelf : Row) × Has (db 2) shelf × (column shelf 1 ≡ Text t)
 parent_of db row t is h =
@@ -121,12 +118,12 @@ parent_of db row t is h =
 pub key_shelf : (db : Trees) → IsSound store_schema db → (row : Row) → Has (db 4) row → (t : List ℕ) → column row 2 ≡ Text t → (shelf : Row) × Has (db 2) shelf × (column shelf 1 ≡ Text t)
 key_shelf db sound row there t is =
     let h = keeps_at ForeignKey store_schema db access_table row (sound.obeys.rules ForeignKey) (inr (inr (inl refl))) there in
-    parent_of db row t is (sym (parents db row) ∙ held_if row t is _ h)
+    parent_of db row t is (sym (parents db row) ∙ held _ (ap is_null is) _ h)
 
 pub version_shelf : (db : Trees) → IsSound store_schema db → (row : Row) → Has (db 6) row → (t : List ℕ) → column row 2 ≡ Text t → (shelf : Row) × Has (db 2) shelf × (column shelf 1 ≡ Text t)
 version_shelf db sound row there t is =
     let h = keeps_at ForeignKey store_schema db version_table row (sound.obeys.rules ForeignKey) (inr (inr (inr (inl refl)))) there in
-    parent_of db row t is (sym (parents db row) ∙ held_if row t is _ h)
+    parent_of db row t is (sym (parents db row) ∙ held _ (ap is_null is) _ h)
 
 -- ---- pieces
 
@@ -139,7 +136,7 @@ piece_listed : Has store_schema.tables piece_table
 piece_listed = inr (inr (inr (inr (inl refl))))
 
 names_version : (db : Trees) → IsSound store_schema db → (row : Row) → Has (db 8) row → is_null (column row 1) ≡ false
-names_version db sound row there = not_null (is_null (column row 1)) (and_parts _ _ (keeps_at NotNull store_schema db piece_table row (sound.obeys.rules NotNull) piece_listed there)).0
+names_version db sound row there = not-true (is_null (column row 1)) (and_parts _ _ (keeps_at NotNull store_schema db piece_table row (sound.obeys.rules NotNull) piece_listed there)).0
 
 -- a piece names a version by its number
 pub piece_number : (db : Trees) → IsSound store_schema db → (row : Row) → Has (db 8) row → (n : ℤ) × (column row 1 ≡ Int n)
@@ -159,11 +156,6 @@ piece_version db sound row there =
     let any = sym (versions db row) ∙ held (is_null (column row 1)) (names_version db sound row there) _ h in
     let it = some_has (λ version. equal Binary (rowid version) (column row 1) && true) (db 6) any in
     (it.0, it.1, equal_turned (column row 1) (rowid it.0) ∙ (and_parts _ _ it.2).0)
-  where
-    held : (null : Bool) → null ≡ false → (b : Bool) → (((null || false) || b) && true) ≡ true → b ≡ true
-    held true is b h = absurd (true≢false is)
-    held false is true h = refl
-    held false is false h = absurd (true≢false (sym h))
 
 -- pieces of one version have one number of it
 pub one_version : (version : Row) (a b : Value) (m n : ℤ) → a ≡ Int m → b ≡ Int n → equal Binary a (rowid version) ≡ true → equal Binary b (rowid version) ≡ true → a ≡ b

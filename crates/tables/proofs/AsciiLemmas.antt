@@ -18,12 +18,9 @@ use Rattle.modver.specs.Time.{IsTime, fits_byte, fits_form}
 use Rattle.modver.proofs.Times.{time-form}
 use Rattle.world.specs.Names.{common, is_team_name, is_key, is_lower, is_digit}
 
-ascii_by : (p : ℕ → Bool) → ((b : ℕ) → p b ≡ true → b < 128) → (t : List ℕ) → list_all p t ≡ true → IsAscii t
+pub ascii_by : (p : ℕ → Bool) → ((b : ℕ) → p b ≡ true → b < 128) → (t : List ℕ) → list_all p t ≡ true → IsAscii t
 ascii_by p small [] h = IsAscii-nil
 ascii_by p small (b ∷ t) h = let sides = and_parts _ _ h in IsAscii-cons b t (small b sides.0) (ascii_by p small t sides.1)
-
-below : (b : ℕ) → nat_lt b 128 ≡ true → b < 128
-below b h = ltb-true b 128 h
 
 name_byte : (c : ℕ) → (is_lower c || is_digit c || nat_eq c 45) ≡ true → c < 128
 name_byte c h = grind (arith, nat_tests)
@@ -38,7 +35,7 @@ identifier_byte : (c : ℕ) → is_identifier_byte c ≡ true → c < 128
 identifier_byte c h = grind (arith, nat_tests)
 
 pub shelf_utf8 : (name : List ℕ) → (name ≡ common) ⊎ (is_team_name name ≡ true) → IsUtf8 name
-shelf_utf8 name (inl same) = subst IsUtf8 (sym same) (IsUtf8-from_ascii common (ascii_by (λ b. nat_lt b 128) below common refl))
+shelf_utf8 name (inl same) = subst IsUtf8 (sym same) (IsUtf8-from_ascii common (ascii_by (λ b. nat_lt b 128) (λ b. ltb-true b 128) common refl))
 shelf_utf8 name (inr team) = IsUtf8-from_ascii name (ascii_by _ name_byte name (and_parts _ _ (and_parts _ _ team).0).1)
 
 pub key_utf8 : (key : List ℕ) → is_key key ≡ true → IsUtf8 key
@@ -57,7 +54,7 @@ formed_ascii (f ∷ form) [] small h = absurd (true≢false (sym h))
 formed_ascii (f ∷ form) (b ∷ t) small h =
     let first = and_parts _ _ small in
     let sides = and_parts _ _ h in
-    IsAscii-cons b t (digit_or_hex f b (below f first.0) sides.0) (formed_ascii form t first.1 sides.1)
+    IsAscii-cons b t (digit_or_hex f b (ltb-true f 128 first.0) sides.0) (formed_ascii form t first.1 sides.1)
 
 pub time_utf8 : (t : List ℕ) → IsTime t → IsUtf8 t
 time_utf8 t is = IsUtf8-from_ascii t (formed_ascii (codes "dddd-dd-ddTdd:dd:ddZ") t refl (time-form t is))
@@ -75,7 +72,7 @@ pre_release_ascii [] h = IsAscii-nil
 pre_release_ascii (i ∷ is) h = IsAscii-cons 45 _ (omega arith) (joined_ascii (i ∷ is) h)
 
 mark_ascii : (marked : Bool) → IsAscii (build_text (mark_of marked))
-mark_ascii true = ascii_by (λ b. nat_lt b 128) below (build_text (mark_of true)) refl
+mark_ascii true = ascii_by (λ b. nat_lt b 128) (λ b. ltb-true b 128) (build_text (mark_of true)) refl
 mark_ascii false = IsAscii-nil
 
 version_ascii : (v : SemanticVersion) (t : List ℕ) → IsCanonical t v → IsAscii t

@@ -3,10 +3,9 @@ use Rattle.std.proofs.Common.{◌≡◌, ◌<◌, ◌≤◌, ◌/◌, suc, take,
 use Rattle.std.proofs.Common.{Some, None, Ok, Err, Result, inl, inr, refl, sym, ap, subst, subst₂, ◌∙◌, codes, arith, IsTrue, true≢false, nat_lt, ltb-true}
 use Rattle.std.specs.Prelude.{IsSome}
 use Rattle.std.specs.List.{list_all, AllByRecursion}
-use Rattle.std.specs.Str.{IsAscii, IsUtf8}
+use Rattle.std.specs.Str.{IsUtf8}
 use Rattle.std.proofs.lemmas.Str.{IsUtf8-from_ascii}
-use Rattle.std.proofs.lemmas.Str.Ascii.{IsAscii-nil, IsAscii-cons}
-use Rattle.std.proofs.lemmas.Bool.{cases_Bool, and_parts}
+use Rattle.std.proofs.lemmas.Bool.{cases_Bool}
 use Rattle.sqlite_trees.specs.declared.error.StoreError.{StoreError}
 use Rattle.sqlite_trees.specs.declared.error.StoreError.TheVariants.{OutOfMemory, Io, Corrupt, Full, Broken, Unstorable}
 use Rattle.sqlite_resolve.specs.declared.error.CompileError.{CompileError}
@@ -24,6 +23,7 @@ use Rattle.sqlite_catalog.specs.Change.{created, next_tree, automatics, is_used,
 use Rattle.sqlite.specs.Compile.{table_defined_by}
 use Rattle.sqlite.specs.Command.{Command}
 use Rattle.sqlite.specs.Command.TheVariants.{Insert, CreateTable}
+use Rattle.tables.proofs.AsciiLemmas.{ascii_by}
 use Rattle.tables.proofs.InsertLemmas.{enforced}
 use Rattle.sqlite.specs.Effect.{Database, RefusesSource, is_query, value_rows}
 use Rattle.sqlite.specs.Does.{Does, MakesTable, MakesSequence, lacks_sequence}
@@ -112,18 +112,11 @@ module _ (sql : List ℕ) (old new : State) (schema : Schema) (has : old.now.sch
 
 -- ---- a table is made
 
-below : (b : ℕ) → nat_lt b 128 ≡ true → b < 128
-below b h = ltb-true b 128 h
-
 abbrev pub is_ascii : List ℕ → Bool
 is_ascii t = list_all (λ b. nat_lt b 128) t
 
-all_ascii : (t : List ℕ) → is_ascii t ≡ true → IsAscii t
-all_ascii [] h = IsAscii-nil
-all_ascii (b ∷ t) h = let sides = and_parts _ _ h in IsAscii-cons b t (below b sides.0) (all_ascii t sides.1)
-
 is_text : (t : List ℕ) → is_ascii t ≡ true → IsUtf8 t
-is_text t h = IsUtf8-from_ascii t (all_ascii t h)
+is_text t h = IsUtf8-from_ascii t (ascii_by (λ b. nat_lt b 128) (λ b. ltb-true b 128) t h)
 
 -- nothing keeps the text from making the table
 pub record IsMakeable (schema : Schema) (text : List ℕ) (table : Table) : Type 0 where

@@ -3,6 +3,11 @@ use Rattle.std.proofs.Common.{◌≡◌, ◌≤◌, ◌<◌, ◌+◌, ◌-◌, �
 use Rattle.std.proofs.lemmas.List.{length-take, length-drop, drop-drop, take-append-drop, take_all, take_at, drop_all, drop_at, nil_from_length}
 use Rattle.tables.specs.Pieces.{piece_size, begin, piece, HasPiece}
 
+-- what follows no number is 0
+pub zero_unless : (n : ℕ) → ((m : ℕ) → n ≡ m + 1 → ⊥) → n ≡ 0
+zero_unless zero none = refl
+zero_unless (suc n) none = absurd (none n (omega arith))
+
 -- ---- one piece
 
 piece_length : (zip : List ℕ) (n : ℕ) → length (piece zip n) ≡ min piece_size (length zip - begin n)
@@ -71,11 +76,7 @@ from_most f whole at (suc k) =
 
 module _ (f : ℕ → List ℕ) (whole : AreWhole f) where
   none_next : (at : ℕ) → length (f at) ≡ 0 → length (f (suc at)) ≡ 0
-  none_next at none = go (length (f (suc at))) refl
-    where
-      go : (n : ℕ) → length (f (suc at)) ≡ n → length (f (suc at)) ≡ 0
-      go zero is = is
-      go (suc n) is = let full = whole.full at (omega (arith, is)) in absurd (omega (arith, full, none))
+  none_next at none = zero_unless _ (λ n is. let full = whole.full at (omega (arith, is)) in omega (arith, full, none))
 
   -- behind an empty one there are none
   none_from : (at k : ℕ) → length (f at) ≡ 0 → length (pieces_from f at k) ≡ 0

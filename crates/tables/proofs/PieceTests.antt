@@ -25,6 +25,7 @@ use Rattle.tables.specs.declared.pieces.PieceRows.{PieceRows}
 use Rattle.tables.proofs.Texts.{piece_rows_text}
 use Rattle.tables.proofs.Ascending.{has_permuted, Steps, Adjacent, adjacent_both, adjacent_among, ascends, ascends_permuted, front_ascends, across, apart_below}
 use Rattle.tables.proofs.ListingLemmas.{piece_rows, rows_listed, in_its_order, all_shown, first_shown, InOrder, number_columns}
+use Rattle.tables.proofs.PieceLemmas.{zero_unless}
 use Rattle.tables.proofs.RunLemmas.{adjacent_follow, pass_at, last_row}
 use Rattle.tables.proofs.FitTests.{not_itself, pass_each, at_index}
 
@@ -217,11 +218,7 @@ module _ (rows : List Row) (row : Row) (tail : List Row) (up : IsAscending Rises
 
   -- where none stands before it, it is the first of its version
   comes_first : rows ≡ [] → nat_in (column row 1) ≡ 0
-  comes_first none = go (nat_in (column row 1)) refl
-    where
-      go : (n : ℕ) → nat_in (column row 1) ≡ n → nat_in (column row 1) ≡ 0
-      go zero is = is
-      go (suc n) is = let it = found_before n (omega (arith, is)) in absurd (subst (λ l. Has l it.0) none it.1)
+  comes_first none = zero_unless _ (λ n is. let it = found_before n is in subst (λ l. Has l it.0) none it.1)
 
   module _ (front : List Row) (b : Row) (ends : rows ≡ front ++ b ∷ []) where
     rows_rise : IsAscending Rises (front ++ b ∷ [])
@@ -260,11 +257,7 @@ module _ (rows : List Row) (row : Row) (tail : List Row) (up : IsAscending Rises
             (ap (λ (p : LastPiece). p.is_full) it, omega (arith, number, is))
 
     comes_anew : (int_in (column b 0) ≡ int_in (column row 0) → ⊥) → nat_in (column row 1) ≡ 0
-    comes_anew apart = go (nat_in (column row 1)) refl
-      where
-        go : (n : ℕ) → nat_in (column row 1) ≡ n → nat_in (column row 1) ≡ 0
-        go zero is = is
-        go (suc n) is = absurd (apart (ap (λ (p : LastPiece). p.version) (is_last n (omega (arith, is)))))
+    comes_anew apart = zero_unless _ (λ n is. apart (ap (λ (p : LastPiece). p.version) (is_last n is)))
 
 module _ (db : Database) (start end : PieceRows) (new : start.last ≡ None) where
   -- if a row of `piece` did not pass, the rows of the table do not fit

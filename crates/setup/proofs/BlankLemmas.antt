@@ -1,5 +1,5 @@
 -- Whether a store has `common` alone.
-use Rattle.std.proofs.Common.{◌≡◌, ◌≢◌, ℕ, Bool, true, false, not, List, [], ◌∷◌, Option, Some, None, is_some, inl, inr, refl, sym, ap, subst, ◌∙◌, codes, Decides, true≢false}
+use Rattle.std.proofs.Common.{◌≡◌, ◌≢◌, ℕ, Bool, true, false, not, List, [], ◌∷◌, Option, Some, None, is_some, inl, inr, refl, sym, ap, subst, ◌∙◌, Decides, true≢false}
 use Rattle.std.specs.FinMap as map
 use Rattle.std.specs.Prelude.{bytes_eq}
 use Rattle.std.proofs.lemmas.Bool.{and_parts, cases_Bool, false_from_ne_true}
@@ -33,44 +33,27 @@ use Rattle.setup.proofs.Texts.{other_shelf_text, tokens_text, all_paths_text}
 
 -- ---- the queries
 
+-- a text asks for these terms of the first row of a table that passes
+pub record Asks (sql : List ℕ) (tree : ℕ) (filter project : List Term) : Type 0 where
+  pub names : List (List ℕ)
+  pub is : command_of (understood store_schema sql) ≡ Select (record { lets = []; body = lookup tree filter project }) names
+  pub plain : IsPlain (understood store_schema sql)
+  pub unlisted : reads_listing store_schema sql ≡ false
+
 abbrev by_other_name : List Term
 by_other_name = op2 (Compare Ne Binary) (col 1 1) (col 0 0) ∷ []
 
-other_shelf_is : command_of (understood store_schema other_shelf_text) ≡ Select (record { lets = []; body = lookup 2 by_other_name (col 1 1 ∷ []) }) (codes "name" ∷ [])
+pub other_shelf : Asks other_shelf_text 2 by_other_name (col 1 1 ∷ [])
 unfolding understood everything
-other_shelf_is = refl
+other_shelf = record { names = _; is = refl; plain = (refl, refl); unlisted = refl }
 
-pub other_shelf_plain : IsPlain (understood store_schema other_shelf_text)
+pub any_key : Asks tokens_text 4 [] (col 1 1 ∷ [])
 unfolding understood everything
-other_shelf_plain = (refl, refl)
+any_key = record { names = _; is = refl; plain = (refl, refl); unlisted = refl }
 
-pub other_shelf_tables : reads_listing store_schema other_shelf_text ≡ false
+pub any_entry : Asks all_paths_text 6 [] (col 1 3 ∷ [])
 unfolding understood everything
-other_shelf_tables = refl
-
-tokens_is : command_of (understood store_schema tokens_text) ≡ Select (record { lets = []; body = lookup 4 [] (col 1 1 ∷ []) }) (codes "token" ∷ [])
-unfolding understood everything
-tokens_is = refl
-
-pub tokens_plain : IsPlain (understood store_schema tokens_text)
-unfolding understood everything
-tokens_plain = (refl, refl)
-
-pub tokens_tables : reads_listing store_schema tokens_text ≡ false
-unfolding understood everything
-tokens_tables = refl
-
-all_paths_is : command_of (understood store_schema all_paths_text) ≡ Select (record { lets = []; body = lookup 6 [] (col 1 3 ∷ []) }) (codes "path" ∷ [])
-unfolding understood everything
-all_paths_is = refl
-
-pub all_paths_plain : IsPlain (understood store_schema all_paths_text)
-unfolding understood everything
-all_paths_plain = (refl, refl)
-
-pub all_paths_tables : reads_listing store_schema all_paths_text ≡ false
-unfolding understood everything
-all_paths_tables = refl
+any_entry = record { names = _; is = refl; plain = (refl, refl); unlisted = refl }
 
 -- ---- their answers
 
@@ -92,21 +75,21 @@ module _ (db : Database) (x : World) (means : Means db.trees x) where
       true≢false (sym (rw (it.2.0, apart_from other.0 other.2) refl) ∙ h it.0 it.1))
 
   pub other_shelf_found : (found : Option Row) → Selects other_shelf_text (Text common ∷ []) db found → Decides (is_some found) (HasOtherShelf x)
-  other_shelf_found found h = other_found found (selected_found other_shelf_text (Text common ∷ []) db 2 by_other_name (col 1 1 ∷ []) _ other_shelf_is (λ _. refl) found h)
+  other_shelf_found found h = other_found found (selected_found other_shelf_text (Text common ∷ []) db 2 by_other_name (col 1 1 ∷ []) _ other_shelf.is (λ _. refl) found h)
 
   token_found : (found : Option Row) → FirstFound (db.trees 4) [] (col 1 1 ∷ []) [] found → Decides (is_some found) (HasKey x)
   token_found (Some out) h = let it = means.access.each h.0 h.1 in passed (it.0.0, it.0.1, it.2)
   token_found None h = refused (λ key. let it = means.access.found (key.0, key.1) key.2 in true≢false (h it.0 it.1))
 
   pub key_found : (found : Option Row) → Selects tokens_text [] db found → Decides (is_some found) (HasKey x)
-  key_found found h = token_found found (selected_found tokens_text [] db 4 [] (col 1 1 ∷ []) _ tokens_is (λ _. refl) found h)
+  key_found found h = token_found found (selected_found tokens_text [] db 4 [] (col 1 1 ∷ []) _ any_key.is (λ _. refl) found h)
 
   path_found : (found : Option Row) → FirstFound (db.trees 6) [] (col 1 3 ∷ []) [] found → Decides (is_some found) (HasEntry x)
   path_found (Some out) h = let it = means.entries.each h.0 h.1 in passed (it.0.0, it.0.1, it.2)
   path_found None h = refused (λ entry. let it = means.entries.found (entry.0, entry.1) entry.2 in true≢false (h it.0 it.1))
 
   pub entry_found : (found : Option Row) → Selects all_paths_text [] db found → Decides (is_some found) (HasEntry x)
-  entry_found found h = path_found found (selected_found all_paths_text [] db 6 [] (col 1 3 ∷ []) _ all_paths_is (λ _. refl) found h)
+  entry_found found h = path_found found (selected_found all_paths_text [] db 6 [] (col 1 3 ∷ []) _ any_entry.is (λ _. refl) found h)
 
 -- ---- the world
 

@@ -2,14 +2,11 @@ use Rattle.std.proofs.Common.{sym, subst, Decides}
 use Rattle.sqlite.specs.Held.{state}
 use Rattle.setup.specs.Extracted.{HasKey}
 use Rattle.tables.proofs.FailureLemmas.{was_clean}
-use Rattle.setup.proofs.BlankLemmas.{tokens_plain, tokens_tables, key_found}
+use Rattle.setup.proofs.BlankLemmas.{any_key, key_found}
 use Rattle.setup.proofs.judge.has_key.Goals as goal
 
-pub find_row-requires-clause-plain : goal.find_row-requires-clause-plain
-find_row-requires-clause-plain g c = tokens_plain
-
-pub find_row-requires-clause-tables : goal.find_row-requires-clause-tables
-find_row-requires-clause-tables g c = tokens_tables
+pub find_row-requires : goal.find_row-requires
+find_row-requires g c = record { plain = any_key.plain; tables = any_key.unlisted }
 
 pub returns-clause-answer : goal.returns-clause-answer
 returns-clause-answer g c clean x stands =

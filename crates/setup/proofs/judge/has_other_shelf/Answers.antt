@@ -2,14 +2,11 @@ use Rattle.std.proofs.Common.{sym, subst, Decides}
 use Rattle.sqlite.specs.Held.{state}
 use Rattle.setup.specs.Extracted.{HasOtherShelf}
 use Rattle.tables.proofs.FailureLemmas.{was_clean}
-use Rattle.setup.proofs.BlankLemmas.{other_shelf_plain, other_shelf_tables, other_shelf_found}
+use Rattle.setup.proofs.BlankLemmas.{other_shelf, other_shelf_found}
 use Rattle.setup.proofs.judge.has_other_shelf.Goals as goal
 
-pub find_row-requires-clause-plain : goal.find_row-requires-clause-plain
-find_row-requires-clause-plain g c = other_shelf_plain
-
-pub find_row-requires-clause-tables : goal.find_row-requires-clause-tables
-find_row-requires-clause-tables g c = other_shelf_tables
+pub find_row-requires : goal.find_row-requires
+find_row-requires g c = record { plain = other_shelf.plain; tables = other_shelf.unlisted }
 
 pub returns-clause-answer : goal.returns-clause-answer
 returns-clause-answer g c clean x stands =

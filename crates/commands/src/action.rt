@@ -2,7 +2,7 @@
 ghost use Rattle.std.specs.Prelude.{◌≡◌};
 ghost use Rattle.commands.specs.Action as spec;
 
-use crate::answer::answer_from;
+use crate::answer::answer_input;
 use crate::import_file::import_file;
 use crate::publish::{Files, Words, publish};
 use crate::refusal::CommandRefusal;
@@ -75,7 +75,7 @@ pub fn act_on<S: Outlines, K: Copies<S>, I: Read, O: Write>(
         Action::Import { key, list } => import_file(rt, shelves, key, list, output),
         Action::Inventory { key } => print_inventory(rt.alloc(), shelves, key, output),
         Action::Requires { version } => print_requirements(rt.alloc(), shelves, version, output),
-        Action::Answer => acceptance(answer_from(rt.alloc(), shelves, input, output)),
+        Action::Answer => acceptance(answer_input(rt.alloc(), shelves, input, output)),
         Action::Serve {
             entrance,
             connections,

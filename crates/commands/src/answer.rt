@@ -8,7 +8,7 @@ use std::io::{Read, Write};
 use world::shelves::Shelves;
 
 /// Answers the requests of the input from a store. `Io` if the input or the output fails.
-pub fn answer_from<S: Shelves, I: Read, O: Write>(
+pub fn answer_input<S: Shelves, I: Read, O: Write>(
     alloc: Global,
     shelves: &mut S,
     input: &mut I,

@@ -8,13 +8,13 @@ ghost use Rattle.statements.specs.Calls.{InEachWorld, Spares};
 ghost use Rattle.statements.specs.Reading.{same_heading};
 
 use crate::entries::row_seen;
-use crate::pieces::has_zip;
+use crate::pieces::is_same_zip;
 use sqlite::{Alter, Connection, Error};
 use world::entry::{EntryRef, Heading};
 use world::standing::{Standing, is_same_time};
 
 /// Reports whether an entry has the go.mod and the time of a heading.
-fn has_heading(heading: &Heading, entry: &EntryRef) -> bool
+fn is_same_heading(heading: &Heading, entry: &EntryRef) -> bool
     ensures { result ≡ same_heading heading.now entry.now }
 {
     heading.gomod.as_slice() == entry.gomod && is_same_time(heading.time, entry.time)
@@ -37,10 +37,10 @@ pub fn find_standing<S: Alter>(
     let Some(row) = row_seen(conn, shelves, path, version)? else {
         return Ok(Standing::Absent);
     };
-    if !has_heading(&row.heading, entry) {
+    if !is_same_heading(&row.heading, entry) {
         return Ok(Standing::Other);
     }
-    if has_zip(conn, row.id, entry.zip)? {
+    if is_same_zip(conn, row.id, entry.zip)? {
         Ok(Standing::Same)
     } else {
         Ok(Standing::Other)

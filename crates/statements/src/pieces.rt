@@ -109,7 +109,7 @@ pub(crate) fn find_zip<S: Alter>(
 
 /// Reports whether these bytes are the zip of version `id`. It compares each piece with the bytes in its row, and
 /// stops at the first piece that differs. The connection keeps the compiled look-up.
-pub(crate) fn has_zip<S: Alter>(
+pub(crate) fn is_same_zip<S: Alter>(
     conn: &mut Connection<S>,
     id: i64,
     zip: &[u8],

@@ -5,7 +5,7 @@ use Rattle.tables.proofs.FailureLemmas.{was_clean}
 use Rattle.statements.specs.Reading.{IsZip, ShowsPiece}
 use Rattle.statements.proofs.CallLemmas.{spares_then}
 use Rattle.statements.proofs.PieceLemmas.{all_there, goes_on, goes_off, bytes_same, cut_off, not_cut}
-use Rattle.statements.proofs.pieces.has_zip.Goals as goal
+use Rattle.statements.proofs.pieces.is_same_zip.Goals as goal
 
 pub returns-in_err-row-clause-spares : goal.returns-in_err-row-clause-spares
 returns-in_err-row-clause-spares g c = spares_then _ _ _ c.loop-number.invariant.0 c.find_piece.ensures.spares

@@ -6,7 +6,7 @@ use Rattle.tables.specs.Means.{Stands}
 use Rattle.tables.specs.Pieces.{begin}
 use Rattle.statements.specs.Calls.{Spares}
 use Rattle.statements.specs.Reading.{IsZip}
-use Rattle.statements.proofs.pieces.has_zip.Given as goal
+use Rattle.statements.proofs.pieces.is_same_zip.Given as goal
 
 abbrev pub invariant-loop-number : goal.invariant-loop-number
 invariant-loop-number g l =

@@ -20,6 +20,7 @@ use Rattle.sqlite.specs.Query.{key_cmp}
 use Rattle.sqlite.specs.declared.error.Error.{Error}
 use Rattle.sqlite.specs.State.{State, HasCleanDisk, IsUnchanged}
 use Rattle.sqlite.specs.Collation.TheVariants.{Binary}
+use Rattle.sqlite_value.specs.declared.keys.Key.{Key}
 use Rattle.sqlite_value.specs.Keys.{ascending}
 use Rattle.sqlite_value.proofs.OrderLemmas.{value_cmp-Text, value_cmp-Int, then-Equal}
 use Rattle.sqlite_trees.specs.Tree.{IsAscending}
@@ -40,7 +41,7 @@ use Rattle.tables.specs.declared.fit.MetaRows.{MetaRows}
 use Rattle.tables.specs.declared.fit.ShelfRows.{ShelfRows}
 use Rattle.tables.specs.declared.fit.EntryRows.{EntryRows}
 use Rattle.tables.proofs.Texts.{meta_rows_text, shelf_rows_text, entry_rows_text}
-use Rattle.tables.proofs.Ascending.{has_permuted, adjacent_both, adjacent_among, ascends, ascends_permuted, across, apart_below, filter_permuted}
+use Rattle.tables.proofs.Ascending.{has_permuted, Adjacent, adjacent_both, adjacent_among, ascends, ascends_permuted, across, apart_below, filter_permuted}
 use Rattle.tables.proofs.ListingLemmas.{Lists, meta_rows, shelf_rows, entry_rows, rows_listed, in_its_order, all_shown, first_shown, InOrder, first_column, place_columns}
 use Rattle.tables.proofs.RunLemmas.{adjacent_apart, last_of, many_on, many_more, push_on, run_within, few_in_all}
 use Rattle.tables.proofs.WorldOf.{held_text}
@@ -118,10 +119,33 @@ module _ (db : Database) (start end : MetaRows) where
       let same = rows_listed meta_rows db.trees _ first.1 in
       w.5 (fit.each w.1 (has_permuted _ _ w.1 same (at_index w.0 first.0 w.1)))
 
--- ---- access: rows in the order of a key, each with a key of its own
+-- ---- rows with a key
 
 pub not_itself : {K : Type 0} {R : K → K → Ordering} → IsTotalOrder R → (a b : K) → R a b ≡ Less → a ≡ b → ⊥
 not_itself {K} {R} o a b less same = let e : Less ≡ Equal = sym less ∙ (ap (R a) (sym same) ∙ tied_itself o a) in absurd (cc)
+
+abbrev pub Apart : {K : Type 0} → (Row → K) → Row → Row → Type 0
+Apart key a b = key a ≡ key b → ⊥
+
+pub apart_permuted : {K : Type 0} (key : Row → K) (xs ys : List Row) → IsPermutation xs ys → IsAscending (Apart key) xs → IsAscending (Apart key) ys
+apart_permuted key = ascends_permuted (Apart key) (λ a b apart same. apart (sym same))
+
+module _ {K : Type 0} {R : K → K → Ordering} (total : IsTotalOrder R) (key : Row → K) where
+  abbrev pub Rises : Row → Row → Type 0
+  Rises a b = R (key a) (key b) ≡ Less
+
+  pub rises_apart : (rows : List Row) → IsAscending Rises rows → IsAscending (Apart key) rows
+  rises_apart = ascending_weaker Rises (Apart key) (λ a b less same. not_itself total (key a) (key b) less same)
+
+  -- rows that SQL puts in the order of their keys, no key twice, rise
+  pub rise : IsAntisymmetric R → (IsRow : Row → Type 0) (keys : List Key) (columns : Row → Row) → ((a b : Row) → IsRow a → IsRow b → key_cmp 0 keys (columns a) (columns b) ≡ R (key a) (key b))
+      → (rows : List Row) → ((r : Row) → Has rows r → IsRow r) → InOrder keys columns rows → Adjacent (Apart key) rows → IsAscending Rises rows
+  rise exact IsRow keys columns ordered rows each sorted apart =
+      let upto = adjacent_among _ (λ a b. is_lt (R (key b) (key a)) ≡ false) rows (λ a b here there h. ap is_lt (sym (ordered b a (each b there) (each a here))) ∙ h) sorted in
+      ascends Rises
+      (λ a b c. total.trans (key a) (key b) (key c)) rows (adjacent_both _ _ _ (λ a b upto apart. apart_below total exact (key a) (key b) upto apart) rows upto apart)
+
+-- ---- access: rows in the order of a key, each with a key of its own
 
 module _ {T K : Type 0} {R : K → K → Ordering} (total : IsTotalOrder R) (exact : IsAntisymmetric R) (IsRow : Row → Type 0) (key : Row → K) (last : T → Option K)
     (in_order : (a b : Row) → IsRow a → IsRow b → key_cmp 0 (ascending Binary ∷ []) (column a 0 ∷ []) (column b 0 ∷ []) ≡ R (key a) (key b)) where
@@ -131,38 +155,26 @@ module _ {T K : Type 0} {R : K → K → Ordering} (total : IsTotalOrder R) (exa
   abbrev OnceKeeps : T → Row → T → Type 0
   OnceKeeps x row next = last next ≡ Some (key row)
 
-  abbrev KeysApart : Row → Row → Type 0
-  KeysApart a b = key a ≡ key b → ⊥
-
-  turned : (a b : Row) → KeysApart a b → KeysApart b a
-  turned a b apart same = apart (sym same)
-
-  rise : (start end : T) (rows : List Row) → InOrder (ascending Binary ∷ []) first_column rows → Pass OnceFits OnceKeeps start rows end → IsAscending (λ a b. R (key a) (key b) ≡ Less) rows
-  rise start end rows sorted p =
-      let apart = adjacent_apart OnceFits OnceKeeps last key (λ x row next keeps. keeps) (λ x row fits. fits.1) start rows end p in
-      let each = λ (r : Row) (there : Has rows r). (pass_each OnceFits OnceKeeps start rows end p r there).1.0 in
-      let upto = adjacent_among _ (λ a b. is_lt (R (key b) (key a)) ≡ false) rows (λ a b here there h. ap is_lt (sym (in_order b a (each b there) (each a here))) ∙ h) sorted in
-      ascends (λ a b. R (key a) (key b) ≡ Less)
-      (λ a b c. total.trans (key a) (key b) (key c)) rows (adjacent_both _ _ _ (λ a b upto apart. apart_below total exact (key a) (key b) upto apart) rows upto apart)
-
   once_true : (start end : T) (rows all : List Row) → IsPermutation all rows → InOrder (ascending Binary ∷ []) first_column rows → Pass OnceFits OnceKeeps start rows end → Fit.AreOnce IsRow key all
   once_true start end rows all same sorted p =
       let back = IsPermutation-sym _ _ same in
+      let apart = adjacent_apart OnceFits OnceKeeps last key (λ x row next keeps. keeps) (λ x row fits. fits.1) start rows end p in
+      let each = λ (r : Row) (there : Has rows r). (pass_each OnceFits OnceKeeps start rows end p r there).1.0 in
       record {
-        each = λ row there. (pass_each OnceFits OnceKeeps start rows end p row (has_permuted rows all row back there)).1.0;
-        once = ascends_permuted KeysApart turned rows all back (ascending_weaker _ KeysApart (λ a b less tie. not_itself total (key a) (key b) less tie) rows (rise start end rows sorted p));
+        each = λ row there. each row (has_permuted rows all row back there);
+        once = apart_permuted key rows all back (rises_apart total key rows (rise total key exact IsRow (ascending Binary ∷ []) first_column in_order rows each sorted apart));
       }
 
   -- if a row did not pass, the rows are not all of this form with a key of its own each
   once_false : (start noted : T) → last start ≡ None → (rows : List Row) (row : Row) (tail all : List Row) → IsPermutation all ((rows ++ row ∷ []) ++ tail)
       → Pass OnceFits OnceKeeps start rows noted → (OnceFits noted row → ⊥) → Fit.AreOnce IsRow key all → ⊥
   once_false start noted new rows row tail all same p unfit fit =
-      let once = ascends_permuted KeysApart turned all _ same fit.once in
+      let once = apart_permuted key all _ same fit.once in
       unfit (
         fit.each row (has_permuted all _ row same (at_index rows tail row)),
         λ is. elim (last_of OnceFits OnceKeeps last key (λ x row next keeps. keeps) start rows noted p (key row) is) [
           | inl old ↦ absurd (let e = sym new ∙ old in cc)
-          | inr it ↦ after_all KeysApart rows tail row it.0 once it.1 it.2
+          | inr it ↦ after_all (Apart key) rows tail row it.0 once it.1 it.2
         ],
       )
 
@@ -346,12 +358,6 @@ EntryFits rows row = Fit.IsEntryRow row × MayFollow rows.last rows.many (Fit.pl
 abbrev pub EntryKeeps : EntryRows → Row → EntryRows → Type 0
 EntryKeeps rows row next = (next.last ≡ Some (Fit.place_in row)) × (next.many ≡ run_with rows.last rows.many (Fit.place_in row))
 
-abbrev PlacesApart : Row → Row → Type 0
-PlacesApart a b = Fit.place_in a ≡ Fit.place_in b → ⊥
-
-places_turned : (a b : Row) → PlacesApart a b → PlacesApart b a
-places_turned a b apart same = apart (sym same)
-
 abbrev pub IsPlaced : Row → Type 0
 IsPlaced row = (column row 0 ≡ Text (Fit.place_in row).shelf) × (column row 1 ≡ Text (Fit.place_in row).path) × (column row 2 ≡ Text (Fit.place_in row).version)
 
@@ -371,29 +377,22 @@ may_differ None many q may is = let e = is in absurd (cc)
 may_differ (Some p) many q may is = may.0 (let e = is in cc)
 
 module _ (db : Database) (start end : EntryRows) where
-  entries_rise : (rows : List Row) → InOrder (ascending Binary ∷ ascending Binary ∷ ascending Binary ∷ []) place_columns rows → Pass EntryFits EntryKeeps start rows end
-      → IsAscending (λ a b. place_cmp (Fit.place_in a) (Fit.place_in b) ≡ Less) rows
-  entries_rise rows sorted p =
-      let apart = adjacent_apart EntryFits EntryKeeps (λ (x : EntryRows). x.last) Fit.place_in (λ x row next keeps. keeps.0)
-      (λ x row fits. may_differ x.last x.many (Fit.place_in row) fits.1) start rows end p in
-      let each = λ (r : Row) (there : Has rows r). placed r (pass_each EntryFits EntryKeeps start rows end p r there).1.0 in
-      let upto =
-      adjacent_among _ (λ a b. is_lt (place_cmp (Fit.place_in b) (Fit.place_in a)) ≡ false) rows (λ a b here there h. ap is_lt (sym (places_in_order b a (each b there) (each a here))) ∙ h) sorted in
-      ascends (λ a b. place_cmp (Fit.place_in a) (Fit.place_in b) ≡ Less) (λ a b c. places_total.trans (Fit.place_in a) (Fit.place_in b) (Fit.place_in c)) rows
-      (adjacent_both _ _ _ (λ a b upto apart. apart_below places_total places_exact (Fit.place_in a) (Fit.place_in b) upto apart) rows upto apart)
-
   -- if each row of `version` passed, the rows of the table fit
   pub entries_true : start.last ≡ None → Walks EntryFits EntryKeeps entry_rows_text db start end true → Fit.AreEntriesFit (map Fit.entry_shown (db.trees 6))
   entries_true new w =
       let it = all_shown entry_rows db w.0 w.1 in
       let same = rows_listed entry_rows db.trees w.0 it in
       let back = IsPermutation-sym _ _ same in
-      let rise = entries_rise w.0 (in_its_order entry_rows db.trees w.0 it place_columns (λ env. refl)) w.2 in
+      let apart = adjacent_apart EntryFits EntryKeeps (λ (x : EntryRows). x.last) Fit.place_in (λ x row next keeps. keeps.0)
+      (λ x row fits. may_differ x.last x.many (Fit.place_in row) fits.1) start w.0 end w.2 in
+      let each = λ (r : Row) (there : Has w.0 r). (pass_each EntryFits EntryKeeps start w.0 end w.2 r there).1.0 in
+      let up = rise places_total Fit.place_in places_exact IsPlaced (ascending Binary ∷ ascending Binary ∷ ascending Binary ∷ []) place_columns places_in_order w.0
+      (λ r there. placed r (each r there)) (in_its_order entry_rows db.trees w.0 it place_columns (λ env. refl)) apart in
       record {
-        each = λ row there. (pass_each EntryFits EntryKeeps start w.0 end w.2 row (has_permuted w.0 _ row back there)).1.0;
-        once = ascends_permuted PlacesApart places_turned w.0 _ back (ascending_weaker _ PlacesApart (λ a b less same. not_itself places_total (Fit.place_in a) (Fit.place_in b) less same) w.0 rise);
+        each = λ row there. each row (has_permuted w.0 _ row back there);
+        once = apart_permuted Fit.place_in w.0 _ back (rises_apart places_total Fit.place_in w.0 up);
         few = λ s p.
-            let few = few_in_all EntryFits EntryKeeps (λ (x : EntryRows). x.last) (λ (x : EntryRows). x.many) (λ x row next keeps. keeps) (λ x row fits. fits.1) start w.0 end new rise w.2 s p in
+            let few = few_in_all EntryFits EntryKeeps (λ (x : EntryRows). x.last) (λ (x : EntryRows). x.many) (λ x row next keeps. keeps) (λ x row fits. fits.1) start w.0 end new up w.2 s p in
             subst (λ n. n ≤ version_limit) (sym (filter_permuted (λ row. Fit.is_on s p (Fit.place_in row)) w.0 _ back)) few;
       }
 
@@ -402,19 +401,19 @@ module _ (db : Database) (start end : EntryRows) where
   entries_false new w fit =
       let first = first_shown entry_rows db (w.0 ++ w.1 ∷ []) w.3 in
       let same = rows_listed entry_rows db.trees _ first.1 in
-      let once = ascends_permuted PlacesApart places_turned _ _ same fit.once in
+      let once = apart_permuted Fit.place_in _ _ same fit.once in
       let few = λ (s p : List ℕ). subst (λ n. n ≤ version_limit) (sym (filter_permuted (λ row. Fit.is_on s p (Fit.place_in row)) _ _ same)) (fit.few s p) in
       w.5 (fit.each w.1 (has_permuted _ _ w.1 same (at_index w.0 first.0 w.1)), follows w first.0 once few w.2.last refl)
     where
       follows : (w : Walks EntryFits EntryKeeps entry_rows_text db start end false) (tail : List Row)
-          → IsAscending PlacesApart ((w.0 ++ w.1 ∷ []) ++ tail) → ((s p : List ℕ) → many_on s p ((w.0 ++ w.1 ∷ []) ++ tail) ≤ version_limit)
+          → IsAscending (Apart Fit.place_in) ((w.0 ++ w.1 ∷ []) ++ tail) → ((s p : List ℕ) → many_on s p ((w.0 ++ w.1 ∷ []) ++ tail) ≤ version_limit)
           → (o : Option Place) → w.2.last ≡ o → MayFollow o w.2.many (Fit.place_in w.1)
       follows w tail once few None is = tt
       follows w tail once few (Some p) is =
           let row = w.1 in (
             λ same. elim (last_of EntryFits EntryKeeps (λ (x : EntryRows). x.last) Fit.place_in (λ x row next keeps. keeps.0) start w.0 w.2 w.4 p is) [
               | inl old ↦ absurd (let e = sym new ∙ old in cc)
-              | inr it ↦ after_all PlacesApart w.0 tail row it.0 once it.1 (it.2 ∙ same)
+              | inr it ↦ after_all (Apart Fit.place_in) w.0 tail row it.0 once it.1 (it.2 ∙ same)
             ],
             λ on.
                 let run = run_within EntryFits EntryKeeps (λ (x : EntryRows). x.last) (λ (x : EntryRows). x.many)

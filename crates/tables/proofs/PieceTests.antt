@@ -1,7 +1,7 @@
 -- What the walk over the rows of `piece` tells.
 use Rattle.std.proofs.Common.{◌≡◌, ◌<◌, ◌+◌, ◌++◌, ◌⊎◌, ℕ, ℤ, zero, suc, pos, true, false, List, [], ◌∷◌, map, Some, None, inl, inr, refl, sym, ap, subst, ◌∙◌, arith, Less, Equal, Greater}
 use Rattle.std.specs.Prelude.{◌<ℤ◌}
-use Rattle.std.specs.Ordering.{is_lt, ordering_then, int_cmp}
+use Rattle.std.specs.Ordering.{ordering_then, int_cmp}
 use Rattle.std.specs.declared.cmp.Ordering.{Ordering}
 use Rattle.std.specs.Cmp.{IsTotalOrder, tied_itself, int_cmp_total, int_cmp_is}
 use Rattle.std.specs.FinMap.{IsAntisymmetric, int_cmp-IsAntisymmetric}
@@ -15,7 +15,6 @@ use Rattle.sqlite.specs.Collation.TheVariants.{Binary}
 use Rattle.sqlite_value.specs.Keys.{ascending}
 use Rattle.sqlite_value.proofs.OrderLemmas.{value_cmp-Int, then-Equal}
 use Rattle.sqlite_trees.specs.Tree.{IsAscending}
-use Rattle.sqlite_trees.proofs.ListLemmas.{ascending_weaker}
 use Rattle.sqlite_rules.specs.Lists.{Has}
 use Rattle.sqlite_rules.proofs.ListLemmas.{has_right, has_either}
 use Rattle.tables.specs.Fit.{IsPieceRow, ArePiecesFit, piece_key, piece_in, piece_shown, full_piece, int_in, nat_in}
@@ -23,11 +22,11 @@ use Rattle.tables.specs.Walks.{Pass, Walks, GoesOn, MayGoOn}
 use Rattle.tables.specs.declared.pieces.LastPiece.{LastPiece}
 use Rattle.tables.specs.declared.pieces.PieceRows.{PieceRows}
 use Rattle.tables.proofs.Texts.{piece_rows_text}
-use Rattle.tables.proofs.Ascending.{has_permuted, Steps, Adjacent, adjacent_both, adjacent_among, ascends, ascends_permuted, front_ascends, across, apart_below}
-use Rattle.tables.proofs.ListingLemmas.{piece_rows, rows_listed, in_its_order, all_shown, first_shown, InOrder, number_columns}
+use Rattle.tables.proofs.Ascending.{has_permuted, Steps, Adjacent, adjacent_among, front_ascends, across}
+use Rattle.tables.proofs.ListingLemmas.{piece_rows, rows_listed, in_its_order, all_shown, first_shown, number_columns}
 use Rattle.tables.proofs.PieceLemmas.{zero_unless}
 use Rattle.tables.proofs.RunLemmas.{adjacent_follow, pass_at, last_row}
-use Rattle.tables.proofs.FitTests.{not_itself, pass_each, at_index}
+use Rattle.tables.proofs.FitTests.{not_itself, Apart, apart_permuted, rises_apart, rise, pass_each, at_index}
 
 abbrev pub PieceFits : PieceRows → Row → Type 0
 PieceFits rows row = IsPieceRow row × MayGoOn rows.last (piece_in row)
@@ -90,19 +89,8 @@ pieces_ordered : (a b : Row) → IsPieceRow a → IsPieceRow b → key_cmp 0 (as
 pieces_ordered a b one two = rw (one.of_version, one.numbered, two.of_version, two.numbered)
     (λ i. ordering_then (value_cmp-Int one.version two.version i) ((then-Equal _ ∙ value_cmp-Int (pos one.number) (pos two.number)) i))
 
-abbrev Apart : Row → Row → Type 0
-Apart a b = piece_key a ≡ piece_key b → ⊥
-
 abbrev Rises : Row → Row → Type 0
 Rises a b = piece_cmp (piece_key a) (piece_key b) ≡ Less
-
--- what comes in SQL's order, no key twice, rises
-rise : (rows : List Row) → ((r : Row) → Has rows r → IsPieceRow r)
-    → InOrder (ascending Binary ∷ ascending Binary ∷ []) number_columns rows → Adjacent Apart rows → IsAscending Rises rows
-rise rows each sorted apart =
-    let upto = adjacent_among _ (λ a b. is_lt (piece_cmp (piece_key b) (piece_key a)) ≡ false) rows (λ a b here there h. ap is_lt (sym (pieces_ordered b a (each b there) (each a here))) ∙ h) sorted in
-    ascends Rises (λ a b c. pieces_total.trans (piece_key a) (piece_key b) (piece_key c)) rows
-    (adjacent_both _ _ _ (λ a b upto apart. apart_below pieces_total pieces_exact (piece_key a) (piece_key b) upto apart) rows upto apart)
 
 ascending_adjacent : (P : Row → Row → Type 0) (rows : List Row) → IsAscending P rows → Adjacent P rows
 ascending_adjacent P [] up = tt
@@ -112,14 +100,8 @@ ascending_adjacent P (x ∷ rows) up = go x rows up
     go x [] up = tt
     go x (y ∷ rows) up = (up.0.0, go y rows up.1)
 
-turned : (a b : Row) → Apart a b → Apart b a
-turned a b apart same = apart (sym same)
-
-rising_apart : (a b : Row) → Rises a b → Apart a b
-rising_apart a b less same = not_itself pieces_total (piece_key a) (piece_key b) less same
-
 -- a piece that goes on after another has another key
-goes_apart : (a b : Row) → GoesOn (piece_in a) (piece_in b) → Apart a b
+goes_apart : (a b : Row) → GoesOn (piece_in a) (piece_in b) → Apart piece_key a b
 goes_apart a b may same =
     let next = (may.next (ap (λ (k : PieceKey). k.0) same)).1 in
     let number = ap (λ (k : PieceKey). k.1) same in
@@ -171,12 +153,12 @@ module _ (db : Database) (start end : PieceRows) (new : start.last ≡ None) whe
       let each = λ (row : Row) (there : Has rows row). (pass_each PieceFits PieceKeeps start rows end w.2 row there).1.0 in
       let follow = adjacent_follow PieceFits PieceKeeps (λ (x : PieceRows). x.last) piece_in (λ x row next keeps. keeps) GoesOn
       (λ x row k fits is. subst (λ l. MayGoOn l (piece_in row)) is fits.1) start rows end w.2 in
-      let apart = adjacent_among _ Apart rows (λ a b here there may. goes_apart a b may) follow in
-      let up = rise rows each (in_its_order piece_rows db.trees rows it number_columns (λ env. refl)) apart in
+      let apart = adjacent_among _ (Apart piece_key) rows (λ a b here there may. goes_apart a b may) follow in
+      let up = rise pieces_total piece_key pieces_exact IsPieceRow (ascending Binary ∷ ascending Binary ∷ []) number_columns pieces_ordered rows each (in_its_order piece_rows db.trees rows it number_columns (λ env. refl)) apart in
       record {
         pieces = record {
           each = λ row there. each row (has_permuted rows all row back there);
-          once = ascends_permuted Apart turned rows all back (ascending_weaker Rises Apart rising_apart rows up);
+          once = apart_permuted piece_key rows all back (rises_apart pieces_total piece_key rows up);
         };
         before = λ row n there is.
             let it = piece_before rows w.2 row n (has_permuted rows all row back there) is in
@@ -190,12 +172,12 @@ stands_before : (rows : List Row) (row : Row) (tail : List Row) → IsAscending 
 stands_before rows row tail up c there less = elim (has_either (rows ++ row ∷ []) tail c there) [
   | inl front ↦ elim (has_either rows (row ∷ []) c front) [
     | inl before ↦ before
-    | inr (inl same) ↦ absurd (rising_apart c row less (ap piece_key same))
+    | inr (inl same) ↦ absurd (not_itself pieces_total (piece_key c) (piece_key row) less (ap piece_key same))
     | inr (inr none) ↦ absurd none
   ]
   | inr behind ↦ (
       let high : Rises row c = across Rises (rows ++ row ∷ []) tail up row c (has_right rows (row ∷ []) row (inl refl)) behind in
-      absurd (rising_apart c c (pieces_total.trans (piece_key c) (piece_key row) (piece_key c) less high) refl))
+      absurd (not_itself pieces_total (piece_key c) (piece_key c) (pieces_total.trans (piece_key c) (piece_key row) (piece_key c) less high) refl))
 ]
 
 -- between a piece and the next of its version there is none
@@ -272,8 +254,8 @@ module _ (db : Database) (start end : PieceRows) (new : start.last ≡ None) whe
       let same = rows_listed piece_rows db.trees long first.1 in
       let back = IsPermutation-sym _ _ same in
       let each = λ (r : Row) (there : Has long r). fit.pieces.each r (has_permuted here long r same there) in
-      let apart = ascending_adjacent Apart long (ascends_permuted Apart turned here long same fit.pieces.once) in
-      let up = rise long each (in_its_order piece_rows db.trees long first.1 number_columns (λ env. refl)) apart in
+      let apart = ascending_adjacent (Apart piece_key) long (apart_permuted piece_key here long same fit.pieces.once) in
+      let up = rise pieces_total piece_key pieces_exact IsPieceRow (ascending Binary ∷ ascending Binary ∷ []) number_columns pieces_ordered long each (in_its_order piece_rows db.trees long first.1 number_columns (λ env. refl)) apart in
       let there = has_permuted here long row same (at_index rows tail row) in
       let before : (n : ℕ) → nat_in (column row 1) ≡ n + 1 → (other : Row) × Has long other × (piece_in other ≡ full_piece (int_in (column row 0)) n) = λ n is. let it = fit.before row n there is in
       (it.0, has_permuted long here it.0 back it.1, it.2) in

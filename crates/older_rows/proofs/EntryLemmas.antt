@@ -166,7 +166,8 @@ shelf_there after y stand q e at =
 
 module _ (format : Format) (x : World) (db after : Trees) (done : List Row) (row : Row) (rows : List Row)
     (up : Rises (done ++ row ∷ rows)) (small : (s p : List ℕ) → many_on s p (done ++ row ∷ rows) ≤ version_limit)
-    (is : IsWorld x) (stand : StandFor db x) (shows : Shows format x db done) (id : ℤ) (q : Place) (e : Entry) (fits : IsFitRow format row id q e) (adds : HasAdded (Some id) db after q e) (sound : IsSound store_schema after) where
+    (is : IsWorld x) (stand : StandFor db x) (shows : Shows format x db done) (id : ℤ) (q : Place) (e : Entry)
+    (fits : IsFitRow format row id q e) (adds : HasAdded (Some id) db after q e) (sound : IsSound store_schema after) where
   abbrev next : World
   next = with_entry x q e
 

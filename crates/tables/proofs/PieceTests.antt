@@ -154,7 +154,8 @@ module _ (db : Database) (start end : PieceRows) (new : start.last ≡ None) whe
       let follow = adjacent_follow PieceFits PieceKeeps (λ (x : PieceRows). x.last) piece_in (λ x row next keeps. keeps) GoesOn
       (λ x row k fits is. subst (λ l. MayGoOn l (piece_in row)) is fits.1) start rows end w.2 in
       let apart = adjacent_among _ (Apart piece_key) rows (λ a b here there may. goes_apart a b may) follow in
-      let up = rise pieces_total piece_key pieces_exact IsPieceRow (ascending Binary ∷ ascending Binary ∷ []) number_columns pieces_ordered rows each (in_its_order piece_rows db.trees rows it number_columns (λ env. refl)) apart in
+      let up = rise pieces_total piece_key pieces_exact IsPieceRow (ascending Binary ∷ ascending Binary ∷ []) number_columns pieces_ordered rows each
+      (in_its_order piece_rows db.trees rows it number_columns (λ env. refl)) apart in
       record {
         pieces = record {
           each = λ row there. each row (has_permuted rows all row back there);
@@ -255,7 +256,8 @@ module _ (db : Database) (start end : PieceRows) (new : start.last ≡ None) whe
       let back = IsPermutation-sym _ _ same in
       let each = λ (r : Row) (there : Has long r). fit.pieces.each r (has_permuted here long r same there) in
       let apart = ascending_adjacent (Apart piece_key) long (apart_permuted piece_key here long same fit.pieces.once) in
-      let up = rise pieces_total piece_key pieces_exact IsPieceRow (ascending Binary ∷ ascending Binary ∷ []) number_columns pieces_ordered long each (in_its_order piece_rows db.trees long first.1 number_columns (λ env. refl)) apart in
+      let up = rise pieces_total piece_key pieces_exact IsPieceRow (ascending Binary ∷ ascending Binary ∷ []) number_columns pieces_ordered long each
+      (in_its_order piece_rows db.trees long first.1 number_columns (λ env. refl)) apart in
       let there = has_permuted here long row same (at_index rows tail row) in
       let before : (n : ℕ) → nat_in (column row 1) ≡ n + 1 → (other : Row) × Has long other × (piece_in other ≡ full_piece (int_in (column row 0)) n) = λ n is. let it = fit.before row n there is in
       (it.0, has_permuted long here it.0 back it.1, it.2) in

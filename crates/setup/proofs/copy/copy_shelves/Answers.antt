@@ -26,7 +26,8 @@ pub returns-in-NotEmpty-clause-verdict : goal.returns-in-NotEmpty-clause-verdict
 returns-in-NotEmpty-clause-verdict g c clean good w x sw sx = subst (IsJudged w x c.args.wanted) c.in-NotEmpty.is (c.in_ok-judged.ensures.verdict clean good w x sw sx).0
 
 pub returns-in-NotEmpty-clause-changes : goal.returns-in-NotEmpty-clause-changes
-returns-in-NotEmpty-clause-changes g c clean good w x sw sx = spared_at (state g.F.Store c.args.fresh.now) (state g.F.Store c.judge.new.fresh) x (wanted_part c.args.wanted w) c.judge.ensures.spares_too
+returns-in-NotEmpty-clause-changes g c clean good w x sw sx =
+    spared_at (state g.F.Store c.args.fresh.now) (state g.F.Store c.judge.new.fresh) x (wanted_part c.args.wanted w) c.judge.ensures.spares_too
 
 pub returns-in_ok-write_part-in-Fit-clause-reads : goal.returns-in_ok-write_part-in-Fit-clause-reads
 returns-in_ok-write_part-in-Fit-clause-reads g c =

@@ -36,7 +36,8 @@ returns-then-branch-clause-answer g c clean w stands =
     let seen = first_on w (map (λ s. s.now) c.args.shelves.now) c.args.path.now c.args.version.now in
     let was = was_clean mid new c.is_same_zip.ensures.spares.clean clean in
     let range : SFits w64 c.in-Some.row.id = search rules in
-    let z = rw (to_z-of_z {w = w64} {z = c.in-Some.row.id} range, ap (λ (x : Entry). x.zip) c.entry.view_is) at (c.in_ok-is_same_zip.ensures.answer clean w (c.row_seen.ensures.spares.stays w stands)) in
+    let z = rw (to_z-of_z {w = w64} {z = c.in-Some.row.id} range, ap (λ (x : Entry). x.zip) c.entry.view_is)
+    at (c.in_ok-is_same_zip.ensures.answer clean w (c.row_seen.ensures.spares.stays w stands)) in
     let same = c.in_ok-row.ensures.same was w stands in
     let it = subst (HasRow old.now.trees seen) c.in-Some.is (c.in_ok-row.ensures.answer was w stands) in
     let zips = sym c.if-branch.true ∙ z.1 it.entry.zip (subst (λ (d : Database). IsZip d.trees c.in-Some.row.id it.entry.zip) (sym same) it.zip) in
@@ -53,7 +54,8 @@ returns-clause-answer g c clean w stands =
     let seen = first_on w (map (λ s. s.now) c.args.shelves.now) c.args.path.now c.args.version.now in
     let was = was_clean mid new c.is_same_zip.ensures.spares.clean clean in
     let range : SFits w64 c.in-Some.row.id = search rules in
-    let z = rw (to_z-of_z {w = w64} {z = c.in-Some.row.id} range, ap (λ (x : Entry). x.zip) c.entry.view_is) at (c.in_ok-is_same_zip.ensures.answer clean w (c.row_seen.ensures.spares.stays w stands)) in
+    let z = rw (to_z-of_z {w = w64} {z = c.in-Some.row.id} range, ap (λ (x : Entry). x.zip) c.entry.view_is)
+    at (c.in_ok-is_same_zip.ensures.answer clean w (c.row_seen.ensures.spares.stays w stands)) in
     let same = c.in_ok-row.ensures.same was w stands in
     let it = subst (HasRow old.now.trees seen) c.in-Some.is (c.in_ok-row.ensures.answer was w stands) in
     let zips = sym c.if-branch.false ∙ z.1 it.entry.zip (subst (λ (d : Database). IsZip d.trees c.in-Some.row.id it.entry.zip) (sym same) it.zip) in

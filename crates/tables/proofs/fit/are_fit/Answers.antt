@@ -84,7 +84,8 @@ returns-in_err-are_numbers_fit-clause-cause g c clean has =
     let shelved = rw c.if-not-branch-2.false at c.in_ok-are_shelves_fit.ensures.tests in
     let keyed = rw c.if-not-branch-3.false at c.in_ok-are_keys_fit.ensures.tests in
     error_says _ c.from_residual-in_err-are_numbers_fit.result c.in_err-are_numbers_fit.field-0.0 c.from_residual-in_err-are_numbers_fit.ensures.1
-    (then_reason _ _ (state g.S.Store c.are_numbers_fit.new.conn) ThreeFit (three named shelved keyed) c.are_numbers_fit.ensures.tests.looks.clean clean has (Err _) c.in_err-are_numbers_fit.ensures.cause)
+    (then_reason _ _ (state g.S.Store c.are_numbers_fit.new.conn) ThreeFit (three named shelved keyed)
+    c.are_numbers_fit.ensures.tests.looks.clean clean has (Err _) c.in_err-are_numbers_fit.ensures.cause)
 
 pub returns-in_err-are_entries_fit-clause-cause : goal.returns-in_err-are_entries_fit-clause-cause
 returns-in_err-are_entries_fit-clause-cause g c clean has =
@@ -93,7 +94,8 @@ returns-in_err-are_entries_fit-clause-cause g c clean has =
     let keyed = rw c.if-not-branch-3.false at c.in_ok-are_keys_fit.ensures.tests in
     let numbered = rw c.if-not-branch-4.false at c.in_ok-are_numbers_fit.ensures.tests in
     error_says _ c.from_residual-in_err-are_entries_fit.result c.in_err-are_entries_fit.field-0.0 c.from_residual-in_err-are_entries_fit.ensures.1
-    (then_reason _ _ (state g.S.Store c.are_entries_fit.new.conn) FourFit (four named shelved keyed numbered) c.are_entries_fit.ensures.tests.looks.clean clean has (Err _) c.in_err-are_entries_fit.ensures.cause)
+    (then_reason _ _ (state g.S.Store c.are_entries_fit.new.conn) FourFit (four named shelved keyed numbered)
+    c.are_entries_fit.ensures.tests.looks.clean clean has (Err _) c.in_err-are_entries_fit.ensures.cause)
 
 pub returns-clause-cause : goal.returns-clause-cause
 returns-clause-cause g c clean has =
@@ -102,4 +104,5 @@ returns-clause-cause g c clean has =
     let keyed = rw c.if-not-branch-3.false at c.in_ok-are_keys_fit.ensures.tests in
     let numbered = rw c.if-not-branch-4.false at c.in_ok-are_numbers_fit.ensures.tests in
     let filled = rw c.if-not-branch-5.false at c.in_ok-are_entries_fit.ensures.tests in
-    then_reason _ _ (state g.S.Store c.are_pieces_fit.new.conn) FiveFit (five named shelved keyed numbered filled) c.are_pieces_fit.ensures.tests.looks.clean clean has c.are_pieces_fit.result c.are_pieces_fit.ensures.cause
+    then_reason _ _ (state g.S.Store c.are_pieces_fit.new.conn) FiveFit (five named shelved keyed numbered filled)
+    c.are_pieces_fit.ensures.tests.looks.clean clean has c.are_pieces_fit.result c.are_pieces_fit.ensures.cause

@@ -17,7 +17,8 @@ returns-in_err-rows-clause-looks g c =
     let held = c.query.follows.holds-at-none in
     let sql = c.args.sql.now in
     let survives : Survives old new (CommitsShowing sql [] old) = search rules in
-    quiet_looks old new survives.clean (commits_nothing store_schema sql c.requires.plain old new survives) (λ clean _. let h = rw c.in_err-rows.was at held in failed_query sql [] old new _ (h.err clean))
+    quiet_looks old new survives.clean (commits_nothing store_schema sql c.requires.plain old new survives)
+    (λ clean _. let h = rw c.in_err-rows.was at held in failed_query sql [] old new _ (h.err clean))
 
 pub rows-init : goal.rows-init
 rows-init g c =
@@ -66,8 +67,12 @@ returns-in_default-clause-answer g c clean has =
     let now = c.next.follows.lender-at-none.conn.now in
     let late : HasCleanDisk (state g.S.Store now) = search rules in
     let was = c.rows.invariant.3 (omega (arith, moved.survives.clean)) has in
-    let shown = (rw (c.in_ok-row.was, c.in_default.is) at (moved.ok late)) c.args.sql.now [] was.0 was.1 in
-    (was.0, all_walked store_schema c.args.sql.now c.requires.plain c.requires.tables (state g.S.Store c.args.conn.now) (state g.S.Store c.rows.rows.conn.now) (state g.S.Store now) has was.3 was.0 shown, was.2)
+    let shown = (rw (c.in_ok-row.was, c.in_default.is) at (moved.ok late)) c.args.sql.now [] was.0 was.1 in (
+      was.0,
+      all_walked store_schema c.args.sql.now c.requires.plain c.requires.tables
+          (state g.S.Store c.args.conn.now) (state g.S.Store c.rows.rows.conn.now) (state g.S.Store now) has was.3 was.0 shown,
+      was.2,
+    )
 
 pub returns-in_err-passes-clause-looks : goal.returns-in_err-passes-clause-looks
 returns-in_err-passes-clause-looks g c =

@@ -63,8 +63,8 @@ returns-in-Err-Source-clause-fills g c =
       reads = is_read (state g.S.Store c.args.self.now.conn) (state g.S.Store c.copy_shelves.new.source) c.copy_shelves.ensures.reads;
       honest = was_clean fresh end c.copy_shelves.ensures.clean;
       spares = λ unfit. absurd (fault_is_fit c.refusal_of.result named.1 named.2 unfit);
-      at = λ clean good w x sw sx. fills_at fresh end (IsThere w it) (wanted_part it w) x (Err c.refusal_of.result) good sx (wanted_is_world it w sw.1) (c.in-Err-Source.ensures.changes clean good w x sw sx)
-          (fault_tells (IsThere w it) x c.refusal_of.result named.0 named.1 named.2);
+      at = λ clean good w x sw sx. fills_at fresh end (IsThere w it) (wanted_part it w) x (Err c.refusal_of.result) good sx (wanted_is_world it w sw.1)
+          (c.in-Err-Source.ensures.changes clean good w x sw sx) (fault_tells (IsThere w it) x c.refusal_of.result named.0 named.1 named.2);
     }
 
 pub returns-clause-fills : goal.returns-clause-fills

@@ -17,7 +17,7 @@ pub const HEAD_LIMIT: usize = 16_384;
 /// A 65th header is refused at the end of its line, not before: `httparse` bounds no count in an unfinished head.
 pub const HEADER_LIMIT: usize = 64;
 
-/// The most bytes of a body.
+/// The most bytes of a body, as `body_limit` in `specs/Message.antt`.
 /// `framing` knows nothing of a go.mod or a zip, so the number is written here; `engine::laws::body_has_room_for_both_files`
 /// says that it is the sum of their limits.
 pub const BODY_LIMIT: usize = 17_825_792;

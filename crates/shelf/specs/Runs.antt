@@ -35,10 +35,10 @@ MayLeave w events answers x y =
 pub record RunsAt (old new : Shown) (w : World) (events : List Event) (answers : List Answer) : Type 0 where
   pub run : Run w events answers (world_after w events answers)
   pub ends : new.stands (world_after w events answers)
-  -- if a crash left this world alone before, and no event that would have changed the world met a fault, it leaves the one at the
-  -- end alone
+  -- if a crash left only this world before, and no event that would have changed the world met a fault, it leaves only the one at
+  -- the end
   pub left : AnsweredOrIdle w events answers → old.leaves w w → new.leaves (world_after w events answers) (world_after w events answers)
-  -- after an answered change, if no later change met a fault, a crash leaves the world at the end alone, whatever it left before
+  -- after an answered change, if no later change met a fault, a crash leaves only the world at the end, whatever it left before
   pub settled : Settles w events answers → new.leaves (world_after w events answers) (world_after w events answers)
   -- whatever events met a fault, a crash leaves the world at the end or one other
   pub beside : (x : World) → old.leaves w x → (y : World) × new.leaves (world_after w events answers) y × MayLeave w events answers x y

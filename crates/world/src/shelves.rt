@@ -84,7 +84,7 @@ pub trait Shelves {
         ensures reads { Reads (shown self.old) (shown self.new) result (λ w. count w shelf.now path.now) };
 
     /// Stores an entry at its place. The contract speaks only of worlds with room for it (`IsRoomFor`), so the caller checks that
-    /// first. `DoesAt.crash` says what a crash leaves.
+    /// first. `AfterCrash` says what a crash leaves.
     fn insert(
         &mut self,
         shelf: &str,

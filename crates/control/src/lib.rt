@@ -6,7 +6,7 @@
 //! | the order to copy the store, and what carries it out | [`copy_path_of`], [`Copies`] |
 //! | what a ping is told: how connections were answered, and more that an operator watches | [`Tally`], [`Health`] |
 //! | what came of an order, and the line that tells it | [`Outcome`], [`Told`] |
-//! | carrying an order out, and the line of an operator | [`carry_out`], [`obey`] |
+//! | taking an operator's line, and carrying its order out | [`obey`], [`carry_out`] |
 //! | peers of a port and operators of a socket, one after another | [`serve_both`], [`Callers`], [`Doors`] |
 //! | the socket | [`operators_at`], [`remove_socket`] |
 //! | the operator's side | [`server_at`], [`ask`], [`ask_to_copy`], [`ask_for_health`], [`ask_to_stop`] |

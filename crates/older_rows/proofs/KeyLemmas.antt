@@ -14,8 +14,7 @@ use Rattle.tables.proofs.OneWorld.{texts_same}
 use Rattle.tables.proofs.SoundLemmas.{key_shelf}
 use Rattle.statements.specs.Extract.{AddsKeys, PutsKey, ShowsKey, IsKeyShown}
 use Rattle.statements.specs.Lookup.{AreFound}
-use Rattle.statements.specs.Rows.{IsOfAny}
-use Rattle.statements.proofs.CopyKeyLemmas.{keys_passed, put_all}
+use Rattle.statements.proofs.CopyKeyLemmas.{IsAmong, keys_passed, put_all}
 use Rattle.older.specs.Means.{IsShelf}
 use Rattle.older_rows.specs.Visits.{Visits}
 use Rattle.older_rows.specs.Registry.{IsGoodKey, IsKeyRow, PutsKeys}
@@ -35,9 +34,6 @@ good : {X : Type 0} (so_far : X) (db : Trees) (rows : List Row) (end : X) (after
 good so_far db [] end after same row there = absurd there
 good so_far db (r ∷ rows) end after visited row (inl here) = subst IsGoodKey (sym here) visited.2.0
 good so_far db (r ∷ rows) end after visited row (inr later) = good visited.0 visited.1 rows end after visited.3 row later
-
-abbrev IsAmong : List Row → List ℕ × Holder → Type 0
-IsAmong rows it = IsOfAny rows (λ row. ShowsKey row it)
 
 -- the shelf of a key exists, because the tables obey the schema
 shelf_there : (after : Trees) (y : World) → StandFor after y → (k : List ℕ) (h : Holder) → map.get y.keys k ≡ Some h → map.contains_key y.shelves h.shelf ≡ true

@@ -109,7 +109,8 @@ module _ {E : Type 0} (IsOf : E → List ℕ × Holder → Type 0) where
     keys = adds_of_more IsOf e es (λ it. map.get x.keys it.0 ≡ Some it.1) (λ it. map.get y.keys it.0 ≡ Some it.1) (λ it. map.get z.keys it.0 ≡ Some it.1) one.keys rest.keys;
   }
 
-abbrev IsAmong : List Row → List ℕ × Holder → Type 0
+-- one of the rows shows this key
+abbrev pub IsAmong : List Row → List ℕ × Holder → Type 0
 IsAmong rows it = IsOfAny rows (λ row. ShowsKey row it)
 
 -- a world with the key of a row added has the keys that it had and the key that the row shows

@@ -1,23 +1,20 @@
-use Rattle.std.proofs.Common.{sym, subst, arith}
+use Rattle.std.proofs.Common.{sym, subst}
 use Rattle.sqlite.specs.Held.{state}
-use Rattle.sqlite.specs.State.{State}
 use Rattle.world.specs.declared.entry.Entry.{Entry}
 use Rattle.world.specs.World.{place, with_entry}
 use Rattle.modver.specs.SemanticVersion.{version_text}
-use Rattle.statements.specs.Calls.{ChangesAt, Spares}
+use Rattle.statements.specs.Calls.{ChangesAt}
 use Rattle.tables.proofs.FailureLemmas.{was_clean}
 use Rattle.statements.proofs.ChangeLemmas.{spared, spares_at, not_ok}
+use Rattle.statements.proofs.ExtractLemmas.{spares_itself}
 use Rattle.statements.proofs.entries.add_entry.Goals as goal
-
-untouched : (s : State) → Spares s s
-untouched s = record { clean = omega arith; stays = λ w stands. stands; left = λ clean w stands db may. may }
 
 pub returns-in_err-keyed-clause-changes : goal.returns-in_err-keyed-clause-changes
 returns-in_err-keyed-clause-changes g c clean w stands unused =
     let old = state g.S.Store c.args.conn.now in
     let e : Entry = c.args.entry.now in
     let next = with_entry w (place c.args.shelf.now c.args.path.now (version_text c.args.version.now)) e in
-    subst (λ b. ChangesAt old old b w next) (sym (not_ok c.from_residual.result c.from_residual.ensures.0)) ((spared old old (λ _. next) (untouched old)).at w)
+    subst (λ b. ChangesAt old old b w next) (sym (not_ok c.from_residual.result c.from_residual.ensures.0)) ((spared old old (λ _. next) (spares_itself old)).at w)
 
 pub returns-in_err-number-clause-changes : goal.returns-in_err-number-clause-changes
 returns-in_err-number-clause-changes g c clean w stands unused =

@@ -1,17 +1,17 @@
 -- Rows of some shelves that are put into a fresh store, and calls that spare it.
 use Rattle.std.proofs.Common.{◌≡◌, ◌≤◌, ℕ, List, [], ◌∷◌, ◌++◌, Bool, true, false, IsTrue, Option, Result, Ok, Err, IsErr, is_ok, inl, inr, refl, sym, subst, arith, true≢false}
 use Rattle.sqlite_trees.specs.View.{doubt}
-use Rattle.sqlite.specs.State.{State, HasCleanDisk, KeepsCommit, Survives}
+use Rattle.sqlite.specs.State.{State, HasCleanDisk}
 use Rattle.sqlite.specs.Tree.{Trees}
 use Rattle.world.specs.World.{World, IsWorld, common, only_common}
 use Rattle.tables.specs.Means.{Stands}
 use Rattle.tables.proofs.FailureLemmas.{was_clean}
 use Rattle.std.specs.Prelude.{OnOk}
 use Rattle.statements.specs.Calls.{Spares, ChangesAt}
-use Rattle.statements.specs.Rows.{Filling, Writing}
+use Rattle.statements.specs.Rows.{Filling, GoesOn, Writing}
 use Rattle.statements.specs.Extract.{IsReady, Copies, PutsShelf, Along}
 use Rattle.statements.proofs.ChangeLemmas.{when_ok}
-use Rattle.statements.proofs.ExtractLemmas.{copies_none, goes_on_if}
+use Rattle.statements.proofs.ExtractLemmas.{copies_none}
 use Rattle.statements.proofs.GoingLemmas.{goes_on_itself, goes_on_then}
 use Rattle.statements.specs.Shelves.{names_of, AreShelves}
 use Rattle.statements.specs.declared.shelf_list.Shelf.{Shelf}
@@ -43,10 +43,9 @@ spared_at a b x next spares = record {
 
 -- ---- shelves that are put in
 
-pub puts_if : {A E : Type 0} (r : Result A E) (name : List ℕ) (parent : Option (List ℕ)) (a b : State) → Survives a b (λ _. ⊥) → (HasCleanDisk b → IsTrue a.in_transaction → KeepsCommit a b)
-    → (HasCleanDisk b → IsTrue a.in_transaction → OnOk r (IsTrue b.in_transaction))
+pub puts_if : {A E : Type 0} (r : Result A E) (name : List ℕ) (parent : Option (List ℕ)) (a b : State) → GoesOn a b (is_ok r)
     → (HasCleanDisk b → Filling a → OnOk r (PutsShelf name parent a.now.trees b.now.trees × Filling b)) → Puts (PutsShelf name parent) a b (is_ok r)
-puts_if r name parent a b survives commit inside puts = record { goes_on = goes_on_if r a b survives commit inside; makes = λ clean filling done. when_ok r done (puts clean filling) }
+puts_if r name parent a b goes puts = record { goes_on = goes; makes = λ clean filling done. when_ok r done (puts clean filling) }
 
 pub puts_none : (a : State) → Puts (PutsShelves []) a a true
 puts_none a = record { goes_on = goes_on_itself a; makes = λ _ filling _. (refl, filling) }

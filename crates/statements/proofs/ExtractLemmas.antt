@@ -5,7 +5,7 @@ use Rattle.sqlite.specs.Order.{Row}
 use Rattle.sqlite.specs.Tree.{Trees}
 use Rattle.sqlite.specs.Effect.{Database, Reads, ReadsFirst}
 use Rattle.sqlite.specs.Listing.{understood, reads_listing}
-use Rattle.sqlite.specs.State.{State, HasCleanDisk, IsUnchanged, Survives, KeepsCommit, CommitsShowing, Shown, Begins}
+use Rattle.sqlite.specs.State.{State, HasCleanDisk, IsUnchanged, Survives, CommitsShowing, Shown, Begins}
 use Rattle.sqlite.proofs.Callers.{IsPlain, never_commits, command_of, reads_as, begins_as, unchanged_then}
 use Rattle.sqlite.proofs.StateLemmas.{survives_weaker}
 use Rattle.world.specs.World.{World}
@@ -41,10 +41,6 @@ module _ (sql : List ℕ) (params : Row) (plain : IsPlain (understood store_sche
 -- ---- copies
 
 -- `GoesOn` holds of a call, done if it returns Ok, that commits nothing and leaves the transaction open when it returns Ok
-pub goes_on_if : {A E : Type 0} (r : Result A E) (a b : State) → Survives a b (λ _. ⊥) → (HasCleanDisk b → IsTrue a.in_transaction → KeepsCommit a b)
-    → (HasCleanDisk b → IsTrue a.in_transaction → OnOk r (IsTrue b.in_transaction)) → GoesOn a b (is_ok r)
-goes_on_if r a b survives commit inside = record { survives = survives; commit = commit; inside = λ clean is done. when_ok r done (inside clean is) }
-
 -- a call copies what it makes if it only looks at the source, leaves it unchanged when it returns Ok, and goes on inside the transaction
 pub copied : {A E : Type 0} (r : Result A E) (Makes : Trees → Trees → Trees → Type 0) (s t a b : State)
     → Looks s t → (HasCleanDisk t → s.now.schema ≡ store_schema → OnOk r (IsUnchanged s t)) → GoesOn a b (is_ok r)

@@ -1,12 +1,12 @@
 //! Copies rows of one store into a second one, one at a time, inside a transaction of the second.
 
-ghost use Rattle.std.specs.Prelude.{◌≡◌, ⊤, false, OnOk, is_ok, IsTrue};
+ghost use Rattle.std.specs.Prelude.{◌≡◌, ⊤, false, OnOk, is_ok};
 ghost use Rattle.sqlite.specs.Effect.{Reads};
 ghost use Rattle.sqlite.specs.Given.{IsPlain};
 ghost use Rattle.sqlite.specs.Held.{state};
 ghost use Rattle.sqlite.specs.Listing.{understood, reads_listing};
 ghost use Rattle.sqlite.specs.Order.{Row as Shown};
-ghost use Rattle.sqlite.specs.State.{HasCleanDisk, IsUnchanged, KeepsCommit, Survives};
+ghost use Rattle.sqlite.specs.State.{HasCleanDisk, IsUnchanged};
 ghost use Rattle.sqlite.specs.Values.{bound};
 ghost use Rattle.sqlite.proofs.Callers.{command_of};
 ghost use Rattle.sqlite.specs.Tree.{Trees};
@@ -14,7 +14,7 @@ ghost use Rattle.tables.specs.Schema.{store_schema};
 ghost use Rattle.tables.specs.Means.{Means};
 ghost use Rattle.tables.specs.Walks.{Looks, Pass};
 ghost use Rattle.tables.specs.Calls.{Honestly};
-ghost use Rattle.statements.specs.Rows.{Filling, PutsPiece, PutsVersion};
+ghost use Rattle.statements.specs.Rows.{Filling, GoesOn, PutsPiece, PutsVersion};
 ghost use Rattle.statements.specs.Extract.{Copies, OfWorlds, AllFit, IsKeyShown, PutsKey};
 ghost use Rattle.statements.specs.Extract.{CopiesKeys, IsVersionShown, CopiesVersions, CopiesPieces};
 
@@ -50,11 +50,7 @@ pub trait RowSink {
     /// row is missing or not of the type that the table needs.
     fn put<F: Alter>(&self, tx: &mut Transaction<'_, F>, row: &Row) -> Result<(), Error>
         ensures same_reference { tx.new.conn.ghost_name ≡ tx.old.conn.ghost_name }
-        ensures survives { Survives (state F.Store tx.old.conn.now) (state F.Store tx.new.conn.now) (λ _. ⊥) }
-        ensures commit { Honestly (state F.Store tx.old.conn.now) (state F.Store tx.new.conn.now) (λ old new.
-            IsTrue old.in_transaction → KeepsCommit old new) }
-        ensures inside { Honestly (state F.Store tx.old.conn.now) (state F.Store tx.new.conn.now) (λ old new.
-            IsTrue old.in_transaction → OnOk result (IsTrue new.in_transaction)) }
+        ensures goes_on { GoesOn (state F.Store tx.old.conn.now) (state F.Store tx.new.conn.now) (is_ok result) }
         ensures puts { Honestly (state F.Store tx.old.conn.now) (state F.Store tx.new.conn.now) (λ old new.
             Fits row.now → Filling old → OnOk result (Puts row.now old.now.trees new.now.trees × Filling new)) };
 }
@@ -77,11 +73,7 @@ pub(crate) fn hand_on<S: Alter, F: Alter, T: RowSink>(
     ensures same { Honestly (state S.Store source.old) (state S.Store source.new) (λ old new.
         old.now.schema ≡ store_schema → OnOk result (IsUnchanged old new)) }
     ensures same_reference { tx.new.conn.ghost_name ≡ tx.old.conn.ghost_name }
-    ensures survives { Survives (state F.Store tx.old.conn.now) (state F.Store tx.new.conn.now) (λ _. ⊥) }
-    ensures commit { Honestly (state F.Store tx.old.conn.now) (state F.Store tx.new.conn.now) (λ old new.
-        IsTrue old.in_transaction → KeepsCommit old new) }
-    ensures inside { Honestly (state F.Store tx.old.conn.now) (state F.Store tx.new.conn.now) (λ old new.
-        IsTrue old.in_transaction → OnOk result (IsTrue new.in_transaction)) }
+    ensures goes_on { GoesOn (state F.Store tx.old.conn.now) (state F.Store tx.new.conn.now) (is_ok result) }
     ensures puts { HasCleanDisk (state S.Store source.new) → HasCleanDisk (state F.Store tx.new.conn.now)
         → (state S.Store source.old).now.schema ≡ store_schema
         → (w : _) → Means (state S.Store source.old).now.trees w → Filling (state F.Store tx.old.conn.now)

@@ -5,7 +5,6 @@ ghost use Rattle.std.specs.Prelude.{◌≡◌, ◌≤◌, [], ◌∷◌, pos, by
 ghost use Rattle.sqlite.specs.declared.types.Value.TheVariants.{Int, Blob};
 ghost use Rattle.sqlite.specs.Order.{column};
 ghost use Rattle.sqlite.specs.Held.{state};
-ghost use Rattle.sqlite.specs.State.{KeepsCommit, Survives};
 ghost use Rattle.statements.specs.Calls.{InEachWorld, Spares};
 ghost use Rattle.tables.specs.Calls.{Honestly};
 ghost use Rattle.statements.specs.Reading.{IsZip, ShowsPiece};
@@ -140,11 +139,7 @@ pub(crate) fn insert_piece<S: Alter>(
     bytes: &[u8],
 ) -> Result<(), Error>
     ensures same_reference { tx.new.conn.ghost_name ≡ tx.old.conn.ghost_name }
-    ensures survives { Survives (state S.Store tx.old.conn.now) (state S.Store tx.new.conn.now) (λ _. ⊥) }
-    ensures commit { Honestly (state S.Store tx.old.conn.now) (state S.Store tx.new.conn.now) (λ old new.
-        IsTrue old.in_transaction → KeepsCommit old new) }
-    ensures inside { Honestly (state S.Store tx.old.conn.now) (state S.Store tx.new.conn.now) (λ old new.
-        IsTrue old.in_transaction → OnOk result (IsTrue new.in_transaction)) }
+    ensures goes_on { GoesOn (state S.Store tx.old.conn.now) (state S.Store tx.new.conn.now) (is_ok result) }
     ensures puts { Honestly (state S.Store tx.old.conn.now) (state S.Store tx.new.conn.now) (λ old new.
         Filling old → OnOk result (PutsPiece (Int id ∷ Int number ∷ Blob bytes.now ∷ [])
         old.now.trees new.now.trees × Filling new)) }

@@ -1,9 +1,8 @@
 //! Writes rows inside a transaction that others begin and end.
 
-ghost use Rattle.std.specs.Prelude.{◌≡◌, option_copied, IfOk, IfSome, OnOk, is_ok, IsTrue};
+ghost use Rattle.std.specs.Prelude.{◌≡◌, option_copied, IfOk, IfSome, OnOk, is_ok};
 ghost use Rattle.sqlite.specs.declared.types.Value.TheVariants.{Text};
 ghost use Rattle.sqlite.specs.Held.{state};
-ghost use Rattle.sqlite.specs.State.{KeepsCommit, Survives};
 ghost use Rattle.sqlite.specs.Values.{or_null};
 ghost use Rattle.world.specs.World.{place};
 ghost use Rattle.tables.specs.Calls.{Honestly};
@@ -26,11 +25,7 @@ pub fn put_shelf<F: Alter>(
     parent: Option<&str>,
 ) -> Result<(), Error>
     ensures same_reference { tx.new.conn.ghost_name ≡ tx.old.conn.ghost_name }
-    ensures survives { Survives (state F.Store tx.old.conn.now) (state F.Store tx.new.conn.now) (λ _. ⊥) }
-    ensures commit { Honestly (state F.Store tx.old.conn.now) (state F.Store tx.new.conn.now) (λ old new.
-        IsTrue old.in_transaction → KeepsCommit old new) }
-    ensures inside { Honestly (state F.Store tx.old.conn.now) (state F.Store tx.new.conn.now) (λ old new.
-        IsTrue old.in_transaction → OnOk result (IsTrue new.in_transaction)) }
+    ensures goes_on { GoesOn (state F.Store tx.old.conn.now) (state F.Store tx.new.conn.now) (is_ok result) }
     ensures puts { Honestly (state F.Store tx.old.conn.now) (state F.Store tx.new.conn.now) (λ old new. Filling old
         → OnOk result (PutsShelf name.now (option_copied parent.entry) old.now.trees new.now.trees × Filling new)) }
 {
@@ -61,11 +56,7 @@ fn put_version<'p, S: Alter>(
     entry: &'p EntryRef<'p>,
 ) -> Result<i64, Error>
     ensures same_reference { tx.new.conn.ghost_name ≡ tx.old.conn.ghost_name }
-    ensures survives { Survives (state S.Store tx.old.conn.now) (state S.Store tx.new.conn.now) (λ _. ⊥) }
-    ensures commit { Honestly (state S.Store tx.old.conn.now) (state S.Store tx.new.conn.now) (λ old new.
-        IsTrue old.in_transaction → KeepsCommit old new) }
-    ensures inside { Honestly (state S.Store tx.old.conn.now) (state S.Store tx.new.conn.now) (λ old new.
-        IsTrue old.in_transaction → OnOk result (IsTrue new.in_transaction)) }
+    ensures goes_on { GoesOn (state S.Store tx.old.conn.now) (state S.Store tx.new.conn.now) (is_ok result) }
     ensures puts { Honestly (state S.Store tx.old.conn.now) (state S.Store tx.new.conn.now) (λ old new.
         Filling old → IfOk result (λ id. IfSome number (λ given. id ≡ given)
         × Inserted old.now.trees new.now.trees version_table

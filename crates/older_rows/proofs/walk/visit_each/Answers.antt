@@ -83,9 +83,9 @@ rows-preserved g c =
       λ has. then_survives old mid new (so_far.2 has) (λ clean. so_far.3 clean has) moved.survives,
       still,
       put.same_reference ∙ so_far.4,
-      goes_on_then begun at end true so_far.5 (record { survives = put.survives; commit = put.commit; inside = λ clean is _. put.inside clean is }),
+      goes_on_then begun at end true so_far.5 put.goes_on,
       λ clean good has filling.
-          let was = so_far.6 (was_clean mid new moved.survives.clean clean) (was_clean at end put.survives.clean good) has filling in
+          let was = so_far.6 (was_clean mid new moved.survives.clean clean) (was_clean at end put.goes_on.survives.clean good) has filling in
           let given = (rw (c.in_ok-row.was, c.in-Some.is) at (moved.ok clean)) sql [] was.1 was.2 in
           let one = put.puts good was.0 fits in
           (one.1, was.1 ++ row ∷ [], given, one_more g.V.Visit.Puts _ begun.now.trees was.1 _ at.now.trees row _ end.now.trees was.3 one.0),

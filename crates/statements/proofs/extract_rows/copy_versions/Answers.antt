@@ -9,7 +9,7 @@ use Rattle.statements.specs.Extract.{CopiesVersions}
 use Rattle.statements.proofs.ChangeLemmas.{on_weaker}
 use Rattle.statements.proofs.LookupLemmas.{asks}
 use Rattle.statements.proofs.CopyRowLemmas.{versions_on_query, versions_fit, versions_copied}
-use Rattle.statements.proofs.ExtractLemmas.{copied, goes_on_if}
+use Rattle.statements.proofs.ExtractLemmas.{copied}
 use Rattle.statements.proofs.extract_rows.copy_versions.Goals as goal
 
 pub hand_on-requires-clause-plain : goal.hand_on-requires-clause-plain
@@ -33,7 +33,7 @@ returns-clause-copies g c =
     let fresh = state g.F.Store c.args.tx.now.conn.now in
     let done = state g.F.Store c.hand_on.new.tx.conn.now in
     copied c.hand_on.result (CopiesVersions c.args.shelf.now) source (state g.S.Store c.hand_on.new.source) fresh done handed.looks handed.same
-    (goes_on_if c.hand_on.result fresh done handed.survives handed.commit handed.inside)
+    handed.goes_on
     (λ clean good has w means filling.
     let read = λ (rows : List Row). subst (λ v. Reads (asks versions_on_query) source.now (bound_value v ∷ []) rows) c.params-to_sql.ensures in
     on_weaker c.hand_on.result

@@ -1,4 +1,4 @@
-use Rattle.std.proofs.Common.{◌≡◌, true, [], ◌∷◌, ◌++◌, inl, refl, sym, subst, ◌∙◌, rules, arith}
+use Rattle.std.proofs.Common.{◌≡◌, true, false, [], ◌∷◌, ◌++◌, inl, refl, sym, subst, ◌∙◌, rules, arith}
 use Rattle.sqlite.specs.State.{HasCleanDisk, IsUnchanged, Survives, CommitsShowing}
 use Rattle.sqlite.specs.Held.{state}
 use Rattle.sqlite.specs.Listing.{understood}
@@ -8,7 +8,7 @@ use Rattle.tables.specs.Walks.{Looks}
 use Rattle.tables.proofs.FailureLemmas.{was_clean, failed_query}
 use Rattle.tables.proofs.WalkLemmas.{quiet_looks, moved_looks, then_survives, failed_or_same, one_more}
 use Rattle.statements.proofs.ExtractLemmas.{commits_nothing, all_shown, some_shown}
-use Rattle.statements.proofs.GoingLemmas.{goes_on_itself, goes_on_then, stays_quiet, commit_then}
+use Rattle.statements.proofs.GoingLemmas.{goes_on_itself, goes_on_or_ends, goes_on_then}
 use Rattle.statements.proofs.extract_rows.hand_on.Goals as goal
 
 pub returns-in_err-rows-clause-looks : goal.returns-in_err-rows-clause-looks
@@ -53,11 +53,8 @@ returns-in_err-row-clause-looks g c =
 pub returns-in_err-row-clause-same_reference : goal.returns-in_err-row-clause-same_reference
 returns-in_err-row-clause-same_reference g c = c.rows.invariant.4
 
-pub returns-in_err-row-clause-survives : goal.returns-in_err-row-clause-survives
-returns-in_err-row-clause-survives g c = c.rows.invariant.5.survives
-
-pub returns-in_err-row-clause-commit : goal.returns-in_err-row-clause-commit
-returns-in_err-row-clause-commit g c = c.rows.invariant.5.commit
+pub returns-in_err-row-clause-goes_on : goal.returns-in_err-row-clause-goes_on
+returns-in_err-row-clause-goes_on g c = goes_on_or_ends (state g.F.Store c.args.tx.now.conn.now) (state g.F.Store c.rows.tx.conn.now) _ c.rows.invariant.5
 
 pub returns-in_default-clause-looks : goal.returns-in_default-clause-looks
 returns-in_default-clause-looks g c =
@@ -82,14 +79,8 @@ returns-in_default-clause-same g c clean has =
 pub returns-in_default-clause-same_reference : goal.returns-in_default-clause-same_reference
 returns-in_default-clause-same_reference g c = c.rows.invariant.4
 
-pub returns-in_default-clause-survives : goal.returns-in_default-clause-survives
-returns-in_default-clause-survives g c = c.rows.invariant.5.survives
-
-pub returns-in_default-clause-commit : goal.returns-in_default-clause-commit
-returns-in_default-clause-commit g c = c.rows.invariant.5.commit
-
-pub returns-in_default-clause-inside : goal.returns-in_default-clause-inside
-returns-in_default-clause-inside g c clean is = c.rows.invariant.5.inside clean is refl
+pub returns-in_default-clause-goes_on : goal.returns-in_default-clause-goes_on
+returns-in_default-clause-goes_on g c = c.rows.invariant.5
 
 pub returns-in_default-clause-puts : goal.returns-in_default-clause-puts
 returns-in_default-clause-puts g c clean good has w means filling =
@@ -121,14 +112,10 @@ returns-in-Err-clause-looks g c =
 pub returns-in-Err-clause-same_reference : goal.returns-in-Err-clause-same_reference
 returns-in-Err-clause-same_reference g c = c.put.ensures.same_reference ∙ c.rows.invariant.4
 
-pub returns-in-Err-clause-survives : goal.returns-in-Err-clause-survives
-returns-in-Err-clause-survives g c =
-    stays_quiet (state g.F.Store c.args.tx.now.conn.now) (state g.F.Store c.rows.tx.conn.now) (state g.F.Store c.put.new.tx.conn.now) c.rows.invariant.5.survives c.put.ensures.survives
-
-pub returns-in-Err-clause-commit : goal.returns-in-Err-clause-commit
-returns-in-Err-clause-commit g c =
-    commit_then (state g.F.Store c.args.tx.now.conn.now) (state g.F.Store c.rows.tx.conn.now)
-    (state g.F.Store c.put.new.tx.conn.now) c.rows.invariant.5 c.put.ensures.survives.clean c.put.ensures.commit
+pub returns-in-Err-clause-goes_on : goal.returns-in-Err-clause-goes_on
+returns-in-Err-clause-goes_on g c =
+    goes_on_then (state g.F.Store c.args.tx.now.conn.now) (state g.F.Store c.rows.tx.conn.now)
+    (state g.F.Store c.put.new.tx.conn.now) false c.rows.invariant.5 c.in-Err.ensures.goes_on
 
 pub rows-preserved : goal.rows-preserved
 rows-preserved g c =
@@ -152,9 +139,9 @@ rows-preserved g c =
       then_survives old mid new so_far.2 moved.survives,
       still,
       put.same_reference ∙ so_far.4,
-      goes_on_then begun at end true so_far.5 (record { survives = put.survives; commit = put.commit; inside = λ clean is _. put.inside clean is }),
+      goes_on_then begun at end true so_far.5 put.goes_on,
       λ clean good has w means filling.
-          let was = so_far.6 (was_clean mid new moved.survives.clean clean) (was_clean at end put.survives.clean good) has w means filling in
+          let was = so_far.6 (was_clean mid new moved.survives.clean clean) (was_clean at end put.goes_on.survives.clean good) has w means filling in
           let given = (rw (c.in_ok-row.was, c.in-Some.is) at (moved.ok clean)) sql params was.1 was.2 in
           let rows = was.1 ++ row ∷ [] in
           let fits = c.requires.fits old.now w was.1 row means
@@ -174,8 +161,5 @@ returns-clause-looks g c =
 pub returns-clause-same_reference : goal.returns-clause-same_reference
 returns-clause-same_reference g c = c.rows.invariant.4
 
-pub returns-clause-survives : goal.returns-clause-survives
-returns-clause-survives g c = c.rows.invariant.5.survives
-
-pub returns-clause-commit : goal.returns-clause-commit
-returns-clause-commit g c = c.rows.invariant.5.commit
+pub returns-clause-goes_on : goal.returns-clause-goes_on
+returns-clause-goes_on g c = goes_on_or_ends (state g.F.Store c.args.tx.now.conn.now) (state g.F.Store c.rows.tx.conn.now) _ c.rows.invariant.5

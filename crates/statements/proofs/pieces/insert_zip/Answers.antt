@@ -1,4 +1,4 @@
-use Rattle.std.proofs.Common.{◌≡◌, true, false, take, drop, refl, sym, ap, subst, ◌∙◌, to_z, of_z, to_z-of_z, w64, SFits, rules, true≢false}
+use Rattle.std.proofs.Common.{◌≡◌, true, false, take, drop, refl, sym, ap, subst, ◌∙◌, to_z, of_z, to_z-of_z, w64, SFits, rules}
 use Rattle.sqlite.specs.Held.{state}
 use Rattle.statements.specs.Rows.{GoesOn}
 use Rattle.statements.specs.Added.{AddsZip}
@@ -34,9 +34,8 @@ returns-in_err-insert_piece-clause-goes_on g c =
     let start = state g.S.Store c.args.tx.now.conn.now in
     let at = state g.S.Store c.loop-number.tx.conn.now in
     let end = state g.S.Store c.insert_piece.new.tx.conn.now in
-    let put = c.insert_piece.ensures in
-    let last : GoesOn at end false = record { survives = put.survives; commit = put.commit; inside = λ _ _ all. absurd (true≢false (sym all)) } in
-    subst (GoesOn start end) (sym (not_ok c.from_residual.result c.from_residual.ensures.0)) (goes_on_then start at end false c.loop-number.invariant.1 last)
+    subst (GoesOn start end) (sym (not_ok c.from_residual.result c.from_residual.ensures.0))
+    (goes_on_then start at end false c.loop-number.invariant.1 c.in_err-insert_piece.ensures.goes_on)
 
 pub loop-number-preserved : goal.loop-number-preserved
 loop-number-preserved g c =
@@ -49,10 +48,10 @@ loop-number-preserved g c =
     let n = c.loop-number.number in
     let so_far = c.loop-number.invariant in (
       put.same_reference ∙ so_far.0,
-      goes_on_then start at end true so_far.1 (record { survives = put.survives; commit = put.commit; inside = λ clean is _. put.inside clean is }),
+      goes_on_then start at end true so_far.1 put.goes_on,
       c.split_at.ensures.back ∙ (ap (λ k. drop k rest) c.min.ensures ∙ rest_cut zip rest n so_far.2),
       λ clean filling.
-          let was = so_far.3 (was_clean at end put.survives.clean clean) filling in
+          let was = so_far.3 (was_clean at end put.goes_on.survives.clean clean) filling in
           let has = some_left zip rest n so_far.2 (is_some rest (sym c.is_empty.ensures ∙ c.if-is_empty.false)) in
           let range : SFits w64 c.from.result = search rules in
           let bytes : c.split_at.result.0.now ≡ piece zip n = c.split_at.ensures.front ∙ (ap (λ k. take k rest) c.min.ensures ∙ piece_cut zip rest n so_far.2) in

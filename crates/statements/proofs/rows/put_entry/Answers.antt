@@ -1,4 +1,4 @@
-use Rattle.std.proofs.Common.{false, sym, ap, subst, true≢false, to_z-of_z, w64, SFits, rules}
+use Rattle.std.proofs.Common.{sym, ap, subst, to_z-of_z, w64, SFits, rules}
 use Rattle.sqlite.specs.Held.{state}
 use Rattle.world.specs.declared.entry.Entry.{Entry}
 use Rattle.statements.specs.Rows.{GoesOn}
@@ -11,17 +11,14 @@ pub returns-in_err-id-clause-goes_on : goal.returns-in_err-id-clause-goes_on
 returns-in_err-id-clause-goes_on g c =
     let old = state g.S.Store c.args.tx.now.conn.now in
     let new = state g.S.Store c.put_version.new.tx.conn.now in
-    let put = c.put_version.ensures in
-    let done : GoesOn old new false = record { survives = put.survives; commit = put.commit; inside = λ _ _ all. absurd (true≢false (sym all)) } in
-    subst (GoesOn old new) (sym (not_ok c.from_residual.result c.from_residual.ensures.0)) done
+    subst (GoesOn old new) (sym (not_ok c.from_residual.result c.from_residual.ensures.0)) c.in_err-id.ensures.goes_on
 
 pub returns-clause-goes_on : goal.returns-clause-goes_on
 returns-clause-goes_on g c =
     let old = state g.S.Store c.args.tx.now.conn.now in
     let mid = state g.S.Store c.put_version.new.tx.conn.now in
     let new = state g.S.Store c.insert_zip.new.tx.conn.now in
-    let put = c.in_ok-id.ensures in
-    goes_on_then old mid new _ (record { survives = put.survives; commit = put.commit; inside = λ clean is _. put.inside clean is }) c.insert_zip.ensures.goes_on
+    goes_on_then old mid new _ c.in_ok-id.ensures.goes_on c.insert_zip.ensures.goes_on
 
 pub returns-clause-added : goal.returns-clause-added
 returns-clause-added g c clean filling =

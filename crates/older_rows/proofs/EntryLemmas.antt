@@ -58,18 +58,17 @@ place_is row q e shows = λ i. record { shelf = text_in (shows.shelf i); path = 
 placed : (row : Row) (q : Place) (e : Entry) → ShowsEntry row q e → IsPlaced row
 placed row q e shows = (held_text (column row 0) q.shelf shows.shelf, held_text (column row 1) q.path shows.path, held_text (column row 2) q.version shows.version)
 
--- a row that shows an entry that may stand, its zip and its number is fit if it also shows the order keys of the version
+-- a row that shows an entry that may stand, its zip and its number is fit
 pub fit_row : (format : Format) (row : Row) (id : ℤ) (s p v zip : List ℕ) (e : Entry) (x : SemanticVersion)
     → ShowsZip format row zip → ShowsEntry row (place_of s p v) e × (e.zip ≡ zip) → Some x ≡ fitting_version p v e → column row 5 ≡ Int id
-    → (version_text x ≡ v) × (ShowsKeys format row v → IsFitRow format row id (place_of s p v) e)
+    → (version_text x ≡ v) × IsFitRow format row id (place_of s p v) e
 fit_row format row id s p v zip e x shows_zip shows fits number =
     let it = fitting_some p v e x fits in (
       ((version-of v x).0 it.1).same,
-      λ keys. record {
+      record {
         shows = shows.0;
         number = number;
         zip = subst (ShowsZip format row) (sym shows.1) shows_zip;
-        keys = keys;
         may = it.0 s;
       },
     )
@@ -125,6 +124,7 @@ pub record IsIn (format : Format) (x : World) (db : Trees) (row : Row) : Type 0 
   pub place : Place
   pub entry : Entry
   pub fits : IsFitRow format row id place entry
+  pub keys : ShowsKeys format row place.version
   pub holds : map.get x.entries place ≡ Some entry
   pub there : Has (db 6) (version_row id place entry)
 
@@ -167,7 +167,7 @@ shelf_there after y stand q e at =
 module _ (format : Format) (x : World) (db after : Trees) (done : List Row) (row : Row) (rows : List Row)
     (up : Rises (done ++ row ∷ rows)) (small : (s p : List ℕ) → many_on s p (done ++ row ∷ rows) ≤ version_limit)
     (is : IsWorld x) (stand : StandFor db x) (shows : Shows format x db done) (id : ℤ) (q : Place) (e : Entry)
-    (fits : IsFitRow format row id q e) (adds : HasAdded (Some id) db after q e) (sound : IsSound store_schema after) where
+    (fits : IsFitRow format row id q e) (keys : ShowsKeys format row q.version) (adds : HasAdded (Some id) db after q e) (sound : IsSound store_schema after) where
   abbrev next : World
   next = with_entry x q e
 
@@ -226,12 +226,13 @@ module _ (format : Format) (x : World) (db after : Trees) (done : List Row) (row
         place = it.place;
         entry = it.entry;
         fits = it.fits;
+        keys = it.keys;
         holds = put_keeps places_total places_exact x.entries q e free it.place it.entry it.holds;
         there = stays_there _ it.there;
       }
 
   own : IsIn format next after row
-  own = record { id = id; place = q; entry = e; fits = fits; holds = get_put places_total x.entries q e; there = new_row }
+  own = record { id = id; place = q; entry = e; fits = fits; keys = keys; holds = get_put places_total x.entries q e; there = new_row }
 
   -- the entries of the next world, and the rows of `version`, are those that the rows up to this one show
   pub next_shows : Shows format next after (done ++ row ∷ [])
@@ -284,14 +285,15 @@ entered format done [] up small so_far end db after own same x is stand shows =
 entered format done (row ∷ rows) up small so_far end db after own visited x is stand shows =
     let put = visited.2.1 in
     let fits : IsFitRow format row put.id put.place put.entry = subst (λ f. IsFitRow f row put.id put.place put.entry) own put.fits in
+    let keys : ShowsKeys format row put.place.version = subst (λ f. ShowsKeys f row put.place.version) own put.keys in
     let mid = visited.1 in
     let assoc = append_assoc done (row ∷ []) rows in
     let rest = entered format (done ++ row ∷ []) rows (subst Rises (sym assoc) up)
     (λ s p. subst (λ l. many_on s p l ≤ version_limit) (sym assoc) (small s p)) visited.0 end mid after (visited.2.0 ∙ own) visited.3
     (with_entry x put.place put.entry)
-    (next_is format x db mid done row rows up small is stand shows put.id put.place put.entry fits put.adds put.sound)
-    (next_stands format x db mid done row rows up small is stand shows put.id put.place put.entry fits put.adds put.sound)
-    (next_shows format x db mid done row rows up small is stand shows put.id put.place put.entry fits put.adds put.sound) in
+    (next_is format x db mid done row rows up small is stand shows put.id put.place put.entry fits keys put.adds put.sound)
+    (next_stands format x db mid done row rows up small is stand shows put.id put.place put.entry fits keys put.adds put.sound)
+    (next_shows format x db mid done row rows up small is stand shows put.id put.place put.entry fits keys put.adds put.sound) in
     let it = rest.1 in
     (rest.0, record { is = it.is; stand = it.stand; keys = it.keys; shelves = it.shelves; shows = subst (λ l. Shows format rest.0 after l) assoc it.shows })
 

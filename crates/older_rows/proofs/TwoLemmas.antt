@@ -91,7 +91,7 @@ module _ (old : Database) (rows : List Row) (reads : Reads (command_of (understo
           version_was : (s row : Row) (is : s ≡ shown row) (it : IsIn Two y after s) → version_read (version_row it.id it.place it.entry) ≡ version_read row
           version_was s row is it =
               let shows = it.fits.shows in
-              let keys = it.fits.keys in
+              let keys = it.keys in
               let at = λ (n : ℕ). ap (λ (r : Row). column r n) is in
               λ i. sym (sym (at 5) ∙ it.fits.number) i ∷ sym (sym (at 0) ∙ shows.shelf) i ∷ sym (sym (at 1) ∙ shows.path) i ∷ sym (sym (at 2) ∙ shows.version) i
               ∷ sym (sym (at 3) ∙ shows.time) i ∷ sym (sym (at 4) ∙ shows.gomod) i ∷ sym (sym (at 6) ∙ keys.0) i ∷ sym (sym (at 7) ∙ keys.1) i ∷ []

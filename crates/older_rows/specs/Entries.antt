@@ -33,21 +33,21 @@ abbrev pub ShowsKeys : Format → Row → List ℕ → Type 0
 ShowsKeys One row version = Unit {0}
 ShowsKeys Two row version = (column row 6 ≡ Blob (order_key_at version)) × (column row 7 ≡ Blob (rank_key_at version))
 
--- a row shows an entry that may stand at its place, its number and its order keys
+-- a row shows an entry that may stand at its place, and its number
 pub record IsFitRow (format : Format) (row : Row) (id : ℤ) (q : Place) (e : Entry) : Type 0 where
   pub shows : ShowsEntry row q e
   pub number : column row 5 ≡ Int id
   pub zip : ShowsZip format row e.zip
-  pub keys : ShowsKeys format row q.version
   pub may : IsEntry q e
 
--- a row shows an entry that may follow the last one, and the rows of the entry are put in
+-- a row shows an entry that may follow the last one, and its order keys, and the rows of the entry are put in
 pub record PutsEntry (format : Format) (last : Option Place) (many : ℕ)
     (row : Row) (db after : Trees) (now : Option Place) (more : ℕ) : Type 0 where
   pub id : ℤ
   pub place : Place
   pub entry : Entry
   pub fits : IsFitRow format row id place entry
+  pub keys : ShowsKeys format row place.version
   pub follows : MayFollow last many place
   pub last_is : now ≡ Some place
   pub many_is : more ≡ run_with last many place

@@ -96,8 +96,7 @@ fn shows_keys(format: Format, row: &Row, version: &KeyedVersion) -> Result<bool,
 /// entry may not stand at its place. The order keys are not tested yet.
 fn fit_row<'r>(alloc: Global, format: Format, row: &'r Row) -> Result<Option<FitEntry<'r>>, Error>
     ensures { IfOk result (λ found. IfSome found (λ f. (version_text f.version ≡ f.shown.version.now)
-        × (ShowsKeys format row.now f.shown.version.now → IsFitRow format row.now f.id
-        (place f.shown.shelf.now f.shown.path.now f.shown.version.now) f.shown.entry))) }
+        × IsFitRow format row.now f.id (place f.shown.shelf.now f.shown.path.now f.shown.version.now) f.shown.entry)) }
 {
     let Some(zip) = zip_at(format, row)? else {
         return Ok(None);

@@ -1,7 +1,8 @@
 #!/usr/bin/env python3
 """What a request costs `goshelf answer --mem`, and a GET `goshelf serve`: instructions by valgrind's count, reads by strace's, and peak memory.
 
-Build the program first (`./goshelf --version`); it wants valgrind and strace. With --program FILE it measures that program.
+Build the program first (`./goshelf --version`); it wants valgrind and strace. With --program FILE it measures that program, and with --gets
+each kind of GET, in memory and in a file, and nothing else.
 """
 
 import fcntl
@@ -15,10 +16,18 @@ import termios
 import time
 
 sys.path.insert(0, os.path.dirname(os.path.abspath(__file__)))
-from answer import KEY, PROGRAM, WORDS, get, publish
+from answer import KEY, PROGRAM, WORDS, ask, get, publish
 
 ZIP = 16 * 2**20
 PATH, VERSION = "example.com/lib", "v1.0.0"
+KINDS = {
+    "a .mod": f"{PATH}/@v/{VERSION}.mod",
+    "a .info": f"{PATH}/@v/{VERSION}.info",
+    "a .zip": f"{PATH}/@v/{VERSION}.zip",
+    "a list": f"{PATH}/@v/list",
+    "@latest": f"{PATH}/@latest",
+    "a .mod that is not there": f"{PATH}/@v/v9.9.9.mod",
+}
 
 
 def stream_of(*requests):
@@ -41,11 +50,23 @@ def instructions(program, source, feed=None, words=WORDS):
     return int(re.search(r"Collected : (\d+)", told).group(1))
 
 
-def served(program, folder, count):
-    """How many instructions `serve` takes, with its opening, to answer so many GETs of a small .mod, each on a connection of its own."""
-    store = os.path.join(folder, f"served{count}.db")
+def made(program, folder):
+    """A new store in a file of the folder, with a team and a key."""
+    store = os.path.join(tempfile.mkdtemp(dir=folder), "store.db")
     for words in (["team-add", "--team", "alpha"], ["key-add", "--shelf", "alpha", "--key", KEY]):
         subprocess.run([program, *words, "--db", store], check=True)
+    return store
+
+
+def gets(program, rest, words, counts=(300, 900)):
+    """How many instructions one GET takes of a store with one version. `words` gives the words of each run."""
+    few, many = (instructions(program, stream_of(publish(PATH, VERSION), *(ask(rest) for _ in range(n))), words=words()) for n in counts)
+    return (many - few) // (counts[1] - counts[0])
+
+
+def served(program, folder, count):
+    """How many instructions `serve` takes, with its opening, to answer so many GETs of a small .mod, each on a connection of its own."""
+    store = made(program, folder)
     with stream_of(publish(PATH, VERSION)) as source:
         subprocess.run([program, "answer", "--db", store], stdin=source, stdout=subprocess.DEVNULL, check=True)
     words = ["serve", "--db", store, "--port", "0", "--connections", str(count)]
@@ -113,13 +134,17 @@ def long_heads():
 
 def main():
     program = sys.argv[sys.argv.index("--program") + 1] if "--program" in sys.argv else PROGRAM
-    counts = [instructions(program, stream_of(publish(PATH, VERSION), *(get(PATH, VERSION, "mod") for _ in range(n)))) for n in (1_000, 2_000)]
-    print(f"a GET of a small .mod: {(counts[1] - counts[0]) // 1_000:,} instructions")
+    small = gets(program, KINDS["a .mod"], lambda: WORDS, (1_000, 2_000))
+    print(f"a GET of a small .mod: {small:,} instructions")
     with tempfile.TemporaryDirectory() as folder:
         counts = [served(program, folder, n) for n in (100, 300)]
-    print(f"the same by serve, on a connection of its own: {(counts[1] - counts[0]) // 200:,} instructions")
-    if "--gets" in sys.argv:
-        return
+        print(f"the same by serve, on a connection of its own: {(counts[1] - counts[0]) // 200:,} instructions")
+        if "--gets" in sys.argv:
+            for name, rest in KINDS.items():
+                memory = gets(program, rest, lambda: WORDS)
+                file = gets(program, rest, lambda: ["answer", "--db", made(program, folder)])
+                print(f"a GET of {name}: {memory:,} instructions in memory, {file:,} in a file")
+            return
     nothing = instructions(program, stream_of())
     for name, head in long_heads():
         whole = instructions(program, stream_of([head])) - nothing

@@ -1,8 +1,8 @@
 #!/usr/bin/env python3
 """What a request costs `goshelf answer --mem`, and a GET `goshelf serve`: instructions by valgrind's count, reads by strace's, and peak memory.
 
-Build the program first (`./goshelf --version`); it wants valgrind and strace. With --program FILE it measures that program, and with --gets
-each kind of GET, in memory and in a file, and nothing else.
+Build the program first (`./goshelf --version`); it wants valgrind and strace. With --program FILE it measures that program. With --gets it
+measures GETs alone.
 """
 
 import fcntl
@@ -58,10 +58,10 @@ def made(program, folder):
     return store
 
 
-def gets(program, rest, words, counts=(300, 900)):
-    """How many instructions one GET takes of a store with one version. `words` gives the words of each run."""
-    few, many = (instructions(program, stream_of(publish(PATH, VERSION), *(ask(rest) for _ in range(n))), words=words()) for n in counts)
-    return (many - few) // (counts[1] - counts[0])
+def of_a_get(program, rest, words):
+    """How many instructions a GET takes of a store with one version. `words` gives the words of each run."""
+    few, many = (instructions(program, stream_of(publish(PATH, VERSION), *(ask(rest) for _ in range(n))), words=words()) for n in (1_000, 2_000))
+    return (many - few) // 1_000
 
 
 def served(program, folder, count):
@@ -134,17 +134,15 @@ def long_heads():
 
 def main():
     program = sys.argv[sys.argv.index("--program") + 1] if "--program" in sys.argv else PROGRAM
-    small = gets(program, KINDS["a .mod"], lambda: WORDS, (1_000, 2_000))
-    print(f"a GET of a small .mod: {small:,} instructions")
     with tempfile.TemporaryDirectory() as folder:
+        for name, rest in KINDS.items():
+            memory = of_a_get(program, rest, lambda: WORDS)
+            file = of_a_get(program, rest, lambda: ["answer", "--db", made(program, folder)])
+            print(f"a GET of {name}: {memory:,} instructions in memory, {file:,} in a file")
         counts = [served(program, folder, n) for n in (100, 300)]
-        print(f"the same by serve, on a connection of its own: {(counts[1] - counts[0]) // 200:,} instructions")
-        if "--gets" in sys.argv:
-            for name, rest in KINDS.items():
-                memory = gets(program, rest, lambda: WORDS)
-                file = gets(program, rest, lambda: ["answer", "--db", made(program, folder)])
-                print(f"a GET of {name}: {memory:,} instructions in memory, {file:,} in a file")
-            return
+    print(f"a GET of a .mod by serve, on a connection of its own: {(counts[1] - counts[0]) // 200:,} instructions")
+    if "--gets" in sys.argv:
+        return
     nothing = instructions(program, stream_of())
     for name, head in long_heads():
         whole = instructions(program, stream_of([head])) - nothing

@@ -1,0 +1,4 @@
+pub mod Account
+pub mod Calls
+pub mod Counted
+pub mod End

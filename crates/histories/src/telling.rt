@@ -1,0 +1,122 @@
+//! A writer that keeps account of what it took.
+ghost use Rattle.std.specs.Prelude.{◌≡◌, [], Some};
+ghost use Rattle.std.specs.Io.{WritesAtMost};
+ghost use Rattle.std.specs.Io.KnownBytes.{Keeps, WriteAppends};
+ghost use Rattle.histories.specs.Calls.{CallsFlush, CallsWrite, Writes, no_writes};
+ghost use Rattle.histories.specs.Counted.{times};
+
+use crate::count::Count;
+use crate::record::Record;
+use crate::wait::BoundWrite;
+use std::io::{self, Write};
+use std::time::Duration;
+
+/// A writer that keeps account of the calls to it.
+pub trait Tell: Write {
+    /// The calls to write to it and to flush it so far.
+    ghost writes: { Self → Writes };
+
+    /// Writes some bytes, as `Write::write` does, and notes the call.
+    fn tell(&mut self, buf: &[u8]) -> io::Result<usize>
+        ensures bound { WritesAtMost result buf.now }
+        ensures bytes { WriteAppends (Self.contents self.old) (Self.contents self.new) result buf.now }
+        ensures calls { CallsWrite (writes self.old) (writes self.new) result buf.now };
+
+    /// Flushes it, as `Write::flush` does, and notes the call.
+    fn settle(&mut self) -> io::Result<()>
+        ensures bytes { Keeps (Self.contents self.old) (Self.contents self.new) }
+        ensures calls { CallsFlush (writes self.old) (writes self.new) result };
+}
+
+/// Any writer, with an account of what it took, which is its `contents`.
+#[derive(Drop)]
+pub struct Telling<W> {
+    inner: W,
+    noted: Record,
+    unflushed: Record,
+    failed: Count,
+}
+
+impl<W: Write> Telling<W> {
+    /// Returns a writer that took nothing so far.
+    pub fn new(inner: W) -> Telling<W>
+        ensures bytes { ⟦<Telling<W> as Write>⟧.contents result ≡ Some [] }
+        ensures writes { ⟦<Telling<W> as Tell>⟧.writes result ≡ no_writes }
+        ensures inner { result.inner ≡ inner }
+    {
+        Telling {
+            inner,
+            noted: Record::new(),
+            unflushed: Record::new(),
+            failed: Count::new(),
+        }
+    }
+}
+
+impl<W: Write> Write for Telling<W> {
+    ghost contents = { λ t. Some t.noted.bytes };
+
+    fn write(&mut self, buf: &[u8]) -> io::Result<usize> {
+        self.tell(buf)
+    }
+
+    fn flush(&mut self) -> io::Result<()> {
+        self.settle()
+    }
+}
+
+impl<W: Write> Tell for Telling<W> {
+    ghost writes = { λ t. record { unflushed = t.unflushed.bytes; failed = times t.failed } };
+
+    fn tell(&mut self, buf: &[u8]) -> io::Result<usize>
+        ensures bound { WritesAtMost result buf.now }
+        ensures bytes { WriteAppends (Some self.old.noted.bytes) (Some self.new.noted.bytes) result buf.now }
+        ensures calls { CallsWrite (record { unflushed = self.old.unflushed.bytes; failed = times self.old.failed })
+            (record { unflushed = self.new.unflushed.bytes; failed = times self.new.failed }) result buf.now }
+        // What is noted is what the writer inside took.
+        ensures passed { WriteAppends (W.contents self.old.inner) (W.contents self.new.inner) result buf.now }
+    {
+        match self.inner.write(buf) {
+            Ok(n) => {
+                self.noted.note(&buf[..n]);
+                self.unflushed.note(&buf[..n]);
+                if n == 0 && !buf.is_empty() {
+                    self.failed.one_more();
+                }
+                Ok(n)
+            }
+            Err(e) => {
+                self.failed.one_more();
+                Err(e)
+            }
+        }
+    }
+
+    fn settle(&mut self) -> io::Result<()>
+        ensures bytes { self.new.noted ≡ self.old.noted }
+        ensures calls { CallsFlush (record { unflushed = self.old.unflushed.bytes; failed = times self.old.failed })
+            (record { unflushed = self.new.unflushed.bytes; failed = times self.new.failed }) result }
+        ensures passed { Keeps (W.contents self.old.inner) (W.contents self.new.inner) }
+    {
+        match self.inner.flush() {
+            Ok(()) => {
+                self.unflushed = Record::new();
+                Ok(())
+            }
+            Err(e) => {
+                self.failed.one_more();
+                Err(e)
+            }
+        }
+    }
+}
+
+impl<W: BoundWrite> BoundWrite for Telling<W> {
+    fn bound_writes(&self, longest: Duration) -> io::Result<()> {
+        self.inner.bound_writes(longest)
+    }
+
+    fn shut(&self) -> io::Result<()> {
+        self.inner.shut()
+    }
+}

@@ -1,6 +1,7 @@
 -- Hearing an operator's line.
 use Rattle.std.proofs.Common.{◌≡◌, ℕ, List, [], Option, Result, Ok, Err, sym, subst}
 use Rattle.std.specs.Io.KnownBytes.{Keeps}
+use Rattle.histories.specs.Account.{Account}
 use Rattle.world.specs.Store.{Shown}
 use Rattle.world.specs.declared.registry.StoreFault.{StoreFault}
 use Rattle.engine.specs.Written.{Writes}
@@ -20,7 +21,7 @@ told_unless told (Ok done) = Ok told
 told_unless told (Err e) = Err e
 
 module _ (copied : List ℕ → Result (Unit {0}) CopyRefusal → Type 0) (pinged : Result Health StoreFault → Type 0) (old new : Shown)
-    (u u' : Option (List ℕ)) where
+    (u u' : Account) where
   was_heard : (got : List ℕ) → ReadsLine u u' got → (heard : Heard) → IsHeardIn got heard → IsHeard u u' heard
   was_heard got reads NoMemory never = absurd never
   was_heard got reads heard from = (got, reads, from)

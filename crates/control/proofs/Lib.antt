@@ -6,6 +6,7 @@ pub mod OutcomeLemmas
 pub mod CrashLemmas
 pub mod TurnLemmas
 pub mod HearingLemmas
+pub mod AskingLemmas
 pub mod PingLemmas
 pub mod StepLemmas
 pub mod TallyLemmas

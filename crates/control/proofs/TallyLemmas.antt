@@ -5,7 +5,7 @@ use Rattle.std.proofs.lemmas.List.{length-append}
 use Rattle.std.proofs.lemmas.List.Sums.{sum_by_push, count_by-le-length}
 use Rattle.control.specs.Health.{Answered, AreBelow, IsPinged, is_of_class, is_unanswered, one_if, tally_of, with_one}
 use Rattle.control.specs.Hearing.{Heard, Carried, Copied, Pinged, Stop, NoOrder, NoMemory}
-use Rattle.control.specs.Visits.{Call, OfPeer, OfOperator, AllTallied, CameIf, IsTallied, TellsTally, answered_with, peers}
+use Rattle.control.specs.Visits.{Call, OfPeer, OfOperator, Untaken, AllTallied, CameIf, IsTallied, TellsTally, answered_with, peers}
 use Rattle.control.specs.declared.copies.CopyRefusal.{CopyRefusal}
 use Rattle.control.specs.declared.tally.Tally.{Tally}
 
@@ -42,11 +42,13 @@ module _ {P O : Type 0} where
   answered_last [] last = refl
   answered_last (OfPeer visit answered ∷ calls) last = ap (λ more. answered ∷ more) (answered_last calls last)
   answered_last (OfOperator audience ∷ calls) last = answered_last calls last
+  answered_last (Untaken ∷ calls) last = answered_last calls last
 
   pub answered_peers : (calls : List (Call P O)) → length (answered_with calls) ≡ peers calls
   answered_peers [] = refl
   answered_peers (OfPeer visit answered ∷ calls) = let e = answered_peers calls in omega (arith, e)
   answered_peers (OfOperator audience ∷ calls) = answered_peers calls
+  answered_peers (Untaken ∷ calls) = answered_peers calls
 
   pub tallied_push : (since : List ℕ) (before calls : List (Call P O)) (last : Call P O) → AllTallied since before calls
       → IsTallied since (before ++ calls) last → AllTallied since before (calls ++ last ∷ [])

@@ -1,6 +1,7 @@
 -- What an operator's line orders, and the outcome that the operator gets.
 use Rattle.std.specs.Prelude.{ℕ, ◌≡◌, ◌≢◌, List, [], ◌∷◌, Option, Result, Ok, Err}
 use Rattle.std.specs.Io.KnownBytes.{Appends, Keeps}
+use Rattle.histories.specs.Account.{Account}
 use Rattle.world.specs.Store.{Shown}
 use Rattle.world.specs.declared.registry.Registered.{Registered}
 use Rattle.world.specs.declared.registry.StoreFault.{StoreFault}
@@ -70,9 +71,9 @@ IsHeardIn got NoOrder = IsNoOrder got × (got ≢ stop_line) × (got ≢ ping_li
 IsHeardIn got NoMemory = ⊥
 
 -- the bytes that ordered it were read, unless memory ran out before
-abbrev pub IsHeard : Option (List ℕ) → Option (List ℕ) → Heard → Type 0
-IsHeard unread unread_new NoMemory = Unit {0}
-IsHeard unread unread_new heard = (got : List ℕ) × ReadsLine unread unread_new got × IsHeardIn got heard
+abbrev pub IsHeard : Account → Account → Heard → Type 0
+IsHeard came came_new NoMemory = Unit {0}
+IsHeard came came_new heard = (got : List ℕ) × ReadsLine came came_new got × IsHeardIn got heard
 
 module _ (copied : List ℕ → Result (Unit {0}) CopyRefusal → Type 0) (pinged : Result Health StoreFault → Type 0) where
   -- where an operator ordered a copy or asked for the health, this came of it
@@ -97,24 +98,24 @@ module _ (copied : List ℕ → Result (Unit {0}) CopyRefusal → Type 0) (pinge
   Heeds old new got told = Follows (IsHeardIn got) old new told
 
   -- A line was read, what it orders was done, and this came of it.
-  abbrev pub Hears : Shown → Shown → Option (List ℕ) → Option (List ℕ) → Told → Type 0
-  Hears old new unread unread_new told = Follows (IsHeard unread unread_new) old new told
+  abbrev pub Hears : Shown → Shown → Account → Account → Told → Type 0
+  Hears old new came came_new told = Follows (IsHeard came came_new) old new told
 
   -- so it was, or a read failed, and nothing was done
-  abbrev pub HearsOrFails : Shown → Shown → Option (List ℕ) → Option (List ℕ) → Result Told Io → Type 0
-  HearsOrFails old new unread unread_new (Ok told) = Hears old new unread unread_new told
-  HearsOrFails old new unread unread_new (Err e) = (e ≡ io.Read) × GoesThroughSteps old new []
+  abbrev pub HearsOrFails : Shown → Shown → Account → Account → Result Told Io → Type 0
+  HearsOrFails old new came came_new (Ok told) = Hears old new came came_new told
+  HearsOrFails old new came came_new (Err e) = (e ≡ io.Read) × GoesThroughSteps old new []
 
   -- A line was read, what it orders was done, and what came of it was written, or a beginning of that where a write failed. Or a read
   -- failed, and nothing was done, and nothing written.
   abbrev pub Obeys :
-      Shown → Shown → Option (List ℕ) → Option (List ℕ) → Option (List ℕ) → Option (List ℕ) → Result Told Io → Type 0
-  Obeys old new unread unread_new written written_new (Ok told) =
-      Hears old new unread unread_new told × Appends written written_new (line_told told)
-  Obeys old new unread unread_new written written_new (Err io.Read) =
+      Shown → Shown → Account → Account → Option (List ℕ) → Option (List ℕ) → Result Told Io → Type 0
+  Obeys old new came came_new written written_new (Ok told) =
+      Hears old new came came_new told × Appends written written_new (line_told told)
+  Obeys old new came came_new written written_new (Err io.Read) =
       GoesThroughSteps old new [] × Keeps written written_new
-  Obeys old new unread unread_new written written_new (Err io.Write) =
-      (told : Told) × Hears old new unread unread_new told × WritesBeginning written written_new (line_told told)
+  Obeys old new came came_new written written_new (Err io.Write) =
+      (told : Told) × Hears old new came came_new told × WritesBeginning written written_new (line_told told)
 
 -- So it was between two stores, by what is known of copies and counts, with the tally of the moment.
 module _ {S : Type 0} (shown : S → Shown) (copied : S → S → List ℕ → Result (Unit {0}) CopyRefusal → Type 0)
@@ -122,9 +123,9 @@ module _ {S : Type 0} (shown : S → Shown) (copied : S → S → List ℕ → R
   abbrev pub HeedsBy : List ℕ → Told → Type 0
   HeedsBy = Heeds (copied old new) (IsPinged tally (shown old).failures (shown new).failures (counted old new)) (shown old) (shown new)
 
-  abbrev pub HearsBy : Option (List ℕ) → Option (List ℕ) → Result Told Io → Type 0
+  abbrev pub HearsBy : Account → Account → Result Told Io → Type 0
   HearsBy =
       HearsOrFails (copied old new) (IsPinged tally (shown old).failures (shown new).failures (counted old new)) (shown old) (shown new)
 
-  abbrev pub ObeysBy : Option (List ℕ) → Option (List ℕ) → Option (List ℕ) → Option (List ℕ) → Result Told Io → Type 0
+  abbrev pub ObeysBy : Account → Account → Option (List ℕ) → Option (List ℕ) → Result Told Io → Type 0
   ObeysBy = Obeys (copied old new) (IsPinged tally (shown old).failures (shown new).failures (counted old new)) (shown old) (shown new)

@@ -1,7 +1,7 @@
 -- A line among the bytes that were read.
-use Rattle.std.specs.Prelude.{ℕ, ◌≡◌, ◌≢◌, ◌<◌, ◌≤◌, ◌⊎◌, ◌++◌, ◌∷◌, Bool, IsTrue, List, [], length, codes, Contains, Option}
+use Rattle.std.specs.Prelude.{ℕ, ◌≡◌, ◌≢◌, ◌<◌, ◌≤◌, ◌⊎◌, ◌++◌, ◌∷◌, Bool, IsTrue, List, [], length, codes, Contains}
 use Rattle.std.specs.Str.{IsUtf8}
-use Rattle.std.specs.Io.KnownBytes.{Consumes, IsAtEnd}
+use Rattle.histories.specs.Account.{Account, Gives}
 use Rattle.control.specs.Order.{said_in, two}
 use Rattle.control.specs.Words.{Said, IsTextOf, line_end}
 use Rattle.control.specs.declared.order.Order.{Order}
@@ -69,22 +69,22 @@ ping_line = codes "ping" ++ line_end ∷ []
 abbrev pub HasEnough : ℕ → List ℕ → Type 0
 HasEnough most got = Contains got line_end ⊎ (most < length got)
 
--- No more has to be read, or nothing comes.
-abbrev pub IsEnough : ℕ → List ℕ → Option (List ℕ) → Type 0
-IsEnough most got unread = HasEnough most got ⊎ IsAtEnd unread
+-- No more has to be read, or the stream is over.
+abbrev pub IsEnough : ℕ → List ℕ → Account → Type 0
+IsEnough most got came = HasEnough most got ⊎ IsTrue came.is_over
 
 -- these bytes were read, behind others, and whether no more has to be
-pub record ReadsOn (most : ℕ) (unread unread_new : Option (List ℕ)) (got got_new : List ℕ) (done : Bool) : Type 0 where
+pub record ReadsOn (most : ℕ) (came came_new : Account) (got got_new : List ℕ) (done : Bool) : Type 0 where
   pub bytes : List ℕ
-  pub consumed : Consumes unread unread_new bytes
+  pub gives : Gives came came_new bytes
   pub behind : got_new ≡ got ++ bytes
-  pub enough : IsTrue done → IsEnough most got_new unread_new
+  pub enough : IsTrue done → IsEnough most got_new came_new
 
 -- These bytes were read, and no more has to be for a line of so many bytes at most.
-pub record ReadsTo (most : ℕ) (unread unread_new : Option (List ℕ)) (got : List ℕ) : Type 0 where
-  pub consumed : Consumes unread unread_new got
-  pub enough : IsEnough most got unread_new
+pub record ReadsTo (most : ℕ) (came came_new : Account) (got : List ℕ) : Type 0 where
+  pub gives : Gives came came_new got
+  pub enough : IsEnough most got came_new
 
 -- so it is of the line of an operator
-abbrev pub ReadsLine : Option (List ℕ) → Option (List ℕ) → List ℕ → Type 0
+abbrev pub ReadsLine : Account → Account → List ℕ → Type 0
 ReadsLine = ReadsTo longest_copy

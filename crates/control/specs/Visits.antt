@@ -1,11 +1,14 @@
 -- Peers and operators, one after another.
-use Rattle.std.specs.Prelude.{ℕ, ◌≡◌, ◌≤◌, ◌+◌, ◌⊎◌, List, [], ◌∷◌, ◌++◌, map, All, Option, Some, None, Result, Ok, Err}
+use Rattle.std.specs.Prelude.{ℕ, ◌≡◌, ◌≤◌, ◌+◌, ◌-◌, ◌^◌, ◌⊎◌, ◌↔◌, Bool, IsTrue}
+use Rattle.std.specs.Prelude.{List, [], ◌∷◌, ◌++◌, length, map, All, Option, Some, None, Result, Ok, Err}
 use Rattle.std.specs.Io.KnownBytes.{Appends, Keeps}
+use Rattle.histories.specs.Account.{Account, IsUnused}
 use Rattle.world.specs.Store.{Shown}
 use Rattle.world.specs.World.{World}
 use Rattle.world.specs.declared.registry.StoreFault.{StoreFault}
 use Rattle.engine.specs.First.{First, first_status}
 use Rattle.engine.specs.Written.{WritesBeginning}
+use Rattle.engine.specs.declared.fault.Io.{Io}
 use Rattle.engine.specs.declared.fault.Io.TheVariants as io
 use Rattle.socket.specs.Connections.{Visit, Come, exchanges_of}
 use Rattle.socket.specs.Connections as socket
@@ -18,22 +21,46 @@ use Rattle.control.specs.declared.callers.Caller.{Caller}
 use Rattle.control.specs.declared.copies.CopyRefusal.{CopyRefusal}
 use Rattle.control.specs.declared.callers.Caller.TheVariants.{Peer, Operator}
 use Rattle.control.specs.declared.health.Health.{Health}
+use Rattle.control.specs.declared.outcome.Outcome.TheVariants.{Stopping}
 use Rattle.control.specs.declared.tally.Tally.{Tally}
+use Rattle.control.specs.declared.told.Told.{Told}
+use Rattle.control.specs.declared.told.Told.TheVariants as spoken
 
--- An operator before and after it was obeyed, and what its line ordered, unless a read failed before that was whole.
+-- An operator before and after it was obeyed, what its line ordered, unless a read failed before that was whole, and the result: what
+-- was told to it.
 pub record Audience (O : Type 0) : Type 0 where
   pub before : O
   pub after : O
   pub heard : Option Heard
+  pub told : Result Told Io
 
--- one who came, and what came of it; a peer with what its connection counts as
+-- one who came, and what came of it; a peer with what its connection counts as; or a connection that could not be taken
 pub data Call (P O : Type 0) : Type 0 where
   OfPeer : Visit P → Answered → Call P O
   OfOperator : Audience O → Call P O
+  Untaken : Call P O
 
-abbrev pub caller_of : {P O : Type 0} → Call P O → Caller P O
-caller_of (OfPeer visit answered) = Peer visit.before
-caller_of (OfOperator audience) = Operator audience.before
+abbrev pub caller_of : {P O : Type 0} → Call P O → Option (Caller P O)
+caller_of (OfPeer visit answered) = Some (Peer visit.before)
+caller_of (OfOperator audience) = Some (Operator audience.before)
+caller_of Untaken = None
+
+-- nothing has passed between this caller and us
+module _ {P O : Type 0} (came : P → Account) (written : P → Option (List ℕ)) (heeded : O → Account) (told : O → Option (List ℕ)) where
+  abbrev pub IsUnheard : Caller P O → Type 0
+  IsUnheard (Peer peer) = IsUnused (came peer) (written peer)
+  IsUnheard (Operator operator) = IsUnused (heeded operator) (told operator)
+
+-- the caller is new, if there is one
+abbrev pub IsNewIf : {C : Type 0} → (C → Type 0) → Option C → Type 0
+IsNewIf is_new None = Unit {0}
+IsNewIf is_new (Some caller) = is_new caller
+
+-- the next caller is taken, or the next connection can't be
+abbrev pub Takes : {P O E : Type 0} → Option (List (Option (Caller P O))) → Option (List (Option (Caller P O)))
+    → Result (Caller P O) E → Type 0
+Takes waiting left (Ok caller) = Come waiting left (Some caller ∷ [])
+Takes waiting left (Err e) = Come waiting left (None ∷ [])
 
 -- the steps of what an operator ordered: one for an order, a copy or a ping, and otherwise none
 abbrev pub steps_if : Option Heard → List Step
@@ -44,6 +71,7 @@ steps_if (Some heard) = steps_heard heard
 abbrev pub steps_of : {P O : Type 0} → Call P O → List Step
 steps_of (OfPeer visit answered) = map (λ x. Turned (Asked x)) (exchanges_of visit.first)
 steps_of (OfOperator audience) = steps_if audience.heard
+steps_of Untaken = []
 
 -- the messages, the orders, the copies and the pings, as they came
 abbrev pub steps_with : {P O : Type 0} → List (Call P O) → List Step
@@ -55,12 +83,38 @@ abbrev pub peers : {P O : Type 0} → List (Call P O) → ℕ
 peers [] = 0
 peers (OfPeer visit answered ∷ calls) = peers calls + 1
 peers (OfOperator audience ∷ calls) = peers calls
+peers (Untaken ∷ calls) = peers calls
+
+-- how many count as connections: peers, and those that could not be taken
+abbrev pub connections_of : {P O : Type 0} → List (Call P O) → ℕ
+connections_of [] = 0
+connections_of (OfPeer visit answered ∷ calls) = connections_of calls + 1
+connections_of (OfOperator audience ∷ calls) = connections_of calls
+connections_of (Untaken ∷ calls) = connections_of calls + 1
+
+-- an operator was told that the server ends
+abbrev pub IsStop : {P O : Type 0} → Call P O → Type 0
+IsStop (OfPeer visit answered) = ⊥
+IsStop (OfOperator audience) = audience.told ≡ Ok (spoken.Outcome Stopping)
+IsStop Untaken = ⊥
+
+abbrev pub IsNoStop : {P O : Type 0} → Call P O → Type 0
+IsNoStop call = ¬ IsStop call
+
+module _ {P O : Type 0} where
+  -- The last was an operator who was told that the server ends, and nobody before was. Or nobody was, and this many count as
+  -- connections, or 2^64 - 1 came.
+  abbrev pub IsEnd : ℕ → List (Call P O) → Type 0
+  IsEnd connections calls =
+      ((first : List (Call P O)) × (last : Call P O) × (calls ≡ first ++ last ∷ []) × All IsNoStop first × IsStop last)
+      ⊎ (All IsNoStop calls × ((connections_of calls ≡ connections) ⊎ (length calls ≡ 2 ^ 64 - 1)))
 
 -- what became of the connections of peers
 abbrev pub answered_with : {P O : Type 0} → List (Call P O) → List Answered
 answered_with [] = []
 answered_with (OfPeer visit answered ∷ calls) = answered ∷ answered_with calls
 answered_with (OfOperator audience ∷ calls) = answered_with calls
+answered_with (Untaken ∷ calls) = answered_with calls
 
 -- what came of a copy that was ordered, or of a ping
 abbrev pub CameIf : (List ℕ → Result (Unit {0}) CopyRefusal → Type 0) → (Result Health StoreFault → Type 0) → Option Heard → Type 0
@@ -83,6 +137,7 @@ TellsTally tally other = Unit {0}
 abbrev pub IsTallied : {P O : Type 0} → List ℕ → List (Call P O) → Call P O → Type 0
 IsTallied since before (OfPeer visit answered) = Unit {0}
 IsTallied since before (OfOperator audience) = TellsTally (tally_of since (answered_with before)) audience.heard
+IsTallied since before Untaken = Unit {0}
 
 -- so it is of each, behind those before them all
 abbrev pub AllTallied : {P O : Type 0} → List ℕ → List (Call P O) → List (Call P O) → Type 0
@@ -90,49 +145,55 @@ AllTallied since before [] = Unit {0}
 AllTallied since before (call ∷ calls) = IsTallied since before call × AllTallied since (before ++ call ∷ []) calls
 
 -- A peer was answered, and its connection counts as what became of it.
-pub record AnswersOne {P : Type 0} (unread written : P → Option (List ℕ)) (peer : P) (old new : Shown)
+pub record AnswersOne {P : Type 0} (heard : P → Account) (written : P → Option (List ℕ)) (peer : P) (old new : Shown)
     (answered : Answered) : Type 0 where
-  pub answers : socket.Answers unread written peer old new
+  pub answers : socket.Answers heard written peer old new
   pub counts : CountsAs answers.visit.first answered
 
-module _ {O : Type 0} (heeded told : O → Option (List ℕ)) where
+module _ {O : Type 0} (heeded : O → Account) (told : O → Option (List ℕ)) where
   -- What was read came from this operator, and what came of it went to this operator: the whole line, or a beginning where a write
   -- failed. Where a read failed, nothing was written.
-  abbrev pub IsToldThere : O → O → Option Heard → Type 0
-  IsToldThere before after None = Keeps (told before) (told after)
-  IsToldThere before after (Some heard) =
-      IsHeard (heeded before) (heeded after) heard
-      × (WritesBeginning (told before) (told after) (line_told (told_heard heard))
-      ⊎ Appends (told before) (told after) (line_told (told_heard heard)))
+  abbrev pub IsToldThere : O → O → Option Heard → Result Told Io → Type 0
+  IsToldThere before after None result = (result ≡ Err io.Read) × Keeps (told before) (told after)
+  IsToldThere before after (Some heard) (Ok said) =
+      (said ≡ told_heard heard) × IsHeard (heeded before) (heeded after) heard
+      × Appends (told before) (told after) (line_told (told_heard heard))
+  IsToldThere before after (Some heard) (Err e) =
+      (e ≡ io.Write) × IsHeard (heeded before) (heeded after) heard
+      × WritesBeginning (told before) (told after) (line_told (told_heard heard))
 
-  -- this operator was obeyed, and the store went through its order
+  -- This operator was obeyed, and the store went through its order. The flag says whether it was told that the server ends.
   pub record ObeysOne (copied : List ℕ → Result (Unit {0}) CopyRefusal → Type 0) (pinged : Result Health StoreFault → Type 0)
-      (operator : O) (old new : Shown) : Type 0 where
+      (operator : O) (stops : Bool) (old new : Shown) : Type 0 where
     pub audience : Audience O
     pub begins : audience.before ≡ operator
-    pub there : IsToldThere audience.before audience.after audience.heard
+    pub there : IsToldThere audience.before audience.after audience.heard audience.told
+    pub stopped : IsTrue stops ↔ (audience.told ≡ Ok (spoken.Outcome Stopping))
     pub through : GoesThroughSteps old new (steps_if audience.heard)
     pub came : CameIf copied pinged audience.heard
 
   -- so it was between two stores, by what is known of copies and counts, with the tally of the moment
   abbrev pub ObeysOneBy : {S : Type 0} (shown : S → Shown)
       (copied : S → S → List ℕ → Result (Unit {0}) CopyRefusal → Type 0) (counted : S → S → ℕ → Type 0) (tally : Tally)
-      (operator : O) (old new : S) → Type 0
-  ObeysOneBy shown copied counted tally operator old new =
+      (operator : O) (stops : Bool) (old new : S) → Type 0
+  ObeysOneBy shown copied counted tally operator stops old new =
       ObeysOne (copied old new)
-      (IsPinged tally (shown old).failures (shown new).failures (counted old new)) operator (shown old) (shown new)
+      (IsPinged tally (shown old).failures (shown new).failures (counted old new)) operator stops (shown old) (shown new)
 
-  module _ {P : Type 0} (unread written : P → Option (List ℕ)) where
+  module _ {P : Type 0} (heard : P → Account) (written : P → Option (List ℕ)) where
     abbrev pub IsCallThere : Call P O → Type 0
-    IsCallThere (OfPeer visit answered) = socket.IsAnsweredThere unread written visit × CountsAs visit.first answered
-    IsCallThere (OfOperator audience) = IsToldThere audience.before audience.after audience.heard
+    IsCallThere (OfPeer visit answered) = socket.IsAnsweredThere heard written visit × CountsAs visit.first answered
+    IsCallThere (OfOperator audience) = IsToldThere audience.before audience.after audience.heard audience.told
+    IsCallThere Untaken = Unit {0}
 
-    -- The callers were served one after another, each once, and at most as many peers as there are connections. What a peer sent
-    -- was answered to that peer, and the outcome of an operator's order went to that operator.
-    pub record ServesEach (waiting left : Option (List (Caller P O))) (old new : Shown) (connections : ℕ) : Type 0 where
+    -- The callers were served one after another, each once, and at most as many peers as there are connections. Each was new. What a
+    -- peer sent was answered to that peer, and the outcome of an operator's order went to that operator.
+    pub record ServesEach (is_new : Caller P O → Type 0) (waiting left : Option (List (Option (Caller P O)))) (old new : Shown)
+        (connections : ℕ) : Type 0 where
       pub calls : List (Call P O)
       pub few : peers calls ≤ connections
       pub came : Come waiting left (map caller_of calls)
+      pub begun : All (IsNewIf is_new) (map caller_of calls)
       pub there : All IsCallThere calls
       pub through : GoesThroughSteps old new (steps_with calls)
 
@@ -140,9 +201,17 @@ module _ {O : Type 0} (heeded told : O → Option (List ℕ)) where
     -- and how the connections before it were answered.
     pub record ReadsEach
         {S : Type 0} (shown : S → Shown) (copied : S → S → List ℕ → Result (Unit {0}) CopyRefusal → Type 0)
-        (counted : S → S → ℕ → Type 0)
-        (waiting left : Option (List (Caller P O))) (old new : S) (since : List ℕ) (connections : ℕ) : Type 0 where
-      pub each : ServesEach waiting left (shown old) (shown new) connections
+        (counted : S → S → ℕ → Type 0) (is_new : Caller P O → Type 0)
+        (waiting left : Option (List (Option (Caller P O)))) (old new : S) (since : List ℕ) (connections : ℕ) : Type 0 where
+      pub each : ServesEach is_new waiting left (shown old) (shown new) connections
       pub reads : (shown new).is_honest → (w : World) → (shown old).stands w
           → AllRead shown copied counted w (steps_with each.calls)
       pub tallies : AllTallied since [] each.calls
+
+    -- So it was, and it ended as `IsEnd` says.
+    pub record EndsEach
+        {S : Type 0} (shown : S → Shown) (copied : S → S → List ℕ → Result (Unit {0}) CopyRefusal → Type 0)
+        (counted : S → S → ℕ → Type 0) (is_new : Caller P O → Type 0)
+        (waiting left : Option (List (Option (Caller P O)))) (old new : S) (since : List ℕ) (connections : ℕ) : Type 0 where
+      pub reads : ReadsEach shown copied counted is_new waiting left old new since connections
+      pub ends : IsEnd connections reads.each.calls

@@ -17,8 +17,8 @@ use crate::outcome::Outcome;
 use crate::told::Told;
 use crate::words::{Words, are_words};
 use engine::write::write_bytes;
+use histories::{Hear, Tell};
 use std::alloc::{AllocError, Global};
-use std::io::{Read, Write};
 use world::entry::Right;
 
 /// The most bytes of a health's line without its end. Where each count has the most digits that it can have there are 232.
@@ -51,7 +51,7 @@ impl From<AllocError> for Untold {
 ///
 /// `Untold::Words`: no line can carry the order. `Untold::Memory`: memory ran out for the line. In both cases nothing was sent.
 /// `Untold::Io`: the line was not sent whole, or no outcome was read.
-pub fn ask<R: Read, W: Write>(
+pub fn ask<R: Hear, W: Tell>(
     alloc: Global,
     reader: &mut R,
     writer: &mut W,
@@ -68,7 +68,7 @@ pub fn ask<R: Read, W: Write>(
 ///
 /// `Untold::Words`: the path has a space or the end of a line, or more than 4,090 bytes. `Untold::Memory`: memory ran out for the
 /// line. In both cases nothing was sent. `Untold::Io`: the line was not sent whole, or no outcome was read.
-pub fn ask_to_copy<R: Read, W: Write>(
+pub fn ask_to_copy<R: Hear, W: Tell>(
     alloc: Global,
     reader: &mut R,
     writer: &mut W,
@@ -83,7 +83,7 @@ pub fn ask_to_copy<R: Read, W: Write>(
 
 /// Orders the server to end, and returns the outcome: `Outcome::Stopping` if it ends. Fails only with `Untold::Io`: the line was not
 /// sent whole, or no outcome was read.
-pub fn ask_to_stop<R: Read, W: Write>(
+pub fn ask_to_stop<R: Hear, W: Tell>(
     alloc: Global,
     reader: &mut R,
     writer: &mut W,
@@ -96,7 +96,7 @@ pub fn ask_to_stop<R: Read, W: Write>(
 
 /// Asks for the health of the server, and returns its line, or an outcome if the server sends one instead. Fails only with
 /// `Untold::Io`: the line was not sent whole, or neither a health nor an outcome was read.
-pub fn ask_for_health<R: Read, W: Write>(
+pub fn ask_for_health<R: Hear, W: Tell>(
     alloc: Global,
     reader: &mut R,
     writer: &mut W,
@@ -111,7 +111,7 @@ pub fn ask_for_health<R: Read, W: Write>(
 }
 
 /// Sends a line and returns the outcome. Fails only with `Untold::Io`: the line was not sent whole, or no outcome was read.
-fn send<R: Read, W: Write>(
+fn send<R: Hear, W: Tell>(
     alloc: Global,
     reader: &mut R,
     writer: &mut W,
@@ -221,7 +221,7 @@ fn push_word(line: &mut Vec<u8>, word: Option<&str>) -> Result<(), AllocError>
 }
 
 /// Reads the line of an outcome.
-fn hear_outcome<R: Read>(alloc: Global, reader: &mut R) -> Result<Outcome, Untold>
+fn hear_outcome<R: Hear>(alloc: Global, reader: &mut R) -> Result<Outcome, Untold>
     ensures { TellsOutcome (R.remaining reader.old) (R.remaining reader.new) result }
 {
     let Ok(got) = read_line(alloc, reader) else {
@@ -234,7 +234,7 @@ fn hear_outcome<R: Read>(alloc: Global, reader: &mut R) -> Result<Outcome, Untol
 }
 
 /// Reads the line of a health, or of an outcome.
-fn hear_health<R: Read>(alloc: Global, reader: &mut R) -> Result<Told, Untold>
+fn hear_health<R: Hear>(alloc: Global, reader: &mut R) -> Result<Told, Untold>
     ensures { TellsHealth (R.remaining reader.old) (R.remaining reader.new) result }
 {
     let Ok(got) = read_to(alloc, reader, LONGEST_HEALTH) else {

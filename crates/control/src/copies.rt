@@ -5,9 +5,9 @@ use world::shelves::Shelves;
 /// Why a copy was not made.
 #[derive(Clone, Copy, Debug, Drop, PartialEq, Eq)]
 pub enum CopyRefusal {
-    /// The file has more than an empty store, or it belongs to the served store.
+    /// The file has more than an empty store, or it is that of the served store.
     NotEmpty,
-    /// A disk failed, or the file can't be opened.
+    /// A disk failed, the file can't be opened, or SQLite has a use for it beside a database.
     Device,
     /// Memory ran out.
     Memory,
@@ -28,8 +28,8 @@ pub trait Copies<S: Shelves> {
 
     /// Makes the store of a file, with this path, one of the served store as it is at this moment. The served store is only read.
     ///
-    /// Fails with `NotEmpty` if the file has more than an empty store, or belongs to the served store; with `Device` if it can't be
-    /// opened or a disk failed; and with `Memory` if memory ran out.
+    /// Fails with `NotEmpty` if the file has more than an empty store, or is that of the served store; with `Device` if it can't be
+    /// opened, SQLite has a use for it beside a database, or a disk failed; and with `Memory` if memory ran out.
     fn copy(&mut self, shelves: &mut S, path: &str) -> Result<(), CopyRefusal>
         ensures reads { IsOnlyRead (S.shown shelves.old) (S.shown shelves.new) }
         ensures came { copied shelves.old shelves.new path.now result };

@@ -31,7 +31,7 @@ mod tally;
 mod told;
 mod words;
 
-pub use callers::{Caller, Callers, Doors, Operator};
+pub use callers::{Caller, Callers, Doors, Obeyed, Operator, SystemCaller};
 pub use carry::carry_out;
 pub use client::{Untold, ask, ask_for_health, ask_to_copy, ask_to_stop};
 pub use copies::{Copies, CopyRefusal};

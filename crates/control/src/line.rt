@@ -3,8 +3,9 @@ ghost use Rattle.std.specs.Prelude.{◌≡◌, ◌↔◌, MatchOption, IfOk, IsT
 ghost use Rattle.control.specs.Line as spec;
 
 use crate::order::{Order, order_of};
+use histories::Hear;
 use std::alloc::{AllocError, Global};
-use std::io::{ErrorKind, Read};
+use std::io::ErrorKind;
 
 /// The most bytes of a line without its end.
 pub(crate) const LONGEST: usize = 127;
@@ -39,20 +40,20 @@ impl From<AllocError> for Unread {
 /// Reads a line of at most `LONGEST_COPY` bytes, with what comes after its end in the same read, and returns the bytes. They may
 /// have no end of a line if the stream ends, or if the line is longer. Fails with `Io` if a read fails or `TRIES` reads do not end
 /// the line, and with `Memory` if memory runs out.
-pub(crate) fn read_line<R: Read>(alloc: Global, reader: &mut R) -> Result<Vec<u8>, Unread>
-    ensures { IfOk result (λ got. spec.ReadsLine (R.remaining reader.old) (R.remaining reader.new) got.items) }
+pub(crate) fn read_line<R: Hear>(alloc: Global, reader: &mut R) -> Result<Vec<u8>, Unread>
+    ensures { IfOk result (λ got. spec.ReadsLine (R.account reader.old) (R.account reader.new) got.items) }
 {
     read_to(alloc, reader, LONGEST_COPY)
 }
 
 /// Reads until a line ends, more than `most` bytes came or the stream ends, and returns the bytes. Fails with `Io` if a read fails
 /// or `TRIES` reads are not enough, and with `Memory` if memory runs out.
-pub(crate) fn read_to<R: Read>(
+pub(crate) fn read_to<R: Hear>(
     alloc: Global,
     reader: &mut R,
     most: usize,
 ) -> Result<Vec<u8>, Unread>
-    ensures { IfOk result (λ got. spec.ReadsTo most (R.remaining reader.old) (R.remaining reader.new) got.items) }
+    ensures { IfOk result (λ got. spec.ReadsTo most (R.account reader.old) (R.account reader.new) got.items) }
 {
     let mut got = Vec::with_capacity(alloc, most.saturating_add(1))?;
     for _ in 0..TRIES {
@@ -64,12 +65,12 @@ pub(crate) fn read_to<R: Read>(
 }
 
 /// Reads once, after what was read, and returns whether no more has to be read. A read that is interrupted reads nothing.
-fn read_on<R: Read>(reader: &mut R, got: &mut Vec<u8>, most: usize) -> Result<bool, Unread>
+fn read_on<R: Hear>(reader: &mut R, got: &mut Vec<u8>, most: usize) -> Result<bool, Unread>
     ensures { IfOk result (λ done.
-        spec.ReadsOn most (R.remaining reader.old) (R.remaining reader.new) got.old.items got.new.items done) }
+        spec.ReadsOn most (R.account reader.old) (R.account reader.new) got.old.items got.new.items done) }
 {
     let mut chunk = [0; LONGEST_COPY + 1];
-    match reader.read(&mut chunk) {
+    match reader.hear(&mut chunk) {
         Ok(0) => Ok(true),
         Ok(n) => {
             got.extend_from_slice(&chunk[..n])?;

@@ -12,8 +12,8 @@ use crate::tally::Tally;
 use crate::told::Told;
 use engine::Io;
 use engine::write::write_bytes;
+use histories::{Hear, Tell};
 use std::alloc::Global;
-use std::io::{Read, Write};
 use world::registry::StoreFault;
 use world::shelves::Shelves;
 
@@ -25,7 +25,7 @@ use world::shelves::Shelves;
 ///
 /// `Io::Read`: nothing was done, and nothing written. `Io::Write`: a beginning of the line was written, and not all; the shelves are
 /// as after the order.
-pub fn obey<R: Read, W: Write, S: Shelves, K: Copies<S>>(
+pub fn obey<R: Hear, W: Tell, S: Shelves, K: Copies<S>>(
     alloc: Global,
     reader: &mut R,
     writer: &mut W,
@@ -34,7 +34,7 @@ pub fn obey<R: Read, W: Write, S: Shelves, K: Copies<S>>(
     copies: &mut K,
 ) -> Result<Told, Io>
     ensures { ObeysBy S.shown K.copied K.counted tally.now shelves.old shelves.new
-        (R.remaining reader.old) (R.remaining reader.new) (W.contents writer.old) (W.contents writer.new) result }
+        (R.account reader.old) (R.account reader.new) (W.contents writer.old) (W.contents writer.new) result }
 {
     match hear(alloc, reader, tally, shelves, copies) {
         Ok(told) => match write_bytes(writer, told.line().as_bytes()) {
@@ -47,7 +47,7 @@ pub fn obey<R: Read, W: Write, S: Shelves, K: Copies<S>>(
 
 /// Reads a line, does what it orders, and returns what the operator gets. Fails with `Io::Read` if the line can't be read, and then
 /// nothing was done.
-fn hear<R: Read, S: Shelves, K: Copies<S>>(
+fn hear<R: Hear, S: Shelves, K: Copies<S>>(
     alloc: Global,
     reader: &mut R,
     tally: &Tally,
@@ -55,7 +55,7 @@ fn hear<R: Read, S: Shelves, K: Copies<S>>(
     copies: &mut K,
 ) -> Result<Told, Io>
     ensures { HearsBy S.shown K.copied K.counted tally.now shelves.old shelves.new
-        (R.remaining reader.old) (R.remaining reader.new) result }
+        (R.account reader.old) (R.account reader.new) result }
 {
     match read_line(alloc, reader) {
         Ok(got) => Ok(heed(alloc, &got, tally, shelves, copies)),

@@ -12,7 +12,7 @@ pub enum Outcome {
     Registered(Registered),
     /// A disk failed, the file of a copy can't be opened, or memory ran out, for the order or already for its line. Nothing was changed.
     Failed(StoreFault),
-    /// No copy was made: the file has more than an empty store, or belongs to the served store.
+    /// No copy was made: the file has more than an empty store, or is that of the served store.
     NotEmpty,
     /// The server ends.
     Stopping,

@@ -1,7 +1,7 @@
 //! One caller after another.
 ghost use Rattle.std.specs.Prelude.{◌≡◌, ◌↔◌, IsTrue, Ok};
 ghost use Rattle.control.specs.Turns.{GoesOn};
-ghost use Rattle.control.specs.Visits.{AnswersOne, ObeysOneBy, ReadsEach, ServesEach};
+ghost use Rattle.control.specs.Visits.{AnswersOne, EndsEach, ObeysOneBy, ReadsEach, ServesEach};
 
 use crate::callers::{Caller, Callers, Operator};
 use crate::copies::Copies;
@@ -10,7 +10,7 @@ use crate::tally::Tally;
 use crate::told::Told;
 use engine::Io;
 use modver::TimeText;
-use socket::Peer;
+use socket::{After, Peer};
 use std::alloc::Global;
 use std::time::Clock;
 use wire::RouteTable;
@@ -41,11 +41,14 @@ pub fn serve_both<
     // One run of the machine: its events are the messages, at most one on each connection, and the orders.
     ensures goes { GoesOn (S.shown shelves.old) (S.shown shelves.new) connections }
     // Each message is answered on the connection that it came over, and the outcome of each order is told on its own.
-    ensures each { ServesEach O.unread O.written P.unread P.written (L.waiting callers.old) (L.waiting callers.new)
+    ensures each { ServesEach O.came O.written P.came P.written L.is_new (L.waiting callers.old) (L.waiting callers.new)
         (S.shown shelves.old) (S.shown shelves.new) connections }
     // Each copy is made of the machine's world at its moment, between two of its events. Each ping is told the versions that were
     // counted so, and the counts of the connections that were taken before it.
-    ensures reads { ReadsEach O.unread O.written P.unread P.written S.shown K.copied K.counted
+    ensures reads { ReadsEach O.came O.written P.came P.written S.shown K.copied K.counted L.is_new
+        (L.waiting callers.old) (L.waiting callers.new) shelves.old shelves.new since connections }
+    // It ends once an operator was told so, and not before, unless its connections are used up.
+    ensures ends { EndsEach O.came O.written P.came P.written S.shown K.copied K.counted L.is_new
         (L.waiting callers.old) (L.waiting callers.new) shelves.old shelves.new since connections }
 {
     let mut routes = RouteTable::new(alloc);
@@ -56,14 +59,14 @@ pub fn serve_both<
             return;
         }
         match callers.next() {
-            Ok(Caller::Operator(mut operator)) => {
-                if obey_on(alloc, clock, &mut operator, &tally, shelves, copies) {
+            Ok(Caller::Operator(operator)) => {
+                if obey_on(alloc, clock, operator, &tally, shelves, copies) {
                     return;
                 }
             }
-            Ok(Caller::Peer(mut peer)) => {
+            Ok(Caller::Peer(peer)) => {
                 left -= 1;
-                tally.count(answer_on(alloc, clock, &mut routes, &mut peer, shelves));
+                tally.count(answer_on(alloc, clock, &mut routes, peer, shelves));
             }
             Err(_) => left -= 1,
         }
@@ -71,35 +74,35 @@ pub fn serve_both<
 }
 
 /// Answers the first message of a peer, ends the connection if that wrote a status, and returns the result of `Peer::answer`.
-fn answer_on<C: Clock, P: Peer, S: Shelves>(
+fn answer_on<C: Clock, P: Peer + Drop, S: Shelves>(
     alloc: Global,
     clock: &C,
     routes: &mut RouteTable,
-    peer: &mut P,
+    peer: P,
     shelves: &mut S,
 ) -> Result<Option<u16>, Io>
-    ensures { AnswersOne P.unread P.written peer.old (S.shown shelves.old) (S.shown shelves.new) result }
+    ensures { AnswersOne P.came P.written peer (S.shown shelves.old) (S.shown shelves.new) result }
 {
-    let answered = peer.answer(alloc, clock, routes, shelves);
-    if let Ok(Some(status)) = answered {
-        peer.end(clock, status);
+    let After { peer, status } = peer.answer(alloc, clock, routes, shelves);
+    if let Ok(Some(number)) = status {
+        let _ = peer.end(clock, number);
     }
-    answered
+    status
 }
 
 /// Carries out one order of an operator, and returns whether the server is to end. Ignores failures of the connection.
-fn obey_on<C: Clock, O: Operator, S: Shelves, K: Copies<S>>(
+fn obey_on<C: Clock, O: Operator + Drop, S: Shelves, K: Copies<S>>(
     alloc: Global,
     clock: &C,
-    operator: &mut O,
+    operator: O,
     tally: &Tally,
     shelves: &mut S,
     copies: &mut K,
 ) -> bool
-    ensures { ObeysOneBy O.unread O.written S.shown K.copied K.counted tally.now operator.old shelves.old shelves.new }
+    ensures { ObeysOneBy O.came O.written S.shown K.copied K.counted tally.now operator result shelves.old shelves.new }
 {
-    let told = operator.obeyed(alloc, clock, tally, shelves, copies);
-    is_stopping(told)
+    let after = operator.obeyed(alloc, clock, tally, shelves, copies);
+    is_stopping(after.told)
 }
 
 /// Whether `Stopping` was written to an operator.

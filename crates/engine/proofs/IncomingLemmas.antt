@@ -1,6 +1,7 @@
 -- Reading until the next message is whole.
 use Rattle.std.proofs.Common.{◌≡◌, ℕ, ◌<◌, ◌≤◌, ◌+◌, List, [], ◌++◌, Option, Some, None, Ok, Err, length, refl, sym, ap, ◌∙◌, subst, arith, append_assoc, append-nil}
-use Rattle.std.proofs.KnownBytes.{Consumes-nil, Consumes-trans, Consumes-kept}
+use Rattle.histories.specs.Account.{Account}
+use Rattle.histories.proofs.AccountLemmas.{Gives-none, Gives-trans, Gives-kept}
 use Rattle.framing.specs.Message.{ReadsMessage}
 use Rattle.framing.specs.Framing.{Framing, IsUnfinished, view}
 use Rattle.framing.specs.declared.message.Message.{Message}
@@ -16,13 +17,12 @@ use Rattle.engine.specs.declared.incoming.Incoming.TheVariants as incoming
 use Rattle.engine.specs.declared.read.Progress.TheVariants as progress
 use Rattle.engine.proofs.MessageLemmas.{message_shortens}
 use Rattle.engine.proofs.ReadLemmas.{near_few}
-use Rattle.engine.proofs.ServedLemmas.{left_of, Tells_left, Tells_after}
 
 -- at first nothing was read
-pub none_read : (held : Framing) (unread : Option (List ℕ)) (reads : ℕ) → held.failure ≡ None → ReadSoFar held held unread unread reads reads
+pub none_read : (held : Framing) (unread : Account) (reads : ℕ) → held.failure ≡ None → ReadSoFar held held unread unread reads reads
 none_read held unread reads sound = record {
   bytes = [];
-  consumed = Consumes-nil unread;
+  consumed = Gives-none unread;
   near = λ waits. near_few held.held [] waits (omega arith);
   held = sym (append-nil held.held);
   sound = sound;
@@ -30,7 +30,7 @@ none_read held unread reads sound = record {
 }
 
 module _
-    (old now : Framing) (u₀ u₁ : Option (List ℕ)) (reads reads_now : ℕ) (far : ReadSoFar old now u₀ u₁ reads reads_now) where
+    (old now : Framing) (u₀ u₁ : Account) (reads reads_now : ℕ) (far : ReadSoFar old now u₀ u₁ reads reads_now) where
   -- bytes behind those that are held now come behind those that were held at first and those that were read since
   behind : (more : List ℕ) → now.held ++ more ≡ old.held ++ (far.bytes ++ more)
   behind more = ap (λ (held : List ℕ). held ++ more) far.held ∙ append_assoc old.held far.bytes more
@@ -54,31 +54,29 @@ module _
     bytes = far.bytes;
     consumed = far.consumed;
     near = far.near;
-    stands = (
-      far.bytes ++ left_of u₁,
-      Tells_after u₀ u₁ far.bytes (left_of u₁) far.consumed (Tells_left u₁),
-      subst (λ (bytes : List ℕ). IsClosing bytes (Some closing)) (behind (left_of u₁)) (closes (left_of u₁)),
-    );
+    stands = λ more may. subst (λ (bytes : List ℕ). IsClosing bytes (Some closing)) (behind more) (closes more);
   }
 
   -- if no read is left, the call fails with `Io::Read`
   pub no_read_left : (new : Framing) → IsUnfinished now.held → Comes old new reads reads_now u₀ u₁ (Err io.Read)
   no_read_left new waits = (refl, (far.bytes, far.consumed, subst IsUnfinished far.held waits))
 
-  module _ (u₂ : Option (List ℕ)) (next : Framing) where
+  module _ (u₂ : Account) (next : Framing) where
     -- if a read fails, the call fails
     pub read_fails : (e : Io) (left : ℕ) → IsUnfinished now.held → ReadsOn now next u₁ u₂ (Err e) → Comes old next reads left u₀ u₂ (Err e)
     read_fails e left waits (is, keeps) =
-        (is, (far.bytes, Consumes-kept u₀ u₁ u₂ far.bytes far.consumed keeps, subst IsUnfinished far.held waits))
+        (is, (far.bytes, Gives-kept u₀ u₁ u₂ far.bytes far.consumed keeps, subst IsUnfinished far.held waits))
 
     -- if the read ended the stream, the end comes next
     pub end_comes : (closing : Option Fixed) (left : ℕ) → ReadsOn now next u₁ u₂ (Ok (progress.Ends closing))
         → Comes old next reads left u₀ u₂ (Ok (incoming.End closing))
-    end_comes closing left (bytes, consumes, near, (all, tells, closes), some) = record {
+    end_comes closing left (bytes, consumes, near, closes, some) = record {
       bytes = far.bytes ++ bytes;
-      consumed = Consumes-trans u₀ u₁ u₂ far.bytes bytes far.consumed consumes;
+      consumed = Gives-trans u₀ u₁ u₂ far.bytes bytes far.consumed consumes;
       near = near_now bytes near;
-      stands = (far.bytes ++ all, Tells_after u₀ u₁ far.bytes all far.consumed tells, subst (λ (bytes : List ℕ). IsClosing bytes closing) (behind all) closes);
+      stands = λ more may.
+          subst (λ (came : List ℕ). IsClosing (old.held ++ came) closing) (sym (append_assoc far.bytes bytes more))
+          (subst (λ (held : List ℕ). IsClosing held closing) (behind (bytes ++ more)) (closes more may));
     }
 
     -- if the read gave more bytes, these were read too
@@ -86,7 +84,7 @@ module _
         → length next.held ≤ length now.held + body_read_limit → ReadSoFar old next u₀ u₂ reads left
     more_read left one (bytes, consumes, near, is) few = record {
       bytes = far.bytes ++ bytes;
-      consumed = Consumes-trans u₀ u₁ u₂ far.bytes bytes far.consumed consumes;
+      consumed = Gives-trans u₀ u₁ u₂ far.bytes bytes far.consumed consumes;
       near = near_now bytes near;
       held = ap (λ (f : Framing). f.held) is ∙ behind bytes;
       sound = ap (λ (f : Framing). f.failure) is ∙ far.sound;
@@ -94,7 +92,7 @@ module _
     }
 
 -- a message that was taken comes next, whatever its outcome
-pub message_next : (old new : Framing) (reads left : ℕ) (u u' : Option (List ℕ)) (message : Message) (x : Exchange) → x.message ≡ view message
+pub message_next : (old new : Framing) (reads left : ℕ) (u u' : Account) (message : Message) (x : Exchange) → x.message ≡ view message
     → Comes old new reads left u u' (Ok (incoming.Message message)) → TakesNext old new u u' (Answers x)
 message_next old new reads left u u' message x is (bytes, consumed, near, reads_it, sound, less) = record {
   bytes = bytes;

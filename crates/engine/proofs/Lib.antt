@@ -1,12 +1,14 @@
 pub mod AcceptedLemmas
 pub mod AskLemmas
 pub mod CallLemmas
+pub mod CausesLemmas
 pub mod CrashLemmas
 pub mod FirstLemmas
 pub mod FrontLemmas
 pub mod HeadlineLemmas
 pub mod IncomingLemmas
 pub mod IsolationLemmas
+pub mod KnownLemmas
 pub mod MessageLemmas
 pub mod PartLemmas
 pub mod PurgedLemmas

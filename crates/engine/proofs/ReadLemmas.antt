@@ -1,19 +1,12 @@
 -- What a read says about the bytes held and those that follow.
-use Rattle.std.proofs.Common.{◌≡◌, ◌≢◌, ℕ, ◌<◌, ◌≤◌, ◌+◌, ◌-◌, List, [], ◌++◌, Option, Some, None, length, take, drop}
-use Rattle.std.proofs.Common.{refl, sym, ap, ◌∙◌, subst, arith, append-nil, length-append, length-drop, take-append-drop}
+use Rattle.std.proofs.Common.{◌≡◌, ◌≢◌, ℕ, ◌<◌, ◌≤◌, ◌+◌, ◌-◌, List, [], ◌++◌, length, take, drop}
+use Rattle.std.proofs.Common.{refl, sym, ap, subst, arith, append-nil, length-append, length-drop, take-append-drop}
 use Rattle.std.proofs.lemmas.List.{length-take-le}
-use Rattle.std.specs.Io.KnownBytes.{Consumes, IsAtEnd}
 use Rattle.framing.specs.Message.{Ends, clean, bad}
 use Rattle.framing.specs.Framing.{Framing, HasMessage, IsUnfinished}
 use Rattle.framing.proofs.StreamLemmas.{ReadsMessage-append, no_message_at_end}
-use Rattle.engine.specs.Served.{read_limit, Tells}
+use Rattle.engine.specs.Served.{read_limit}
 use Rattle.engine.specs.Turn.{StaysNear}
-
--- a reader that gave no bytes and is at its end had none
-pub Tells_end : (old new : Option (List ℕ)) → Consumes old new [] → IsAtEnd new → Tells old []
-Tells_end None new x end = tt
-Tells_end (Some xs) None x end = absurd x
-Tells_end (Some xs) (Some ys) x end = sym (x ∙ end)
 
 -- if the input ends while the bytes held are unfinished and not empty, it ends badly
 pub ends_badly : (held : List ℕ) → IsUnfinished held → held ≢ [] → Ends (held ++ []) bad

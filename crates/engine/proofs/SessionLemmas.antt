@@ -1,6 +1,7 @@
 -- What a turn does, from what came.
 use Rattle.std.proofs.Common.{◌≡◌, ℕ, List, [], ◌∷◌, Option, Result, Ok, Err, IfOk, sym, subst}
 use Rattle.std.proofs.KnownBytes.{Keeps-refl}
+use Rattle.histories.specs.Account.{Account}
 use Rattle.framing.specs.Framing.{Framing, view}
 use Rattle.framing.specs.declared.message.Message.{Message}
 use Rattle.wire.specs.declared.reply.Fixed.{Fixed}
@@ -21,7 +22,7 @@ use Rattle.engine.specs.declared.session.Turn.TheVariants as turn
 use Rattle.engine.proofs.IncomingLemmas.{message_next}
 use Rattle.engine.proofs.StoreLemmas.{through_none}
 
-module _ (u u' w w' : Option (List ℕ)) (held held_new : Framing) (reads left : ℕ) where
+module _ (u u' : Account) (w w' : Option (List ℕ)) (held held_new : Framing) (reads left : ℕ) where
   -- a turn that took a message and wrote its reply, or failed at it, does as `Turns` says
   pub turned_message : (old new : Shown) (message : Message) (x : Exchange) (result : Result Turn Io) → x.message ≡ view message
       → Comes held held_new reads left u u' (Ok (incoming.Message message)) → GoesThrough old new (x ∷ [])
@@ -51,7 +52,7 @@ module _ (u u' w w' : Option (List ℕ)) (held held_new : Framing) (reads left :
   turned_end shown closing (Err io.Write) comes (_, begun) is = (Closes closing, comes, through_none shown, begun)
 
 -- a turn whose read failed does as `Turns` says
-pub turned_unread : (shown : Shown) (u u' w : Option (List ℕ)) (held held_new : Framing) (reads left : ℕ) (e : Io) (result : Result Turn Io)
+pub turned_unread : (shown : Shown) (u u' : Account) (w : Option (List ℕ)) (held held_new : Framing) (reads left : ℕ) (e : Io) (result : Result Turn Io)
     → Comes held held_new reads left u u' (Err e) → result ≡ Err e → Turns shown shown u u' w w held held_new result
 turned_unread shown u u' w held held_new reads left io.Read result (_, (bytes, consumed, waits)) is =
     subst (Turns shown shown u u' w w held held_new) (sym is) (bytes, consumed, waits, through_none shown, Keeps-refl w)

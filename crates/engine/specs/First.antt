@@ -1,6 +1,7 @@
 -- What `answer_one` does with the first message of a stream.
 use Rattle.std.specs.Prelude.{◌≡◌, ℕ, ◌≤◌, ◌⊎◌, List, [], ◌∷◌, ◌++◌, length, Option, Some, Result, Ok, Err}
 use Rattle.std.specs.Io.KnownBytes.{Consumes, Appends, Keeps}
+use Rattle.histories.specs.Account.{Account, Gives, MayFollow, Tells}
 use Rattle.framing.specs.Message.{ReadsMessage}
 use Rattle.framing.specs.Framing.{IsUnfinished}
 use Rattle.wire.specs.declared.reply.Fixed.{Fixed}
@@ -9,7 +10,7 @@ use Rattle.engine.specs.Exchange.{Exchange}
 use Rattle.engine.specs.Reply.{text_of, status_of}
 use Rattle.engine.specs.Store.{GoesThrough}
 use Rattle.engine.specs.Written.{WritesBeginning}
-use Rattle.engine.specs.Served.{read_limit, Tells, IsClosing, closing_bytes, closing_status}
+use Rattle.engine.specs.Served.{read_limit, IsClosing, closing_bytes, closing_status}
 use Rattle.engine.specs.declared.fault.Io.{Io}
 use Rattle.engine.specs.declared.fault.Io.TheVariants as io
 
@@ -61,4 +62,34 @@ ServesFirst old new unread unread_new written written_new (Err io.Read) =
     (got : List ℕ) × Consumes unread unread_new got × IsUnfinished got × GoesThrough old new [] × Keeps written written_new
 ServesFirst old new unread unread_new written written_new (Err io.Write) =
     (first : First) × TakesFirst unread unread_new first × GoesThrough old new (first_exchanges first)
+    × (WritesBeginning written written_new (first_bytes first) ⊎ Appends written written_new (first_bytes first))
+
+-- ---- over an account
+
+-- It comes first in these bytes: what closes a stream does so whatever may follow them.
+abbrev pub IsFirstHeard : Account → List ℕ → First → Type 0
+IsFirstHeard after bytes (Answers x) = (rest : List ℕ) × ReadsMessage bytes x.message rest
+IsFirstHeard after bytes (Closes closing) = (more : List ℕ) → MayFollow after more → IsClosing (bytes ++ more) closing
+
+-- It came first in what was heard, and little more was read than was needed.
+pub record HearsFirst (old new : Account) (first : First) : Type 0 where
+  pub bytes : List ℕ
+  pub gives : Gives old new bytes
+  pub stands : IsFirstHeard new bytes first
+  pub early : List ℕ
+  pub last : List ℕ
+  pub cut : bytes ≡ early ++ last
+  pub few : length last ≤ read_limit
+  pub unfinished : IsUnfinished early
+
+-- as `ServesFirst` says, of what was heard
+abbrev pub ServesHeard :
+    Shown → Shown → Account → Account → Option (List ℕ) → Option (List ℕ) → Result (Option ℕ) Io → Type 0
+ServesHeard old new came came_new written written_new (Ok status) =
+    (first : First) × HearsFirst came came_new first × GoesThrough old new (first_exchanges first)
+    × (status ≡ first_status first) × Appends written written_new (first_bytes first)
+ServesHeard old new came came_new written written_new (Err io.Read) =
+    (got : List ℕ) × Gives came came_new got × IsUnfinished got × GoesThrough old new [] × Keeps written written_new
+ServesHeard old new came came_new written written_new (Err io.Write) =
+    (first : First) × HearsFirst came came_new first × GoesThrough old new (first_exchanges first)
     × (WritesBeginning written written_new (first_bytes first) ⊎ Appends written written_new (first_bytes first))

@@ -1,6 +1,7 @@
 -- The answer to a request does not depend on the shelves that its key does not see.
-use Rattle.std.specs.Prelude.{◌≡◌, ◌≢◌, ℕ, List, Option, Some, true, Result, Ok}
+use Rattle.std.specs.Prelude.{◌≡◌, ◌≢◌, ℕ, List, ◌++◌, Option, Some, true, Result, Ok}
 use Rattle.std.specs.Io.KnownBytes.{Appends}
+use Rattle.histories.specs.Account.{Account, Gives, MayFollow}
 use Rattle.framing.specs.Message.{Request, ReadsMessage}
 use Rattle.shelf.specs.declared.reply.Answer.TheVariants.{Replied}
 use Rattle.world.specs.World.{World, IsWorld}
@@ -33,3 +34,10 @@ AnswersByItsShelf old new unread written written_new result =
     (input : List ℕ) (m : Request) (rest : List ℕ) (status : ℕ)
     → unread ≡ Some input → ReadsMessage input m rest → result ≡ Ok (Some status) → status ≢ 503
     → IsAnsweredByItsShelf old new written written_new m
+
+-- So it is of the bytes that were heard, whatever may follow them.
+abbrev pub AnswersHeardByItsShelf :
+    Shown → Shown → Account → Account → Option (List ℕ) → Option (List ℕ) → Result (Option ℕ) Io → Type 0
+AnswersHeardByItsShelf old new came came_new written written_new result =
+    (bytes more : List ℕ) → Gives came came_new bytes → MayFollow came_new more
+    → AnswersByItsShelf old new (Some (bytes ++ more)) written written_new result

@@ -1,6 +1,7 @@
 pub mod Accepted
 pub mod Ask
 pub mod Calls
+pub mod Causes
 pub mod Exchange
 pub mod First
 pub mod Happening

@@ -1,7 +1,8 @@
 -- What `answer_all` does with a stream.
-use Rattle.std.specs.Prelude.{◌≡◌, ◌≢◌, ℕ, ◌⊎◌, List, [], ◌∷◌, ◌++◌, Option, Some, None, map, ⊤, Result, Ok, Err}
+use Rattle.std.specs.Prelude.{◌≡◌, ◌≢◌, ℕ, ◌⊎◌, List, [], ◌∷◌, ◌++◌, Option, Some, None, map, Result, Ok, Err}
 use Rattle.std.specs.List.{flat_map}
 use Rattle.std.specs.Io.KnownBytes.{Consumes, Appends}
+use Rattle.histories.specs.Account.{Account, Gives, MayFollow, Tells}
 use Rattle.framing.specs.Message.{ReadsMessages, Ends, clean, too_large, bad}
 use Rattle.framing.specs.Framing.{IsUnfinished}
 use Rattle.wire.specs.Reply.{fixed_bytes, fixed_status}
@@ -22,11 +23,6 @@ read_limit = 4096
 -- the most bytes of one read, however many of a message are missing
 abbrev pub body_read_limit : ℕ
 body_read_limit = 65536
-
--- the input is what the reader holds, if that is known
-abbrev pub Tells : Option (List ℕ) → List ℕ → Type 0
-Tells None input = ⊤
-Tells (Some bytes) input = input ≡ bytes
 
 -- What closes a stream whose messages leave this rest: nothing at a good end, the 413 for a body that is too large, the 400 for
 -- any other rest; or one 503 in place of what is left if memory runs out.
@@ -80,3 +76,39 @@ pub record Serves
   pub through : GoesThrough old new exchanges
   pub appended : Appends written written_new out
   pub ends : Ended unread unread_new exchanges input rest out result
+
+-- ---- over an account
+
+-- this closes a stream with this rest, whatever may follow
+abbrev pub ClosesAfter : Account → List ℕ → Option Fixed → Type 0
+ClosesAfter after rest closing = (more : List ℕ) → MayFollow after more → IsClosing (rest ++ more) closing
+
+-- a write failed: in the last answer, in what closes the stream, or only in the flush after it
+abbrev pub IsBrokenOffAfter : Account → List Exchange → List ℕ → List ℕ → Type 0
+IsBrokenOffAfter after exchanges rest out =
+    ((first : List Exchange) × (last : Exchange) × (front : List ℕ) × (exchanges ≡ first ++ last ∷ [])
+    × IsBeginning front (text_of last) × (out ≡ texts_of first ++ front))
+    ⊎ ((closing : Option Fixed) × (front : List ℕ) × ClosesAfter after rest closing
+    × IsBeginning front (closing_bytes closing) × (out ≡ texts_of exchanges ++ front))
+    ⊎ ((closing : Option Fixed) × ClosesAfter after rest closing × (out ≡ texts_of exchanges ++ closing_bytes closing))
+
+-- how the call ended, as `Ended` says
+abbrev pub EndedAfter : Account → List Exchange → List ℕ → List ℕ → Result (Unit {0}) Io → Type 0
+EndedAfter after exchanges rest out (Ok u) =
+    (closing : Option Fixed) × ClosesAfter after rest closing × (out ≡ texts_of exchanges ++ closing_bytes closing)
+EndedAfter after exchanges rest out (Err io.Read) = IsUnfinished rest × (out ≡ texts_of exchanges)
+EndedAfter after exchanges rest out (Err io.Write) = IsBrokenOffAfter after exchanges rest out
+
+-- as `Serves` says, of what was heard
+pub record ServesAllHeard
+    (old new : Shown) (came came_new : Account) (written written_new : Option (List ℕ))
+    (result : Result (Unit {0}) Io) : Type 0 where
+  pub exchanges : List Exchange
+  pub bytes : List ℕ
+  pub rest : List ℕ
+  pub out : List ℕ
+  pub gives : Gives came came_new bytes
+  pub reads : ReadsMessages bytes (map message_of exchanges) rest
+  pub through : GoesThrough old new exchanges
+  pub appended : Appends written written_new out
+  pub ends : EndedAfter came_new exchanges rest out result

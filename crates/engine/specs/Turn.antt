@@ -1,7 +1,8 @@
 -- What one turn of reading or answering does.
 use Rattle.std.specs.Prelude.{◌≡◌, ◌≢◌, ℕ, ◌≤◌, ◌<◌, ◌+◌, ◌*◌, ◌⊎◌, List, [], ◌∷◌, ◌++◌}
 use Rattle.std.specs.Prelude.{Option, Some, None, length, map, Result, Ok, Err, MatchResult}
-use Rattle.std.specs.Io.KnownBytes.{Consumes, Appends, Keeps}
+use Rattle.std.specs.Io.KnownBytes.{Appends, Keeps}
+use Rattle.histories.specs.Account.{Account, Gives, MayFollow}
 use Rattle.framing.specs.Message.{ReadsMessage, ReadsMessages}
 use Rattle.framing.specs.Framing.{Framing, IsUnfinished, HasMessage, view}
 use Rattle.wire.specs.declared.reply.Fixed.TheVariants as fixed
@@ -11,7 +12,7 @@ use Rattle.engine.specs.First.{First, Answers, Closes, first_bytes, first_exchan
 use Rattle.engine.specs.Reply.{text_of, status_of}
 use Rattle.engine.specs.Store.{GoesThrough}
 use Rattle.engine.specs.Written.{IsBeginning, WritesBeginning}
-use Rattle.engine.specs.Served.{read_limit, body_read_limit, Tells, IsClosing, closing_status, texts_of}
+use Rattle.engine.specs.Served.{read_limit, body_read_limit, IsClosing, closing_status, texts_of}
 use Rattle.engine.specs.declared.fault.Io.{Io}
 use Rattle.engine.specs.declared.fault.Io.TheVariants as io
 use Rattle.engine.specs.declared.incoming.Incoming.{Incoming}
@@ -38,14 +39,14 @@ pub record StaysNear (held bytes : List ℕ) : Type 0 where
   pub few : length late ≤ read_limit
 
 -- what a read gave the framer, or why it closes the stream; memory runs out only for bytes that came
-abbrev pub ReadsOn : Framing → Framing → Option (List ℕ) → Option (List ℕ) → Result Progress Io → Type 0
+abbrev pub ReadsOn : Framing → Framing → Account → Account → Result Progress Io → Type 0
 ReadsOn old new unread unread_new (Ok progress.GoesOn) =
-    (bytes : List ℕ) × Consumes unread unread_new bytes × StaysNear old.held bytes × (new ≡ record old { held = old.held ++ bytes })
+    (bytes : List ℕ) × Gives unread unread_new bytes × StaysNear old.held bytes × (new ≡ record old { held = old.held ++ bytes })
 ReadsOn old new unread unread_new (Ok (progress.Ends closing)) =
-    (bytes : List ℕ) × Consumes unread unread_new bytes × StaysNear old.held bytes
-    × ((all : List ℕ) × Tells unread all × IsClosing (old.held ++ all) closing)
+    (bytes : List ℕ) × Gives unread unread_new bytes × StaysNear old.held bytes
+    × ((more : List ℕ) → MayFollow unread_new more → IsClosing (old.held ++ (bytes ++ more)) closing)
     × (closing ≡ Some fixed.Unavailable → bytes ≢ [])
-ReadsOn old new unread unread_new (Err e) = (e ≡ io.Read) × Keeps unread unread_new
+ReadsOn old new unread unread_new (Err e) = (e ≡ io.Read) × Gives unread unread_new []
 
 -- What is left to do on a stream with these reads left and these bytes held. A read gives at most `body_read_limit` bytes, so each
 -- read and each message that is taken lessens it.
@@ -53,34 +54,35 @@ abbrev pub work : ℕ → List ℕ → ℕ
 work reads held = reads * (body_read_limit + 1) + length held
 
 -- what was read so far after the bytes that were held at first, while no message is whole
-pub record ReadSoFar (old now : Framing) (unread unread_now : Option (List ℕ)) (reads reads_now : ℕ) : Type 0 where
+pub record ReadSoFar (old now : Framing) (unread unread_now : Account) (reads reads_now : ℕ) : Type 0 where
   pub bytes : List ℕ
-  pub consumed : Consumes unread unread_now bytes
+  pub consumed : Gives unread unread_now bytes
   pub near : IsUnfinished old.held → StaysNear old.held bytes
   pub held : now.held ≡ old.held ++ bytes
   pub sound : now.failure ≡ None
   pub less : work reads_now now.held ≤ work reads old.held
 
 -- what comes next once these bytes are read after the held ones: a message, which is taken, or what closes the stream
-abbrev pub IsNext : Framing → Framing → Option (List ℕ) → List ℕ → First → Type 0
-IsNext old new unread bytes (Answers x) = ReadsMessage (old.held ++ bytes) x.message new.held × (new.failure ≡ None)
-IsNext old new unread bytes (Closes closing) = (all : List ℕ) × Tells unread all × IsClosing (old.held ++ all) closing
+abbrev pub IsNext : Framing → Framing → Account → List ℕ → First → Type 0
+IsNext old new unread_new bytes (Answers x) = ReadsMessage (old.held ++ bytes) x.message new.held × (new.failure ≡ None)
+IsNext old new unread_new bytes (Closes closing) =
+    (more : List ℕ) → MayFollow unread_new more → IsClosing (old.held ++ (bytes ++ more)) closing
 
 -- It comes next in the bytes held and those of the reader, and little more was read than was needed.
-pub record TakesNext (old new : Framing) (unread unread_new : Option (List ℕ)) (first : First) : Type 0 where
+pub record TakesNext (old new : Framing) (unread unread_new : Account) (first : First) : Type 0 where
   pub bytes : List ℕ
-  pub consumed : Consumes unread unread_new bytes
+  pub consumed : Gives unread unread_new bytes
   pub near : IsUnfinished old.held → StaysNear old.held bytes
-  pub stands : IsNext old new unread bytes first
+  pub stands : IsNext old new unread_new bytes first
 
 -- The next message was taken, or the stream is to be closed; or a read failed before that, or no read was left.
-abbrev pub Comes : Framing → Framing → ℕ → ℕ → Option (List ℕ) → Option (List ℕ) → Result Incoming Io → Type 0
+abbrev pub Comes : Framing → Framing → ℕ → ℕ → Account → Account → Result Incoming Io → Type 0
 Comes old new reads reads_new unread unread_new (Ok (incoming.Message message)) =
-    (bytes : List ℕ) × Consumes unread unread_new bytes × (IsUnfinished old.held → StaysNear old.held bytes)
+    (bytes : List ℕ) × Gives unread unread_new bytes × (IsUnfinished old.held → StaysNear old.held bytes)
     × ReadsMessage (old.held ++ bytes) (view message) new.held × (new.failure ≡ None) × (work reads_new new.held < work reads old.held)
 Comes old new reads reads_new unread unread_new (Ok (incoming.End closing)) = TakesNext old new unread unread_new (Closes closing)
 Comes old new reads reads_new unread unread_new (Err e) =
-    (e ≡ io.Read) × ((bytes : List ℕ) × Consumes unread unread_new bytes × IsUnfinished (old.held ++ bytes))
+    (e ≡ io.Read) × ((bytes : List ℕ) × Gives unread unread_new bytes × IsUnfinished (old.held ++ bytes))
 
 -- the turn that takes what comes next
 abbrev pub turn_of : First → Turn
@@ -103,13 +105,13 @@ IsClosed (turn.Closed closing) = Unit {0}
 -- The next message was answered as the machine answers it, or the stream was closed without one. Or a read failed before, and
 -- nothing was done; or a write failed, and a beginning was written.
 abbrev pub Turns :
-    Shown → Shown → Option (List ℕ) → Option (List ℕ) → Option (List ℕ) → Option (List ℕ) → Framing → Framing
+    Shown → Shown → Account → Account → Option (List ℕ) → Option (List ℕ) → Framing → Framing
     → Result Turn Io → Type 0
 Turns old new unread unread_new written written_new held held_new (Ok turn) =
     (first : First) × TakesNext held held_new unread unread_new first × GoesThrough old new (first_exchanges first)
     × (turn ≡ turn_of first) × Appends written written_new (first_bytes first)
 Turns old new unread unread_new written written_new held held_new (Err io.Read) =
-    (bytes : List ℕ) × Consumes unread unread_new bytes × IsUnfinished (held.held ++ bytes) × GoesThrough old new []
+    (bytes : List ℕ) × Gives unread unread_new bytes × IsUnfinished (held.held ++ bytes) × GoesThrough old new []
     × Keeps written written_new
 Turns old new unread unread_new written written_new held held_new (Err io.Write) =
     (first : First) × TakesNext held held_new unread unread_new first × GoesThrough old new (first_exchanges first)
@@ -142,9 +144,9 @@ pub record CutShort
 
 -- what was read so far is the answered messages and what the framer holds
 pub record SoFar
-    (old new : Shown) (unread unread_new written written_new : Option (List ℕ)) (framing : Framing) : Type 0 where
+    (old new : Shown) (unread unread_new : Account) (written written_new : Option (List ℕ)) (framing : Framing) : Type 0 where
   pub got : List ℕ
-  pub consumed : Consumes unread unread_new got
+  pub consumed : Gives unread unread_new got
   pub answered : Answered old new written written_new got framing.held
   pub sound : framing.failure ≡ None
 

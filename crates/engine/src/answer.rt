@@ -1,31 +1,29 @@
 //! Answering the messages of a stream.
-ghost use Rattle.std.specs.Prelude.{◌≡◌, None, IfOk, IfErr};
-ghost use Rattle.engine.specs.First.{ServesFirst};
-ghost use Rattle.engine.specs.Isolated.{AnswersByItsShelf};
-ghost use Rattle.engine.specs.Served.{Serves};
+ghost use Rattle.std.specs.Prelude.{◌≡◌, [], None, IfOk, IfErr, OnOk};
+ghost use Rattle.engine.specs.Causes.{AsksWhileUnfinished, IsCaused};
+ghost use Rattle.engine.specs.First.{ServesFirst, ServesHeard};
+ghost use Rattle.engine.specs.Isolated.{AnswersByItsShelf, AnswersHeardByItsShelf};
+ghost use Rattle.engine.specs.Served.{Serves, ServesAllHeard};
 
 use crate::fault::Io;
 use crate::session::{Session, Turn, end_turn};
 use crate::write::flush;
+use histories::{Hear, Tell};
 use std::alloc::Global;
-use std::io::{Read, Write};
 use wire::RouteTable;
 use world::shelves::Shelves;
 
-/// Answers all messages of a stream, one after another, and closes it: with nothing at a good end, a 413 for a body that
-/// is too large, a 400 for any other rest, or one 503 in place of all that is left if memory runs out.
-///
-/// `Io::Read`: a read failed, and each message that was read whole is answered. `Io::Write`: a write or the flush failed;
-/// all texts but the last are written, with a beginning of the last or all of it, and the shelves are as after the last
-/// message.
-pub fn answer_all<R: Read, W: Write, S: Shelves>(
+/// Answers as `answer_all` does.
+fn answer_each<R: Hear, W: Tell, S: Shelves>(
     alloc: Global,
     reader: &mut R,
     writer: &mut W,
     shelves: &mut S,
 ) -> Result<(), Io>
-    ensures { Serves (S.shown shelves.old) (S.shown shelves.new)
-        (R.remaining reader.old) (R.remaining reader.new) (W.contents writer.old) (W.contents writer.new) result }
+    ensures heard { ServesAllHeard (S.shown shelves.old) (S.shown shelves.new)
+        (R.account reader.old) (R.account reader.new) (W.contents writer.old) (W.contents writer.new) result }
+    ensures cause { IfErr result (IsCaused (R.reads reader.old) (R.reads reader.new) (W.writes writer.old) (W.writes writer.new)) }
+    ensures flushed { OnOk result ((W.writes writer.new).unflushed ≡ []) }
 {
     let mut routes = RouteTable::new(alloc);
     let mut session = Session::new(alloc);
@@ -36,23 +34,60 @@ pub fn answer_all<R: Read, W: Write, S: Shelves>(
     }
 }
 
+/// Answers all messages of a stream, one after another, and closes it: with nothing at a good end, a 413 for a body that
+/// is too large, a 400 for any other rest, or one 503 in place of all that is left if memory runs out.
+///
+/// `Io::Read`: a read failed, and each message that was read whole is answered. `Io::Write`: a write or the flush failed;
+/// all texts but the last are written, with a beginning of the last or all of it, and the shelves are as after the last
+/// message.
+pub fn answer_all<R: Hear, W: Tell, S: Shelves>(
+    alloc: Global,
+    reader: &mut R,
+    writer: &mut W,
+    shelves: &mut S,
+) -> Result<(), Io>
+    ensures heard { ServesAllHeard (S.shown shelves.old) (S.shown shelves.new)
+        (R.account reader.old) (R.account reader.new) (W.contents writer.old) (W.contents writer.new) result }
+    // So it is for a reader whose bytes are known before they are read.
+    ensures known { Serves (S.shown shelves.old) (S.shown shelves.new)
+        (R.remaining reader.old) (R.remaining reader.new) (W.contents writer.old) (W.contents writer.new) result }
+    // It fails only if a call of the reader or of the writer failed, or if no read is left.
+    ensures cause { IfErr result (IsCaused (R.reads reader.old) (R.reads reader.new) (W.writes writer.old) (W.writes writer.new)) }
+    // What was written is flushed.
+    ensures flushed { OnOk result ((W.writes writer.new).unflushed ≡ []) }
+{
+    answer_each(alloc, reader, writer, shelves)
+}
+
 /// Answers the first message of a stream and returns the status that it wrote, or None exactly for an empty input. It reads
 /// at most 4,096 bytes after the first message, or after the point at which the stream can't go on.
 ///
 /// `Io::Read`: a read failed, nothing was done, and nothing is written. `Io::Write`: a write or the flush failed; a beginning
 /// of the text is written or all of it, and the shelves are as after the message.
-pub fn answer_one<R: Read, W: Write, S: Shelves>(
+pub fn answer_one<R: Hear, W: Tell, S: Shelves>(
     alloc: Global,
     reader: &mut R,
     writer: &mut W,
     shelves: &mut S,
 ) -> Result<Option<u16>, Io>
+    ensures heard { ServesHeard (S.shown shelves.old) (S.shown shelves.new)
+        (R.account reader.old) (R.account reader.new) (W.contents writer.old) (W.contents writer.new) result }
+    // So it is for a reader whose bytes are known before they are read.
     ensures serves { ServesFirst (S.shown shelves.old) (S.shown shelves.new)
         (R.remaining reader.old) (R.remaining reader.new) (W.contents writer.old) (W.contents writer.new) result }
     // An empty input and a failed read leave the shelves untouched.
     ensures empty { IfOk result (λ status. status ≡ None → shelves.new ≡ shelves.old) }
     ensures unread { IfErr result (λ e. e ≡ Io.Read → shelves.new ≡ shelves.old) }
+    // No read began once the bytes that came say what is to be answered.
+    ensures asks { AsksWhileUnfinished [] (R.account reader.old) (R.account reader.new) (R.reads reader.old) (R.reads reader.new) }
+    // It fails only if a call of the reader or of the writer failed, or if no read is left.
+    ensures cause { IfErr result (IsCaused (R.reads reader.old) (R.reads reader.new) (W.writes writer.old) (W.writes writer.new)) }
+    // What was written is flushed.
+    ensures flushed { OnOk result ((W.writes writer.new).unflushed ≡ []) }
     // The answer does not depend on the shelves that the caller does not see.
+    ensures isolated_heard { AnswersHeardByItsShelf (S.shown shelves.old) (S.shown shelves.new)
+        (R.account reader.old) (R.account reader.new) (W.contents writer.old) (W.contents writer.new) result }
+    // So it is for a reader whose bytes are known before they are read.
     ensures isolated { AnswersByItsShelf (S.shown shelves.old) (S.shown shelves.new)
         (R.remaining reader.old) (W.contents writer.old) (W.contents writer.new) result }
 {

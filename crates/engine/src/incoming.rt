@@ -1,10 +1,11 @@
 //! Taking the next message of a stream.
-ghost use Rattle.std.specs.Prelude.{◌≡◌, None};
+ghost use Rattle.std.specs.Prelude.{◌≡◌, ◌≤◌, None, IfOk, IfErr};
+ghost use Rattle.engine.specs.Causes.{AsksWhileUnfinished, IsUnreadable, Spends};
 ghost use Rattle.engine.specs.Turn.{Comes, Takes};
 
 use crate::fault::Io;
 use crate::read::{Progress, read_more};
-use std::io::Read;
+use histories::Hear;
 use wire::reply::Fixed;
 use wire::{Bad, Framer, Message, Next};
 
@@ -36,13 +37,18 @@ fn take(framer: &mut Framer) -> Option<Incoming>
 
 /// Reads until the next message of a stream is whole and returns it, or returns what closes the stream. `Io::Read` if a read
 /// fails, or if no read is left.
-pub(crate) fn next_message<R: Read>(
+pub(crate) fn next_message<R: Hear>(
     reader: &mut R,
     framer: &mut Framer,
     reads: &mut u64,
 ) -> Result<Incoming, Io>
     requires { framer.old.failure ≡ None }
-    ensures { Comes framer.old framer.new reads.old reads.new (R.remaining reader.old) (R.remaining reader.new) result }
+    ensures comes { Comes framer.old framer.new reads.old reads.new (R.account reader.old) (R.account reader.new) result }
+    ensures asks { AsksWhileUnfinished framer.old.held (R.account reader.old) (R.account reader.new)
+        (R.reads reader.old) (R.reads reader.new) }
+    ensures spent { IfOk result (λ _. Spends reads.old reads.new (R.reads reader.old) (R.reads reader.new)) }
+    ensures later { (R.reads reader.old).failed ≤ (R.reads reader.new).failed }
+    ensures cause { IfErr result (λ _. IsUnreadable reads.old (R.reads reader.old) (R.reads reader.new)) }
 {
     loop {
         if let Some(incoming) = take(framer) {

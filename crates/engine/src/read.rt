@@ -1,12 +1,14 @@
 //! Reading into the framer.
-ghost use Rattle.std.specs.Prelude.{◌≡◌, ℕ, ◌<◌, ◌≤◌, List, ◌++◌, ◌+◌, None, length, take, IfOk, IfErr, OnErr};
-ghost use Rattle.std.specs.Io.KnownBytes.{Consumes, IsAtEnd, Keeps};
+ghost use Rattle.std.specs.Prelude.{◌≡◌, ℕ, ◌<◌, ◌≤◌, List, [], ◌++◌, IsTrue, ◌+◌, None, length, take, IfOk, IfErr, OnErr};
+ghost use Rattle.histories.specs.Account.{Gives};
 ghost use Rattle.framing.specs.Framing.{IsUnfinished};
+ghost use Rattle.engine.specs.Causes.{FailsWith, GivesNone};
 ghost use Rattle.engine.specs.Served.{body_read_limit, read_limit};
 ghost use Rattle.engine.specs.Turn.{ReadsOn, StaysNear};
 
 use crate::fault::Io;
-use std::io::{ErrorKind, Read};
+use histories::Hear;
+use std::io::ErrorKind;
 use wire::Framer;
 use wire::reply::Fixed;
 
@@ -31,17 +33,22 @@ pub(crate) enum Progress {
 
 /// Reads once and returns how many bytes came, which is 0 only at the end. `Io::Read` if the reader fails, or if it is
 /// interrupted at each of `TRIES` calls.
-fn read_some<R: Read>(reader: &mut R, chunk: &mut [u8]) -> Result<usize, Io>
+fn read_some<R: Hear>(reader: &mut R, chunk: &mut [u8]) -> Result<usize, Io>
     requires { 0 < length chunk.old }
     ensures room { IfOk result (λ _. length chunk.new ≤ length chunk.old) }
     ensures within { IfOk result (λ n. n ≤ length chunk.new) }
-    ensures ok { IfOk result (λ n. Consumes (R.remaining reader.old) (R.remaining reader.new) (take n chunk.new)) }
-    ensures end { IfOk result (λ n. n ≡ 0 → IsAtEnd (R.remaining reader.new)) }
-    ensures err { OnErr result (Keeps (R.remaining reader.old) (R.remaining reader.new)) }
+    ensures ok { IfOk result (λ n. Gives (R.account reader.old) (R.account reader.new) (take n chunk.new)) }
+    ensures end { IfOk result (λ n. n ≡ 0 → IsTrue (R.account reader.new).is_over) }
+    ensures err { OnErr result (Gives (R.account reader.old) (R.account reader.new) []) }
     ensures which { IfErr result (λ e. e ≡ Io.Read) }
+    ensures last { IfOk result (λ n. (R.reads reader.new).last ≡ take n chunk.new) }
+    ensures begun { IfOk result (λ _. (R.reads reader.old).begun < (R.reads reader.new).begun) }
+    ensures none { OnErr result (GivesNone (R.reads reader.old) (R.reads reader.new)) }
+    ensures spent { (R.reads reader.old).begun ≤ (R.reads reader.new).begun }
+    ensures fails { FailsWith (R.reads reader.old).failed (R.reads reader.new).failed result }
 {
     for _ in 0..TRIES {
-        match reader.read(chunk) {
+        match reader.hear(chunk) {
             Ok(n) => return Ok(n),
             Err(e) if e.kind() == ErrorKind::Interrupted => {}
             Err(_) => return Err(Io::Read),
@@ -52,12 +59,17 @@ fn read_some<R: Read>(reader: &mut R, chunk: &mut [u8]) -> Result<usize, Io>
 
 /// Reads once and feeds the framer what came. Returns `Ends` at the end of the input, with the 400 if the framer holds
 /// something, and with the 503 if memory runs out. `Io::Read` if the read fails.
-fn feed_some<R: Read>(reader: &mut R, framer: &mut Framer, chunk: &mut [u8]) -> Result<Progress, Io>
+fn feed_some<R: Hear>(reader: &mut R, framer: &mut Framer, chunk: &mut [u8]) -> Result<Progress, Io>
     requires waits { IsUnfinished framer.old.held }
     requires room { 0 < length chunk.old }
     requires near { (bytes : List ℕ) → length bytes ≤ length chunk.old → StaysNear framer.old.held bytes }
-    ensures on { ReadsOn framer.old framer.new (R.remaining reader.old) (R.remaining reader.new) result }
+    ensures on { ReadsOn framer.old framer.new (R.account reader.old) (R.account reader.new) result }
     ensures few { length framer.new.held ≤ length framer.old.held + length chunk.old }
+    ensures last { IfOk result (λ _. Gives (R.account reader.old) (R.account reader.new) (R.reads reader.new).last) }
+    ensures begun { IfOk result (λ _. (R.reads reader.old).begun < (R.reads reader.new).begun) }
+    ensures none { OnErr result (GivesNone (R.reads reader.old) (R.reads reader.new)) }
+    ensures spent { (R.reads reader.old).begun ≤ (R.reads reader.new).begun }
+    ensures fails { FailsWith (R.reads reader.old).failed (R.reads reader.new).failed result }
 {
     match read_some(reader, chunk)? {
         0 if framer.is_empty() => Ok(Progress::Ends(None)),
@@ -72,12 +84,17 @@ fn feed_some<R: Read>(reader: &mut R, framer: &mut Framer, chunk: &mut [u8]) -> 
 /// Reads once for a message that lacks more than `READ_LIMIT` bytes, and reads no byte after it. Returns and fails as
 /// `feed_some` does.
 #[inline(never)]
-fn read_body<R: Read>(reader: &mut R, framer: &mut Framer, missing: usize) -> Result<Progress, Io>
+fn read_body<R: Hear>(reader: &mut R, framer: &mut Framer, missing: usize) -> Result<Progress, Io>
     requires waits { IsUnfinished framer.old.held }
     requires long { read_limit < missing }
     requires missing { (bytes : List ℕ) → length bytes < missing → IsUnfinished (framer.old.held ++ bytes) }
-    ensures on { ReadsOn framer.old framer.new (R.remaining reader.old) (R.remaining reader.new) result }
+    ensures on { ReadsOn framer.old framer.new (R.account reader.old) (R.account reader.new) result }
     ensures few { length framer.new.held ≤ length framer.old.held + body_read_limit }
+    ensures last { IfOk result (λ _. Gives (R.account reader.old) (R.account reader.new) (R.reads reader.new).last) }
+    ensures begun { IfOk result (λ _. (R.reads reader.old).begun < (R.reads reader.new).begun) }
+    ensures none { OnErr result (GivesNone (R.reads reader.old) (R.reads reader.new)) }
+    ensures spent { (R.reads reader.old).begun ≤ (R.reads reader.new).begun }
+    ensures fails { FailsWith (R.reads reader.old).failed (R.reads reader.new).failed result }
 {
     let mut chunk = [0; BODY_READ_LIMIT];
     let most = missing.min(BODY_READ_LIMIT);
@@ -86,10 +103,15 @@ fn read_body<R: Read>(reader: &mut R, framer: &mut Framer, missing: usize) -> Re
 
 /// Reads once and feeds the framer what came: at most 4,096 bytes, or 65,536 while more than 4,096 are known to be missing of a
 /// message. Returns and fails as `feed_some` does.
-pub(crate) fn read_more<R: Read>(reader: &mut R, framer: &mut Framer) -> Result<Progress, Io>
+pub(crate) fn read_more<R: Hear>(reader: &mut R, framer: &mut Framer) -> Result<Progress, Io>
     requires { IsUnfinished framer.old.held }
-    ensures on { ReadsOn framer.old framer.new (R.remaining reader.old) (R.remaining reader.new) result }
+    ensures on { ReadsOn framer.old framer.new (R.account reader.old) (R.account reader.new) result }
     ensures few { length framer.new.held ≤ length framer.old.held + body_read_limit }
+    ensures last { IfOk result (λ _. Gives (R.account reader.old) (R.account reader.new) (R.reads reader.new).last) }
+    ensures begun { IfOk result (λ _. (R.reads reader.old).begun < (R.reads reader.new).begun) }
+    ensures none { OnErr result (GivesNone (R.reads reader.old) (R.reads reader.new)) }
+    ensures spent { (R.reads reader.old).begun ≤ (R.reads reader.new).begun }
+    ensures fails { FailsWith (R.reads reader.old).failed (R.reads reader.new).failed result }
 {
     let missing = framer.missing();
     if missing > READ_LIMIT {

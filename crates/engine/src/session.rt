@@ -1,6 +1,7 @@
 //! Answering a stream of requests, turn by turn.
-ghost use Rattle.std.specs.Prelude.{◌≡◌, ◌<◌, [], None, IfOk, IfErr};
+ghost use Rattle.std.specs.Prelude.{◌≡◌, ◌<◌, ◌≤◌, ◌-◌, ◌^◌, [], None, IfOk, IfErr, OnOk};
 ghost use Rattle.std.specs.Io.KnownBytes.{Keeps};
+ghost use Rattle.engine.specs.Causes.{AsksWhileUnfinished, FailsWith, IsCausedIn, Spends};
 ghost use Rattle.engine.specs.Reply.{page_bytes, page_status};
 ghost use Rattle.engine.specs.Served.{closing_bytes};
 ghost use Rattle.engine.specs.Turn.{EndsBy, IsAnswered, IsClosed, Turns, turn_status, work};
@@ -12,9 +13,9 @@ use crate::fault::Io;
 use crate::incoming::{Incoming, next_message};
 use crate::page::Page;
 use crate::write::{flush, write_fixed, write_page};
+use histories::{Hear, Tell};
 use shelf::step::step;
 use std::alloc::Global;
-use std::io::{Read, Write};
 use wire::reply::Fixed;
 use wire::{Framer, RouteTable};
 use world::shelves::Shelves;
@@ -42,18 +43,20 @@ impl Turn {
 }
 
 /// Writes the reply to a message and returns the turn. `Io::Write` if a write fails.
-fn answer_with<W: Write>(alloc: Global, writer: &mut W, page: Page) -> Result<Turn, Io>
+fn answer_with<W: Tell>(alloc: Global, writer: &mut W, page: Page) -> Result<Turn, Io>
     ensures bytes { Writes (W.contents writer.old) (W.contents writer.new) (page_bytes page) result }
     ensures turn { IfOk result (λ turn. turn ≡ Turn.Answered (page_status page)) }
+    ensures fails { FailsWith (W.writes writer.old).failed (W.writes writer.new).failed result }
 {
     let status = write_page(alloc, writer, &page)?;
     Ok(Turn::Answered(status.as_u16()))
 }
 
 /// Closes a stream by a fixed reply or by nothing, and returns the turn. `Io::Write` if a write fails.
-fn close_by<W: Write>(writer: &mut W, closing: Option<Fixed>) -> Result<Turn, Io>
+fn close_by<W: Tell>(writer: &mut W, closing: Option<Fixed>) -> Result<Turn, Io>
     ensures bytes { Writes (W.contents writer.old) (W.contents writer.new) (closing_bytes closing) result }
     ensures turn { IfOk result (λ turn. turn ≡ Turn.Closed closing) }
+    ensures fails { FailsWith (W.writes writer.old).failed (W.writes writer.new).failed result }
 {
     if let Some(closing) = closing {
         write_fixed(writer, closing)?;
@@ -63,9 +66,13 @@ fn close_by<W: Write>(writer: &mut W, closing: Option<Fixed>) -> Result<Turn, Io
 
 /// Flushes what a turn wrote and returns its status, or None if it wrote nothing. `Io::Write` if the flush fails. If the turn
 /// failed, it returns the turn's error and does not flush.
-pub fn end_turn<W: Write>(writer: &mut W, turned: Result<Turn, Io>) -> Result<Option<u16>, Io>
+pub fn end_turn<W: Tell>(writer: &mut W, turned: Result<Turn, Io>) -> Result<Option<u16>, Io>
     ensures bytes { Keeps (W.contents writer.old) (W.contents writer.new) }
     ensures ends { EndsBy turned result }
+    // What was written is flushed.
+    ensures flushed { OnOk result ((W.writes writer.new).unflushed ≡ []) }
+    ensures fails { IfOk turned (λ _. FailsWith (W.writes writer.old).failed (W.writes writer.new).failed result) }
+    ensures later { (W.writes writer.old).failed ≤ (W.writes writer.new).failed }
 {
     let turn = turned?;
     flush(writer)?;
@@ -82,9 +89,10 @@ pub struct Session {
 }
 
 impl Session {
-    /// Returns a session at the beginning of a stream.
+    /// Returns a session at the beginning of a stream, with all its reads left.
     pub fn new(alloc: Global) -> Session
-        ensures { result.framer ≡ record { held = []; failure = None } }
+        ensures framer { result.framer ≡ record { held = []; failure = None } }
+        ensures reads { result.reads ≡ 2 ^ 64 - 1 }
     {
         Session {
             alloc,
@@ -99,7 +107,7 @@ impl Session {
     ///
     /// `Io::Read`: a read failed, nothing was done, and nothing is written. `Io::Write`: a write failed; a beginning of the text
     /// is written, and the shelves are as after the message.
-    pub fn turn<R: Read, W: Write, S: Shelves>(
+    pub fn turn<R: Hear, W: Tell, S: Shelves>(
         &mut self,
         routes: &mut RouteTable,
         reader: &mut R,
@@ -108,8 +116,17 @@ impl Session {
     ) -> Result<Turn, Io>
         requires { self.old.framer.failure ≡ None }
         ensures turns { Turns (S.shown shelves.old) (S.shown shelves.new)
-            (R.remaining reader.old) (R.remaining reader.new) (W.contents writer.old) (W.contents writer.new)
+            (R.account reader.old) (R.account reader.new) (W.contents writer.old) (W.contents writer.new)
             self.old.framer self.new.framer result }
+        // No read began once the bytes that came say what is to be answered.
+        ensures asks { AsksWhileUnfinished self.old.framer.held (R.account reader.old) (R.account reader.new)
+            (R.reads reader.old) (R.reads reader.new) }
+        // It fails only if a call of the reader or of the writer failed, or if no read is left.
+        ensures cause { IfErr result (IsCausedIn self.old.reads (R.reads reader.old) (R.reads reader.new)
+            (W.writes writer.old) (W.writes writer.new)) }
+        ensures spent { IfOk result (λ _. Spends self.old.reads self.new.reads (R.reads reader.old) (R.reads reader.new)) }
+        ensures later_reads { (R.reads reader.old).failed ≤ (R.reads reader.new).failed }
+        ensures later_writes { (W.writes writer.old).failed ≤ (W.writes writer.new).failed }
         // A turn that closed the stream and a failed read leave the shelves untouched.
         ensures empty { IfOk result (λ turn. IsClosed turn → shelves.new ≡ shelves.old) }
         ensures unread { IfErr result (λ e. e ≡ Io.Read → shelves.new ≡ shelves.old) }

@@ -1,9 +1,10 @@
 -- What a store goes through on one more connection.
-use Rattle.std.proofs.Common.{ℕ, ◌+◌, ◌≤◌, ◌≡◌, refl, sym, ap, ◌∙◌, subst, List, [], ◌∷◌, ◌++◌, length, map, Option, Some, None, Result, Ok, Err, inr, arith, append_assoc, append-nil}
+use Rattle.std.proofs.Common.{ℕ, ◌+◌, ◌≤◌, ◌≡◌, refl, sym, ap, ◌∙◌, subst, List, [], ◌∷◌, ◌++◌, length, map, All, Option, Some, None, Result, Ok, Err, inr, arith, append_assoc, append-nil}
 use Rattle.std.proofs.lemmas.List.{length-append, map-append}
 use Rattle.std.proofs.lemmas.List.Elements.{All-nil, All-push}
+use Rattle.histories.specs.Account.{Account}
 use Rattle.world.specs.Store.{Shown}
-use Rattle.engine.specs.First.{First, Answers as Message, Closes, ServesFirst}
+use Rattle.engine.specs.First.{First, Answers as Message, Closes, ServesHeard}
 use Rattle.engine.specs.Store.{GoesThrough}
 use Rattle.engine.specs.declared.fault.Io.{Io}
 use Rattle.engine.specs.declared.fault.Io.TheVariants as io
@@ -49,11 +50,11 @@ same_come : {P : Type 0} (waiting left rest : Option (List P)) (first : List P) 
     → Come waiting rest first
 same_come waiting left rest first one two = subst (Come waiting rest) (append-nil first) (then_come waiting left rest first [] one two)
 
-module _ {P : Type 0} (unread written : P → Option (List ℕ)) where
-  -- a peer whose first message was served as `ServesFirst` says was answered
+module _ {P : Type 0} (heard : P → Account) (written : P → Option (List ℕ)) where
+  -- a peer whose first message was served as `ServesHeard` says was answered
   pub answered : (old new : Shown) (peer after : P) (status : Result (Option ℕ) Io)
-      → ServesFirst old new (unread peer) (unread after) (written peer) (written after) status
-      → Answers unread written peer old new
+      → ServesHeard old new (heard peer) (heard after) (written peer) (written after) status
+      → Answers heard written peer old new
   answered old new peer after (Ok status) (first, takes, through, is, ended) = record {
     visit = record { before = peer; after = after; first = Some first };
     begins = refl;
@@ -73,39 +74,45 @@ module _ {P : Type 0} (unread written : P → Option (List ℕ)) where
     through = through;
   }
 
-  pub each_none : (waiting : Option (List P)) (shown : Shown)
-      → AnswersEach unread written waiting waiting shown shown 0
-  each_none waiting shown = record {
-    visits = [];
-    few = omega arith;
-    came = none_come waiting;
-    there = All-nil (IsAnsweredThere unread written);
-    through = through_none shown;
-  }
-
-  module _ (waiting left rest : Option (List P)) (old mid new : Shown) (n : ℕ)
-      (first : AnswersEach unread written waiting left old mid n) where
-    -- answering one more peer after others answers each of them
-    pub each_more : (peer : P) → Come left rest (peer ∷ []) → Answers unread written peer mid new
-        → AnswersEach unread written waiting rest old new (n + 1)
-    each_more peer comes next = record {
-      visits = first.visits ++ next.visit ∷ [];
-      few = omega (arith, length-append first.visits (next.visit ∷ []), first.few);
-      came = subst (Come waiting rest) (sym (map-append peer_of first.visits (next.visit ∷ [])))
-          (then_come waiting left rest (map peer_of first.visits) (next.visit.before ∷ []) first.came
-          (subst (λ p. Come left rest (p ∷ [])) (sym next.begins) comes));
-      there = All-push (IsAnsweredThere unread written) first.visits next.visit first.there next.there;
-      through = subst (GoesThrough old new) (sym (with_last first.visits next.visit))
-          (through_more old mid new (exchanges_with first.visits) first.through (exchanges_of next.visit.first) next.through);
+  module _ (is_new : P → Type 0) where
+    pub each_none : (waiting : Option (List P)) (shown : Shown)
+        → AnswersEach heard written is_new waiting waiting shown shown 0
+    each_none waiting shown = record {
+      visits = [];
+      few = omega arith;
+      came = none_come waiting;
+      begun = All-nil is_new;
+      there = All-nil (IsAnsweredThere heard written);
+      through = through_none shown;
     }
 
-  -- a failed accept counts, and answers nobody
-  pub each_same : (waiting left rest : Option (List P)) (old new : Shown) (n : ℕ) → Come left rest []
-      → AnswersEach unread written waiting left old new n → AnswersEach unread written waiting rest old new (n + 1)
-  each_same waiting left rest old new n comes first = record {
-    visits = first.visits;
-    few = omega (arith, first.few);
-    came = same_come waiting left rest (map peer_of first.visits) first.came comes;
-    there = first.there;
-    through = first.through;
-  }
+    module _ (waiting left rest : Option (List P)) (old mid new : Shown) (n : ℕ)
+        (first : AnswersEach heard written is_new waiting left old mid n) where
+      -- answering one more peer after others answers each of them
+      pub each_more : (peer : P) → Come left rest (peer ∷ []) → is_new peer → Answers heard written peer mid new
+          → AnswersEach heard written is_new waiting rest old new (n + 1)
+      each_more peer comes fresh next = record {
+        visits = first.visits ++ next.visit ∷ [];
+        few = omega (arith, length-append first.visits (next.visit ∷ []), first.few);
+        came = subst (Come waiting rest) (sym (map-append peer_of first.visits (next.visit ∷ [])))
+            (then_come waiting left rest (map peer_of first.visits) (next.visit.before ∷ []) first.came
+            (subst (λ p. Come left rest (p ∷ [])) (sym next.begins) comes));
+        begun = subst (All is_new) (sym (map-append peer_of first.visits (next.visit ∷ [])))
+            (All-push is_new (map peer_of first.visits) next.visit.before first.begun
+            (subst is_new (sym next.begins) fresh));
+        there = All-push (IsAnsweredThere heard written) first.visits next.visit first.there next.there;
+        through = subst (GoesThrough old new) (sym (with_last first.visits next.visit))
+            (through_more old mid new (exchanges_with first.visits) first.through (exchanges_of next.visit.first) next.through);
+      }
+
+    -- a failed accept counts, and answers nobody
+    pub each_same : (waiting left rest : Option (List P)) (old new : Shown) (n : ℕ) → Come left rest []
+        → AnswersEach heard written is_new waiting left old new n → AnswersEach heard written is_new waiting rest old new (n + 1)
+    each_same waiting left rest old new n comes first = record {
+      visits = first.visits;
+      few = omega (arith, first.few);
+      came = same_come waiting left rest (map peer_of first.visits) first.came comes;
+      begun = first.begun;
+      there = first.there;
+      through = first.through;
+    }

@@ -1,9 +1,10 @@
 -- What a store goes through while connections are served.
 use Rattle.std.specs.Prelude.{ℕ, ◌≡◌, ◌≤◌, ◌⊎◌, List, [], ◌∷◌, ◌++◌, length, map, All, Option, Some, None, Result, Ok, Err}
 use Rattle.std.specs.Io.KnownBytes.{Appends, Keeps}
+use Rattle.histories.specs.Account.{Account}
 use Rattle.world.specs.Store.{Shown}
 use Rattle.engine.specs.Exchange.{Exchange}
-use Rattle.engine.specs.First.{First, TakesFirst, first_bytes, first_exchanges}
+use Rattle.engine.specs.First.{First, HearsFirst, first_bytes, first_exchanges}
 use Rattle.engine.specs.Store.{GoesThrough}
 use Rattle.engine.specs.Written.{WritesBeginning}
 
@@ -43,13 +44,13 @@ abbrev pub exchanges_with : {P : Type 0} → List (Visit P) → List Exchange
 exchanges_with [] = []
 exchanges_with (visit ∷ visits) = exchanges_of visit.first ++ exchanges_with visits
 
-module _ {P : Type 0} (unread written : P → Option (List ℕ)) where
+module _ {P : Type 0} (heard : P → Account) (written : P → Option (List ℕ)) where
   -- What came first came from this peer, and its reply went to this peer: all of it, or a beginning if a write failed. If nothing
   -- came whole, nothing was written.
   abbrev pub IsBetween : P → P → Option First → Type 0
   IsBetween before after None = Keeps (written before) (written after)
   IsBetween before after (Some first) =
-      TakesFirst (unread before) (unread after) first
+      HearsFirst (heard before) (heard after) first
       × (WritesBeginning (written before) (written after) (first_bytes first)
       ⊎ Appends (written before) (written after) (first_bytes first))
 
@@ -64,11 +65,12 @@ module _ {P : Type 0} (unread written : P → Option (List ℕ)) where
     pub there : IsAnsweredThere visit
     pub through : GoesThrough old new (exchanges_of visit.first)
 
-  -- The peers that came were answered one after another, each once, and at most as many as there are connections. What a peer
-  -- sent was answered to that peer.
-  pub record AnswersEach (waiting left : Option (List P)) (old new : Shown) (connections : ℕ) : Type 0 where
+  -- The peers that came were answered one after another, each once, and at most as many as there are connections. Each was new, and
+  -- what it sent was answered to it.
+  pub record AnswersEach (is_new : P → Type 0) (waiting left : Option (List P)) (old new : Shown) (connections : ℕ) : Type 0 where
     pub visits : List (Visit P)
     pub few : length visits ≤ connections
     pub came : Come waiting left (map peer_of visits)
+    pub begun : All is_new (map peer_of visits)
     pub there : All IsAnsweredThere visits
     pub through : GoesThrough old new (exchanges_with visits)

@@ -25,8 +25,6 @@ mod connection;
 mod pace;
 mod rest;
 mod serve;
-mod wait;
 
-pub use connection::{Answered, Listener, Peer, answer_in_time};
+pub use connection::{After, Answered, Listener, Peer, answer_in_time};
 pub use serve::serve_on;
-pub use wait::{BoundRead, BoundWrite};

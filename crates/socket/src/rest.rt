@@ -6,9 +6,8 @@ ghost use Rattle.engine.specs.Served.{IsClosing};
 
 use crate::bounds::MOST_DROPPED;
 use crate::pace::{Paced, Phase};
-use crate::wait::BoundRead;
+use histories::BoundRead;
 use std::io::{self, Read};
-use std::net::{Shutdown, TcpStream};
 use std::time::{Clock, Duration};
 
 /// Whether a request that got this status may be only partly read: 400, 413 and 503 also close a stream.
@@ -23,46 +22,55 @@ fn leaves_a_rest(status: u16) -> bool
 
 /// The bytes after a message, and whether a read waits for them.
 #[derive(Drop)]
-struct Rest<'a> {
-    stream: &'a TcpStream,
+struct Rest<R> {
+    inner: R,
     waits: bool,
 }
 
-impl<'a> Read for Rest<'a> {
-    ghost use Rattle.std.specs.Prelude.{None};
-
-    ghost remaining = { λ _. None };
+impl<R: BoundRead> Read for Rest<R> {
+    ghost remaining = { λ r. R.remaining r.inner };
 
     fn read(&mut self, buf: &mut [u8]) -> io::Result<usize> {
-        self.stream.read(buf)
+        self.inner.read(buf)
     }
 }
 
-impl<'a> BoundRead for Rest<'a> {
+impl<R: BoundRead> BoundRead for Rest<R> {
     /// Does nothing if no read waits, and otherwise fails if the bound can't be set.
     fn bound_reads(&self, longest: Duration) -> io::Result<()> {
         if self.waits {
-            self.stream.bound_reads(longest)
+            self.inner.bound_reads(longest)
         } else {
             Ok(())
         }
     }
+
+    fn stop_waiting(&self) -> io::Result<()> {
+        self.inner.stop_waiting()
+    }
 }
 
-/// Shuts the writing side, and drops what the peer sent after the message that was answered with this status; also what it
-/// still sends if its request may be only partly read. Fails if a call of the system fails, or if a read would wait that may
-/// not.
-pub(crate) fn drop_rest<C: Clock>(clock: &C, stream: &TcpStream, status: u16) -> io::Result<()> {
-    stream.shutdown(Shutdown::Write)?;
+/// Drops what the peer sent after the message that was answered with this status; also what it still sends if its request may be
+/// only partly read. Ends early if a call of the system fails, or if a read would wait that may not.
+pub(crate) fn drop_rest<C: Clock, R: BoundRead + Drop>(clock: &C, reader: R, status: u16) -> R {
     let waits = leaves_a_rest(status);
-    if !waits {
-        stream.set_nonblocking(true)?;
+    if !waits && reader.stop_waiting().is_err() {
+        return reader;
     }
-    skip(Paced::new(Rest { stream, waits }, clock, Phase::Rest))
+    let mut rest = Paced::new(
+        Rest {
+            inner: reader,
+            waits,
+        },
+        clock,
+        Phase::Rest,
+    );
+    let _ = skip(&mut rest);
+    rest.into_inner().inner
 }
 
 /// Reads and drops the bytes of a reader, at most `MOST_DROPPED`. Fails if a read fails.
-fn skip<R: Read + Drop>(reader: R) -> io::Result<()> {
+fn skip<R: Read>(reader: &mut R) -> io::Result<()> {
     let mut front = reader.take(MOST_DROPPED);
     let mut chunk = [0; 16_384];
     for _ in 0..MOST_DROPPED {

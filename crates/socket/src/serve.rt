@@ -1,5 +1,5 @@
 //! Serving one connection after another.
-ghost use Rattle.socket.specs.Connections.{AnswersEach, GoesThroughMost};
+ghost use Rattle.socket.specs.Connections.{Answers, AnswersEach, GoesThroughMost};
 
 use crate::connection::{Listener, Peer};
 use std::alloc::Global;
@@ -23,18 +23,30 @@ pub fn serve_on<C: Clock, P: Peer + Drop, L: Listener<P>, S: Shelves>(
 )
     ensures most { GoesThroughMost (S.shown shelves.old) (S.shown shelves.new) connections }
     // Each message is answered on the connection that it came over, and at most one on each.
-    ensures each { AnswersEach P.unread P.written (L.waiting listener.old) (L.waiting listener.new)
+    ensures each { AnswersEach P.came P.written L.is_new (L.waiting listener.old) (L.waiting listener.new)
         (S.shown shelves.old) (S.shown shelves.new) connections }
 {
     let mut routes = RouteTable::new(alloc);
     for _ in 0..connections {
         match listener.accept() {
-            Ok(mut peer) => {
-                if let Ok(Some(status)) = peer.answer(alloc, clock, &mut routes, shelves) {
-                    peer.end(clock, status);
-                }
-            }
+            Ok(peer) => answer_on(alloc, clock, &mut routes, peer, shelves),
             Err(_) => {}
         }
+    }
+}
+
+/// Answers the first message of a peer, and ends the connection if that wrote a status.
+fn answer_on<C: Clock, P: Peer + Drop, S: Shelves>(
+    alloc: Global,
+    clock: &C,
+    routes: &mut RouteTable,
+    peer: P,
+    shelves: &mut S,
+)
+    ensures { Answers P.came P.written peer (S.shown shelves.old) (S.shown shelves.new) }
+{
+    let after = peer.answer(alloc, clock, routes, shelves);
+    if let Ok(Some(status)) = after.status {
+        let _ = after.peer.end(clock, status);
     }
 }

@@ -4,6 +4,7 @@ use commands::order::{copy_over, order_over};
 use commands::ping::ping_over;
 use commands::refusal::CommandRefusal;
 use control::{Order, Tally, obey};
+use histories::{Hearing, Telling};
 use modver::read_time;
 use std::alloc::Global;
 use std::test::Fail;
@@ -155,8 +156,8 @@ fn wrong_row<S: Shelves + Drop>(
         let mut told = Vec::new(alloc);
         if obey(
             alloc,
-            &mut sent.as_bytes(),
-            &mut told,
+            &mut Hearing::new(sent.as_bytes()),
+            &mut Telling::new(&mut told),
             tally,
             &mut shelves,
             &mut Copier { versions: 12_345 },
@@ -199,7 +200,13 @@ fn is_row(
 fn is_copied(alloc: Global, row: &str) -> Result<bool, Fail> {
     let reply = format!(in alloc; "{}\n", column(row, 1))?;
     let mut sent = Vec::new(alloc);
-    let told = copy_over(alloc, &mut reply.as_bytes(), &mut sent, column(row, 0));
+    let mut reader = Hearing::new(reply.as_bytes());
+    let told = copy_over(
+        alloc,
+        &mut reader,
+        &mut Telling::new(&mut sent),
+        column(row, 0),
+    );
     is_row(alloc, row, &sent, told)
 }
 
@@ -209,8 +216,8 @@ fn is_sent(alloc: Global, row: &str) -> Result<bool, Fail> {
     let mut sent = Vec::new(alloc);
     let told = order_over(
         alloc,
-        &mut reply.as_bytes(),
-        &mut sent,
+        &mut Hearing::new(reply.as_bytes()),
+        &mut Telling::new(&mut sent),
         &order_at(column(row, 0)),
     );
     is_row(alloc, row, &sent, told)
@@ -221,7 +228,13 @@ fn is_pinged(alloc: Global, row: &str) -> Result<bool, Fail> {
     let reply = format!(in alloc; "{}\n", column(row, 0))?;
     let mut sent = Vec::new(alloc);
     let mut printed = Vec::new(alloc);
-    let told = ping_over(alloc, &mut reply.as_bytes(), &mut sent, &mut printed);
+    let mut reader = Hearing::new(reply.as_bytes());
+    let told = ping_over(
+        alloc,
+        &mut reader,
+        &mut Telling::new(&mut sent),
+        &mut printed,
+    );
     let wanted = match column(row, 1) {
         "" => String::new(alloc),
         line => format!(in alloc; "{line}\n")?,

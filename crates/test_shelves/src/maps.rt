@@ -1,5 +1,6 @@
 //! Scripts, each run on new shelves in memory.
 use engine::answer_all;
+use histories::{Hearing, Telling};
 use std::alloc::Global;
 use std::test::Fail;
 use test_support::calls::{CALLS, wrong_row, wrong_row_of};
@@ -32,9 +33,14 @@ fn streamed<S: Shelves + Drop>(
             return Err(Fail::from("the teams, the groups and the keys"));
         }
     }
-    let mut reader = stream;
+    let mut reader = Hearing::new(stream);
     let mut output = Vec::new(alloc);
-    answer_all(alloc, &mut reader, &mut output, &mut shelves)?;
+    answer_all(
+        alloc,
+        &mut reader,
+        &mut Telling::new(&mut output),
+        &mut shelves,
+    )?;
     Ok(output)
 }
 

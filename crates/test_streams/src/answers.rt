@@ -2,31 +2,43 @@
 use crate::shelves::shelves;
 use crate::stream::{ANSWER_ENDS, ANSWERS, BAD_REQUEST, ENDS, STREAM, TOOLCHAIN};
 use engine::{Io, answer_all, answer_one};
+use histories::{Hearing, Telling};
 use std::alloc::{AllocError, Global};
+use std::cell::Cell;
 use std::test::Fail;
 use test_support::doubles::{Sink, Source};
 
 /// Answers a stream from shelves that have no entry.
-fn serve(alloc: Global, reader: &mut Source, writer: &mut Sink) -> Result<(), Io> {
+fn serve(alloc: Global, reader: Source, writer: &mut Sink) -> Result<(), Io> {
     let Ok(mut shelves) = shelves(alloc) else {
         return Err(Io::Read);
     };
-    answer_all(alloc, reader, writer, &mut shelves)
+    answer_all(
+        alloc,
+        &mut Hearing::new(reader),
+        &mut Telling::new(writer),
+        &mut shelves,
+    )
 }
 
 /// Answers the first message of a stream from shelves that have no entry.
-fn serve_one(alloc: Global, reader: &mut Source, writer: &mut Sink) -> Result<Option<u16>, Io> {
+fn serve_one(alloc: Global, reader: Source, writer: &mut Sink) -> Result<Option<u16>, Io> {
     let Ok(mut shelves) = shelves(alloc) else {
         return Err(Io::Read);
     };
-    answer_one(alloc, reader, writer, &mut shelves)
+    answer_one(
+        alloc,
+        &mut Hearing::new(reader),
+        &mut Telling::new(writer),
+        &mut shelves,
+    )
 }
 
 #[test]
 fn answers_the_stored_run_however_it_is_cut(rt: HostRuntime) {
     for piece in 1..400 {
         let mut writer = Sink::new(rt.alloc(), usize::MAX);
-        let result = serve(rt.alloc(), &mut Source::new(STREAM, piece), &mut writer);
+        let result = serve(rt.alloc(), Source::new(STREAM, piece), &mut writer);
         assert!(rt; result == Ok(()));
         assert!(rt; writer.taken.as_slice() == ANSWERS, "in pieces of {piece}");
         assert!(rt; writer.is_flushed);
@@ -36,9 +48,8 @@ fn answers_the_stored_run_however_it_is_cut(rt: HostRuntime) {
 #[test]
 fn answers_nothing_to_an_empty_input(rt: HostRuntime) {
     let mut writer = Sink::new(rt.alloc(), usize::MAX);
-    let mut reader = Source::new(b"", 1);
-    assert!(rt; serve(rt.alloc(), &mut reader, &mut writer) == Ok(()));
-    assert!(rt; serve_one(rt.alloc(), &mut reader, &mut writer) == Ok(None));
+    assert!(rt; serve(rt.alloc(), Source::new(b"", 1), &mut writer) == Ok(()));
+    assert!(rt; serve_one(rt.alloc(), Source::new(b"", 1), &mut writer) == Ok(None));
     assert!(rt; writer.taken.is_empty());
 }
 
@@ -46,11 +57,7 @@ fn answers_nothing_to_an_empty_input(rt: HostRuntime) {
 fn answers_400_to_a_stream_that_is_cut_within_a_message(rt: HostRuntime) {
     for len in 1..ENDS[0] {
         let mut writer = Sink::new(rt.alloc(), usize::MAX);
-        let result = serve(
-            rt.alloc(),
-            &mut Source::new(&STREAM[..len], 4096),
-            &mut writer,
-        );
+        let result = serve(rt.alloc(), Source::new(&STREAM[..len], 4096), &mut writer);
         assert!(rt; result == Ok(()));
         assert!(rt; writer.taken.as_slice() == BAD_REQUEST, "at {len}");
     }
@@ -59,18 +66,20 @@ fn answers_400_to_a_stream_that_is_cut_within_a_message(rt: HostRuntime) {
 #[test]
 fn answers_one_and_reads_no_more(rt: HostRuntime) {
     let mut writer = Sink::new(rt.alloc(), usize::MAX);
+    let left = Cell::new(STREAM.len());
     let mut reader = Source::new(STREAM, 1);
-    let status = serve_one(rt.alloc(), &mut reader, &mut writer);
+    reader.left = Some(&left);
+    let status = serve_one(rt.alloc(), reader, &mut writer);
     assert!(rt; status == Ok(Some(201)));
     assert!(rt; writer.taken.as_slice() == &ANSWERS[..ANSWER_ENDS[0]]);
     assert!(rt; writer.is_flushed);
-    assert!(rt; reader.rest == &STREAM[ENDS[0]..]);
+    assert!(rt; left.get() == STREAM.len().saturating_sub(ENDS[0]));
 }
 
 #[test]
 fn publishes_a_module_with_a_toolchain(rt: HostRuntime) {
     let mut writer = Sink::new(rt.alloc(), usize::MAX);
-    let result = serve(rt.alloc(), &mut Source::new(TOOLCHAIN, 4096), &mut writer);
+    let result = serve(rt.alloc(), Source::new(TOOLCHAIN, 4096), &mut writer);
     assert!(rt; result == Ok(()));
     assert!(rt; writer.taken.as_slice() == &ANSWERS[..ANSWER_ENDS[0]]);
 }
@@ -79,7 +88,7 @@ fn publishes_a_module_with_a_toolchain(rt: HostRuntime) {
 fn has_written_all_when_the_flush_fails(rt: HostRuntime) {
     let mut writer = Sink::new(rt.alloc(), usize::MAX);
     writer.flushes = false;
-    let result = serve(rt.alloc(), &mut Source::new(STREAM, 50), &mut writer);
+    let result = serve(rt.alloc(), Source::new(STREAM, 50), &mut writer);
     assert!(rt; result == Err(Io::Write));
     assert!(rt; writer.taken.as_slice() == ANSWERS);
 }
@@ -99,11 +108,7 @@ fn writes_for(alloc: Global, len: usize) -> Result<u64, Fail> {
     let stream = zip_of(alloc, len)?;
     let mut writer = Sink::new(alloc, usize::MAX);
     writer.piece = usize::MAX;
-    serve(
-        alloc,
-        &mut Source::new(stream.as_bytes(), 4096),
-        &mut writer,
-    )?;
+    serve(alloc, Source::new(stream.as_bytes(), 4096), &mut writer)?;
     Ok(writer.writes)
 }
 
@@ -111,7 +116,7 @@ fn writes_for(alloc: Global, len: usize) -> Result<u64, Fail> {
 fn writes_a_head_and_a_short_body_at_once(rt: HostRuntime) -> Result<(), Fail> {
     let mut writer = Sink::new(rt.alloc(), usize::MAX);
     writer.piece = usize::MAX;
-    let result = serve(rt.alloc(), &mut Source::new(STREAM, 4096), &mut writer);
+    let result = serve(rt.alloc(), Source::new(STREAM, 4096), &mut writer);
     assert!(rt; result == Ok(()));
     assert!(rt; writer.taken.as_slice() == ANSWERS);
     assert_eq!(rt; writer.writes, 4);

@@ -2,10 +2,11 @@
 use crate::connections::{PUBLISHED, PUT};
 use crate::shelves::shelves;
 use engine::Io;
-use socket::{Answered, BoundRead, BoundWrite, answer_in_time};
+use histories::{BoundRead, BoundWrite, Hearing, Telling};
+use socket::answer_in_time;
 use std::alloc::Global;
 use std::cell::Cell;
-use std::io::{self, Chain, Read, Write};
+use std::io::{self, Read, Write};
 use std::test::Fail;
 use std::time::{Clock, Duration};
 use test_support::doubles::Sink;
@@ -38,40 +39,31 @@ fn clock(step: u64) -> Steps {
     }
 }
 
-/// A stream that never waits, and how long its last call might have waited.
+/// A stream that never waits. It keeps how long its last call might have waited.
 #[derive(Drop)]
-struct Bounded<T> {
+struct Bounded<'a, T> {
     inner: T,
-    longest: Cell<Duration>,
+    longest: &'a Cell<Duration>,
 }
 
-impl<T> Bounded<T> {
-    fn new(inner: T) -> Bounded<T> {
-        Bounded {
-            inner,
-            longest: Cell::new(Duration::ZERO),
-        }
-    }
-
-    fn millis(&self) -> u128 {
-        self.longest.get().as_millis()
-    }
-}
-
-impl<T: Read> Read for Bounded<T> {
+impl<'a, T: Read> Read for Bounded<'a, T> {
     fn read(&mut self, buf: &mut [u8]) -> io::Result<usize> {
         self.inner.read(buf)
     }
 }
 
-impl<T: Read> BoundRead for Bounded<T> {
+impl<'a, T: Read> BoundRead for Bounded<'a, T> {
     fn bound_reads(&self, longest: Duration) -> io::Result<()> {
         self.longest.set(longest);
         Ok(())
     }
+
+    fn stop_waiting(&self) -> io::Result<()> {
+        Ok(())
+    }
 }
 
-impl<T: Write> Write for Bounded<T> {
+impl<'a, T: Write> Write for Bounded<'a, T> {
     fn write(&mut self, buf: &[u8]) -> io::Result<usize> {
         self.inner.write(buf)
     }
@@ -81,68 +73,99 @@ impl<T: Write> Write for Bounded<T> {
     }
 }
 
-impl<T: Write> BoundWrite for Bounded<T> {
+impl<'a, T: Write> BoundWrite for Bounded<'a, T> {
     fn bound_writes(&self, longest: Duration) -> io::Result<()> {
         self.longest.set(longest);
         Ok(())
     }
+
+    fn shut(&self) -> io::Result<()> {
+        Ok(())
+    }
 }
 
-/// How a message was answered, with its reader, which gives its bytes in two reads or more, and its writer.
-type Timed<'a, W> = Answered<Bounded<Chain<&'a [u8], &'a [u8]>>, Bounded<W>>;
+/// How long the last read and the last write might have waited.
+#[derive(Drop)]
+struct Waits {
+    read: Cell<Duration>,
+    write: Cell<Duration>,
+}
 
-/// Answers the message in these bytes, measured by a clock with this step.
-fn timed<'a, W: Write + Drop>(
+/// Returns the waits before any call.
+fn no_waits() -> Waits {
+    Waits {
+        read: Cell::new(Duration::ZERO),
+        write: Cell::new(Duration::ZERO),
+    }
+}
+
+/// Answers the message in these bytes, which are given in two reads or more, measured by a clock with this step, and returns the
+/// status.
+fn answer_timed<W: Write + Drop>(
     alloc: Global,
+    waits: &Waits,
     step: u64,
-    first: &'a [u8],
-    last: &'a [u8],
+    first: &[u8],
+    last: &[u8],
     writer: W,
-) -> Result<Timed<'a, W>, Fail> {
+) -> Result<Result<Option<u16>, Io>, Fail> {
     let mut shelves = shelves(alloc)?;
-    let reader = Bounded::new(first.chain(last));
-    Ok(answer_in_time(
+    let reader = Bounded {
+        inner: first.chain(last),
+        longest: &waits.read,
+    };
+    let writer = Bounded {
+        inner: writer,
+        longest: &waits.write,
+    };
+    let answered = answer_in_time(
         alloc,
         &clock(step),
         &mut RouteTable::new(alloc),
-        reader,
-        Bounded::new(writer),
+        Hearing::new(reader),
+        Telling::new(writer),
         &mut shelves,
-    ))
+    );
+    Ok(answered.status)
 }
 
 #[test]
 fn a_request_that_comes_in_time_is_answered(rt: HostRuntime) -> Result<(), Fail> {
     let (first, last) = PUT.split_at(20);
-    let answered = timed(rt.alloc(), 4_999, first, last, Vec::new(rt.alloc()))?;
-    assert!(rt; answered.status == Ok(Some(201)));
-    assert!(rt; answered.writer.inner.as_slice() == PUBLISHED.as_bytes());
+    let waits = no_waits();
+    let mut written = Vec::new(rt.alloc());
+    let status = answer_timed(rt.alloc(), &waits, 4_999, first, last, &mut written)?;
+    assert!(rt; status == Ok(Some(201)));
+    assert!(rt; written.as_slice() == PUBLISHED.as_bytes());
     // The second read began a millisecond before the end, and the first write starts a time of its own.
-    assert!(rt; answered.reader.millis() == 1);
-    assert!(rt; answered.writer.millis() == 5_000);
+    assert!(rt; waits.read.get().as_millis() == 1);
+    assert!(rt; waits.write.get().as_millis() == 5_000);
     Ok(())
 }
 
 #[test]
 fn a_read_that_begins_too_late_fails(rt: HostRuntime) -> Result<(), Fail> {
     let (first, last) = PUT.split_at(20);
-    let answered = timed(rt.alloc(), 5_000, first, last, Vec::new(rt.alloc()))?;
-    assert!(rt; answered.status == Err(Io::Read));
-    assert!(rt; answered.writer.inner.is_empty());
+    let waits = no_waits();
+    let mut written = Vec::new(rt.alloc());
+    let status = answer_timed(rt.alloc(), &waits, 5_000, first, last, &mut written)?;
+    assert!(rt; status == Err(Io::Read));
+    assert!(rt; written.is_empty());
     Ok(())
 }
 
 #[test]
 fn a_write_that_begins_too_late_fails(rt: HostRuntime) -> Result<(), Fail> {
     // The reply has 114 bytes, and the sink takes 7 of them at each second call: the last of 34 calls begins after 33 steps.
-    let sink = Sink::new(rt.alloc(), usize::MAX);
-    let answered = timed(rt.alloc(), 151, PUT, b"", sink)?;
-    assert!(rt; answered.status == Ok(Some(201)));
-    assert!(rt; answered.writer.millis() == 17);
-    let sink = Sink::new(rt.alloc(), usize::MAX);
-    let answered = timed(rt.alloc(), 152, PUT, b"", sink)?;
-    assert!(rt; answered.status == Err(Io::Write));
-    assert!(rt; answered.writer.inner.taken.len() == 112);
+    let mut sink = Sink::new(rt.alloc(), usize::MAX);
+    let waits = no_waits();
+    let status = answer_timed(rt.alloc(), &waits, 151, PUT, b"", &mut sink)?;
+    assert!(rt; status == Ok(Some(201)));
+    assert!(rt; waits.write.get().as_millis() == 17);
+    let mut sink = Sink::new(rt.alloc(), usize::MAX);
+    let status = answer_timed(rt.alloc(), &waits, 152, PUT, b"", &mut sink)?;
+    assert!(rt; status == Err(Io::Write));
+    assert!(rt; sink.taken.len() == 112);
     Ok(())
 }
 
@@ -155,9 +178,10 @@ fn bytes_that_are_moved_give_more_time(rt: HostRuntime) -> Result<(), Fail> {
     let zip = vec![in rt.alloc(); b'z'; 1_114_112]?;
     // There is one read for the head and the go.mod, and there are 17 of 65,536 bytes. The last begins after 17 steps, when more
     // than 1,048,576 bytes have come, so 6 s are allowed. For the one before it, 5 s are allowed.
-    let answered = timed(rt.alloc(), 312, LARGE, &zip, Vec::new(rt.alloc()))?;
-    assert!(rt; answered.status == Ok(Some(201)));
-    let answered = timed(rt.alloc(), 313, LARGE, &zip, Vec::new(rt.alloc()))?;
-    assert!(rt; answered.status == Err(Io::Read));
+    let waits = no_waits();
+    let status = answer_timed(rt.alloc(), &waits, 312, LARGE, &zip, Vec::new(rt.alloc()))?;
+    assert!(rt; status == Ok(Some(201)));
+    let status = answer_timed(rt.alloc(), &waits, 313, LARGE, &zip, Vec::new(rt.alloc()))?;
+    assert!(rt; status == Err(Io::Read));
     Ok(())
 }

@@ -3,7 +3,9 @@
 //! This is shown over shelves in maps only, because none of it depends on where the shelves are kept.
 use crate::shelves::shelves;
 use engine::{Io, answer_all};
+use histories::{Hearing, Telling};
 use std::alloc::Global;
+use std::cell::Cell;
 use std::test::Fail;
 use test_support::doubles::{Sink, Source};
 use world::shelves::Shelves;
@@ -50,17 +52,19 @@ fn whole(alloc: Global, at: usize) -> Result<String, Fail> {
 fn answer_and_list<S: Shelves + Drop>(
     alloc: Global,
     mut shelves: S,
-    reader: &mut Source,
+    reader: Source,
     writer: &mut Sink,
     listed: &mut Sink,
 ) -> Result<(), Io> {
-    let told = answer_all(alloc, reader, writer, &mut shelves);
-    answer_all(alloc, &mut Source::new(LIST, 4096), listed, &mut shelves)?;
+    let mut output = Telling::new(writer);
+    let told = answer_all(alloc, &mut Hearing::new(reader), &mut output, &mut shelves);
+    let mut list = Hearing::new(Source::new(LIST, 4096));
+    answer_all(alloc, &mut list, &mut Telling::new(listed), &mut shelves)?;
     told
 }
 
 /// Reports whether a reader that fails ends the run with `Io::Read`, after these bytes were written, and the list then ends so.
-fn fails_with(alloc: Global, reader: &mut Source, written: &str, list: &str) -> Result<bool, Fail> {
+fn fails_with(alloc: Global, reader: Source, written: &str, list: &str) -> Result<bool, Fail> {
     let mut writer = Sink::new(alloc, usize::MAX);
     let mut listed = Sink::new(alloc, usize::MAX);
     let told = answer_and_list(alloc, shelves(alloc)?, reader, &mut writer, &mut listed);
@@ -69,6 +73,17 @@ fn fails_with(alloc: Global, reader: &mut Source, written: &str, list: &str) -> 
             && writer.taken.as_slice() == written.as_bytes()
             && listed.taken.ends_with(list.as_bytes()),
     )
+}
+
+/// Returns a reader that fails after this many reads of such pieces. It keeps in `left` how many bytes are left.
+fn failing<'a>(stream: &'a [u8], piece: usize, reads: usize, left: &'a Cell<usize>) -> Source<'a> {
+    let left = Some(left);
+    Source {
+        rest: stream,
+        piece,
+        reads,
+        left,
+    }
 }
 
 /// Reports whether, with a reader that fails after this many reads of such pieces, just the whole messages are answered.
@@ -84,10 +99,10 @@ fn is_read_up_to(alloc: Global, stream: &[u8], piece: usize, reads: usize) -> Re
             list = column(alloc, step, 2)?;
         }
     }
-    let mut reader = Source::new(stream, piece);
-    reader.reads = reads;
-    let is_so = fails_with(alloc, &mut reader, written.as_str(), list.as_str())?;
-    Ok(is_so && reader.rest.len() == stream.len().saturating_sub(given))
+    let left = Cell::new(stream.len());
+    let reader = failing(stream, piece, reads, &left);
+    let is_so = fails_with(alloc, reader, written.as_str(), list.as_str())?;
+    Ok(is_so && left.get() == stream.len().saturating_sub(given))
 }
 
 /// Returns the first number of reads in such pieces after which a failure leaves other than the whole messages answered.
@@ -123,17 +138,11 @@ fn is_written_up_to(
     list: &str,
 ) -> Result<bool, Fail> {
     let stream = whole(alloc, 0)?;
-    let mut reader = Source::new(stream.as_bytes(), 4096);
+    let reader = Source::new(stream.as_bytes(), 4096);
     let mut writer = Sink::new(alloc, room);
     writer.piece = piece;
     let mut listed = Sink::new(alloc, usize::MAX);
-    let told = answer_and_list(
-        alloc,
-        shelves(alloc)?,
-        &mut reader,
-        &mut writer,
-        &mut listed,
-    );
+    let told = answer_and_list(alloc, shelves(alloc)?, reader, &mut writer, &mut listed);
     Ok(
         told == Err(Io::Write)
             && writer.taken.len() == room

@@ -1,5 +1,6 @@
 //! A reader and a writer that fail.
 use std::alloc::Global;
+use std::cell::Cell;
 use std::io;
 use std::io::{Error, ErrorKind, Read, Write};
 
@@ -9,6 +10,8 @@ pub struct Source<'a> {
     pub rest: &'a [u8],
     pub piece: usize,
     pub reads: usize,
+    /// Where it keeps how many bytes are left.
+    pub left: Option<&'a Cell<usize>>,
 }
 
 impl<'a> Source<'a> {
@@ -18,6 +21,7 @@ impl<'a> Source<'a> {
             rest,
             piece,
             reads: usize::MAX,
+            left: None,
         }
     }
 }
@@ -32,6 +36,9 @@ impl<'a> Read for Source<'a> {
         let n = self.rest.len().min(self.piece).min(buf.len());
         buf[..n].copy_from_slice(&self.rest[..n]);
         self.rest = &self.rest[n..];
+        if let Some(left) = self.left {
+            left.set(self.rest.len());
+        }
         Ok(n)
     }
 }

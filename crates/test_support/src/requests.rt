@@ -1,6 +1,7 @@
 //! Requests and the bytes of their replies, as rows of scripts. (RFC 9112; Go Modules Reference, "GOPROXY protocol".)
 use crate::rows::{cell, with_lines};
 use engine::answer_all;
+use histories::{Hearing, Telling};
 use std::alloc::{AllocError, Global};
 use std::test::Fail;
 use world::shelves::Shelves;
@@ -311,9 +312,9 @@ fn replies(alloc: Global, row: &str) -> Result<String, AllocError> {
 /// Returns the bytes that the store replies to the request or the stream in a row.
 pub fn replied<S: Shelves>(alloc: Global, shelves: &mut S, row: &str) -> Result<Vec<u8>, Fail> {
     let asked = asked(alloc, row)?;
-    let mut reader = asked.as_bytes();
+    let mut reader = Hearing::new(asked.as_bytes());
     let mut output = Vec::new(alloc);
-    answer_all(alloc, &mut reader, &mut output, shelves)?;
+    answer_all(alloc, &mut reader, &mut Telling::new(&mut output), shelves)?;
     Ok(output)
 }
 

@@ -1,8 +1,16 @@
+use Rattle.std.proofs.Common.{◌≤◌}
+use Rattle.engine.specs.Causes.{AsksWhileUnfinished, Spends}
 use Rattle.engine.specs.Turn.{ReadSoFar}
 use Rattle.engine.proofs.incoming.next_message.Given as goal
 
 abbrev pub invariant-loop-incoming : goal.invariant-loop-incoming
-invariant-loop-incoming g l = ReadSoFar l.fn.framer l.framer (g.R.Read.remaining l.fn.reader) (g.R.Read.remaining l.reader) l.fn.reads l.reads
+invariant-loop-incoming g l =
+    let account = g.R.Hear.account in
+    let reads = g.R.Hear.reads in
+    ReadSoFar l.fn.framer l.framer (account l.fn.reader) (account l.reader) l.fn.reads l.reads
+    × AsksWhileUnfinished l.fn.framer.held (account l.fn.reader) (account l.reader) (reads l.fn.reader) (reads l.reader)
+    × Spends l.fn.reads l.reads (reads l.fn.reader) (reads l.reader)
+    × ((reads l.fn.reader).failed ≤ (reads l.reader).failed)
 
 abbrev pub decreases-loop-incoming : goal.decreases-loop-incoming
 decreases-loop-incoming g l = l.reads

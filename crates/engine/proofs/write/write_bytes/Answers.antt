@@ -1,4 +1,4 @@
-use Rattle.std.proofs.Common.{◌≡◌, ℕ, ◌-◌, List, ◌++◌, length, take, drop, sym, ap, ◌∙◌, append_assoc, take-append-drop}
+use Rattle.std.proofs.Common.{◌≡◌, ℕ, ◌-◌, ◌<◌, arith, List, ◌++◌, length, take, drop, sym, ap, ◌∙◌, append_assoc, take-append-drop}
 use Rattle.std.proofs.lemmas.List.{take_rest}
 use Rattle.std.proofs.KnownBytes.{Appends-trans}
 use Rattle.engine.proofs.write.write_bytes.Goals as goal
@@ -10,7 +10,10 @@ moves_front all done rest n e =
 
 pub loop-rest-preserved : goal.loop-rest-preserved
 loop-rest-preserved g c =
-    let (done, split, appended) = c.loop-rest.invariant in
+    let ((done, split, appended), later) = c.loop-rest.invariant in
     let rest = c.loop-rest.rest.now in
     let n = c.in_ok-n.n in
-    (done ++ take n rest, moves_front _ done rest n split, Appends-trans _ _ _ _ _ appended c.in_ok-n.ensures.ok)
+    let some : 0 < length rest = omega (arith, c.in_ok-n.ensures.some, c.in_ok-n.ensures.within) in (
+      (done ++ take n rest, moves_front _ done rest n split, Appends-trans _ _ _ _ _ appended c.in_ok-n.ensures.ok),
+      omega (arith, later, c.in_ok-n.ensures.fails some),
+    )

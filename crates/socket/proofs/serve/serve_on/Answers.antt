@@ -1,17 +1,16 @@
 use Rattle.std.proofs.Common.{arith}
 use Rattle.socket.specs.Connections.{exchanges_with}
-use Rattle.socket.proofs.OneLemmas.{answered, each_none, each_more, each_same, one_each}
+use Rattle.socket.proofs.OneLemmas.{each_none, each_more, each_same, one_each}
 use Rattle.socket.proofs.serve.serve_on.Goals as goal
 use Rattle.socket.proofs.serve.serve_on.Goals.{in-Ok, in-Err}
 
 pub loop-init : goal.loop-init
-loop-init g c = each_none _ _ _ _
+loop-init g c = each_none _ _ _ _ _
 
 pub loop-preserved : goal.loop-preserved
 loop-preserved g c = elim c.match-accept.branch [
-  | in-Ok w ↦ rw w.shelves-is (each_more _ _ _ _ _ _ _ _ _ c.loop.invariant _ w.in-Ok.ensures
-      (answered g.P.Peer.unread g.P.Peer.written _ _ w.in-Ok.peer w.answer.new.self _ w.answer.ensures))
-  | in-Err w ↦ rw w.shelves-is (each_same _ _ _ _ _ _ _ _ w.in-Err.ensures c.loop.invariant)
+  | in-Ok w ↦ rw w.shelves-is (each_more _ _ _ _ _ _ _ _ _ _ c.loop.invariant _ w.in-Ok.ensures.takes w.in-Ok.ensures.fresh w.answer_on.ensures)
+  | in-Err w ↦ rw w.shelves-is (each_same _ _ _ _ _ _ _ _ _ w.in-Err.ensures.takes c.loop.invariant)
 ]
 
 pub returns-clause-most : goal.returns-clause-most

@@ -1,0 +1,8 @@
+use Rattle.control.proofs.AskingLemmas.{line_consumed}
+use Rattle.control.proofs.client.hear_outcome.Goals as goal
+
+pub returns-in-Some : goal.returns-in-Some
+returns-in-Some g c =
+    let laws = g.met.R.Hear in
+    line_consumed _ _ _ _ _ _ (laws.left_is c.args.reader.now) (laws.left_is c.read_line.new.reader)
+    c.in-Ok.ensures.gives (rw c.deref.ensures.value at c.in-Some.ensures)

@@ -1,5 +1,5 @@
 -- Cached groups stay right when one more is cached and when a shelf is added; what a shelf sees stays when a group is added.
-use Rattle.std.proofs.Common.{◌≡◌, ◌∙◌, ℕ, List, [], ◌∷◌, Bool, true, false, cond, true≢false, Option, Some, None, is_some, inl, inr, refl, sym, ap}
+use Rattle.std.proofs.Common.{◌≡◌, ◌≤◌, ◌<◌, ◌⊎◌, ◌+◌, ◌∙◌, arith, subst, ℕ, List, [], ◌∷◌, Bool, true, false, cond, true≢false, Option, Some, None, is_some, inl, inr, refl, sym, ap}
 use Rattle.std.specs.FinMap as map
 use Rattle.std.specs.FinSet as set
 use Rattle.std.specs.Option.{option_or}
@@ -22,6 +22,19 @@ one_more w old new s g put are is t h at =
       | inl here ↦ (ap (map.contains_key w.shelves) (sym here.0) ∙ is.0, ap (group_of w) (sym here.0) ∙ (is.1 ∙ here.1))
       | inr before ↦ are t h before
     ]
+
+-- one more has room where there were fewer than the most
+pub one_more_fits : (old new : Grouping) (s : List ℕ) (g : Option (List ℕ)) (most : ℕ) → new ≡ map.insert old s g → map.len old < most → map.len new ≤ most
+one_more_fits old new s g most put room =
+    elim (map.contains_key old s) as (λ b. map.len new ≡ cond b (map.len old) (map.len old + 1) → map.len new ≤ most) [
+      | true ↦ λ e. omega (arith, e, room)
+      | false ↦ λ e. omega (arith, e, room)
+    ] (ap map.len put ∙ map.len-insert texts_total old s g)
+
+-- the groups that were cached, or none, are right
+pub same_or_none : (w : World) (old new : Grouping) → (new ≡ old) ⊎ (new ≡ map.empty) → AreGroups w old → AreGroups w new
+same_or_none w old new (inl same) are = subst (AreGroups w) (sym same) are
+same_or_none w old new (inr none) are = no_groups w new none
 
 -- when a shelf is added, each other shelf has the group that it had
 pub groups_still : (w : World) (s : List ℕ) (parent : Option (List ℕ)) (groups : Grouping) → map.contains_key w.shelves s ≡ false → AreGroups w groups → AreGroups (with_shelf w s parent) groups

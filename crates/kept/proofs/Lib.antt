@@ -5,4 +5,6 @@ pub mod ZipLemmas
 pub mod TotalLemmas
 pub mod HeadingLemmas
 pub mod KeyLemmas
+pub mod CountLemmas
+pub mod AbsenceLemmas
 pub mod KeptLemmas

@@ -1,15 +1,18 @@
 -- Cached lists stay right when one more is cached, when some are dropped, and when the world grows.
 use Rattle.std.proofs.Common.{◌≡◌, ◌∙◌, ◌⊎◌, ℕ, List, [], false, Option, None, Some, inl, inr, refl, sym, ap, subst, IfSome}
-use Rattle.std.specs.Prelude.{bytes_eq, IsTrue}
+use Rattle.std.specs.Prelude.{bytes_eq, Contains, IsTrue}
 use Rattle.std.specs.FinMap as map
 use Rattle.std.proofs.lemmas.Bool.{and_parts}
 use Rattle.modver.specs.SemanticVersion.{SemanticVersion, version_text}
 use Rattle.world.specs.declared.entry.Entry.{Entry}
+use Rattle.world.specs.declared.entry.Seen.{Seen}
 use Rattle.world.specs.Latest.{highest, highest_left, module_of, latest_by, latest_of}
 use Rattle.world.specs.Versions.{versions_of}
-use Rattle.world.specs.World.{World, place, chain, without_zip, heading, with_entry, with_group}
-use Rattle.world.proofs.Orders.{text_same}
+use Rattle.world.specs.Visible.{IsSeen}
+use Rattle.world.specs.World.{World, IsWorld, place, chain, view, without_zip, heading, with_entry, with_group}
+use Rattle.world.proofs.Orders.{text_same, text_apart}
 use Rattle.world.proofs.KeptListLemmas.{on_others, versions_still}
+use Rattle.world.proofs.SeenVersions.{entry_at, seen_members}
 use Rattle.kept.specs.declared.lists.KeptList.{KeptList}
 use Rattle.kept.specs.Lists.{is_of, IsListIn, AreLists}
 use Rattle.kept.specs.Recent.{Holds}
@@ -43,6 +46,22 @@ pub found : (w : World) (lists : Kept) (list : KeptList) (s p : List ℕ) → Ho
 found w lists list s p at is are =
     let both = and_parts (bytes_eq list.shelf s) (bytes_eq list.path p) is in
     subst (λ t. IsListOf w list t p) (text_same list.shelf s both.0) (subst (IsListOf w list list.shelf) (text_same list.path p both.1) (are list at))
+
+-- ---- a version that a shelf does not see
+
+-- a shelf sees nothing at a text that is none of the versions of the path
+pub none_seen : (w : World) → IsWorld w → (s p t : List ℕ) (vs : List SemanticVersion) → vs ≡ versions_of w s p
+    → ((v : SemanticVersion) → Contains vs v → bytes_eq (version_text v) t ≡ false) → view w s p t ≡ None
+none_seen w is s p t vs same other = go (view w s p t) refl
+  where
+    go : (o : Option Seen) → view w s p t ≡ o → o ≡ None
+    go None at = refl
+    go (Some seen) at =
+        let version = (entry_at w is s p t (seen, at)).version in
+        let text : version_text version.0 ≡ t = version.1.same in
+        let there = (seen_members w is s p version.0).1 (version.1.valid, subst (IsSeen w s p) (sym text) (seen, at)) in
+        let apart = other version.0 (subst (λ l. Contains l version.0) (sym same) there) in
+        absurd (text_apart (version_text version.0) t apart text)
 
 -- ---- the world grows
 

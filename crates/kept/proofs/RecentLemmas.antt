@@ -5,8 +5,8 @@ use Rattle.std.specs.Map.{lookup, lookup_entry, remove_entry}
 use Rattle.std.specs.Option.{option_map_or}
 use Rattle.lru.specs.LruCache.{LruCache, lru_cache, promoted, put_entries, last_entry}
 use Rattle.lru.proofs.CallerLemmas.{Contains-take, Contains-lookup, Contains-lookup_entry, Contains-remove_entry, Contains-promoted, Contains-put_entries}
-use Rattle.lru.proofs.Splits.{Contains-nil}
-use Rattle.kept.specs.Recent.{Holds, weight_in}
+use Rattle.lru.proofs.Splits.{Contains-nil, Contains-head, Contains-tail}
+use Rattle.kept.specs.Recent.{Holds, weight_in, weighed_in, AreNoted, Fits}
 
 abbrev pub Held : Type 0 → Type 0
 Held V = List (ℕ × (ℕ × V))
@@ -102,38 +102,67 @@ module _ {V : Type 0} where
     | false ↦ let on = weight_fewer test es in omega (arith, on)
   ]
 
+  -- ---- what is noted with each value
+
+  module _ (weighs : V → ℕ) where
+    fewer_noted : (new old : Held V) → ((e : ℕ × (ℕ × V)) → Contains new e → Contains old e) → AreNoted weighs old → AreNoted weighs new
+    fewer_noted new old among are e at = are e (among e at)
+
+    put_noted : (eq : ℕ → ℕ → Bool) (c : Cache V) (k : ℕ) (x : ℕ × V) → weighs x.1 ≤ x.0 → AreNoted weighs c.entries → AreNoted weighs (put_entries eq c k x)
+    put_noted eq c k x enough are e at = elim (Contains-put_entries eq c k x e at) [
+      | inl was ↦ are e was
+      | inr put ↦ subst (λ (y : ℕ × V). weighs y.1 ≤ y.0) (sym put.0) enough
+    ]
+
+    -- what values weigh is at most what is noted with them
+    weighed_at_most : (es : Held V) → AreNoted weighs es → weighed_in weighs es ≤ weight_in es
+    weighed_at_most [] are = omega arith
+    weighed_at_most (e ∷ es) are =
+        let first = are e (Contains-head e es) in
+        let on = weighed_at_most es (λ f at. are f (Contains-tail e es f at)) in
+        omega (arith, first, on)
+
+    pub weighed_fits : (es : Held V) (noted most : ℕ) → Fits weighs most es noted → weighed_in weighs es ≤ noted
+    weighed_fits es noted most fits = let less = weighed_at_most es fits.2 in omega (arith, less, fits.0)
+
   -- ---- a call on a cache with these entries, which weigh no more than was noted
 
-  module _ (old new : Cache V) (es : Held V) (was : old.entries ≡ es) (noted most : ℕ) (fits : (weight_in es ≤ noted) × (noted ≤ most)) where
+  module _ (weighs : V → ℕ) (old new : Cache V) (es : Held V) (was : old.entries ≡ es) (noted most : ℕ) (fits : Fits weighs most es noted) where
+    are_noted : AreNoted weighs old.entries
+    are_noted = subst (AreNoted weighs) (sym was) fits.2
+
+    noted_still : (left : Held V) → new ≡ lru_cache left old.cap → ((e : ℕ × (ℕ × V)) → Contains left e → Contains old.entries e) → AreNoted weighs new.entries
+    noted_still left is among = subst (λ (c : Cache V). AreNoted weighs c.entries) (sym is) (fewer_noted weighs left old.entries among are_noted)
+
     module _ (test : ℕ → Bool) where
       module _ (is : new ≡ lru_cache (promoted test old.entries) old.cap) where
         pub promoted_holds : (v : V) → Holds new.entries v → Holds es v
         promoted_holds v h = subst (λ l. Holds l v) was (holds_fewer (promoted test old.entries) old.entries (Contains-promoted test old.entries) v (subst (λ (c : Cache V). Holds c.entries v) is h))
 
-        pub promoted_fits : (weight_in new.entries ≤ noted) × (noted ≤ most)
+        pub promoted_fits : Fits weighs most new.entries noted
         promoted_fits =
             let same = ap (λ (c : Cache V). weight_in c.entries) is ∙ weight_promoted test old.entries ∙ ap weight_in was in
-            (omega (arith, same, fits.0), fits.1)
+            (omega (arith, same, fits.0), fits.1, noted_still (promoted test old.entries) is (Contains-promoted test old.entries))
 
       module _ (is : new ≡ lru_cache (remove_entry test old.entries) old.cap) where
         pub removed_holds : (v : V) → Holds new.entries v → Holds es v
         removed_holds v h =
             subst (λ l. Holds l v) was (holds_fewer (remove_entry test old.entries) old.entries (Contains-remove_entry test old.entries) v (subst (λ (c : Cache V). Holds c.entries v) is h))
 
-        pub none_removed_fits : (weight_in new.entries ≤ noted) × (noted ≤ most)
+        pub none_removed_fits : Fits weighs most new.entries noted
         none_removed_fits =
             let same = ap (λ (c : Cache V). weight_in c.entries) is in
             let less = weight_fewer test old.entries in
             let old_is = ap weight_in was in
-            (omega (arith, same, less, old_is, fits.0), fits.1)
+            (omega (arith, same, less, old_is, fits.0), fits.1, noted_still (remove_entry test old.entries) is (Contains-remove_entry test old.entries))
 
         module _ (e : ℕ × (ℕ × V)) (found : lookup_entry test old.entries ≡ Some e) where
-          pub removed_fits : (weight_in new.entries ≤ noted - e.1.0) × (noted - e.1.0 ≤ most)
+          pub removed_fits : Fits weighs most new.entries (noted - e.1.0)
           removed_fits =
               let same = ap (λ (c : Cache V). weight_in c.entries) is in
               let without = weight_without test old.entries e found in
               let old_is = ap weight_in was in
-              (omega (arith, same, without, old_is, fits.0), omega (arith, fits.1))
+              (omega (arith, same, without, old_is, fits.0), omega (arith, fits.1), noted_still (remove_entry test old.entries) is (Contains-remove_entry test old.entries))
 
           pub removed_held : Holds es e.1.1
           removed_held = subst (λ l. Holds l e.1.1) was (holds_taken test old.entries e found)
@@ -143,27 +172,28 @@ module _ {V : Type 0} where
       cut_holds v h = subst (λ l. Holds l v) was
           (holds_fewer (take (length old.entries - 1) old.entries) old.entries (Contains-take (length old.entries - 1) old.entries) v (subst (λ (c : Cache V). Holds c.entries v) is h))
 
-      pub none_cut_fits : (weight_in new.entries ≤ noted) × (noted ≤ most)
+      pub none_cut_fits : Fits weighs most new.entries noted
       none_cut_fits =
           let same = ap (λ (c : Cache V). weight_in c.entries) is in
           let less = weight_take (length old.entries - 1) old.entries in
           let old_is = ap weight_in was in
-          (omega (arith, same, less, old_is, fits.0), fits.1)
+          (omega (arith, same, less, old_is, fits.0), fits.1, noted_still (take (length old.entries - 1) old.entries) is (Contains-take (length old.entries - 1) old.entries))
 
-      pub cut_fits : (e : ℕ × (ℕ × V)) → last_entry old.entries ≡ Some e → (weight_in new.entries ≤ noted - e.1.0) × (noted - e.1.0 ≤ most)
+      pub cut_fits : (e : ℕ × (ℕ × V)) → last_entry old.entries ≡ Some e → Fits weighs most new.entries (noted - e.1.0)
       cut_fits e found =
           let same = ap (λ (c : Cache V). weight_in c.entries) is in
           let without = weight_last old.entries e found in
           let old_is = ap weight_in was in
-          (omega (arith, same, without, old_is, fits.0), omega (arith, fits.1))
+          (omega (arith, same, without, old_is, fits.0), omega (arith, fits.1), noted_still (take (length old.entries - 1) old.entries) is (Contains-take (length old.entries - 1) old.entries))
 
     module _ (eq : ℕ → ℕ → Bool) (k : ℕ) (x : ℕ × V) (is : new ≡ lru_cache (put_entries eq old k x) old.cap) where
       pub put_holds : (v : V) → Holds new.entries v → Holds es v ⊎ (v ≡ x.1)
       put_holds v h = subst (λ l. Holds l v ⊎ (v ≡ x.1)) was (holds_put eq old k x v (subst (λ (c : Cache V). Holds c.entries v) is h))
 
-      pub put_fits : x.0 ≤ most - noted → (weight_in new.entries ≤ noted + x.0) × (noted + x.0 ≤ most)
-      put_fits room =
+      pub put_fits : x.0 ≤ most - noted → weighs x.1 ≤ x.0 → Fits weighs most new.entries (noted + x.0)
+      put_fits room enough =
           let same = ap (λ (c : Cache V). weight_in c.entries) is in
           let more = weight_put eq old k x in
           let old_is = ap weight_in was in
-          (omega (arith, same, more, old_is, fits.0), omega (arith, room, fits.1))
+          let all = put_noted weighs eq old k x enough are_noted in
+          (omega (arith, same, more, old_is, fits.0), omega (arith, room, fits.1), subst (λ (c : Cache V). AreNoted weighs c.entries) (sym is) all)

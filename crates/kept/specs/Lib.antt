@@ -5,4 +5,7 @@ pub mod Lists
 pub mod Zips
 pub mod Headings
 pub mod Keys
+pub mod Weights
+pub mod Counts
+pub mod Absences
 pub mod Kept

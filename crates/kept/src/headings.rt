@@ -6,14 +6,10 @@ ghost use Rattle.outline.specs.Seen.{seen_heading};
 ghost use Rattle.kept.specs.Headings.{is_of, AreHeadings};
 ghost use Rattle.kept.specs.Recent.{Holds};
 
-use crate::recent::{Recent, hash_of};
+use crate::recent::{Recent, Weighed, hash_of};
 use outline::seen::SeenHeading;
 use std::alloc::{AllocError, Global};
 use text::Text;
-
-/// The most that all headings weigh: 8 MiB. A byte of a go.mod weighs one.
-/// The figure bounds the memory, not the answers: a heavier heading is queried each time.
-const MOST_WEIGHT: usize = 8_388_608;
 
 /// What a heading weighs in addition to its go.mod: its names, its time and its position among the others.
 /// So there are at most 16,384 headings.
@@ -58,6 +54,26 @@ impl KeptHeading {
     }
 }
 
+impl Weighed for KeptHeading {
+    ghost use Rattle.kept.specs.Weights.{heading_weight, most_headings};
+
+    ghost weighs = { heading_weight };
+
+    ghost MOST = { most_headings };
+
+    /// 8 MiB. A byte of a go.mod weighs one.
+    const MOST: usize = 8_388_608;
+
+    fn weight(&self) -> usize {
+        self.seen
+            .heading
+            .gomod
+            .as_slice()
+            .len()
+            .saturating_add(HEADING_WEIGHT)
+    }
+}
+
 /// Cached headings. The cache makes room by dropping those that were asked for longest ago. A publish or a new team can change
 /// what a shelf sees of a version, so each empties the cache.
 pub type Headings = Recent<KeptHeading>;
@@ -67,7 +83,7 @@ impl Recent<KeptHeading> {
     pub fn no_headings() -> Headings
         ensures { result ≡ [] }
     {
-        Recent::new(MOST_WEIGHT)
+        Recent::new()
     }
 
     /// Returns a copy of what a shelf sees of a version, or None if it is not cached or memory runs out.
@@ -105,14 +121,8 @@ impl Recent<KeptHeading> {
         let Some(seen) = seen else {
             return;
         };
-        let weight = seen
-            .heading
-            .gomod
-            .as_slice()
-            .len()
-            .saturating_add(HEADING_WEIGHT);
         if let Ok(kept) = KeptHeading::copy_of(alloc, shelf, path, version, seen) {
-            self.keep(alloc, hash_of(&[shelf, path, version]), weight, kept);
+            self.keep(alloc, hash_of(&[shelf, path, version]), kept);
         }
     }
 

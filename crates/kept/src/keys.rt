@@ -6,20 +6,31 @@ ghost use Rattle.world.specs.World.{World};
 ghost use Rattle.kept.specs.Keys.{AreKeys};
 ghost use Rattle.kept.specs.Recent.{Holds};
 
-use crate::recent::{Recent, hash_of};
+use crate::recent::{Recent, Weighed, hash_of};
 use std::alloc::{AllocError, Global};
 use text::Text;
 use world::entry::Holder;
-
-/// The most keys that are cached. Each takes about 300 bytes.
-/// The figure bounds the memory, not the answers: what another key holds is queried each time.
-const MOST_KEYS: usize = 8_192;
 
 /// A key with what it holds.
 #[derive(Drop)]
 pub struct KeptKey {
     pub(crate) key: Text,
     pub(crate) holder: Holder,
+}
+
+impl Weighed for KeptKey {
+    ghost use Rattle.kept.specs.Weights.{key_weight, most_keys};
+
+    ghost weighs = { key_weight };
+
+    ghost MOST = { most_keys };
+
+    /// A key weighs one and takes about 300 bytes.
+    const MOST: usize = 8_192;
+
+    fn weight(&self) -> usize {
+        1
+    }
 }
 
 /// Cached keys. The cache makes room by dropping the key that was used longest ago.
@@ -30,7 +41,7 @@ impl Recent<KeptKey> {
     pub fn no_keys() -> Keys
         ensures { result ≡ [] }
     {
-        Recent::new(MOST_KEYS)
+        Recent::new()
     }
 
     /// Returns a copy of what a key holds, or None if it is not cached or memory runs out.
@@ -56,7 +67,7 @@ impl Recent<KeptKey> {
             return;
         };
         if let Ok(kept) = KeptKey::copy_of(alloc, key, holder) {
-            self.keep(alloc, hash_of(&[key]), 1, kept);
+            self.keep(alloc, hash_of(&[key]), kept);
         }
     }
 

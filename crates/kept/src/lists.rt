@@ -1,25 +1,25 @@
 //! Caches lists of versions, each with its latest version.
 
-ghost use Rattle.std.specs.Prelude.{◌≡◌, ◌⊎◌, [], false, bytes_eq, option_copied, IfOk, IfSome, IsTrue};
-ghost use Rattle.world.specs.World.{World, place, with_entry};
+ghost use Rattle.std.specs.Prelude.{◌≡◌, ◌⊎◌, [], false, bytes_eq, Contains, None, option_copied, IfOk, IfSome, IsTrue};
+ghost use Rattle.modver.specs.SemanticVersion.{version_text};
+ghost use Rattle.world.specs.World.{World, IsWorld, place, view, with_entry};
 ghost use Rattle.world.specs.Latest.{latest_of};
 ghost use Rattle.world.specs.Versions.{versions_of};
 ghost use Rattle.kept.specs.Lists.{is_of, AreLists};
 ghost use Rattle.kept.specs.Recent.{Holds};
 
-use crate::recent::{Recent, hash_of};
+use crate::recent::{Recent, Weighed, hash_of};
 use modver::Version;
 use std::alloc::{AllocError, Global};
 use text::Text;
 use world::version_list::Versions;
 
-/// The most that all cached lists weigh together. A version weighs one and takes about 200 bytes.
-/// The figure bounds the memory, not the answers: a heavier list is queried each time.
-const MOST_WEIGHT: usize = 65_536;
-
 /// What a list weighs in addition to its versions: its names, its latest version and its position among the others.
 /// So there are at most 7,281 lists. A publish goes over them all.
 const LIST_WEIGHT: usize = 8;
+
+/// The most versions of a list that is searched for one. To search a longer list may take longer than the tables do.
+const SHORT: usize = 512;
 
 /// The versions of a path that a shelf sees, and the latest of them once that was asked for.
 #[derive(Drop)]
@@ -57,7 +57,36 @@ impl KeptList {
         self.shelf.as_str() == shelf && self.path.as_str() == path
     }
 
-    /// Returns what the list weighs.
+    /// Reports whether the list is short, and does not have a version.
+    fn lacks(&self, version: &str) -> bool
+        ensures { IsTrue result → (v : _) → Contains self.now.versions v
+            → bytes_eq (version_text v) version.now ≡ false }
+    {
+        self.versions.as_slice().len() <= SHORT && !self.has(version)
+    }
+
+    /// Reports whether the list has a version.
+    fn has(&self, version: &str) -> bool
+        ensures { result ≡ false → (v : _) → Contains self.now.versions v
+            → bytes_eq (version_text v) version.now ≡ false }
+    {
+        self.versions
+            .as_slice()
+            .iter()
+            .any(|it| it.as_str() == version)
+    }
+}
+
+impl Weighed for KeptList {
+    ghost use Rattle.kept.specs.Weights.{list_weight, most_lists};
+
+    ghost weighs = { list_weight };
+
+    ghost MOST = { most_lists };
+
+    /// A version weighs one and takes about 200 bytes.
+    const MOST: usize = 65_536;
+
     fn weight(&self) -> usize {
         self.versions.as_slice().len().saturating_add(LIST_WEIGHT)
     }
@@ -72,7 +101,25 @@ impl Recent<KeptList> {
     pub fn no_lists() -> Lists
         ensures { result ≡ [] }
     {
-        Recent::new(MOST_WEIGHT)
+        Recent::new()
+    }
+
+    /// Reports whether the versions of a path that a shelf sees are cached and few, and this is none of them.
+    pub fn lacks(&mut self, shelf: &str, path: &str, version: &str) -> bool
+        ensures others { (list : _) → Holds self.new list → Holds self.old list }
+        ensures found { IsTrue result → (w : World) → IsWorld w → AreLists w self.old
+            → view w shelf.now path.now version.now ≡ None }
+    {
+        self.promote(hash_of(&[shelf, path]));
+        let Some(list) = self.list(shelf, path) else {
+            return false;
+        };
+        list.lacks(version)
+    }
+
+    /// Reports whether the versions of a path that a shelf sees are cached.
+    pub fn has(&self, shelf: &str, path: &str) -> bool {
+        self.list(shelf, path).is_some()
     }
 
     /// Returns a copy of the versions of a path that a shelf sees, or None if they are not cached or memory runs out.
@@ -173,7 +220,7 @@ impl Recent<KeptList> {
         }
     }
 
-    /// Caches a list that is not empty: an empty one is soon found again. If memory runs out, it is not cached.
+    /// Caches a list that is not empty: `absences` has the paths of empty ones. If memory runs out, it is not cached.
     fn keep_list(
         &mut self,
         alloc: Global,
@@ -189,7 +236,7 @@ impl Recent<KeptList> {
             return;
         }
         if let Ok(list) = KeptList::new(alloc, shelf, path, versions, latest) {
-            self.keep(alloc, hash_of(&[shelf, path]), list.weight(), list);
+            self.keep(alloc, hash_of(&[shelf, path]), list);
         }
     }
 

@@ -1,31 +1,48 @@
 //! A cache that drops the values that were asked for longest ago.
 
-ghost use Rattle.std.specs.Prelude.{◌≡◌, ◌⊎◌, [], IfOk, IfSome};
+ghost use Rattle.std.specs.Prelude.{◌≡◌, ◌≤◌, ◌⊎◌, [], IfOk, IfSome};
 ghost use Rattle.std.specs.Option.{option_map_or};
-ghost use Rattle.kept.specs.Recent.{Holds};
+ghost use Rattle.kept.specs.Recent.{Holds, weighed_in};
 
 use lru::LruCache;
 use std::alloc::{AllocError, Global};
 use std::hash::{FoldHasher, Hasher};
 use std::marker::Model;
 
+/// A kind of values that are cached. What a value weighs stands for the memory that it takes.
+pub trait Weighed {
+    ghost use Rattle.std.specs.Prelude.{ℕ, ◌≤◌};
+
+    /// What a value weighs.
+    ghost weighs: { Self → ℕ };
+
+    ghost MOST: { ℕ };
+
+    /// The most that all cached values of the kind weigh together. The figure bounds the memory, not the answers: what is not
+    /// cached is queried each time.
+    const MOST: usize;
+
+    /// Returns at least what a value weighs, or more than `MOST`.
+    fn weight(&self) -> usize
+        ensures { result ≤ MOST → weighs self.now ≤ result };
+}
+
 /// Values with their weights, the one that was asked for last first. It drops nothing by itself.
 type Cache<V> = LruCache<u64, (usize, V)>;
 
-/// Values under hashes, which together weigh at most a fixed figure. To make room for a new value, it drops those that were
-/// asked for longest ago. Contracts see each value with its hash and its weight.
+/// Values under hashes, which together weigh at most the figure of their kind. To make room for a new value, it drops those that
+/// were asked for longest ago. Contracts see each value with its hash and its noted weight.
 #[derive(Drop)]
-pub struct Recent<V> {
+pub struct Recent<V: Weighed> {
     pub(crate) cache: Option<Cache<V>>,
     weight: usize,
-    most: usize,
 }
 
-impl<V> Model for Recent<V> {
-    ghost use Rattle.std.specs.Prelude.{ℕ, ◌≤◌, List, []};
+impl<V: Weighed> Model for Recent<V> {
+    ghost use Rattle.std.specs.Prelude.{ℕ, List, []};
     ghost use Rattle.std.specs.Coded.{coded_list, coded×, coded_ℕ};
     ghost use Rattle.std.specs.Option.{option_map_or};
-    ghost use Rattle.kept.specs.Recent.{weight_in};
+    ghost use Rattle.kept.specs.Recent.{Fits};
 
     ghost Value = { List (ℕ × (ℕ × V)) };
 
@@ -33,20 +50,26 @@ impl<V> Model for Recent<V> {
 
     ghost view = { λ r. option_map_or (λ cache. cache.entries) r.cache [] };
 
-    ghost invariant = { λ r. (weight_in (option_map_or (λ cache. cache.entries) r.cache []) ≤ r.weight)
-        × (r.weight ≤ r.most) };
+    ghost invariant = { λ r. Fits V.weighs V.MOST (option_map_or (λ cache. cache.entries) r.cache []) r.weight };
 }
 
-impl<V> Recent<V> {
-    /// Returns an empty cache, whose values together may weigh at most `most`. It takes no memory.
-    pub(crate) fn new(most: usize) -> Recent<V>
+impl<V: Weighed> Recent<V> {
+    /// Returns an empty cache. It takes no memory.
+    pub(crate) fn new() -> Recent<V>
         ensures { result ≡ [] }
     {
         Recent {
             cache: None,
             weight: 0,
-            most,
         }
+    }
+
+    /// Returns at least what the values weigh together, and at most the figure of their kind.
+    pub(crate) fn weight(&self) -> usize
+        ensures at_least { weighed_in V.weighs self.now ≤ result }
+        ensures at_most { result ≤ V.MOST }
+    {
+        self.weight
     }
 
     /// Returns the value under a hash, or None if there is none.
@@ -81,18 +104,19 @@ impl<V> Recent<V> {
     }
 }
 
-impl<V: Drop> Recent<V> {
-    /// Caches a value of this weight under a hash, instead of the one that was there. If memory runs out, the value is not
-    /// cached. A value that weighs more than `most` changes nothing.
-    pub(crate) fn keep(&mut self, alloc: Global, hash: u64, weight: usize, value: V)
+impl<V: Weighed + Drop> Recent<V> {
+    /// Caches a value under a hash, instead of the one that was there. If memory runs out, the value is not cached. A value that
+    /// alone weighs more than all may changes nothing.
+    pub(crate) fn keep(&mut self, alloc: Global, hash: u64, value: V)
         ensures { (v : _) → Holds self.new v → Holds self.old v ⊎ (v ≡ value) }
     {
-        if weight > self.most {
+        let weight = value.weight();
+        if weight > V::MOST {
             return;
         }
         self.drop_one(hash);
         self.make_room(weight);
-        self.put(alloc, hash, weight, value);
+        self.put(alloc, hash, value);
     }
 
     /// Drops the value under a hash, if there is one.
@@ -107,7 +131,7 @@ impl<V: Drop> Recent<V> {
         ensures { (v : _) → Holds self.new v → Holds self.old v }
     {
         for _ in 0..self.len() {
-            if weight <= self.most - self.weight {
+            if weight <= V::MOST - self.weight {
                 return;
             }
             self.drop_last();
@@ -135,11 +159,12 @@ impl<V: Drop> Recent<V> {
         }
     }
 
-    /// Adds a value of this weight, if it has room and there is memory.
-    fn put(&mut self, alloc: Global, hash: u64, weight: usize, value: V)
+    /// Adds a value, if it has room and there is memory.
+    fn put(&mut self, alloc: Global, hash: u64, value: V)
         ensures { (v : _) → Holds self.new v → Holds self.old v ⊎ (v ≡ value) }
     {
-        if weight > self.most - self.weight {
+        let weight = value.weight();
+        if weight > V::MOST - self.weight {
             return;
         }
         let Ok(mut cache) = cache_or_new(alloc, self.cache.take()) else {

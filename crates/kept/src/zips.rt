@@ -5,14 +5,10 @@ ghost use Rattle.world.specs.World.{World, place};
 ghost use Rattle.kept.specs.Recent.{Holds};
 ghost use Rattle.kept.specs.Zips.{is_at, IsZipAt, IsSeenAt, AreZips};
 
-use crate::recent::{Recent, hash_of};
+use crate::recent::{Recent, Weighed, hash_of};
 use std::alloc::Global;
 use world::bytes::Bytes;
 use world::entry::{Entry, MAX_ZIP, Place, Seen};
-
-/// The most that all zips weigh: 32 MiB, so that two of the largest are kept. A byte of their memory weighs one.
-/// The figure bounds the memory, not the answers: a zip that is not kept is read from the tables.
-const MOST_WEIGHT: usize = 2 * (MAX_ZIP + ZIP_WEIGHT);
 
 /// What a zip weighs beside its memory: the names of its place, and its position among the others.
 const ZIP_WEIGHT: usize = 512;
@@ -46,6 +42,21 @@ impl KeptZip {
     }
 }
 
+impl Weighed for KeptZip {
+    ghost use Rattle.kept.specs.Weights.{zip_weight, most_zips};
+
+    ghost weighs = { zip_weight };
+
+    ghost MOST = { most_zips };
+
+    /// 32 MiB, so that two of the largest are kept. A byte of their memory weighs one.
+    const MOST: usize = 2 * (MAX_ZIP + ZIP_WEIGHT);
+
+    fn weight(&self) -> usize {
+        self.zip.capacity().saturating_add(ZIP_WEIGHT)
+    }
+}
+
 /// Cached zips of entries. An entry never changes, so a cached zip is never wrong. The cache makes room by dropping the zips that
 /// were asked for longest ago. It finds a zip by the place of its entry, so all shelves that see the entry share the zip.
 pub type Zips = Recent<KeptZip>;
@@ -55,7 +66,7 @@ impl Recent<KeptZip> {
     pub fn no_zips() -> Zips
         ensures { result ≡ [] }
     {
-        Recent::new(MOST_WEIGHT)
+        Recent::new()
     }
 
     /// Returns the zip of the entry at a place, which shares its memory with the cache, or None if it is not cached.
@@ -108,8 +119,7 @@ impl Recent<KeptZip> {
     {
         let zip = zip.shared(alloc);
         if let Some(kept) = KeptZip::of(alloc, shelf, path, version, &zip) {
-            let weight = zip.capacity().saturating_add(ZIP_WEIGHT);
-            self.keep(alloc, hash_of(&[shelf, path, version]), weight, kept);
+            self.keep(alloc, hash_of(&[shelf, path, version]), kept);
         }
         zip
     }

@@ -1,12 +1,12 @@
 -- What copying shelves of a store into a fresh store finds there and leaves of both.
-use Rattle.std.specs.Prelude.{ℕ, ◌≡◌, ◌≢◌, ◌≤◌, ◌⊎◌, List, true, Some, Result, Err}
+use Rattle.std.specs.Prelude.{ℕ, ◌≡◌, ◌≢◌, ◌≤◌, ◌+◌, ◌⊎◌, List, true, Some, Result, Err, OnOk, OnErr}
 use Rattle.std.specs.FinMap as map
 use Rattle.sqlite.specs.State.{State, HasCleanDisk}
 use Rattle.tables.specs.Means.{StandsFor}
 use Rattle.world.specs.declared.entry.Entry.{Entry}
 use Rattle.world.specs.declared.entry.Holder.{Holder}
 use Rattle.world.specs.declared.entry.Place.{Place}
-use Rattle.world.specs.Store.{Shown, GrewOrFull}
+use Rattle.world.specs.Store.{Shown, AddsNothing, GrewOrFull}
 use Rattle.world.specs.World.{World, common}
 use Rattle.setup.specs.declared.refusal.Refusal.{Refusal}
 use Rattle.setup.specs.declared.refusal.Refusal.TheVariants as refusal
@@ -39,8 +39,21 @@ pub record IsRead (old new : Shown) : Type 0 where
 abbrev pub IsUnfit : Result (Unit {0}) Refusal → Type 0
 IsUnfit result = (result ≡ Err refusal.NoTeam) ⊎ (result ≡ Err refusal.NotEmpty)
 
+-- What a crash leaves of a fresh store after a call that leads it from the world x to the next one, wherever an earlier fault had left
+-- it. It covers a crash in the middle of the call too, as `AfterCrash` of a call on an open store does.
+pub record AfterFill (old new : Shown) (x : World) (result : Result (Unit {0}) Refusal) (next : World) : Type 0 where
+  -- if a crash before the call left only x, one after it leaves x or the next world
+  pub either : old.leaves x x → new.leaves x next
+  -- whatever a crash left before, after Ok it leaves only the next world
+  pub alone : OnOk result (new.leaves next next)
+  -- whatever a crash left before, after a failure it leaves x or the next world, or the call added nothing to it
+  pub failed : OnErr result (new.leaves x next ⊎ AddsNothing old new)
+
 -- the call returns `Device` only if a device of one of the two stores failed in it, or a count of failures cannot grow
 pub record HasCauseInEither (before now before_too now_too : ℕ) (result : Result (Unit {0}) Refusal) : Type 0 where
   pub no_fewer : before ≤ now
   pub no_fewer_too : before_too ≤ now_too
   pub device : result ≡ Err refusal.Device → GrewOrFull before now ⊎ GrewOrFull before_too now_too
+  -- the two counts together grow by one at most, and only for `Device`
+  pub once : now + now_too ≤ (before + before_too) + 1
+  pub stays : result ≢ Err refusal.Device → (now ≡ before) × (now_too ≡ before_too)

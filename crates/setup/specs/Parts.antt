@@ -14,7 +14,7 @@ use Rattle.statements.specs.declared.shelf_list.Shelf.{Shelf}
 use Rattle.world.specs.Part.{IsTeam, is_held, part}
 use Rattle.world.specs.Store.{Shown}
 use Rattle.world.specs.World.{World, IsWorld, common, chain, is_among, only_common}
-use Rattle.setup.specs.Extracted.{IsRead, IsUnfit}
+use Rattle.setup.specs.Extracted.{IsRead, IsUnfit, AfterFill}
 use Rattle.setup.specs.declared.choice.Wanted.{Wanted}
 use Rattle.setup.specs.declared.choice.Wanted.TheVariants as wanted
 use Rattle.setup.specs.declared.judge.Judged.{Judged}
@@ -141,14 +141,12 @@ Tells There x (Err refusal.BadSchema) = ⊥
 Tells There x (Err refusal.Device) = Unit {0}
 Tells There x (Err refusal.Memory) = Unit {0}
 
--- The fresh store stands for the next world if the call returns Ok, and for what it stood for otherwise. If a crash left only x, it
--- leaves x or the next world, and only the next world once the call has returned Ok.
+-- The fresh store stands for the next world if the call returns Ok, and for what it stood for otherwise, and a crash may follow.
 pub record FillsAt (old new : Shown) (There : Type 0) (next x : World) (result : Result (Unit {0}) Refusal) : Type 0 where
   pub tells : Tells There x result
   pub ok : OnOk result (new.stands next)
   pub err : OnErr result (new.stands x)
-  pub left : old.leaves x x → new.leaves x next
-  pub alone : old.leaves x x → OnOk result (new.leaves next next)
+  pub crash : AfterFill old new x result next
 
 -- For each world of the source and each of the fresh store, `FillsAt` holds, if the disks have returned what was written. The
 -- source is only read, and so is the fresh store if `IsUnfit` holds of the result.

@@ -4,7 +4,7 @@ use Rattle.sqlite.specs.State.{State, HasCleanDisk}
 use Rattle.world.specs.Part.{IsTeam}
 use Rattle.world.specs.Store.{Shown}
 use Rattle.world.specs.World.{World, IsWorld}
-use Rattle.tables.specs.Means.{StandsFor}
+use Rattle.tables.specs.Means.{Stands, StandsFor}
 use Rattle.tables.proofs.FailureLemmas.{was_clean}
 use Rattle.std.specs.Prelude.{OnOk, OnErr}
 use Rattle.statements.specs.Calls.{Spares, ChangesAt}
@@ -12,7 +12,7 @@ use Rattle.store.specs.Shown.{shown_of, shown_with}
 use Rattle.kept.specs.declared.kept.Kept.{Kept}
 use Rattle.kept.specs.Kept.{AreKept, IsNothing}
 use Rattle.kept.proofs.KeptLemmas.{nothing_kept}
-use Rattle.setup.specs.Extracted.{IsRead, IsUnfit}
+use Rattle.setup.specs.Extracted.{IsRead, IsUnfit, AfterFill}
 use Rattle.setup.specs.Parts.{AreTeams, wanted_part, Tells, FillsAt, FillsBy, Extracts, ExtractsTeams}
 use Rattle.setup.specs.declared.choice.Wanted.{Wanted}
 use Rattle.setup.specs.declared.choice.Wanted.TheVariants as wanted
@@ -48,6 +48,25 @@ pub wanted_is_world : (it : Wanted) (w : World) → IsWorld w → IsWorld (wante
 wanted_is_world (wanted.Teams ts) w is = chains_world w _ is
 wanted_is_world wanted.All w is = is
 
+-- after a change from x to the next world, done if the result is Ok, a crash leaves what `AfterFill` says
+pub after_fill : (old new : State) (x next : World) (result : Result (Unit {0}) Refusal) → HasCleanDisk new → Stands old x → ChangesAt old new (is_ok result) x next
+    → AfterFill (shown_of old) (shown_of new) x result next
+after_fill old new x next (Ok u) clean stands change = record {
+  either = λ only. change.left clean stands (narrow old x only);
+  alone = λ db may. let it = change.alone refl clean stands db may in (it.0, it.1, inl it.2);
+  failed = tt;
+}
+after_fill old new x next (Err e) clean stands change = record {
+  either = λ only. change.left clean stands (narrow old x only);
+  alone = tt;
+  failed = elim (change.failed refl clean stands) [ inl two ↦ inl two | inr none ↦ inr (λ y z only db may. only db (none db may)) ];
+}
+
+-- what a crash leaves does not depend on what the store caches
+pub fill_kept : (old new : State) (kept kept_new : Kept) (n n_new : ℕ) (x next : World) (result : Result (Unit {0}) Refusal)
+    → AfterFill (shown_of old) (shown_of new) x result next → AfterFill (shown_with old kept n) (shown_with new kept_new n_new) x result next
+fill_kept old new kept kept_new n n_new x next result after = record { either = after.either; alone = after.alone; failed = after.failed }
+
 -- a change from x to the next world, done if the result is Ok, fills the store as `FillsAt` says, without what it caches
 pub fills_at : (old new : State) (There : Type 0) (next x : World) (result : Result (Unit {0}) Refusal) → HasCleanDisk new → StandsFor old x → IsWorld next
     → ChangesAt old new (is_ok result) x next → Tells There x result → FillsAt (shown_of old) (shown_of new) There next x result
@@ -55,15 +74,13 @@ fills_at old new There next x (Ok u) clean stands is change tells = record {
   tells = tells;
   ok = (change.world stands.0, is);
   err = tt;
-  left = λ only. change.left clean stands.0 (narrow old x only);
-  alone = λ only db may. let it = change.alone refl clean stands.0 db may in (it.0, it.1, inl it.2);
+  crash = after_fill old new x next (Ok u) clean stands.0 change;
 }
 fills_at old new There next x (Err e) clean stands is change tells = record {
   tells = tells;
   ok = tt;
   err = (change.world stands.0, stands.1);
-  left = λ only. change.left clean stands.0 (narrow old x only);
-  alone = λ _. tt;
+  crash = after_fill old new x next (Err e) clean stands.0 change;
 }
 
 -- ---- with what the stores cache
@@ -98,8 +115,7 @@ fills_kept There next a a_new b b_new kept kept_new old new n n_new m m_new r sa
         tells = it.tells;
         ok = on_ok_both (StandsFor b_new (next w)) r (nothing_kept (next w) new none) it.ok;
         err = on_err_both (StandsFor b_new x) r (nothing_kept x new none) it.err;
-        left = it.left;
-        alone = it.alone;
+        crash = fill_kept b b_new old new m m_new x (next w) r it.crash;
       };
 }
 
@@ -130,7 +146,6 @@ extracts_one source source_new fresh fresh_new t r does = record {
         tells = one_tells w x t r it.tells;
         ok = subst (λ p. OnOk r (fresh_new.stands p)) same it.ok;
         err = it.err;
-        left = λ only. subst (fresh_new.leaves x) same (it.left only);
-        alone = λ only. subst (λ p. OnOk r (fresh_new.leaves p p)) same (it.alone only);
+        crash = subst (AfterFill fresh fresh_new x r) same it.crash;
       };
 }

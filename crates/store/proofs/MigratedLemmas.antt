@@ -32,7 +32,7 @@ use Rattle.setup.specs.declared.refusal.Refusal.TheVariants as refusal
 use Rattle.setup.proofs.PutLemmas.{spared_at}
 use Rattle.kept.proofs.KeptLemmas.{nothing_kept}
 use Rattle.setup.proofs.OpenLemmas.{device_hindered}
-use Rattle.store.proofs.StoreLemmas.{narrow}
+use Rattle.store.proofs.ExtractedLemmas.{after_fill, fill_kept}
 
 -- ---- the rows
 
@@ -111,8 +111,7 @@ at_end db old new kept kept_new n n_new x w (Ok u) none clean stands was change 
   was = was;
   ok = ((change.world stands.0, world_of db x w was), nothing_kept w kept_new none);
   err = tt;
-  left = λ only. change.left clean stands.0 (narrow old x only);
-  alone = λ only db may. let it = change.alone refl clean stands.0 db may in (it.0, it.1, inl it.2);
+  crash = fill_kept old new kept kept_new n n_new x w (Ok u) (after_fill old new x w (Ok u) clean stands.0 change);
 }
 at_end db old new kept kept_new n n_new x w (Err e) none clean stands was change tells = record {
   tells = tells;
@@ -120,8 +119,7 @@ at_end db old new kept kept_new n n_new x w (Err e) none clean stands was change
   was = was;
   ok = tt;
   err = ((change.world stands.0, stands.1), nothing_kept x kept_new none);
-  left = λ only. change.left clean stands.0 (narrow old x only);
-  alone = λ _. tt;
+  crash = fill_kept old new kept kept_new n n_new x w (Err e) (after_fill old new x w (Err e) clean stands.0 change);
 }
 
 -- the result of the call follows from the outcome of the rows, and the fresh store caches nothing
@@ -183,14 +181,19 @@ done_not_full same = absurd (never same)
 -- ---- why the call returns `Device`
 
 pub no_device : (s t : State) (count : ℕ) (r : Result (Unit {0}) Refusal) → r ≢ Err refusal.Device → HasCauseInOne s t count count r
-no_device s t count r other = record { no_fewer = omega arith; device = λ _ same. absurd (other same) }
+no_device s t count r other = record { no_fewer = omega arith; device = λ _ same. absurd (other same); once = omega arith; stays = λ _. refl }
 
 pub device_is : (r : Refusal) → ◌≡◌ {A = Result (Unit {0}) Refusal} (Err r) (Err refusal.Device) → r ≡ refusal.Device
 device_is r same = cc
 
 pub older_device : (s t : State) (e : Error) (r : Refusal) (count : ℕ) → (e ≡ SqliteFailure code.OutOfMemory → r ≡ refusal.Memory)
     → (HasCleanDisk t → HasOlderReason s t (Source e)) → HasCauseInOne s t count count (Err r)
-older_device s t e r count memory reason = record { no_fewer = omega arith; device = λ clean same. inl (go (reason clean) (device_is r same)) }
+older_device s t e r count memory reason = record {
+  no_fewer = omega arith;
+  device = λ clean same. inl (go (reason clean) (device_is r same));
+  once = omega arith;
+  stays = λ _. refl;
+}
   where
     go : HasOlderReason s t (Source e) → r ≡ refusal.Device → IsHindered s t ⊎ IsVastOlder s.now
     go (inl excused) is = inl (device_hindered s t e r memory excused is)

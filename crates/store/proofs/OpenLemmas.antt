@@ -6,7 +6,7 @@ use Rattle.sqlite.specs.Order.{Row}
 use Rattle.sqlite_wal.specs.Recovery.{Image}
 use Rattle.sqlite_disk.specs.declared.Disk.{Ghosts}
 use Rattle.sqlite.specs.declared.file.Leftover.{Leftover}
-use Rattle.sqlite.specs.Files.{IsNothing as HoldsNothing, IsCleanLeft}
+use Rattle.sqlite.specs.Files.{AreFoundIn, IsEmpty as HasNoRows, IsCleanLeft}
 use Rattle.sqlite.specs.Start.{FindsIn}
 use Rattle.sqlite.proofs.ListingLemmas.{empty_is_sound}
 use Rattle.sqlite_catalog.proofs.ReadLemmas.{lists_once}
@@ -25,7 +25,7 @@ use Rattle.kept.specs.Kept.{IsNothing}
 use Rattle.kept.proofs.KeptLemmas.{nothing_kept}
 use Rattle.tables.specs.Causes.{IsHindered, IsVast}
 use Rattle.setup.specs.Opened.{Opens, IsBad, IsOfOpening}
-use Rattle.store.specs.Restart.{HoldsWorld, HoldsStore, HoldsNoStore, HoldsNoDatabase}
+use Rattle.store.specs.Restart.{HoldsWorld, HoldsStore, HoldsNoStore, HoldsNoDatabase, IsBlank, RecoversStore, KeepsTrees, LeavesCommitted}
 use Rattle.store.proofs.FileLemmas.{finds_empty}
 use Rattle.tables.proofs.OneWorld.{stand_for_one}
 use Rattle.setup.specs.declared.refusal.Refusal.{Refusal}
@@ -61,15 +61,19 @@ begins_found old new image live opened settled finds it w held =
       | inr found ↦ subst (BeginsAt (shown_of new)) (stand_for_one old.now.trees it.world w found.means stand.means) it.begins
     ]
 
--- if the files have no database yet, the store begins with `common` alone
+-- the trees of a blank file list no tables
+blank_lists_none : (s : State) (image : Image) → FindsIn image s → IsBlank image → IsSound no_schema s.committed.trees
+blank_lists_none s image finds (inl unmade) = empty_is_sound s.committed.trees (finds_empty image s.committed.trees unmade.0 finds.reads).1
+blank_lists_none s image finds (inr bare) = subst (IsSound no_schema) (sym (finds.holds bare.0 bare.1)) bare.2
+
+-- if the files are blank, the store begins with `common` alone
 begins_blank : (old new : State) (image : Image) → IsLive old → IsTrue old.is_open → old.now ≡ old.committed
-    → FindsIn image old → Opens old new → HoldsNothing image → BeginsAt (shown_of new) only_common
-begins_blank old new image live opened settled finds it nothing =
-    let empty = finds_empty image old.committed.trees nothing finds.reads in
-    let none : old.now.trees catalog_tree ≡ [] = ap (λ (d : Database). d.trees catalog_tree) settled ∙ empty.1 in
+    → FindsIn image old → Opens old new → IsBlank image → BeginsAt (shown_of new) only_common
+begins_blank old new image live opened settled finds it blank =
+    let none : IsSound no_schema old.now.trees = subst (λ (d : Database). IsSound no_schema d.trees) (sym settled) (blank_lists_none old image finds blank) in
     elim it.tables [
       | inl first ↦ subst (BeginsAt (shown_of new)) first.1 it.begins
-      | inr found ↦ absurd (unlisted old.now.trees (empty_is_sound old.now.trees none) (subst (λ s. IsSound s old.now.trees) found.schema (live opened).0))
+      | inr found ↦ absurd (unlisted old.now.trees none (subst (λ s. IsSound s old.now.trees) found.schema (live opened).0))
     ]
 
 pub begins_store : (old new : State) (image : Image) → IsLive old → IsTrue old.is_open → old.now ≡ old.committed
@@ -78,6 +82,37 @@ begins_store old new image live opened settled finds it w (inl held) = begins_fo
 begins_store old new image live opened settled finds it w (inr blank) =
     subst (BeginsAt (shown_of new)) (sym blank.1) (begins_blank old new image live opened settled finds it blank.0)
 
+-- a store that begins does so at a world that the files held
+pub recovers_store : (old new : State) (image : Image) → IsLive old → IsTrue old.is_open → old.now ≡ old.committed
+    → FindsIn image old → (it : Opens old new) → RecoversStore image it.world
+recovers_store old new image live opened settled finds it =
+    let here : AreFoundIn image old.now.trees = subst (λ (d : Database). AreFoundIn image d.trees) (sym settled) finds.reads in
+    let sound = (live opened).0 in (
+      old.now.trees,
+      here,
+      elim it.tables [
+        | inl first ↦ inr (subst (λ s. IsSound s old.now.trees) first.0 sound, first.1)
+        | inr found ↦ inl (record { sound = subst (λ s. IsSound s old.now.trees) found.schema sound; means = found.means })
+      ],
+    )
+
+-- what a crash leaves of a store that did not begin is what the files held
+pub keeps_trees : (old new : State) (image : Image) → IsLive old → IsTrue old.is_open → old.now ≡ old.committed
+    → FindsIn image old → LeavesCommitted old new → (db : Trees) → new.may_leave db → KeepsTrees image db
+keeps_trees old new image live opened settled finds leaves db may = elim (leaves opened db may) [
+  | inl was ↦ record {
+    database = λ held it. inl (was ∙ finds.holds held it);
+    nothing = λ none. inl (subst HasNoRows (sym was) (finds_empty image old.committed.trees none finds.reads));
+  }
+  | inr first ↦ record {
+    database = λ held it. inr (
+      subst (λ (d : Trees). IsSound no_schema d) (ap (λ (d : Database). d.trees) settled ∙ finds.holds held it) (subst (λ s. IsSound s old.now.trees) first.0 (live opened).0),
+      first.1,
+    );
+    nothing = λ none. inr first.1;
+  }
+]
+
 -- no store begins over files whose tables are bad
 pub bad_is_no_store : (old : State) (image : Image) → IsLive old → IsTrue old.is_open → old.now ≡ old.committed → FindsIn image old → IsBad old.now → HoldsNoStore image
 bad_is_no_store old image live opened settled finds bad w is (inl held) =
@@ -85,18 +120,13 @@ bad_is_no_store old image live opened settled finds bad w is (inl held) =
     let stand : StandFor old.now.trees w = subst (λ db. StandFor db w) (sym trees) held.2 in
     bad.none (lists_once _ old.now.schema store_schema (live opened).0.lists stand.sound.lists) w stand.means is
 bad_is_no_store old image live opened settled finds bad w is (inr blank) =
-    let empty = finds_empty image old.committed.trees blank.0 finds.reads in
-    let none : old.now.trees catalog_tree ≡ [] = ap (λ (d : Database). d.trees catalog_tree) settled ∙ empty.1 in
-    bad.some (lists_once _ old.now.schema no_schema (live opened).0.lists (empty_is_sound old.now.trees none).lists)
+    let none : IsSound no_schema old.now.trees = subst (λ (d : Database). IsSound no_schema d.trees) (sym settled) (blank_lists_none old image finds blank.0) in
+    bad.some (lists_once _ old.now.schema no_schema (live opened).0.lists none.lists)
 
-no_database_is_no_store : (image : Image) → HoldsNoDatabase image → HoldsNoStore image
+pub no_database_is_no_store : (image : Image) → HoldsNoDatabase image → HoldsNoStore image
 no_database_is_no_store image none w is (inl held) = none (inl (held.0, held.1))
-no_database_is_no_store image none w is (inr blank) = none (inr blank.0)
-
-pub left_of_no_store : {D : Type 0} {g : Ghosts D} (image : Image) (left : Option (Leftover D g))
-    → IsSomeAnd left (λ it. IsCleanLeft it → HoldsNoDatabase image) → IsSomeAnd left (λ it. IsCleanLeft it → HoldsNoStore image)
-left_of_no_store image None none = absurd none
-left_of_no_store image (Some it) none = λ clean. no_database_is_no_store image (none clean)
+no_database_is_no_store image none w is (inr (inl unmade, common)) = none (inr unmade)
+no_database_is_no_store image none w is (inr (inr bare, common)) = none (inl (bare.0, bare.1))
 
 -- a store begins at a world with what it caches too, if it caches nothing
 pub begins_empty : (s : State) (kept : Kept) (count : ℕ) (w : World) → IsNothing kept → BeginsAt (shown_of s) w → BeginsAt (shown_with s kept count) w

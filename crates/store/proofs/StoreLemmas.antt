@@ -24,6 +24,8 @@ use Rattle.kept.specs.declared.kept.Kept.{Kept}
 use Rattle.kept.specs.Kept.{AreKept}
 use Rattle.kept.specs.declared.headings.KeptHeading.{KeptHeading}
 use Rattle.kept.specs.declared.keys.KeptKey.{KeptKey}
+use Rattle.kept.specs.Absences.{Lacking}
+use Rattle.kept.proofs.AbsenceLemmas.{none_absent, absences_still}
 use Rattle.kept.proofs.GroupLemmas.{groups_still}
 use Rattle.kept.proofs.HeadingLemmas.{headings_still}
 use Rattle.kept.proofs.ListLemmas.{Kept as Lists, no_lists, lists_still}
@@ -202,6 +204,18 @@ reads_failed_next start mid end x fault s value next other failed read then = re
   cause = in_turn start mid end x s read.cause (handed_on mid end fault s failed.1 then.cause);
 }
 
+-- a read after a read of something else
+pub reads_next : {T U : Type 0} (start mid end : Shown) (x : T) (r : Result U StoreFault) (value : World → T) (next : World → U)
+    → Reads start mid (Ok x) value → Reads mid end r next → Reads start end r next
+reads_next start mid end x r value next read then = record {
+  honest = λ h. read.honest (then.honest h);
+  at = λ h w stands.
+      let says = read.at (then.honest h) w stands in
+      let seen = then.at h w says.stays in
+      record { answer = seen.answer; stays = seen.stays; left = λ x y was. seen.left x y (says.left x y was) };
+  cause = in_turn start mid end x r read.cause then.cause;
+}
+
 -- two reads, after which memory runs out, are one that fails
 pub reads_no_memory : {T U V : Type 0} (start mid end : Shown) (x : T) (y : U) (s : Result V StoreFault) (value : World → T) (next : World → U) (other : World → V)
     → IsErr s × IsErrAnd s (λ e. e ≡ Memory) → Reads start mid (Ok x) value → Reads mid end (Ok y) next → Reads start end s other
@@ -260,19 +274,23 @@ refused old kept count x value next same = record {
   cause = answers _ _ x (omega arith);
 }
 
--- ---- the commands of the registry leave the cache as it is, except for lists and headings when a team is added, and for keys when one is revoked
+-- ---- the commands of the registry leave the cache as it is, except for lists, headings and absences when a team is added, and for keys when one is revoked
 
 module _ (w : World) (kept : Kept) (right : AreKept w kept) where
-  module _ (lists : Lists) (headings : Held KeptHeading) (none : lists ≡ []) (none_too : headings ≡ []) where
-    pub kept_but_lists : AreKept w (record kept { lists = lists; headings = headings })
-    kept_but_lists = (right.0, no_lists w lists none, right.2, (right.3.0, none_held _ headings none_too, right.3.2))
+  module _ (lists : Lists) (headings : Held KeptHeading) (absences : Lacking) (none : lists ≡ []) (none_too : headings ≡ []) (none_absences : absences ≡ map.empty) where
+    pub kept_but_lists : AreKept w (record kept { lists = lists; headings = headings; absences = absences })
+    kept_but_lists = (right.0, no_lists w lists none, (right.2.0, none_absent w absences none_absences), (right.3.0, none_held _ headings none_too, right.3.2))
 
-    kept_with_shelf : (s : List ℕ) (parent : Option (List ℕ)) → map.contains_key w.shelves s ≡ false → AreKept (with_shelf w s parent) (record kept { lists = lists; headings = headings })
-    kept_with_shelf s parent free =
-        (right.0, no_lists (with_shelf w s parent) lists none, groups_still w s parent kept.groups free right.2, (right.3.0, none_held _ headings none_too, right.3.2))
+    kept_with_shelf : (s : List ℕ) (parent : Option (List ℕ)) → map.contains_key w.shelves s ≡ false → AreKept (with_shelf w s parent) (record kept { lists = lists; headings = headings; absences = absences })
+    kept_with_shelf s parent free = (
+      right.0,
+      no_lists (with_shelf w s parent) lists none,
+      (groups_still w s parent kept.groups free right.2.0, none_absent (with_shelf w s parent) absences none_absences),
+      (right.3.0, none_held _ headings none_too, right.3.2),
+    )
 
     pub kept_after_team : (name : List ℕ) (group : Option (List ℕ)) (r : Registered) → team_added w name group ≡ r
-        → AreKept (after_team_add w name group r) (record kept { lists = lists; headings = headings })
+        → AreKept (after_team_add w name group r) (record kept { lists = lists; headings = headings; absences = absences })
     kept_after_team name group Done is = kept_with_shelf name _ (new_team w name group is).1
     kept_after_team name group Name is = kept_but_lists
     kept_after_team name group Taken is = kept_but_lists
@@ -285,7 +303,7 @@ module _ (w : World) (kept : Kept) (right : AreKept w kept) where
       let free = (new_group w name is).1 in (
         right.0,
         lists_still w name free kept.lists right.1,
-        groups_still w name None kept.groups free right.2,
+        (groups_still w name None kept.groups free right.2.0, absences_still w name free kept.absences right.2.1),
         (right.3.0, headings_still w name free kept.headings right.3.1, right.3.2),
       )
   kept_after_group name Name is = right

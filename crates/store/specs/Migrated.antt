@@ -1,5 +1,5 @@
 -- What migrating a store of an older schema into a fresh store does.
-use Rattle.std.specs.Prelude.{◌≡◌, ◌≢◌, ◌≤◌, ◌⊎◌, ℕ, Bool, true, false, Result, Ok, Err, IfOk, IfErr, OnOk, OnErr, is_ok, IsTrue}
+use Rattle.std.specs.Prelude.{◌≡◌, ◌≢◌, ◌≤◌, ◌+◌, ◌⊎◌, ℕ, Bool, true, false, Result, Ok, Err, IfOk, IfErr, OnOk, OnErr, is_ok, IsTrue}
 use Rattle.sqlite.specs.Effect.{Database}
 use Rattle.sqlite.specs.State.{State, HasCleanDisk}
 use Rattle.sqlite_trees.specs.View.{doubt}
@@ -15,7 +15,7 @@ use Rattle.statements.specs.declared.extract_rows.CopyError.{CopyError}
 use Rattle.statements.specs.declared.extract_rows.CopyError.TheVariants.{Source, Fresh}
 use Rattle.world.specs.Store.{Shown, GrewOrFull}
 use Rattle.world.specs.World.{World, only_common}
-use Rattle.setup.specs.Extracted.{IsRead}
+use Rattle.setup.specs.Extracted.{IsRead, AfterFill}
 use Rattle.store.specs.declared.migrate.Migrated.{Migrated}
 use Rattle.store.specs.declared.migrate.Migrated.TheVariants.{Whole, NotEmpty, BadSchema}
 use Rattle.setup.specs.declared.refusal.Refusal.{Refusal}
@@ -83,16 +83,15 @@ Tells x (Err refusal.NoTeam) = ⊥
 Tells x (Err refusal.Device) = Unit {0}
 Tells x (Err refusal.Memory) = Unit {0}
 
--- The fresh store stands for what the old tables mean if the call returns Ok, and for what it stood for otherwise. If a crash left
--- only x, it leaves x or the old world, and only the old world once the call has returned Ok.
+-- The fresh store stands for what the old tables mean if the call returns Ok, and for what it stood for otherwise, and a crash may
+-- follow.
 pub record MigratesAt (db : Database) (old new : Shown) (x : World) (result : Result (Unit {0}) Refusal) : Type 0 where
   pub tells : Tells x result
   pub world : World
   pub was : IsOldOr db x (is_ok result) world
   pub ok : OnOk result (new.stands world)
   pub err : OnErr result (new.stands x)
-  pub left : old.leaves x x → new.leaves x world
-  pub alone : old.leaves x x → OnOk result (new.leaves world world)
+  pub crash : AfterFill old new x result world
 
 -- The older store is only read, and so is a fresh store that has more than `common`, or if the older tables are those of no older
 -- schema. For each world of the fresh store `MigratesAt` holds, if the disks have returned what was written.
@@ -110,3 +109,6 @@ pub record Migrates (old old_new : State) (fresh fresh_new : Shown) (result : Re
 pub record HasCauseInOne (old old_new : State) (before now : ℕ) (result : Result (Unit {0}) Refusal) : Type 0 where
   pub no_fewer : before ≤ now
   pub device : HasCleanDisk old_new → result ≡ Err refusal.Device → (IsHindered old old_new ⊎ IsVastOlder old.now) ⊎ GrewOrFull before now
+  -- the count grows by one at most, and only for `Device`
+  pub once : now ≤ before + 1
+  pub stays : result ≢ Err refusal.Device → now ≡ before

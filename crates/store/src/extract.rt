@@ -19,6 +19,7 @@ use world::registry::StoreFault;
 /// Returns the refusal for a fault of a store.
 pub(crate) fn refusal_of(fault: StoreFault) -> Refusal
     ensures device { result ≡ Refusal.Device → fault ≡ StoreFault.Device }
+    ensures told { fault ≡ StoreFault.Device → result ≡ Refusal.Device }
     ensures named { (result ≢ Refusal.BadSchema) × (result ≢ Refusal.NotEmpty) × (result ≢ Refusal.NoTeam) }
 {
     match fault {
@@ -33,8 +34,9 @@ impl<S: Alter> SqlShelves<S> {
     ///
     /// Fails with `NoTeam` if no team has the name (`common` and groups are no teams), otherwise with `NotEmpty` if
     /// the fresh store has another shelf, a key or an entry; with `Device` if a disk failed and with
-    /// `Memory` if memory ran out. Then both stores are as they were; the source always is. After `NoTeam` and `NotEmpty`, a
-    /// crash leaves nothing in the fresh store that it did not leave before.
+    /// `Memory` if memory ran out. Then both stores are as they were; the source always is. After Ok, a crash leaves only the part
+    /// in the fresh store, wherever an earlier fault had left that; after `NoTeam` and `NotEmpty`, nothing that it did not leave
+    /// before; after another failure, as `AfterFill` says, it may leave the part too.
     pub fn extract<F: Alter>(
         &mut self,
         team: &str,
@@ -56,8 +58,9 @@ impl<S: Alter> SqlShelves<S> {
     ///
     /// Fails with `NoTeam` if no team is named or a name is not a team's (`common` and groups are no teams), otherwise with
     /// `NotEmpty` if the fresh store has another shelf, a key or an entry; with `Device` if a disk failed and with
-    /// `Memory` if memory ran out. Then both stores are as they were; the source always is. After `NoTeam` and `NotEmpty`, a
-    /// crash leaves nothing in the fresh store that it did not leave before.
+    /// `Memory` if memory ran out. Then both stores are as they were; the source always is. After Ok, a crash leaves only the part
+    /// in the fresh store, wherever an earlier fault had left that; after `NoTeam` and `NotEmpty`, nothing that it did not leave
+    /// before; after another failure, as `AfterFill` says, it may leave the part too.
     pub fn extract_teams<F: Alter>(
         &mut self,
         teams: &[&str],
@@ -78,8 +81,9 @@ impl<S: Alter> SqlShelves<S> {
     /// a time, and all are written in one transaction.
     ///
     /// Fails with `NotEmpty` if the fresh store has another shelf than `common`, a key or an entry; with `Device` if a disk
-    /// failed and with `Memory` if memory ran out. Then both stores are as they were; the source always is. After `NotEmpty`, a
-    /// crash leaves nothing in the fresh store that it did not leave before.
+    /// failed and with `Memory` if memory ran out. Then both stores are as they were; the source always is. After Ok, a crash leaves
+    /// only the copy in the fresh store, wherever an earlier fault had left that; after `NotEmpty`, nothing that it did not leave
+    /// before; after another failure, as `AfterFill` says, it may leave the copy too.
     pub fn copy<F: Alter>(&mut self, fresh: &mut SqlShelves<F>) -> Result<(), Refusal>
         ensures copies { CopiesAll (shown_with (state S.Store self.old.conn) self.old.kept self.old.failures)
             (shown_with (state S.Store self.new.conn) self.new.kept self.new.failures)

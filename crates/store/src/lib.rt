@@ -1,9 +1,10 @@
 //! Team shelves as rows of SQL tables, behind the traits `world::shelves::Shelves` and `outline::outlines::Outlines`.
 //!
-//! The crate `tables` defines the tables and the world that they stand for; the crate `statements` reads and changes them;
-//! the crate `setup` finds or makes them, and copies shelves; the crate `kept` caches what was found.
-//! A store opens over these tables if they stand for a world, or over no tables at all. It refuses everything else, and a
-//! connection that then stays open shows what it showed.
+//! The crate `tables` defines the tables and the world that they stand for; the crate `statements` reads and changes
+//! them; the crate `setup` finds or makes them, and copies shelves; the crate `kept` caches what was found. A store
+//! opens over these tables if they stand for a world, or over no tables at all. It refuses everything else: a
+//! connection that then stays open shows what it showed, and files that come back hold the database that they held, or
+//! the tables of a new store where they had none.
 //!
 //! A change is one transaction. So a crash leaves the world before it or the world after it, and once the change has returned
 //! Ok, only the world after it.

@@ -72,8 +72,9 @@ fn migrate_rows<S: Alter, F: Alter>(
 ///
 /// Fails with `NotEmpty` if the fresh store has another shelf, a key or an entry, otherwise with `BadSchema` if the tables of
 /// the older store are those of no older schema or stand for no world; with `Device` if a disk failed and with `Memory` if
-/// memory ran out. Then both stores are as they were. After `NotEmpty`, a crash leaves nothing in the fresh store that it did
-/// not leave before.
+/// memory ran out. Then both stores are as they were. After Ok, a crash leaves only the older world in the fresh store, wherever
+/// an earlier fault had left that; after `NotEmpty`, nothing that it did not leave before; after another failure, as `AfterFill`
+/// says, it may leave the older world too.
 pub fn migrate<S: Alter, F: Alter>(
     old: &mut Connection<S>,
     fresh: &mut SqlShelves<F>,

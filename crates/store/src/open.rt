@@ -1,21 +1,24 @@
 //! Opens stores.
 
-ghost use Rattle.std.specs.Prelude.{◌≡◌, Err, IfOk, IfErr, IsErrAnd, IsSomeAnd};
+ghost use Rattle.std.specs.Prelude.{◌≡◌, Err, IfOk, IfErr, IfSome, IsErrAnd, IsSomeAnd, IsTrue};
 ghost use Rattle.sqlite.specs.Held.{state};
-ghost use Rattle.sqlite.specs.Files.{file_state, IsCleanLeft};
+ghost use Rattle.sqlite.specs.Files.{file_state, image_of, IsCleanLeft};
 ghost use Rattle.sqlite.specs.State.{HasCleanDisk};
 ghost use Rattle.sqlite.specs.Steps.{over_memory};
-ghost use Rattle.sqlite_wal.specs.Files.{image_at};
+ghost use Rattle.sqlite_wal.specs.Files.{image_at, outcomes};
 ghost use Rattle.world.specs.World.{only_common};
 ghost use Rattle.store.specs.Shown.{shown_with, BeginsAt};
 ghost use Rattle.setup.specs.Opened.{IsOfOpening};
 ghost use Rattle.store.specs.Names.{IsNoFileName};
-ghost use Rattle.store.specs.Restart.{HoldsStore, HoldsNoStore};
+ghost use Rattle.store.specs.Restart.{HoldsStore, HoldsNoStore, IsStray, RecoversStore, Keeps};
 
-use crate::files::connect;
+use crate::files::{connect_files, open_pair};
 use crate::store::SqlShelves;
 use setup::refusal::Refusal;
-use sqlite::{Alter, Connection, File, FileFrom, FileStore, Leftover, MemStore, Start, Unknown};
+use sqlite::{
+    Alter, Connection, File, FileFrom, FileStore, Files, Leftover, MemStore, Start, Unknown,
+};
+use sqlite_disk::Disk;
 use std::alloc::Global;
 use std::rt::HostRuntime;
 
@@ -56,15 +59,45 @@ impl<S: Alter> SqlShelves<S> {
     }
 }
 
+/// Opens the store in two files, or returns them with the refusal, as `open_from` does. The number salts the log.
+///
+/// It has no runtime, so it can open no other files, and it cannot return fewer than it was given.
+fn open_over<D: Disk + Drop>(
+    alloc: Global,
+    files: Files<D>,
+    seed: u64,
+) -> Result<SqlShelves<FileStore<D>>, (Refusal, Leftover<D>)>
+    requires log { IsTrue (D.Disk.is_usable files.log) }
+    requires db { IsTrue (D.Disk.is_usable files.db) }
+    requires settled { (it : _) → outcomes D.Disk files.log files.db it → it ≡ image_of D.Disk files }
+    ensures begins { IfOk result (λ s. HasCleanDisk (file_state s.conn) → (w : _)
+        × BeginsAt (shown_with (file_state s.conn) s.kept s.failures) w × RecoversStore (image_of D.Disk files) w) }
+    ensures found { IfOk result (λ s. HasCleanDisk (file_state s.conn) → (w : _)
+        → HoldsStore (image_of D.Disk files) w → BeginsAt (shown_with (file_state s.conn) s.kept s.failures) w) }
+    ensures begun { IfOk result (λ s. HasCleanDisk (file_state s.conn) → ¬ IsStray (image_of D.Disk files)) }
+    ensures refused { IfErr result (λ e. IsOfOpening e.0) }
+    ensures bad { IfErr result (λ e. e.0 ≡ Refusal.BadSchema
+        → IsCleanLeft e.1 → HoldsNoStore (image_of D.Disk files)) }
+    ensures keeps { IfErr result (λ e. IsCleanLeft e.1 → Keeps (image_of D.Disk files) e.1) }
+    ensures none_failed { IfOk result (λ s. s.failures ≡ 0) }
+{
+    let connection = connect_files(alloc, files, seed)?;
+    match SqlShelves::adopt(alloc, connection) {
+        Ok(shelves) => Ok(shelves),
+        Err((refusal, conn)) => Err((refusal, Leftover::Store(conn.into_store()))),
+    }
+}
+
 impl<T: Start> SqlShelves<FileStore<FileFrom<T>>> {
-    /// Opens the store in the files at a path, where `T` says what they hold: the database file, which is created if it does not
-    /// exist, and its log. If the tables are those of the schema, the store begins at the world that they stand for; if the files
-    /// are empty, it begins with only the shelf `common`.
+    /// Opens the store in the files at a path, where `T` says what they hold: the database file, which is created if it
+    /// does not exist, and its log. If the tables are those of the schema, the store begins at the world that they
+    /// stand for; if there are no tables, it begins with only the shelf `common`.
     ///
-    /// Fails with `BadSchema` if the files hold no database, other tables, or tables that stand for no world; with `Memory` if
-    /// memory ran out; and with `Device` if the disk failed or the files cannot be opened (see [`Refusal::Device`]). The files then
-    /// come back, if they were opened. Files that are no store stay as they are (tested); if the disk failed or memory ran out,
-    /// files that were empty may hold the tables that were made, and a log may be left beside them.
+    /// Fails with `BadSchema` if the files hold no database, other tables, or tables that stand for no world; with
+    /// `Memory` if memory ran out; and with `Device` if the disk failed, the files cannot be opened (see
+    /// [`Refusal::Device`]), or a log stands where its database file is missing or empty. The files then come back, if
+    /// they were opened, and hold what they held; only where there were no tables may those of a new store stand, if
+    /// the disk failed or memory ran out. A log may be left beside them.
     ///
     /// No clause of `sqlite` ties a path to the bytes of a file, so no contract says that this path was opened: tests do.
     pub fn open_from(
@@ -73,20 +106,25 @@ impl<T: Start> SqlShelves<FileStore<FileFrom<T>>> {
         start: T,
     ) -> Result<FileShelves<T>, (Refusal, Option<Leftover<FileFrom<T>>>)>
         ensures no_file { IsNoFileName path.now → IsErrAnd result (λ e. e.0 ≡ Refusal.Device) }
-        ensures begins { IfOk result (λ s. HasCleanDisk (file_state s.conn)
-            → (w : _) × BeginsAt (shown_with (file_state s.conn) s.kept s.failures) w) }
+        ensures begins { IfOk result (λ s. HasCleanDisk (file_state s.conn) → (w : _)
+            × BeginsAt (shown_with (file_state s.conn) s.kept s.failures) w × RecoversStore (image_at T.Start) w) }
         ensures found { IfOk result (λ s. HasCleanDisk (file_state s.conn) → (w : _)
             → HoldsStore (image_at T.Start) w → BeginsAt (shown_with (file_state s.conn) s.kept s.failures) w) }
+        ensures begun { IfOk result (λ s. HasCleanDisk (file_state s.conn) → ¬ IsStray (image_at T.Start)) }
         ensures refused { IfErr result (λ e. IsOfOpening e.0) }
         // `BadSchema` says that the files hold no store, if the disk has returned what was written.
         ensures bad { IfErr result (λ e. e.0 ≡ Refusal.BadSchema
             → IsSomeAnd e.1 (λ left. IsCleanLeft left → HoldsNoStore (image_at T.Start))) }
+        ensures keeps { IfErr result (λ e. IfSome e.1 (λ left. IsCleanLeft left → Keeps (image_at T.Start) left)) }
         ensures none_failed { IfOk result (λ s. s.failures ≡ 0) }
     {
-        let conn = connect(rt, path, start)?;
-        match SqlShelves::adopt(rt.alloc(), conn) {
+        let (files, seed) = match open_pair(rt, path, start) {
+            Ok(opened) => opened,
+            Err(refusal) => return Err((refusal, None)),
+        };
+        match open_over(rt.alloc(), files, seed) {
             Ok(shelves) => Ok(shelves),
-            Err((refusal, conn)) => Err((refusal, Some(Leftover::Store(conn.into_store())))),
+            Err((refusal, left)) => Err((refusal, Some(left))),
         }
     }
 }

@@ -1,21 +1,27 @@
 //! Opens the files of a store of an older schema.
 
-ghost use Rattle.std.specs.Prelude.{◌≡◌, IfOk, IfErr};
-ghost use Rattle.sqlite.specs.Files.{file_state};
-ghost use Rattle.sqlite_wal.specs.Files.{image_at};
+ghost use Rattle.std.specs.Prelude.{◌≡◌, IfOk, IfErr, IfSome, IsTrue};
+ghost use Rattle.sqlite.specs.Files.{file_state, image_of, IsCleanLeft, AreFoundIn};
+ghost use Rattle.sqlite.specs.State.{HasCleanDisk};
+ghost use Rattle.sqlite_wal.specs.Files.{image_at, outcomes};
 ghost use Rattle.statements.specs.Calls.{IsOpenIfHonest};
 ghost use Rattle.store.specs.Older.{FindsOlder};
+ghost use Rattle.store.specs.Restart.{Keeps};
 ghost use Rattle.setup.specs.Opened.{IsOfOpening};
 
-use crate::files::connect;
+use crate::files::{connect_files, open_pair};
 use setup::refusal::Refusal;
-use sqlite::{Connection, FileFrom, FileStore, Leftover, Start};
+use sqlite::{Connection, FileFrom, FileStore, Files, Leftover, Start};
+use sqlite_disk::Disk;
+use std::alloc::Global;
 use std::rt::HostRuntime;
 
-/// Opens a connection to the files of an older store, where `T` says what they hold. It does not test the tables.
+/// Opens a connection to the files of an older store, where `T` says what they hold. It does not test the tables: they
+/// are those that the files hold, or none if the files hold no database yet.
 ///
-/// Fails with `BadSchema` if the files hold no database, with `Memory` if memory ran out, and with `Device` if the disk failed or
-/// the files cannot be opened (see [`Refusal::Device`]). The files then come back, if they were opened.
+/// Fails with `BadSchema` if the files hold no database, with `Memory` if memory ran out, and with `Device` if the disk
+/// failed, the files cannot be opened (see [`Refusal::Device`]), or a log stands where its database file is missing or
+/// empty. The files then come back, if they were opened, and hold what they held.
 pub fn open_older<T: Start>(
     rt: &HostRuntime,
     path: &str,
@@ -23,10 +29,39 @@ pub fn open_older<T: Start>(
 ) -> Result<Connection<FileStore<FileFrom<T>>>, (Refusal, Option<Leftover<FileFrom<T>>>)>
     ensures open { IfOk result (λ c. IsOpenIfHonest (file_state c)) }
     ensures found { IfOk result (λ c. FindsOlder (image_at T.Start) (file_state c)) }
+    ensures shows { IfOk result (λ c. HasCleanDisk (file_state c)
+        → AreFoundIn (image_at T.Start) (file_state c).now.trees) }
     ensures refused { IfErr result (λ e. IsOfOpening e.0) }
+    ensures keeps { IfErr result (λ e. IfSome e.1 (λ left. IsCleanLeft left → Keeps (image_at T.Start) left)) }
 {
-    match connect(rt, path, start) {
+    let (files, seed) = match open_pair(rt, path, start) {
+        Ok(opened) => opened,
+        Err(refusal) => return Err((refusal, None)),
+    };
+    match older_over(rt.alloc(), files, seed) {
         Ok(conn) => Ok(conn),
-        Err(refused) => Err(refused),
+        Err((refusal, left)) => Err((refusal, Some(left))),
+    }
+}
+
+/// Opens a connection to the two files of an older store, or returns them with the refusal, as `open_older` does.
+fn older_over<D: Disk + Drop>(
+    alloc: Global,
+    files: Files<D>,
+    seed: u64,
+) -> Result<Connection<FileStore<D>>, (Refusal, Leftover<D>)>
+    requires log { IsTrue (D.Disk.is_usable files.log) }
+    requires db { IsTrue (D.Disk.is_usable files.db) }
+    requires settled { (it : _) → outcomes D.Disk files.log files.db it → it ≡ image_of D.Disk files }
+    ensures open { IfOk result (λ c. IsOpenIfHonest (file_state c)) }
+    ensures found { IfOk result (λ c. FindsOlder (image_of D.Disk files) (file_state c)) }
+    ensures shows { IfOk result (λ c. HasCleanDisk (file_state c)
+        → AreFoundIn (image_of D.Disk files) (file_state c).now.trees) }
+    ensures refused { IfErr result (λ e. IsOfOpening e.0) }
+    ensures keeps { IfErr result (λ e. IsCleanLeft e.1 → Keeps (image_of D.Disk files) e.1) }
+{
+    match connect_files(alloc, files, seed) {
+        Ok(connection) => Ok(connection),
+        Err((refusal, left)) => Err((refusal, left)),
     }
 }

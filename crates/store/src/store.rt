@@ -6,9 +6,10 @@ ghost use Rattle.sqlite_trees.specs.View.{doubt};
 ghost use Rattle.world.specs.Store.{GrewOrFull, Reads};
 ghost use Rattle.world.specs.Versions.{versions_of};
 ghost use Rattle.world.specs.World.{group_of, view};
-ghost use Rattle.store.specs.Counted.{IsCounted};
+ghost use Rattle.store.specs.Counted.{IsCounted, counting};
+ghost use Rattle.store.specs.Restart.{LeavesCommitted};
 ghost use Rattle.store.specs.Shown.{shown_with};
-ghost use Rattle.kept.specs.Kept.{IsNothing};
+ghost use Rattle.kept.specs.Kept.{IsNothing, WeighsAtMost};
 ghost use Rattle.outline.specs.Seen.{seen_heading};
 ghost use Rattle.tables.specs.Calls.{Honestly};
 ghost use Rattle.tables.specs.Causes.{IsHindered, IsVast};
@@ -16,6 +17,7 @@ ghost use Rattle.setup.specs.Opened.{Opens, IsBad, LeavesFirst, IsOfOpening};
 
 use crate::chain::Chain;
 use crate::seen::{heading_in, with_zip};
+use kept::absences::Absences;
 use kept::groups::{copied, group_in};
 use kept::headings::Headings;
 use kept::kept::Kept;
@@ -62,6 +64,7 @@ pub struct SqlShelves<S: Alter> {
 pub(crate) fn fault(failures: &mut u64, error: Error) -> StoreFault
     ensures no_fewer { failures.old ≤ failures.new }
     ensures device { result ≡ StoreFault.Device → GrewOrFull failures.old failures.new }
+    ensures counts { failures.new ≡ counting result failures.old }
     ensures memory { error ≡ Error.SqliteFailure ErrorCode.OutOfMemory → result ≡ StoreFault.Memory }
 {
     match error {
@@ -155,22 +158,23 @@ impl<S: Alter> Shelves for SqlShelves<S> {
     }
 
     fn versions(&mut self, shelf: &str, path: &ModulePath) -> Result<Versions, StoreFault> {
-        if let Some(versions) = self.kept.lists.versions(self.alloc, shelf, path.as_str()) {
+        if let Some(versions) = self.kept.versions(self.alloc, shelf, path.as_str()) {
             return Ok(versions);
         }
         let found = self.take_versions(shelf, path.as_str())?;
         self.kept
-            .lists
-            .keep_copy(self.alloc, shelf, path.as_str(), found.as_slice());
+            .keep_versions(self.alloc, shelf, path.as_str(), found.as_slice());
         Ok(found)
     }
 
     fn latest(&mut self, shelf: &str, path: &ModulePath) -> Result<Option<Version>, StoreFault> {
-        if let Some(latest) = self.kept.lists.latest(self.alloc, shelf, path.as_str()) {
+        if let Some(latest) = self.kept.latest(self.alloc, shelf, path.as_str()) {
             return Ok(latest);
         }
         let versions = self.take_versions(shelf, path.as_str())?;
         let Some(newest) = highest(versions.as_slice()) else {
+            self.kept
+                .keep_versions(self.alloc, shelf, path.as_str(), versions.as_slice());
             return Ok(None);
         };
         let heading = self.heading(shelf, path, newest)?;
@@ -214,6 +218,7 @@ impl<S: Alter> Shelves for SqlShelves<S> {
         self.kept.counts.raise(self.alloc, shelf, path);
         self.kept.total = raised(self.kept.total);
         self.kept.lists.forget(self.alloc, path);
+        self.kept.absences.forget(path);
         self.kept.headings = Headings::no_headings(); // The entry can hide another from its shelf.
         Ok(())
     }
@@ -224,6 +229,7 @@ impl<S: Alter> Shelves for SqlShelves<S> {
         }
         // What was asked of this name before lacks what the group of the team has.
         self.kept.lists = Lists::no_lists();
+        self.kept.absences = Absences::new(self.alloc);
         self.kept.headings = Headings::no_headings();
         counted(&mut self.failures, add_team(&mut self.conn, name, group))
     }
@@ -289,6 +295,7 @@ impl<S: Alter> SqlShelves<S> {
         ensures same { IfErr result (λ e. Honestly (state S.Store conn) (state S.Store e.1) (λ old new.
             IsTrue new.is_open → new.now ≡ old.now)) }
         ensures crash { IfErr result (λ e. Honestly (state S.Store conn) (state S.Store e.1) LeavesFirst) }
+        ensures left { IfErr result (λ e. Honestly (state S.Store conn) (state S.Store e.1) LeavesCommitted) }
         ensures bad { IfErr result (λ e. Honestly (state S.Store conn) (state S.Store e.1) (λ old _.
             e.0 ≡ Refusal.BadSchema → IsBad old.now)) }
         // A refused connection is in a transaction exactly if it came in one, and its steps are limited as before.
@@ -311,6 +318,13 @@ impl<S: Alter> SqlShelves<S> {
         }
     }
 
+    /// Shows that what the store keeps weighs at most the figures of its kinds, whatever it was asked.
+    pub fn bounds(&self)
+        ensures { WeighsAtMost self.now.kept }
+    {
+        self.kept.bounds();
+    }
+
     /// Returns the group of a shelf, or None if it has none or does not exist. Copies the cached name if there is one, and
     /// queries the tables otherwise. Fails with `Memory` if memory ran out, and otherwise with `Device`.
     fn group_of(&mut self, shelf: &str) -> Result<Option<Text>, StoreFault>
@@ -331,7 +345,8 @@ impl<S: Alter> SqlShelves<S> {
     }
 
     /// Returns what a shelf sees of a version without its zip, with the shelf that its entry stands on, or None. Copies the
-    /// cached heading if there is one, and queries the tables otherwise. Fails as `group_of` does.
+    /// cached heading if there is one, returns None if what is cached of the path lacks the version, and queries the tables
+    /// otherwise. Fails as `group_of` does.
     fn seen(
         &mut self,
         shelf: &str,
@@ -345,12 +360,45 @@ impl<S: Alter> SqlShelves<S> {
         if let Some(seen) = self.kept.headings.seen(self.alloc, shelf, path, version) {
             return Ok(Some(seen));
         }
+        self.keep_if_missed(shelf, path)?;
+        if self.kept.lacks(shelf, path, version) {
+            return Ok(None);
+        }
+        self.find_heading(shelf, path, version)
+    }
+
+    /// Caches which versions of a path a shelf sees, if it looked for one in vain before. The first such look does not do it, so
+    /// a path that is asked for once costs one look along the chain. Fails as `group_of` does.
+    fn keep_if_missed(&mut self, shelf: &str, path: &str) -> Result<(), StoreFault>
+        ensures reads { Reads (shown_with (state S.Store self.old.conn) self.old.kept self.old.failures)
+            (shown_with (state S.Store self.new.conn) self.new.kept self.new.failures) result (λ _. tt) }
+    {
+        if !self.kept.wants_versions(shelf, path) {
+            return Ok(());
+        }
+        let versions = self.take_versions(shelf, path)?;
+        self.kept
+            .keep_versions(self.alloc, shelf, path, versions.as_slice());
+        Ok(())
+    }
+
+    /// Returns what a shelf sees of a version without its zip, with the shelf that its entry stands on, or None. Caches what it
+    /// sees, or notes that it looked in vain. Always queries the tables. Fails as `group_of` does.
+    fn find_heading(
+        &mut self,
+        shelf: &str,
+        path: &str,
+        version: &str,
+    ) -> Result<Option<SeenHeading>, StoreFault>
+        ensures reads { Reads (shown_with (state S.Store self.old.conn) self.old.kept self.old.failures)
+            (shown_with (state S.Store self.new.conn) self.new.kept self.new.failures) result
+            (λ w. seen_heading (view w shelf.now path.now version.now)) }
+    {
         let group = self.group_of(shelf)?;
         let chain = Chain::new(shelf, group.as_ref());
         let seen = find_seen(&mut self.conn, chain.as_slice(), path, version);
         let seen = counted(&mut self.failures, seen)?;
         self.kept
-            .headings
             .keep_seen(self.alloc, shelf, path, version, seen.as_ref());
         Ok(seen)
     }

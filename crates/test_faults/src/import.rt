@@ -1,6 +1,7 @@
 //! Imports a list.
 use commands::import::import;
 use commands::sources::FilesInMemory;
+use histories::Telling;
 use std::alloc::Global;
 use std::str::from_utf8;
 use std::test::Fail;
@@ -58,7 +59,7 @@ pub fn imported<S: Shelves>(alloc: Global, shelves: &mut S, chosen: u8) -> Resul
         "alphakey00000001",
         list.as_bytes(),
         &files,
-        &mut output,
+        &mut Telling::new(&mut output),
     )?;
     Ok(published(from_utf8(output.as_slice())?))
 }

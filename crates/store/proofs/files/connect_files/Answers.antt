@@ -1,12 +1,30 @@
-use Rattle.std.proofs.Common.{ap, sym, ◌∙◌}
-use Rattle.std.proofs.lemmas.Bool.{not-false, eqb-true}
-use Rattle.sqlite_disk.specs.declared.tally.Tally.{Tally}
-use Rattle.store.proofs.FileLemmas.{left_holds_none}
+use Rattle.std.proofs.Common.{subst}
+use Rattle.sqlite.proofs.FileLemmas.{same_image}
+use Rattle.sqlite.specs.Files.{file_state}
+use Rattle.sqlite.specs.Start.{FindsIn}
+use Rattle.store.specs.Restart.{HoldsNoFile}
+use Rattle.store.proofs.FileLemmas.{leaves_from, no_database, stray_is_none}
 use Rattle.store.proofs.files.connect_files.Goals as goal
 
+pub returns-in-Ok-connect_judged-clause-found : goal.returns-in-Ok-connect_judged-clause-found
+returns-in-Ok-connect_judged-clause-found g c clean =
+    let found = c.in-Ok-connect_judged.ensures.found clean in
+    subst (λ i. FindsIn i (file_state c.in-Ok-connect_judged.conn)) (same_image c.judge.ensures.log c.judge.ensures.db)
+    (record { holds = found.holds; reads = found.reads })
+
+pub returns-in-Ok-connect_judged-clause-begun : goal.returns-in-Ok-connect_judged-clause-begun
+returns-in-Ok-connect_judged-clause-begun g c clean = c.in-Ok.ensures.begun (c.in-Ok-connect_judged.ensures.found clean).honest
+
+pub returns-in-Err-connect_judged-clause-bad : goal.returns-in-Err-connect_judged-clause-bad
+returns-in-Err-connect_judged-clause-bad g c bad clean =
+    no_database _ (subst HoldsNoFile (same_image c.judge.ensures.log c.judge.ensures.db) (c.in-Err-connect_judged.ensures.bad bad clean))
+
+pub returns-in-Err-connect_judged-clause-unharmed : goal.returns-in-Err-connect_judged-clause-unharmed
+returns-in-Err-connect_judged-clause-unharmed g c clean =
+    leaves_from c.args.files c.judge.new.files c.judge.ensures.log c.judge.ensures.db _ (c.in-Err-connect_judged.ensures.unharmed clean)
+
 pub returns-in-Err-clause-bad : goal.returns-in-Err-clause-bad
-returns-in-Err-clause-bad g c bad clean =
-    let (uncaught, error) = c.file_refusal-refusal.ensures.bad.0 bad in
-    let count = λ (t : Tally). t.caught in
-    let same = sym (ap count c.tally.ensures) ∙ eqb-true _ _ (not-false _ uncaught) ∙ ap count c.tally-caught.ensures in
-    left_holds_none c.args.files c.in-Err.left (c.into_files-files.result.log, c.into_files-files.result.db) c.in-Err.error c.into_files-files.ensures clean c.in-Err.ensures.cause same error
+returns-in-Err-clause-bad g c bad clean = stray_is_none _ (c.in-Err.ensures.bad bad clean)
+
+pub returns-in-Err-clause-unharmed : goal.returns-in-Err-clause-unharmed
+returns-in-Err-clause-unharmed g c clean = λ it may. (c.judge.ensures.log.crash _ may.0, c.judge.ensures.db.crash _ may.1)

@@ -1,4 +1,4 @@
-use Rattle.std.proofs.Common.{Ok, Err, inr, refl, subst}
+use Rattle.std.proofs.Common.{Ok, Err, inr, refl, subst, ap}
 use Rattle.sqlite.specs.Held.{state}
 use Rattle.sqlite.specs.State.{HasCleanDisk}
 use Rattle.store.specs.Migrated.{HasOlderReason, MigratesRows}
@@ -6,6 +6,7 @@ use Rattle.store.specs.declared.migrate.Migrated.{Migrated}
 use Rattle.store.specs.declared.migrate.Migrated.TheVariants.{Whole, NotEmpty, BadSchema}
 use Rattle.setup.specs.declared.refusal.Refusal.TheVariants as refusal
 use Rattle.store.proofs.MigratedLemmas.{migrated, done_not_full, error_not_full, fault_tells, opening_tells, opening_some, no_device, device_is, older_device}
+use Rattle.store.proofs.CountedLemmas.{counts_once, counts_same}
 use Rattle.store.proofs.migrate.migrate.Goals as goal
 
 pub returns-in-Ok-Whole-clause-migrates : goal.returns-in-Ok-Whole-clause-migrates
@@ -14,7 +15,7 @@ returns-in-Ok-Whole-clause-migrates g c =
     let t = state g.S.Store c.migrate_rows.new.old in
     let f = state g.F.Store c.args.fresh.now.conn in
     let e = state g.F.Store c.migrate_rows.new.fresh in
-    migrated s t f e c.args.fresh.now.kept _ _ _ (Ok Whole) (Ok tt) (subst (λ (m : Migrated). MigratesRows s t f e (Ok m)) c.in-Ok-Whole.field-0-is c.in-Ok-Whole.ensures.migrates)
+    migrated s t f e c.args.fresh.now.kept c.new.result _ _ (Ok Whole) (Ok tt) (subst (λ (m : Migrated). MigratesRows s t f e (Ok m)) c.in-Ok-Whole.field-0-is c.in-Ok-Whole.ensures.migrates)
     c.new.ensures refl done_not_full (λ x says. says)
 
 pub returns-in-Ok-NotEmpty-clause-migrates : goal.returns-in-Ok-NotEmpty-clause-migrates
@@ -23,7 +24,7 @@ returns-in-Ok-NotEmpty-clause-migrates g c =
     let t = state g.S.Store c.migrate_rows.new.old in
     let f = state g.F.Store c.args.fresh.now.conn in
     let e = state g.F.Store c.migrate_rows.new.fresh in
-    migrated s t f e c.args.fresh.now.kept _ _ _ (Ok NotEmpty) (Err refusal.NotEmpty)
+    migrated s t f e c.args.fresh.now.kept c.new.result _ _ (Ok NotEmpty) (Err refusal.NotEmpty)
     (subst (λ (m : Migrated). MigratesRows s t f e (Ok m)) c.in-Ok-NotEmpty.field-0-is c.in-Ok-NotEmpty.ensures.migrates)
     c.new.ensures refl (λ _. refl) (λ x says. says)
 
@@ -33,7 +34,7 @@ returns-in-Ok-BadSchema-clause-migrates g c =
     let t = state g.S.Store c.migrate_rows.new.old in
     let f = state g.F.Store c.args.fresh.now.conn in
     let e = state g.F.Store c.migrate_rows.new.fresh in
-    migrated s t f e c.args.fresh.now.kept _ _ _ (Ok BadSchema) (Err refusal.BadSchema)
+    migrated s t f e c.args.fresh.now.kept c.new.result _ _ (Ok BadSchema) (Err refusal.BadSchema)
     (subst (λ (m : Migrated). MigratesRows s t f e (Ok m)) c.in-Ok-BadSchema.field-0-is c.in-Ok-BadSchema.ensures.migrates)
     c.new.ensures refl (error_not_full refusal.BadSchema (λ same. cc)) (λ x says. says)
 
@@ -44,7 +45,7 @@ returns-in-Err-Source-clause-migrates g c =
     let f = state g.F.Store c.args.fresh.now.conn in
     let e = state g.F.Store c.migrate_rows.new.fresh in
     let says = c.open_refusal.ensures in
-    migrated s t f e c.args.fresh.now.kept _ _ _ (Err _) (Err c.open_refusal.result) c.in-Err-Source.ensures.migrates
+    migrated s t f e c.args.fresh.now.kept c.new.result _ _ (Err _) (Err c.open_refusal.result) c.in-Err-Source.ensures.migrates
     c.new.ensures refl (error_not_full _ (opening_some _ says.opening)) (λ x _. opening_tells x _ says.opening says.named)
 
 pub returns-in-Err-Fresh-clause-migrates : goal.returns-in-Err-Fresh-clause-migrates
@@ -54,7 +55,7 @@ returns-in-Err-Fresh-clause-migrates g c =
     let f = state g.F.Store c.args.fresh.now.conn in
     let e = state g.F.Store c.migrate_rows.new.fresh in
     let named = c.refusal_of.ensures.named in
-    migrated s t f e c.args.fresh.now.kept _ _ _ (Err _) (Err c.refusal_of.result) c.in-Err-Fresh.ensures.migrates
+    migrated s t f e c.args.fresh.now.kept c.new.result _ _ (Err _) (Err c.refusal_of.result) c.in-Err-Fresh.ensures.migrates
     c.new.ensures refl (error_not_full _ named.1) (λ x _. fault_tells x _ named.0 named.1 named.2)
 
 pub returns-in-Ok-Whole-clause-cause : goal.returns-in-Ok-Whole-clause-cause
@@ -75,4 +76,10 @@ returns-in-Err-Source-clause-cause g c =
 
 pub returns-in-Err-Fresh-clause-cause : goal.returns-in-Err-Fresh-clause-cause
 returns-in-Err-Fresh-clause-cause g c =
-    record { no_fewer = c.fault.ensures.no_fewer; device = λ _ same. inr (c.fault.ensures.device (c.refusal_of.ensures.device (device_is c.refusal_of.result same))) }
+    let counts = c.fault.ensures.counts in
+    record {
+      no_fewer = c.fault.ensures.no_fewer;
+      device = λ _ same. inr (c.fault.ensures.device (c.refusal_of.ensures.device (device_is c.refusal_of.result same)));
+      once = counts_once _ _ _ counts;
+      stays = λ other. counts_same _ _ _ counts (λ is. other (ap (λ r. Err r) (c.refusal_of.ensures.told is)));
+    }

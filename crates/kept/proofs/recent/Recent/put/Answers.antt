@@ -1,4 +1,4 @@
-use Rattle.std.proofs.Common.{◌≡◌, ◌≤◌, ◌-◌, ◌⊎◌, ◌∙◌, inl, ap, subst, nat_eq, rules}
+use Rattle.std.proofs.Common.{◌≡◌, ◌≤◌, ◌-◌, ◌⊎◌, ◌∙◌, inl, ap, subst, nat_eq, arith, rules}
 use Rattle.kept.specs.Recent.{Holds}
 use Rattle.kept.proofs.RecentLemmas.{Cache, entries_in, put_holds, put_fits}
 use Rattle.kept.proofs.recent.Recent.put.Goals as goal
@@ -12,13 +12,14 @@ returns-in_default-put g c v h =
 pub invariant_of-self-2 : goal.invariant_of-self-2
 invariant_of-self-2 g c =
     let was : c.in-Ok.cache.entries ≡ entries_in c.self.inside.cache = c.in-Ok.ensures ∙ ap entries_in c.take.ensures.value in
-    let room : c.args.weight ≤ c.self.inside.most - c.self.inside.weight = search rules in
-    put_fits c.in-Ok.cache c.put.new.self (entries_in c.self.inside.cache) was c.self.inside.weight c.self.inside.most c.self.invariant nat_eq c.args.hash
-    (c.args.weight, c.args.value) c.in-Ok-put.ensures.entries room
+    let room : c.weight-weight.result ≤ g.V.Weighed.MOST - c.self.inside.weight = search rules in
+    let enough = c.weight-weight.ensures (omega (arith, room)) in
+    put_fits g.V.Weighed.weighs c.in-Ok.cache c.put.new.self (entries_in c.self.inside.cache) was c.self.inside.weight g.V.Weighed.MOST c.self.invariant nat_eq c.args.hash
+    (c.weight-weight.result, c.args.value) c.in-Ok-put.ensures.entries room enough
 
 pub returns : goal.returns
 returns g c v h =
     let was : c.in-Ok.cache.entries ≡ entries_in c.self.inside.cache = c.in-Ok.ensures ∙ ap entries_in c.take.ensures.value in
-    let held = put_holds c.in-Ok.cache c.put.new.self (entries_in c.self.inside.cache) was c.self.inside.weight c.self.inside.most c.self.invariant nat_eq c.args.hash
-    (c.args.weight, c.args.value) c.in-Ok-put.ensures.entries v h in
+    let held = put_holds g.V.Weighed.weighs c.in-Ok.cache c.put.new.self (entries_in c.self.inside.cache) was c.self.inside.weight g.V.Weighed.MOST c.self.invariant nat_eq c.args.hash
+    (c.weight-weight.result, c.args.value) c.in-Ok-put.ensures.entries v h in
     subst (λ l. Holds l v ⊎ (v ≡ c.args.value)) c.self.view_is held

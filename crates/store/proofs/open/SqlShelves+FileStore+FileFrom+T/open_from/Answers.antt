@@ -1,38 +1,39 @@
-use Rattle.std.proofs.Common.{arith}
-use Rattle.std.proofs.lemmas.Result.{err_from_is_err_and}
-use Rattle.sqlite_trees.proofs.Doubt.{no_doubt}
-use Rattle.sqlite.specs.Files.{file_state}
-use Rattle.sqlite.specs.State.{HasCleanDisk}
-use Rattle.tables.proofs.FailureLemmas.{was_clean}
-use Rattle.store.proofs.OpenLemmas.{begins_store, begins_empty, bad_is_no_store, left_of_no_store}
+use Rattle.std.proofs.Common.{Bool, cond, subst, sym}
+use Rattle.store.specs.Restart.{HoldsNoStore, HoldsStore, IsStray, Keeps, RecoversStore}
+use Rattle.store.proofs.FileLemmas.{both_untouched, holds_start}
 use Rattle.store.proofs.open.SqlShelves+FileStore+FileFrom+T.open_from.Goals as goal
 
-pub returns-in-Ok-clause-begins : goal.returns-in-Ok-clause-begins
-returns-in-Ok-clause-begins g c clean =
-    let it = c.in-Ok.ensures.opens clean in
-    (it.world, begins_empty (file_state c.in-Ok.shelves.conn) c.in-Ok.shelves.kept _ it.world c.in-Ok.ensures.none_kept it.begins)
+pub open_over-requires-clause-settled : goal.open_over-requires-clause-settled
+open_over-requires-clause-settled g c it may =
+    let (log, db) = c.in-Ok.ensures.fresh in
+    let files = c.in-Ok.opened.0 in
+    let start = λ (b : Bool). cond b g.T.Start.log g.T.Start.db in
+    both_untouched g.T.Start.is_mixing (start files.log.is_log) (start files.db.is_log) _ _ _ _ log.1 db.1 it may.0 may.1
 
-pub returns-in-Ok-clause-found : goal.returns-in-Ok-clause-found
-returns-in-Ok-clause-found g c clean w held =
-    let old = file_state c.in_ok-conn.conn in
-    let new = file_state c.in-Ok.shelves.conn in
-    let was = was_clean old new c.in-Ok.ensures.clean clean in
-    let opened = c.in_ok-conn.ensures.opened was in
-    begins_empty new c.in-Ok.shelves.kept _ w c.in-Ok.ensures.none_kept
-    (begins_store old new _ opened.1 opened.0.is_open opened.0.clean (c.in_ok-conn.ensures.found was) (c.in-Ok.ensures.opens clean) w held)
+pub returns-in-Ok-open_over-clause-begins : goal.returns-in-Ok-open_over-clause-begins
+returns-in-Ok-open_over-clause-begins g c clean =
+    let (log, db) = c.in-Ok.ensures.fresh in
+    let same = holds_start g.T.Start.log g.T.Start.db _ _ _ _ _ _ log db in
+    let it = c.in-Ok-open_over.ensures.begins clean in
+    (it.0, it.1, subst (λ i. RecoversStore i it.0) same it.2)
 
-pub returns-in-Err-clause-bad : goal.returns-in-Err-clause-bad
-returns-in-Err-clause-bad g c bad clean =
-    let old = file_state c.in_ok-conn.conn in
-    let here : HasCleanDisk (file_state c.in-Err.conn) = omega (arith, c.into_store.ensures.quiet.clean, no_doubt _ clean) in
-    let was = was_clean old (file_state c.in-Err.conn) c.in-Err.ensures.was_clean here in
-    let opened = c.in_ok-conn.ensures.opened was in
-    bad_is_no_store old _ opened.1 opened.0.is_open opened.0.clean (c.in_ok-conn.ensures.found was) (c.in-Err.ensures.bad here bad)
+pub returns-in-Ok-open_over-clause-found : goal.returns-in-Ok-open_over-clause-found
+returns-in-Ok-open_over-clause-found g c clean w held =
+    let (log, db) = c.in-Ok.ensures.fresh in
+    let same = holds_start g.T.Start.log g.T.Start.db _ _ _ _ _ _ log db in
+    c.in-Ok-open_over.ensures.found clean w (subst (λ i. HoldsStore i w) (sym same) held)
 
-pub returns-in_err-conn-clause-bad : goal.returns-in_err-conn-clause-bad
-returns-in_err-conn-clause-bad g c =
-    let p = err_from_is_err_and c.from_residual.result c.from_residual.ensures.1 in
-    rw (p.1, p.2) (λ bad. left_of_no_store _ _ (c.in_err-conn.ensures.bad bad))
+pub returns-in-Ok-open_over-clause-begun : goal.returns-in-Ok-open_over-clause-begun
+returns-in-Ok-open_over-clause-begun g c clean =
+    let (log, db) = c.in-Ok.ensures.fresh in
+    subst (λ i. ¬ IsStray i) (holds_start g.T.Start.log g.T.Start.db _ _ _ _ _ _ log db) (c.in-Ok-open_over.ensures.begun clean)
 
-pub returns-in-Err-clause-no_file : goal.returns-in-Err-clause-no_file
-returns-in-Err-clause-no_file g c named = absurd (c.in_ok-conn.ensures.no_file named)
+pub returns-in-Err-open_over-clause-bad : goal.returns-in-Err-open_over-clause-bad
+returns-in-Err-open_over-clause-bad g c bad clean =
+    let (log, db) = c.in-Ok.ensures.fresh in
+    subst HoldsNoStore (holds_start g.T.Start.log g.T.Start.db _ _ _ _ _ _ log db) (c.in-Err-open_over.ensures.bad bad clean)
+
+pub returns-in-Err-open_over-clause-keeps : goal.returns-in-Err-open_over-clause-keeps
+returns-in-Err-open_over-clause-keeps g c clean =
+    let (log, db) = c.in-Ok.ensures.fresh in
+    subst (λ i. Keeps i c.in-Err-open_over.left) (holds_start g.T.Start.log g.T.Start.db _ _ _ _ _ _ log db) (c.in-Err-open_over.ensures.keeps clean)

@@ -10,7 +10,7 @@ returns-in-Some g c =
     let same : c.in_ok-copied.field-0 ≡ c.in-Some.group.now = search rules in
     record {
       reads = reads_kept (state g.S.Store c.args.self.now.conn) c.args.self.now.kept c.args.self.now.kept c.args.self.now.failures c.in_ok-copied.field-0 _
-          (λ w right. (same ∙ sym (right.2 c.args.shelf.now c.in-Some.group.now (sym c.in-Some.ensures)).1, right));
+          (λ w right. (same ∙ sym (right.2.0 c.args.shelf.now c.in-Some.group.now (sym c.in-Some.ensures)).1, right));
     }
 
 pub returns : goal.returns
@@ -24,7 +24,7 @@ returns g c =
           (λ clean w stands right.
           let found = sym c.in-Some-found.is ∙ (answer clean w stands.0).2 in
           let same = c.group_in-group.ensures ∙ ap group_in found in
-          (same, (right.0, right.1, c.keep.ensures w right.2 (ap is_some (sym found), sym (lent ∙ same)), right.3)));
+          (same, (right.0, right.1, (c.keep.ensures w right.2.0 (ap is_some (sym found), sym (lent ∙ same)), right.2.1), right.3)));
     }
 
 pub returns-in_default-found : goal.returns-in_default-found

@@ -25,10 +25,11 @@ returns g c =
     let group = option_copied c.args.group in
     let lists = c.no_lists.result in
     let headings = c.no_headings.result in
+    let absences = c.new.result in
     record {
       does = changes (state g.S.Store c.args.self.now.conn) (state g.S.Store c.add_team.new.conn) c.args.self.now.kept
-          (record c.args.self.now.kept { lists = lists; headings = headings }) c.args.self.now.failures _ c.add_team.result c.counted.result _ _ _ c.counted.ensures c.add_team.ensures.changes.clean
+          (record c.args.self.now.kept { lists = lists; headings = headings; absences = absences }) c.args.self.now.failures _ c.add_team.result c.counted.result _ _ _ c.counted.ensures c.add_team.ensures.changes.clean
           (λ clean w stands _. (c.add_team.ensures.answer clean w stands.0, c.add_team.ensures.changes.at w, sound_team w name group _ stands.1 refl))
-          (λ w _ right. by_result c.counted.result (kept_after_team w c.args.self.now.kept right lists headings c.no_lists.ensures c.no_headings.ensures name group _ refl)
-          (kept_but_lists w c.args.self.now.kept right lists headings c.no_lists.ensures c.no_headings.ensures));
+          (λ w _ right. by_result c.counted.result (kept_after_team w c.args.self.now.kept right lists headings absences c.no_lists.ensures c.no_headings.ensures c.new.ensures name group _ refl)
+          (kept_but_lists w c.args.self.now.kept right lists headings absences c.no_lists.ensures c.no_headings.ensures c.new.ensures));
     }

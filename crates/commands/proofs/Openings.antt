@@ -15,7 +15,8 @@ use Rattle.world.proofs.OnlyCommon.{only_common_stands, has_nothing_else}
 use Rattle.shelf.proofs.Sound.{sound}
 use Rattle.shelf.specs.declared.ask.Event.TheVariants.{TeamAdd}
 use Rattle.world.proofs.Orders.{texts_total, get_put}
-use Rattle.engine.specs.Served.{Serves}
+use Rattle.histories.specs.Account.{Account}
+use Rattle.engine.specs.Served.{ServesAllHeard}
 use Rattle.engine.specs.declared.fault.Io.{Io as Failure}
 use Rattle.commands.specs.Opening.{ServedFrom, opening}
 
@@ -53,8 +54,8 @@ module _ (old new : World) (t : List ℕ) (r : Registered) where
       ∙ ap (after_key_add (with_team only_common t None) t k Publishes) (key_is_added t k named)
 
 -- requests that were answered from shelves at the opening's world were answered from the opening
-pub served_from : (start begin end : World) (unread unread_new written written_new : Option (List ℕ)) (result : Result (Unit {0}) Failure)
-    → Serves (in_memory start) (in_memory end) unread unread_new written written_new result → start ≡ begin
-    → ServedFrom begin unread unread_new written written_new result
-served_from start begin end unread unread_new written written_new result serves is =
-    (end, subst (λ w. Serves (in_memory w) (in_memory end) unread unread_new written written_new result) is serves)
+pub served_from : (start begin end : World) (came came_new : Account) (written written_new : Option (List ℕ)) (result : Result (Unit {0}) Failure)
+    → ServesAllHeard (in_memory start) (in_memory end) came came_new written written_new result → start ≡ begin
+    → ServedFrom begin came came_new written written_new result
+served_from start begin end came came_new written written_new result serves is =
+    (end, subst (λ w. ServesAllHeard (in_memory w) (in_memory end) came came_new written written_new result) is serves)

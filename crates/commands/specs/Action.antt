@@ -1,5 +1,6 @@
 -- What an action does on a store.
 use Rattle.std.specs.Prelude.{ℕ, List, ◌≡◌, true, Bool, Option, option_copied, Result, Ok, Err}
+use Rattle.histories.specs.Account.{Account}
 use Rattle.world.specs.Store.{Shown}
 use Rattle.control.specs.declared.order.Order.{Order}
 use Rattle.commands.specs.Ending.{Registers}
@@ -13,15 +14,15 @@ use Rattle.commands.specs.declared.serve.Entrance.{Entrance}
 use Rattle.commands.specs.declared.action.Action.{Action}
 use Rattle.commands.specs.declared.action.Action.TheVariants as action
 
--- a store, the bytes left on the input, and the bytes on the output, at a moment
+-- a store, what came on the input, and the bytes on the output, at a moment
 pub record Moment (S : Type 0) : Type 0 where
   pub store : S
-  pub unread : Option (List ℕ)
+  pub came : Account
   pub written : Option (List ℕ)
 
 -- nothing was read or written
 pub record KeepsStreams {S : Type 0} (old new : Moment S) : Type 0 where
-  pub unread : new.unread ≡ old.unread
+  pub came : new.came ≡ old.came
   pub written : new.written ≡ old.written
 
 -- the result of a command that is accepted once it is done
@@ -40,7 +41,7 @@ module _ {S : Type 0} (shown : S → Shown) (copied : Copied S) (counted : Count
   -- the requests of the input were answered from the store
   pub record AnswersFrom (result : Result Bool CommandRefusal) : Type 0 where
     pub ended : Result (Unit {0}) CommandRefusal
-    pub answers : AnswersAll (shown old.store) (shown new.store) old.unread new.unread old.written new.written ended
+    pub answers : AnswersAll (shown old.store) (shown new.store) old.came new.came old.written new.written ended
     pub told : result ≡ acceptance ended
 
   -- connections were served from the store, and nothing was read from the input
@@ -49,7 +50,7 @@ module _ {S : Type 0} (shown : S → Shown) (copied : Copied S) (counted : Count
     pub ended : Result (Unit {0}) CommandRefusal
     pub serves : ListensAs shown copied counted old.store new.store entrance connections control old.written new.written ended
     pub told : result ≡ acceptance ended
-    pub unread : new.unread ≡ old.unread
+    pub came : new.came ≡ old.came
 
   -- What is done by the kind of action: nothing, one command of the registry, one publish, those of a list, an inventory or the
   -- requirements of a version are printed, all requests of the input are answered, or no more requests than there are connections,
@@ -58,12 +59,12 @@ module _ {S : Type 0} (shown : S → Shown) (copied : Copied S) (counted : Count
   Acts result action.Open = (new ≡ old) × (result ≡ Ok true)
   Acts result (action.Register order) = RegistersAlone order result
   Acts result (action.Publish words files) =
-      PublishesFiles shown old.store new.store (asked_by words) old.written new.written result × (new.unread ≡ old.unread)
+      PublishesFiles shown old.store new.store (asked_by words) old.written new.written result × (new.came ≡ old.came)
   Acts result (action.Import key list) =
-      ImportsFile shown old.store new.store key.now old.written new.written result × (new.unread ≡ old.unread)
+      ImportsFile shown old.store new.store key.now old.written new.written result × (new.came ≡ old.came)
   Acts result (action.Inventory key) =
-      PrintsInventory (shown old.store) (shown new.store) key.now old.written new.written result × (new.unread ≡ old.unread)
+      PrintsInventory (shown old.store) (shown new.store) key.now old.written new.written result × (new.came ≡ old.came)
   Acts result (action.Requires version) =
-      PrintsRequirements (shown old.store) (shown new.store) version old.written new.written result × (new.unread ≡ old.unread)
+      PrintsRequirements (shown old.store) (shown new.store) version old.written new.written result × (new.came ≡ old.came)
   Acts result action.Answer = AnswersFrom result
   Acts result (action.Serve entrance connections control) = ServesConnections entrance connections (option_copied control) result

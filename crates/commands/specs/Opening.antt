@@ -1,6 +1,7 @@
 -- The world that a run over shelves in memory begins with, and how it ends.
 use Rattle.std.specs.Prelude.{ℕ, List, ◌≡◌, true, Option, None, Result, Ok, Err}
-use Rattle.engine.specs.Served.{Serves}
+use Rattle.histories.specs.Account.{Account}
+use Rattle.engine.specs.Served.{ServesAllHeard}
 use Rattle.engine.specs.declared.fault.Io.{Io as Failure}
 use Rattle.world.specs.InMemory.{in_memory}
 use Rattle.world.specs.Store.{Shown}
@@ -19,28 +20,28 @@ pub record AreNames (team key : List ℕ) : Type 0 where
   pub key_name : is_key key ≡ true
 
 -- the requests were answered from shelves in memory that began at this world, with this result
-abbrev pub ServedFrom : World → Option (List ℕ) → Option (List ℕ) → Option (List ℕ) → Option (List ℕ) → Result (Unit {0}) Failure → Type 0
-ServedFrom start unread unread_new written written_new result =
-    (end : World) × Serves (in_memory start) (in_memory end) unread unread_new written written_new result
+abbrev pub ServedFrom : World → Account → Account → Option (List ℕ) → Option (List ℕ) → Result (Unit {0}) Failure → Type 0
+ServedFrom start came came_new written written_new result =
+    (end : World) × ServesAllHeard (in_memory start) (in_memory end) came came_new written written_new result
 
 -- If the team and the key keep their rules, the requests are answered, or memory ran out before that. Otherwise nothing is read or
 -- written.
 abbrev pub AnsweredFor :
-    List ℕ → List ℕ → Option (List ℕ) → Option (List ℕ) → Option (List ℕ) → Option (List ℕ) → Result (Unit {0}) CommandRefusal → Type 0
-AnsweredFor team key unread unread_new written written_new (Ok u) =
-    AreNames team key × ServedFrom (opening team key) unread unread_new written written_new (Ok tt)
-AnsweredFor team key unread unread_new written written_new (Err Io) =
-    AreNames team key × ((failure : Failure) × ServedFrom (opening team key) unread unread_new written written_new (Err failure))
-AnsweredFor team key unread unread_new written written_new (Err Name) =
-    (¬ AreNames team key) × (unread_new ≡ unread) × (written_new ≡ written)
-AnsweredFor team key unread unread_new written written_new (Err Memory) =
-    AreNames team key × (unread_new ≡ unread) × (written_new ≡ written)
-AnsweredFor team key unread unread_new written written_new (Err other) = ⊥
+    List ℕ → List ℕ → Account → Account → Option (List ℕ) → Option (List ℕ) → Result (Unit {0}) CommandRefusal → Type 0
+AnsweredFor team key came came_new written written_new (Ok u) =
+    AreNames team key × ServedFrom (opening team key) came came_new written written_new (Ok tt)
+AnsweredFor team key came came_new written written_new (Err Io) =
+    AreNames team key × ((failure : Failure) × ServedFrom (opening team key) came came_new written written_new (Err failure))
+AnsweredFor team key came came_new written written_new (Err Name) =
+    (¬ AreNames team key) × (came_new ≡ came) × (written_new ≡ written)
+AnsweredFor team key came came_new written written_new (Err Memory) =
+    AreNames team key × (came_new ≡ came) × (written_new ≡ written)
+AnsweredFor team key came came_new written written_new (Err other) = ⊥
 
 -- The requests were answered from shelves that went from old to new, with this result.
 abbrev pub AnswersAll :
-    Shown → Shown → Option (List ℕ) → Option (List ℕ) → Option (List ℕ) → Option (List ℕ) → Result (Unit {0}) CommandRefusal → Type 0
-AnswersAll old new unread unread_new written written_new (Ok u) = Serves old new unread unread_new written written_new (Ok tt)
-AnswersAll old new unread unread_new written written_new (Err Io) =
-    (failure : Failure) × Serves old new unread unread_new written written_new (Err failure)
-AnswersAll old new unread unread_new written written_new (Err other) = ⊥
+    Shown → Shown → Account → Account → Option (List ℕ) → Option (List ℕ) → Result (Unit {0}) CommandRefusal → Type 0
+AnswersAll old new came came_new written written_new (Ok u) = ServesAllHeard old new came came_new written written_new (Ok tt)
+AnswersAll old new came came_new written written_new (Err Io) =
+    (failure : Failure) × ServesAllHeard old new came came_new written written_new (Err failure)
+AnswersAll old new came came_new written written_new (Err other) = ⊥

@@ -10,8 +10,8 @@ use crate::registry::register;
 use crate::report::{Named, print_inventory, print_requirements};
 use crate::serve::{Entrance, serve};
 use control::{Copies, Order};
+use histories::{Hear, Tell};
 use outline::outlines::Outlines;
-use std::io::{Read, Write};
 use std::rt::HostRuntime;
 
 /// What a command does on an open store.
@@ -55,7 +55,7 @@ pub enum Action<'a> {
 /// Does one action on a store and returns whether it was accepted; only a publish and an import can be done and not accepted.
 /// `copies` makes the copies that are ordered while the store is served, and counts its versions for a ping. Fails as the function of
 /// the action does.
-pub fn act_on<S: Outlines, K: Copies<S>, I: Read, O: Write>(
+pub fn act_on<S: Outlines, K: Copies<S>, I: Hear, O: Tell>(
     rt: &HostRuntime,
     shelves: &mut S,
     copies: &mut K,
@@ -64,8 +64,8 @@ pub fn act_on<S: Outlines, K: Copies<S>, I: Read, O: Write>(
     output: &mut O,
 ) -> Result<bool, CommandRefusal>
     ensures { spec.Acts S.shown K.copied K.counted
-        (record { store = shelves.old; unread = I.remaining input.old; written = O.contents output.old })
-        (record { store = shelves.new; unread = I.remaining input.new; written = O.contents output.new })
+        (record { store = shelves.old; came = I.account input.old; written = O.contents output.old })
+        (record { store = shelves.new; came = I.account input.new; written = O.contents output.new })
         result action.now }
 {
     match action {

@@ -3,19 +3,19 @@ ghost use Rattle.commands.specs.Opening.{AnswersAll};
 
 use crate::refusal::CommandRefusal;
 use engine::answer_all;
+use histories::{Hear, Tell};
 use std::alloc::Global;
-use std::io::{Read, Write};
 use world::shelves::Shelves;
 
 /// Answers the requests of the input from a store. `Io` if the input or the output fails.
-pub fn answer_input<S: Shelves, I: Read, O: Write>(
+pub fn answer_input<S: Shelves, I: Hear, O: Tell>(
     alloc: Global,
     shelves: &mut S,
     input: &mut I,
     output: &mut O,
 ) -> Result<(), CommandRefusal>
     ensures { AnswersAll (S.shown shelves.old) (S.shown shelves.new)
-        (I.remaining input.old) (I.remaining input.new) (O.contents output.old) (O.contents output.new) result }
+        (I.account input.old) (I.account input.new) (O.contents output.old) (O.contents output.new) result }
 {
     match answer_all(alloc, input, output, shelves) {
         Ok(()) => Ok(()),

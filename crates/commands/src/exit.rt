@@ -6,7 +6,7 @@ ghost use Rattle.commands.specs.Exit as spec;
 use crate::refusal::CommandRefusal;
 use engine::Io;
 use engine::write::{write_both, write_bytes};
-use std::io::Write;
+use histories::Tell;
 
 /// How a run ended.
 #[derive(Clone, Copy, Debug, Drop, PartialEq, Eq)]
@@ -46,7 +46,7 @@ impl Exit {
 
     /// Writes the line that says why the command was refused, if it was. If a write fails, a beginning of the line is written and
     /// the rest is given up, because the exit status still says that the command failed.
-    pub fn tell<E: Write>(self, errors: &mut E)
+    pub fn tell<E: Tell>(self, errors: &mut E)
         ensures { spec.Says (E.contents errors.old) (E.contents errors.new) self }
     {
         if let Exit::Refused(refusal) = self {
@@ -56,7 +56,7 @@ impl Exit {
 }
 
 /// Writes the line `goshelf: <word>`. `Io::Write` if a write fails: then a beginning of it is written, and not all.
-fn write_line<E: Write>(refusal: CommandRefusal, errors: &mut E) -> Result<(), Io>
+fn write_line<E: Tell>(refusal: CommandRefusal, errors: &mut E) -> Result<(), Io>
     ensures { Writes (E.contents errors.old) (E.contents errors.new) (spec.line_of refusal) result }
 {
     write_bytes(errors, b"goshelf: ")?;

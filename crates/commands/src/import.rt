@@ -11,6 +11,7 @@ use crate::publish::{Words, answer_of, publish_by};
 use crate::sources::{SourceFault, Sources};
 use csv::{Reader, StringRecord};
 use engine::Io;
+use histories::Tell;
 use shelf::ask::Body;
 use std::alloc::Global;
 use std::io::{Read, Write};
@@ -61,7 +62,7 @@ pub enum Step {
 /// A list of the header alone ends as all accepted. A list with more rows than a `u64` counts ends as one whose rest can't be read.
 ///
 /// `Io::Write` if a line can't be printed; the row of the line is done.
-pub fn import<S: Shelves, L: Read + Drop, F: Sources, O: Write>(
+pub fn import<S: Shelves, L: Read + Drop, F: Sources, O: Tell>(
     alloc: Global,
     shelves: &mut S,
     key: &str,
@@ -124,7 +125,7 @@ fn read_header<R: Read>(reader: &mut Reader<R>, fields: &mut StringRecord) -> Op
 }
 
 /// Does the next row and prints its line, or returns why the import ends. `Io::Write` if the line can't be printed.
-fn import_next<S: Shelves, R: Read, F: Sources, O: Write>(
+fn import_next<S: Shelves, R: Read, F: Sources, O: Tell>(
     alloc: Global,
     shelves: &mut S,
     key: &str,
@@ -230,7 +231,7 @@ fn body_of<F: Sources>(alloc: Global, row: &ImportRow, sources: &F) -> Result<Bo
 }
 
 /// Prints the line that ends the import, if one does, and returns how it ended. `Io::Write` if the line can't be printed.
-fn close<O: Write>(
+fn close<O: Tell>(
     number: u64,
     closing: Closing,
     accepted: bool,

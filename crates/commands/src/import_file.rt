@@ -6,15 +6,15 @@ use crate::import::{Ending, import};
 use crate::refusal::CommandRefusal;
 use crate::sources::SystemFiles;
 use engine::Io;
+use histories::Tell;
 use std::fs::File;
-use std::io::Write;
 use std::rt::HostRuntime;
 use world::shelves::Shelves;
 
 /// Publishes each row of the list in a file, with files of the system, and returns whether the whole list was read and every row
 /// accepted. `BadRow` if the header or a row is bad. `Io` if the list can't be opened, and then nothing is done, or if a line can't be
 /// printed.
-pub fn import_file<S: Shelves, O: Write>(
+pub fn import_file<S: Shelves, O: Tell>(
     rt: &HostRuntime,
     shelves: &mut S,
     key: &str,

@@ -6,8 +6,8 @@ ghost use Rattle.commands.specs.ImportLine as spec;
 use crate::publish::is_accepted;
 use engine::Io;
 use engine::write::write_both;
+use histories::Tell;
 use itoa::Buffer;
-use std::io::Write;
 use wire::fixed_line;
 use wire::reply::Fixed;
 
@@ -33,7 +33,7 @@ impl RowOutcome {
 }
 
 /// Prints the line of a row: its number, a space, and the answer or `no file`. `Io::Write` if the output fails.
-pub fn print_outcome<O: Write>(number: u64, outcome: RowOutcome, output: &mut O) -> Result<(), Io>
+pub fn print_outcome<O: Tell>(number: u64, outcome: RowOutcome, output: &mut O) -> Result<(), Io>
     ensures { spec.Prints (O.contents output.old) (O.contents output.new)
         (spec.numbered number (spec.outcome_text outcome)) result }
 {
@@ -48,7 +48,7 @@ pub fn print_outcome<O: Write>(number: u64, outcome: RowOutcome, output: &mut O)
 }
 
 /// Prints the line of a bad row. `Io::Write` if the output fails.
-pub fn print_bad_row<O: Write>(number: u64, output: &mut O) -> Result<(), Io>
+pub fn print_bad_row<O: Tell>(number: u64, output: &mut O) -> Result<(), Io>
     ensures { spec.Prints (O.contents output.old) (O.contents output.new)
         (spec.numbered number (codes "bad row")) result }
 {
@@ -56,7 +56,7 @@ pub fn print_bad_row<O: Write>(number: u64, output: &mut O) -> Result<(), Io>
 }
 
 /// Prints a line: a number, a space and a text. `Io::Write` if the output fails: then a beginning of it is printed, or all.
-fn print_numbered<O: Write>(number: u64, text: &[u8], output: &mut O) -> Result<(), Io>
+fn print_numbered<O: Tell>(number: u64, text: &[u8], output: &mut O) -> Result<(), Io>
     ensures { spec.Prints (O.contents output.old) (O.contents output.new) (spec.numbered number text.now) result }
 {
     match write_numbered(number, text, output) {
@@ -70,7 +70,7 @@ fn print_numbered<O: Write>(number: u64, text: &[u8], output: &mut O) -> Result<
 }
 
 /// Writes a line: a number, a space and a text. `Io::Write` if a write fails.
-fn write_numbered<O: Write>(number: u64, text: &[u8], output: &mut O) -> Result<(), Io>
+fn write_numbered<O: Tell>(number: u64, text: &[u8], output: &mut O) -> Result<(), Io>
     ensures { Writes (O.contents output.old) (O.contents output.new) (spec.numbered number text.now) result }
 {
     let mut digits = Buffer::new();

@@ -5,8 +5,8 @@ ghost use Rattle.commands.specs.Opening.{AnsweredFor, AreNames, opening};
 
 use crate::refusal::CommandRefusal;
 use engine::answer_all;
+use histories::{Hear, Tell};
 use std::alloc::Global;
-use std::io::{Read, Write};
 use world::entry::Right;
 use world::map_shelves::MapShelves;
 use world::names::{is_key, is_team_name};
@@ -60,7 +60,7 @@ pub fn shelves_with(alloc: Global, team: &str, key: &str) -> Result<MapShelves, 
 /// Answers the requests of the input from shelves in memory that begin with `common`, the team and its
 /// publishing key. `Name` if the team or the key breaks its rule, and `Memory` if memory runs out before the first read:
 /// then nothing is read. `Io` if the input or the output fails.
-pub fn answer_in_memory<I: Read, O: Write>(
+pub fn answer_in_memory<I: Hear, O: Tell>(
     alloc: Global,
     team: &str,
     key: &str,
@@ -68,7 +68,7 @@ pub fn answer_in_memory<I: Read, O: Write>(
     output: &mut O,
 ) -> Result<(), CommandRefusal>
     ensures { AnsweredFor team.now key.now
-        (I.remaining input.old) (I.remaining input.new) (O.contents output.old) (O.contents output.new) result }
+        (I.account input.old) (I.account input.new) (O.contents output.old) (O.contents output.new) result }
 {
     let mut shelves = match shelves_with(alloc, team, key) {
         Ok(shelves) => shelves,

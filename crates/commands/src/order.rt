@@ -4,8 +4,9 @@ ghost use Rattle.commands.specs.Order as spec;
 
 use crate::refusal::{CommandRefusal, ending};
 use control::{Order, Outcome, Untold, ask, ask_to_copy, ask_to_stop, server_at};
+use histories::{Hear, Hearing, Tell, Telling};
 use std::alloc::Global;
-use std::io::{self, Read, Write};
+use std::io::{self, Write};
 use std::os::unix::net::UnixStream;
 use std::rt::HostRuntime;
 use world::names::{COMMON, is_key, is_team_name};
@@ -18,14 +19,19 @@ pub fn order_at(rt: &HostRuntime, path: &str, order: &Order) -> Result<(), Comma
     ensures { spec.OrdersThere order.now result }
 {
     match server_at(rt, path) {
-        Ok(server) => order_over(rt.alloc(), &mut &server, &mut &server, order),
+        Ok(server) => order_over(
+            rt.alloc(),
+            &mut Hearing::new(&server),
+            &mut Telling::new(&server),
+            order,
+        ),
         Err(_) => Err(CommandRefusal::Device),
     }
 }
 
 /// Writes the line of an order, reads the line of its outcome, and ends by it as the same command does on the store of a file.
 /// An order that no line can carry ends, without being sent, as it would in any world. Fails as `order_at` does once it is connected.
-pub fn order_over<R: Read, W: Write>(
+pub fn order_over<R: Hear, W: Tell>(
     alloc: Global,
     reader: &mut R,
     writer: &mut W,
@@ -96,14 +102,20 @@ fn refusal_by(keeps: bool, refusal: CommandRefusal) -> CommandRefusal
 }
 
 /// Has the `serve` that listens at a socket copy its store into the file of a path, as that server sees it, and waits for that as long
-/// as it takes. `NotEmpty` if the file has more than an empty store or belongs to the served store. `Device` if nobody listens there,
-/// the system refuses the connection, the file can't be opened or a disk failed. `Memory` if memory ran out there, or here for the
-/// line. `Name` if no line can carry the path: nothing was sent. `Io` if no outcome of a copy came.
+/// as it takes. `NotEmpty` if the file has more than an empty store or is that of the served store. `Device` if nobody listens there,
+/// the system refuses the connection, the file can't be opened, SQLite has a use for it beside a database, or a disk failed. `Memory`
+/// if memory ran out there, or here for the line. `Name` if no line can carry the path: nothing was sent. `Io` if no outcome of a copy
+/// came.
 pub fn copy_at(rt: &HostRuntime, control: &str, path: &str) -> Result<(), CommandRefusal>
     ensures { spec.CopiesThere path.now result }
 {
     match patient_server_at(rt, control) {
-        Ok(server) => copy_over(rt.alloc(), &mut &server, &mut &server, path),
+        Ok(server) => copy_over(
+            rt.alloc(),
+            &mut Hearing::new(&server),
+            &mut Telling::new(&server),
+            path,
+        ),
         Err(_) => Err(CommandRefusal::Device),
     }
 }
@@ -116,7 +128,7 @@ fn patient_server_at(rt: &HostRuntime, control: &str) -> io::Result<UnixStream> 
 }
 
 /// Writes the line that orders a copy, and reads the line of its outcome. Fails as `copy_at` does once it is connected.
-pub fn copy_over<R: Read, W: Write>(
+pub fn copy_over<R: Hear, W: Tell>(
     alloc: Global,
     reader: &mut R,
     writer: &mut W,
@@ -149,14 +161,18 @@ pub fn stop_at(rt: &HostRuntime, path: &str) -> Result<(), CommandRefusal>
     ensures { spec.StopsThere result }
 {
     match server_at(rt, path) {
-        Ok(server) => stop_over(rt.alloc(), &mut &server, &mut &server),
+        Ok(server) => stop_over(
+            rt.alloc(),
+            &mut Hearing::new(&server),
+            &mut Telling::new(&server),
+        ),
         Err(_) => Err(CommandRefusal::Device),
     }
 }
 
 /// Writes the line that ends a server, and reads the line of its outcome. `Device` or `Memory` if the server tells that failure, and
 /// `Io` if it tells anything else but its end, or nothing.
-pub fn stop_over<R: Read, W: Write>(
+pub fn stop_over<R: Hear, W: Tell>(
     alloc: Global,
     reader: &mut R,
     writer: &mut W,

@@ -6,8 +6,9 @@ ghost use Rattle.commands.specs.Report.{Prints};
 use crate::refusal::CommandRefusal;
 use crate::report::print_text;
 use control::{Outcome, Told, Untold, ask_for_health, server_at};
+use histories::{Hear, Hearing, Tell, Telling};
 use std::alloc::Global;
-use std::io::{Read, Write};
+use std::io::Write;
 use std::rt::HostRuntime;
 use text::Text;
 use world::registry::StoreFault;
@@ -23,14 +24,19 @@ pub fn ping_at<O: Write>(
     ensures { spec.PingsThere (O.contents output.old) (O.contents output.new) result }
 {
     match server_at(rt, path) {
-        Ok(server) => ping_over(rt.alloc(), &mut &server, &mut &server, output),
+        Ok(server) => ping_over(
+            rt.alloc(),
+            &mut Hearing::new(&server),
+            &mut Telling::new(&server),
+            output,
+        ),
         Err(_) => Err(CommandRefusal::Device),
     }
 }
 
 /// Writes the line of a ping, reads the line of the health, prints it and returns true. What is no line of a health is not printed.
 /// Fails as `ping_at` does once it is connected.
-pub fn ping_over<R: Read, W: Write, O: Write>(
+pub fn ping_over<R: Hear, W: Tell, O: Write>(
     alloc: Global,
     reader: &mut R,
     writer: &mut W,

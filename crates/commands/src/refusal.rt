@@ -18,7 +18,8 @@ pub enum CommandRefusal {
     NoKey,
     /// There is no group of that name.
     NoGroup,
-    /// A disk failed, a file can't be opened as a store, or no `serve` can be reached at the socket of `--control`.
+    /// A disk failed, a file can't be opened as a store, SQLite has a use for that of a new store beside a database, or no `serve` can be
+    /// reached at the socket of `--control`.
     Device,
     /// Memory ran out.
     Memory,

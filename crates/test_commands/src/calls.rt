@@ -7,6 +7,7 @@ use commands::requirements::requirements;
 use commands::sources::Sources;
 use control::Order;
 use engine::Io;
+use histories::Telling;
 use outline::outlines::Outlines;
 use std::alloc::Global;
 use std::io::Read;
@@ -120,7 +121,14 @@ pub fn imported<S: Shelves, F: Sources, L: Read + Drop>(
     list: L,
     mut output: Sink,
 ) -> Result<String, Fail> {
-    let ending = ending_of(import(alloc, shelves, key, list, files, &mut output));
+    let ending = ending_of(import(
+        alloc,
+        shelves,
+        key,
+        list,
+        files,
+        &mut Telling::new(&mut output),
+    ));
     Ok(format!(in alloc; "{}{ending}", from_utf8(output.taken.as_slice())?)?)
 }
 

@@ -2,6 +2,7 @@
 use Rattle.std.proofs.Common.{◌≡◌, ℕ, List, Bool, Option, Result, refl, sym, subst}
 use Rattle.sqlite_wal.specs.Recovery.{Image}
 use Rattle.sqlite.specs.State.{State}
+use Rattle.histories.specs.Account.{Account}
 use Rattle.world.specs.Store.{Shown}
 use Rattle.commands.specs.Action.{acceptance}
 use Rattle.commands.specs.declared.refusal.CommandRefusal.{CommandRefusal}
@@ -10,13 +11,13 @@ use Rattle.runner.specs.declared.Command.{Command}
 
 -- what running a command did, running an equal one did (the stores are parameters, so that neither of them is unfolded)
 pub ran : {C S F : Type 0} (state_of : C → State) (shown : S → Shown) (held : Image) (shown_too : F → Shown) (held_too : Image)
-    (unread unread_new written written_new : Option (List ℕ)) (result : Result Bool CommandRefusal) (t u : Command) → t ≡ u
-    → Runs state_of shown held shown_too held_too unread unread_new written written_new result u
-    → Runs state_of shown held shown_too held_too unread unread_new written written_new result t
-ran state_of shown held shown_too held_too unread unread_new written written_new result t u is done =
-    subst (Runs state_of shown held shown_too held_too unread unread_new written written_new result) (sym is) done
+    (came came_new : Account) (written written_new : Option (List ℕ)) (result : Result Bool CommandRefusal) (t u : Command) → t ≡ u
+    → Runs state_of shown held shown_too held_too came came_new written written_new result u
+    → Runs state_of shown held shown_too held_too came came_new written written_new result t
+ran state_of shown held shown_too held_too came came_new written written_new result t u is done =
+    subst (Runs state_of shown held shown_too held_too came came_new written written_new result) (sym is) done
 
 -- a command that did this, and read and wrote nothing, did it alone
-pub alone : (unread written : Option (List ℕ)) (result : Result Bool CommandRefusal) (done : Result (Unit {0}) CommandRefusal → Type 0)
-    (ended : Result (Unit {0}) CommandRefusal) → done ended → result ≡ acceptance ended → EndsAlone unread unread written written result done
-alone unread written result done ended does is = record { ended = ended; does = does; tells = record { tells = is; input = refl; output = refl } }
+pub alone : (came : Account) (written : Option (List ℕ)) (result : Result Bool CommandRefusal) (done : Result (Unit {0}) CommandRefusal → Type 0)
+    (ended : Result (Unit {0}) CommandRefusal) → done ended → result ≡ acceptance ended → EndsAlone came came written written result done
+alone came written result done ended does is = record { ended = ended; does = does; tells = record { tells = is; input = refl; output = refl } }

@@ -4,7 +4,7 @@ use Rattle.sqlite_wal.specs.Recovery.{Image}
 use Rattle.world.specs.Store.{Shown}
 use Rattle.world.specs.World.{World}
 use Rattle.store.specs.Shown.{BeginsAt}
-use Rattle.store.specs.Restart.{HoldsStore}
+use Rattle.store.specs.Restart.{HoldsStore, RecoversStore}
 use Rattle.setup.specs.declared.refusal.Refusal.{Refusal as Unopened}
 use Rattle.setup.specs.declared.refusal.Refusal.TheVariants as store
 use Rattle.commands.specs.declared.refusal.CommandRefusal.{CommandRefusal}
@@ -28,10 +28,10 @@ abbrev pub unmade : CommandRefusal → CommandRefusal
 unmade refusal.BadSchema = refusal.NotEmpty
 unmade other = other
 
--- A store that was just opened over files that held this. If its disk was honest, it stands for a world, and a crash leaves only that
--- world. If the files held a store's world, or no database yet, it is the world that they held.
+-- A store that was just opened over files that held this. If its disk was honest, it stands for a world that the files held, or for
+-- `common` alone if they were blank, and a crash leaves only that world.
 pub record HasBegun {S : Type 0} (shown : S → Shown) (held : Image) (store : S) : Type 0 where
-  pub world : (shown store).is_honest → (w : World) × BeginsAt (shown store) w
+  pub world : (shown store).is_honest → (w : World) × BeginsAt (shown store) w × RecoversStore held w
   pub found : (shown store).is_honest → (w : World) → HoldsStore held w → BeginsAt (shown store) w
   pub none_failed : (shown store).failures ≡ 0
 

@@ -7,10 +7,10 @@ ghost use Rattle.runner.specs.Copies as spec;
 ghost use Rattle.runner.specs.Copies.{CopiesFile, CopiesInto, CountsIn};
 ghost use Rattle.world.specs.Store.{HasCause};
 
+use crate::beside::check_name;
 use commands::files::is_same_file;
 use control::{Copies, CopyRefusal};
 use sqlite::{Alter, Start};
-use std::fs;
 use std::rt::HostRuntime;
 use store::open::FileShelves;
 use store::refusal::Refusal as Unopened;
@@ -46,8 +46,9 @@ impl<'a, S: Alter, U: Start + Copy> Copies<SqlShelves<S>> for FileCopies<'a, U> 
     }
 }
 
-/// Opens the store of a file and makes it a copy of a served store, whose file is at `db`. It does not open the file and the log of the
-/// served store again: for them, and for hard links to them, it fails with `NotEmpty`. Otherwise it fails as `Copies::copy` does.
+/// Opens the store of a file and makes it a copy of a served store, whose file is at `db`. It does not open the served file again: for
+/// that, and for a link to it, it fails with `NotEmpty`. If SQLite has a use for the file, it fails with `Device`, and otherwise as
+/// `Copies::copy` does.
 fn copy_to<S: Alter, U: Start>(
     rt: &HostRuntime,
     db: &str,
@@ -60,7 +61,10 @@ fn copy_to<S: Alter, U: Start>(
     ensures came { CopiesFile ⟦<SqlShelves<S> as Shelves>⟧.shown ⟦<FileShelves<U> as Shelves>⟧.shown (image_at U.Start)
         source.old source.new to.now result }
 {
-    if is_served(rt, db, to) {
+    if let Err(refusal) = check_name(rt, db, to) {
+        return Err(uncopied(refusal));
+    }
+    if is_same_file(rt, db, to) {
         return Err(CopyRefusal::NotEmpty);
     }
     let mut fresh = match FileShelves::open_from(rt, to, target) {
@@ -70,23 +74,6 @@ fn copy_to<S: Alter, U: Start>(
     let told = copy_into(source, &mut fresh);
     drop(fresh.close());
     told
-}
-
-/// Whether a path leads to a file of the served store, whose file is at `db`.
-fn is_served(rt: &HostRuntime, db: &str, path: &str) -> bool {
-    is_same_file(rt, db, path) || is_log_of(rt, db, path)
-}
-
-/// Whether a path leads to the log of a database file, which is beside the file that a link leads to. If it can't find that out, it
-/// returns false, and the lock of the log refuses it.
-fn is_log_of(rt: &HostRuntime, db: &str, path: &str) -> bool {
-    let Ok(real) = fs::canonicalize(rt, db) else {
-        return false;
-    };
-    match format!(in rt.alloc(); "{}-wal", real.as_str()) {
-        Ok(log) => is_same_file(rt, log.as_str(), path),
-        Err(_) => false,
-    }
 }
 
 /// Makes an open store a copy of the served one. Fails with `NotEmpty` if it has more than an empty store, `Device` if a disk fails,

@@ -4,6 +4,7 @@ ghost use Rattle.std.specs.Prelude.{◌≡◌, map as each};
 ghost use Rattle.sqlite_wal.specs.Files.{image_at};
 ghost use Rattle.runner.specs.Extract.{ExtractsFile, ExtractsPart, Fills};
 
+use crate::beside::check_name;
 use crate::{command_refusal, unmade};
 use commands::files::{is_empty_file, is_same_file};
 use commands::refusal::CommandRefusal;
@@ -13,8 +14,8 @@ use store::open::FileShelves;
 use store::store::SqlShelves;
 use world::shelves::Shelves;
 
-/// Puts some teams' part of the store of one file into the store of another. Fails with the refusals of the store, and with
-/// `NotEmpty` if both paths lead to one file; if that is empty, it stays so.
+/// Puts some teams' part of the store of one file into the store of another. Fails with the refusals of the store; with `NotEmpty` if
+/// both paths lead to one file, which stays empty if it was; and with `Device` if SQLite has a use for the second file.
 ///
 /// If the first file is empty, it compares the files before it opens either. Otherwise it compares them after it opened the first,
 /// because opening the second would meet the first one's lock and fail with `Device`. If a file with bytes has two names, it fails
@@ -31,6 +32,9 @@ pub(crate) fn extract_file<T: Start, U: Start>(
         ⟦<FileShelves<T> as Shelves>⟧.shown (image_at T.Start) ⟦<FileShelves<U> as Shelves>⟧.shown (image_at U.Start)
         (each (λ team. team.now) teams.now) result }
 {
+    if let Err(refusal) = check_name(rt, db, to) {
+        return Err(command_refusal(refusal));
+    }
     if is_empty_file(rt, db) && is_same_file(rt, db, to) {
         return Err(CommandRefusal::NotEmpty);
     }

@@ -13,8 +13,8 @@
 //! | [`Command::Stop`] | opens no store, and has the `serve` end that has one open |
 //!
 //! One function opens each store and closes it before it returns: `on_file` for an action, `extract_file` for the store that is
-//! extracted from, and `extract_to`, `migrate_to` and `copy_to` for a new store. `migrate_file` drops its connection to the older file
-//! when it returns. Nothing here reads the words of a command line.
+//! extracted from, and `extract_to`, `migrate_to` and `copy_to` for a new store. `migrate_file` drops its connection to the copy of the
+//! older file when it returns. Nothing here reads the words of a command line.
 #![tactic(auto)]
 
 ghost use Rattle.std.specs.Prelude.{◌≡◌};
@@ -24,15 +24,19 @@ ghost use Rattle.runner.specs.Copies.{CopiesFile};
 ghost use Rattle.runner.specs.Opened as spec;
 ghost use Rattle.runner.specs.Command.{Runs, Inits, ActsOnFile};
 
+mod beside;
 mod copies;
 mod extract;
 pub mod laws;
 mod migrate;
 mod old_file;
+mod open;
+mod unnamed;
 
 use crate::copies::FileCopies;
 use crate::extract::extract_file;
 use crate::migrate::migrate_file;
+use crate::open::open_for;
 use commands::action::{Action, acceptance, act_on};
 use commands::files::holds_bytes;
 use commands::memory::answer_in_memory;
@@ -40,9 +44,9 @@ use commands::order::{copy_at, order_at, stop_at};
 use commands::ping::ping_at;
 use commands::refusal::CommandRefusal;
 use control::Order;
+use histories::{Hear, Tell};
 use sqlite::{FileFrom, FileStore, Start};
 use sqlite_trees::store::Store;
-use std::io::{Read, Write};
 use std::rt::HostRuntime;
 use store::open::FileShelves;
 use store::refusal::Refusal as Unopened;
@@ -103,7 +107,7 @@ pub enum Command<'a> {
 /// The type `T` says what the file of the command and its log hold, and `U` what the file holds that `extract` and `migrate` write, or
 /// that a served store is copied into. The clauses are proved for all contents: a command goes on from the world that the files hold.
 /// If a store is copied into several files, they hold for each with its own contents.
-pub fn run<T: Start, U: Start + Copy, I: Read, O: Write>(
+pub fn run<T: Start, U: Start + Copy, I: Hear, O: Tell>(
     rt: &HostRuntime,
     command: &Command,
     start: T,
@@ -113,7 +117,7 @@ pub fn run<T: Start, U: Start + Copy, I: Read, O: Write>(
 ) -> Result<bool, CommandRefusal>
     ensures { Runs (state ⟦<FileStore<FileFrom<T>> as Store>⟧)
         ⟦<FileShelves<T> as Shelves>⟧.shown (image_at T.Start) ⟦<FileShelves<U> as Shelves>⟧.shown (image_at U.Start)
-        (I.remaining input.old) (I.remaining input.new) (O.contents output.old) (O.contents output.new)
+        (I.account input.old) (I.account input.new) (O.contents output.old) (O.contents output.new)
         result command.now }
 {
     match command {
@@ -137,7 +141,7 @@ pub fn run<T: Start, U: Start + Copy, I: Read, O: Write>(
 /// Makes a store with the shelf `common` alone, and returns true. Fails with `NotEmpty` if the file has bytes, and otherwise as
 /// `on_file` does.
 /// It reads one byte. If the file can't be read, opening the store says what is wrong.
-fn init<T: Start, U: Start + Copy, I: Read, O: Write>(
+fn init<T: Start, U: Start + Copy, I: Hear, O: Tell>(
     rt: &HostRuntime,
     path: &str,
     start: T,
@@ -147,7 +151,7 @@ fn init<T: Start, U: Start + Copy, I: Read, O: Write>(
 ) -> Result<bool, CommandRefusal>
     ensures { Inits ⟦<FileShelves<T> as Shelves>⟧.shown
         (CopiesFile ⟦<FileShelves<T> as Shelves>⟧.shown ⟦<FileShelves<U> as Shelves>⟧.shown (image_at U.Start))
-        (image_at T.Start) (I.remaining input.old) (I.remaining input.new)
+        (image_at T.Start) (I.account input.old) (I.account input.new)
         (O.contents output.old) (O.contents output.new) result }
 {
     if holds_bytes(rt, path) {
@@ -183,9 +187,9 @@ fn command_refusal(unopened: Unopened) -> CommandRefusal
 }
 
 /// Does an action on the store of a file, and returns whether it was accepted. Copies that are ordered while the store is served are
-/// made from it. If the store can't be opened, it fails with that refusal and reads and writes nothing; otherwise it fails as the
+/// made from it. If there is no file and the action only reads, none is left. If the store can't be opened, it fails with that refusal and reads and writes nothing; otherwise it fails as the
 /// function of the action does.
-fn on_file<T: Start, U: Start + Copy, I: Read, O: Write>(
+fn on_file<T: Start, U: Start + Copy, I: Hear, O: Tell>(
     rt: &HostRuntime,
     path: &str,
     start: T,
@@ -196,13 +200,13 @@ fn on_file<T: Start, U: Start + Copy, I: Read, O: Write>(
 ) -> Result<bool, CommandRefusal>
     ensures { ActsOnFile ⟦<FileShelves<T> as Shelves>⟧.shown
         (CopiesFile ⟦<FileShelves<T> as Shelves>⟧.shown ⟦<FileShelves<U> as Shelves>⟧.shown (image_at U.Start))
-        (image_at T.Start) (I.remaining input.old) (I.remaining input.new)
+        (image_at T.Start) (I.account input.old) (I.account input.new)
         (O.contents output.old) (O.contents output.new)
         action.now result }
 {
-    let mut shelves = match FileShelves::open_from(rt, path, start) {
+    let mut shelves = match open_for(rt, path, start, action) {
         Ok(shelves) => shelves,
-        Err((unopened, _)) => return Err(command_refusal(unopened)),
+        Err(unopened) => return Err(command_refusal(unopened)),
     };
     let mut copies = FileCopies {
         rt,

@@ -6,7 +6,8 @@ ghost use Rattle.sqlite.specs.Steps.{over_memory};
 ghost use Rattle.sqlite_wal.specs.Files.{image_at};
 ghost use Rattle.runner.specs.Migrate.{MigratesEmpty, MigratesFile, MigratesInto, MigratesTo};
 
-use crate::old_file::OldFile;
+use crate::beside::check_name;
+use crate::old_file::copy_of;
 use crate::{command_refusal, unmade};
 use commands::files::{is_missing_or_empty, is_same_file};
 use commands::refusal::CommandRefusal;
@@ -21,11 +22,11 @@ use store::refusal::Refusal as Unopened;
 use store::store::SqlShelves;
 use world::shelves::Shelves;
 
-/// Copies the older store in one file into the store of another. The older file is only read. Fails with the refusals of the store,
-/// and with `NotEmpty` if both names lead to one file, which stays as it was.
+/// Copies the older store in one file into the store of another. The older file and its log are only read. Fails with the refusals of
+/// the store, and with `NotEmpty` if both names lead to one file, which stays as it was.
 ///
-/// It opens the older file before the other, and judges its tables after it opened the other. An older file that has no bytes, or is
-/// missing, has no tables: it is neither opened nor made.
+/// It opens the older store before the other, and judges its tables after it opened the other. What it opens is a copy. An older file
+/// that has no bytes, or is missing, has no tables: it is neither opened nor made.
 pub(crate) fn migrate_file<T: Start, U: Start>(
     rt: &HostRuntime,
     from: &str,
@@ -36,26 +37,30 @@ pub(crate) fn migrate_file<T: Start, U: Start>(
     ensures { MigratesFile (state ⟦<FileStore<FileFrom<T>> as Store>⟧) (image_at T.Start)
         ⟦<FileShelves<U> as Shelves>⟧.shown (image_at U.Start) result }
 {
-    if !names_no_file(from) && is_missing_or_empty(rt, from) {
+    if let Err(refusal) = check_name(rt, from, to) {
+        return Err(command_refusal(refusal));
+    }
+    if names_no_file(from) {
+        return Err(command_refusal(Unopened::Device));
+    }
+    if is_missing_or_empty(rt, from) {
         return migrate_nothing(rt, from, to, target);
     }
-    let file = match OldFile::find(rt, from, to) {
-        Ok(file) => file,
+    let copy = match copy_of(rt, from, to) {
+        Ok(copy) => copy,
         // no copy can be made beside it, because it is the new store
         Err(_) if is_one_file(rt, from, to) => return Err(CommandRefusal::NotEmpty),
         Err(unread) => return Err(command_refusal(unread)),
     };
-    let mut old = match open_older(rt, file.path.as_str(), start) {
+    let mut old = match open_older(rt, copy.path.as_str(), start) {
         Ok(conn) => conn,
-        Err((unopened, left)) => {
-            file.unlink(rt, left.is_some());
+        Err((unopened, _)) => {
+            copy.unlink(rt);
             return Err(command_refusal(unopened));
         }
     };
-    file.unlink(rt, true);
-    let told = migrate_to(rt, from, &mut old, to, target);
-    file.cut_log(rt);
-    told
+    copy.unlink(rt);
+    migrate_to(rt, from, &mut old, to, target)
 }
 
 /// Whether both names are equal or lead to one file.

@@ -3,9 +3,6 @@ use Rattle.control.proofs.TurnLemmas.{read_none}
 use Rattle.runner.proofs.CopyLemmas.{only_read}
 use Rattle.runner.proofs.copies.copy_to.Goals as goal
 
-pub returns-then-is_served-clause-reads : goal.returns-then-is_served-clause-reads
-returns-then-is_served-clause-reads g c = read_none _
-
 pub returns-in-Err-clause-reads : goal.returns-in-Err-clause-reads
 returns-in-Err-clause-reads g c = read_none _
 

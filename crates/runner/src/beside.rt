@@ -1,0 +1,79 @@
+//! The names that SQLite gives the files beside a database: its journal, its log and its shared memory. A store of such a name makes
+//! the database unreadable, so none is made there.
+
+use commands::files::is_same_file;
+use std::fs;
+use std::io::{self, ErrorKind};
+use std::rt::HostRuntime;
+use store::refusal::Refusal;
+
+/// Tests the name of a new store. Fails with `Device` if SQLite has a use for that file, by its name or by a link: for the database at
+/// `db`, or for another that stands there. Fails with `Memory` if memory runs out.
+pub(crate) fn check_name(rt: &HostRuntime, db: &str, to: &str) -> Result<(), Refusal> {
+    match is_taken(rt, db, to) {
+        Ok(false) => Ok(()),
+        Ok(true) => Err(Refusal::Device),
+        Err(error) if error.kind() == ErrorKind::OutOfMemory => Err(Refusal::Memory),
+        Err(_) => Err(Refusal::Device),
+    }
+}
+
+/// Whether SQLite has a use for the file that a name leads to. Fails only if memory runs out.
+fn is_taken(rt: &HostRuntime, db: &str, to: &str) -> io::Result<bool> {
+    let db = real_name(rt, db)?;
+    let real = real_name(rt, to)?;
+    Ok(is_beside(rt, db.as_str(), to)? || is_beside(rt, db.as_str(), real.as_str())?)
+}
+
+/// Whether a file is the journal, the log or the shared memory of the database at `db` or of another. Fails only if memory runs out.
+fn is_beside(rt: &HostRuntime, db: &str, file: &str) -> io::Result<bool> {
+    Ok(
+        ends_so(rt, db, file, "-journal")?
+            || ends_so(rt, db, file, "-wal")?
+            || ends_so(rt, db, file, "-shm")?,
+    )
+}
+
+/// Whether a file is the one that SQLite calls by a database's name and this ending. Fails only if memory runs out.
+fn ends_so(rt: &HostRuntime, db: &str, file: &str, ending: &str) -> io::Result<bool> {
+    let beside = format!(in rt.alloc(); "{db}{ending}")?;
+    if beside.as_str() == file || is_same_file(rt, beside.as_str(), file) {
+        return Ok(true);
+    }
+    match file.strip_suffix(ending) {
+        Some(other) => Ok(is_file(rt, other)),
+        None => Ok(false),
+    }
+}
+
+/// Whether there is a file of this name, which no folder is.
+fn is_file(rt: &HostRuntime, path: &str) -> bool {
+    match fs::metadata(rt, path) {
+        Ok(found) => found.is_file(),
+        Err(_) => false,
+    }
+}
+
+/// Returns the name of a file with no link in it. If there is no file, it has its folder's name without links, and if there is no
+/// folder, it is the name that was given. Fails only if memory runs out.
+fn real_name(rt: &HostRuntime, path: &str) -> io::Result<String> {
+    match fs::canonicalize(rt, path) {
+        Ok(real) => Ok(String::from_str(rt.alloc(), real.as_str())?),
+        Err(error) if error.kind() == ErrorKind::OutOfMemory => Err(error),
+        Err(_) => name_in_folder(rt, path),
+    }
+}
+
+/// Returns the name of a file in its folder, whose name has no link in it. Fails only if memory runs out.
+fn name_in_folder(rt: &HostRuntime, path: &str) -> io::Result<String> {
+    let (folder, name) = match path.rsplit_once('/') {
+        Some(("", name)) => ("/", name),
+        Some(parts) => parts,
+        None => (".", path),
+    };
+    match fs::canonicalize(rt, folder) {
+        Ok(real) => Ok(format!(in rt.alloc(); "{}/{name}", real.as_str())?),
+        Err(error) if error.kind() == ErrorKind::OutOfMemory => Err(error),
+        Err(_) => Ok(String::from_str(rt.alloc(), path)?),
+    }
+}

@@ -1,0 +1,82 @@
+//! Opens the store of the file that a command names.
+
+ghost use Rattle.std.specs.Prelude.{IfOk};
+ghost use Rattle.sqlite_wal.specs.Files.{image_at};
+ghost use Rattle.runner.specs.Opened.{HasBegun};
+
+use crate::old_file::is_missing;
+use crate::unnamed::Unnamed;
+use commands::action::Action;
+use sqlite::Start;
+use std::io::{self, ErrorKind};
+use std::rt::HostRuntime;
+use store::files::names_no_file;
+use store::open::FileShelves;
+use store::refusal::Refusal;
+use world::shelves::Shelves;
+
+/// Opens the store of a file for an action. Fails as `FileShelves::open_from` does.
+///
+/// If there is neither the file nor its log, and the action only reads, it opens a new store in files that have no name, so that a
+/// mistyped name leaves none behind. What the action answers is the same: a new store has no key, so each publish gets a 404 there.
+pub(crate) fn open_for<T: Start>(
+    rt: &HostRuntime,
+    path: &str,
+    start: T,
+    action: &Action,
+) -> Result<FileShelves<T>, Refusal>
+    ensures { IfOk result (HasBegun ⟦<FileShelves<T> as Shelves>⟧.shown (image_at T.Start)) }
+{
+    if only_reads(action) && !names_no_file(path) && is_unmade(rt, path) {
+        open_unnamed(rt, path, start)
+    } else {
+        open_named(rt, path, start)
+    }
+}
+
+/// Whether an action leaves a store that has no key as it is.
+fn only_reads(action: &Action) -> bool {
+    matches!(
+        action,
+        Action::Inventory { .. } | Action::Requires { .. } | Action::Answer
+    )
+}
+
+/// Whether there is neither a file of this name nor a log beside it, which may be all that is left of a store. False if memory runs out.
+fn is_unmade(rt: &HostRuntime, path: &str) -> bool {
+    match format!(in rt.alloc(); "{path}-wal") {
+        Ok(log) => is_missing(rt, path) && is_missing(rt, log.as_str()),
+        Err(_) => false,
+    }
+}
+
+/// Opens a new store in files that lose their names, in the folder of a file. Fails as `FileShelves::open_from` does.
+fn open_unnamed<T: Start>(rt: &HostRuntime, path: &str, start: T) -> Result<FileShelves<T>, Refusal>
+    ensures { IfOk result (HasBegun ⟦<FileShelves<T> as Shelves>⟧.shown (image_at T.Start)) }
+{
+    let files = match Unnamed::beside(rt, path) {
+        Ok(files) => files,
+        Err(error) => return Err(unnamed_refusal(error)),
+    };
+    let opened = open_named(rt, files.path.as_str(), start);
+    files.unlink(rt);
+    opened
+}
+
+/// Returns why there are no such files: `Memory` if memory ran out, and otherwise `Device`.
+fn unnamed_refusal(error: io::Error) -> Refusal {
+    match error.kind() {
+        ErrorKind::OutOfMemory => Refusal::Memory,
+        _ => Refusal::Device,
+    }
+}
+
+/// Opens the store of a file. Fails as `FileShelves::open_from` does.
+fn open_named<T: Start>(rt: &HostRuntime, path: &str, start: T) -> Result<FileShelves<T>, Refusal>
+    ensures { IfOk result (HasBegun ⟦<FileShelves<T> as Shelves>⟧.shown (image_at T.Start)) }
+{
+    match FileShelves::open_from(rt, path, start) {
+        Ok(shelves) => Ok(shelves),
+        Err((refusal, _)) => Err(refusal),
+    }
+}

@@ -1,16 +1,18 @@
 -- What one run of the program does.
 use Rattle.std.specs.Prelude.{ℕ, List, ◌≡◌, ◌⊎◌, codes, Bool, Option, Result}
+use Rattle.histories.specs.Account.{Account}
 use Rattle.clap.specs.declared.error.kind.ErrorKind.{ErrorKind}
 use Rattle.clap.specs.declared.error.kind.ErrorKind.TheVariants.{DisplayHelp, DisplayVersion, OutOfMemory}
 use Rattle.commands.specs.declared.refusal.CommandRefusal.{CommandRefusal}
 use Rattle.commands.specs.declared.refusal.CommandRefusal.TheVariants.{Io, Memory}
 use Rattle.commands.specs.Exit.{exit_of, status_of, IsSilent, Says}
 use Rattle.commands.specs.ImportLine.{PrintsFront}
-use Rattle.commands.specs.declared.action.Action.TheVariants.{Serve}
+use Rattle.commands.specs.declared.action.Action.TheVariants.{Import, Publish, Register, Serve}
 use Rattle.commands.specs.declared.exit.Exit.{Exit}
 use Rattle.commands.specs.declared.exit.Exit.TheVariants.{Done, Refused, BadUsage}
 use Rattle.runner.specs.declared.Command.{Command}
 use Rattle.runner.specs.declared.Command.TheVariants.{OnStore}
+use Rattle.cli.specs.Asks.{Asks, IsShownFor}
 
 -- How a run ends that shows the parser's text in place of a command, by the text's kind: well for help and the version, or with `Io`
 -- if they can't be written; with `Memory` if memory ran out; and with bad usage for every other text.
@@ -26,37 +28,50 @@ SparesOutput DisplayHelp written written_new = Unit {0}
 SparesOutput DisplayVersion written written_new = Unit {0}
 SparesOutput other written written_new = written_new ≡ written
 
--- What running a command does: relates the runner before and after, the bytes left on the input before and after, the bytes
+-- What running a command does: relates the runner before and after, what came on the input before and after, the bytes
 -- on the output before and after, the result, and the command.
 abbrev pub Ran : Type 0 → Type 1
-Ran P = P → P → Option (List ℕ) → Option (List ℕ) → Option (List ℕ) → Option (List ℕ) → Result Bool CommandRefusal → Command → Type 0
+Ran P = P → P → Account → Account → Option (List ℕ) → Option (List ℕ) → Result Bool CommandRefusal → Command → Type 0
 
 -- the line that says that the store to serve is new
 abbrev pub new_store_line : List ℕ
 new_store_line = codes "new store: the file of --db is missing or empty; without a key, each request gets a 404\n"
 
--- Before a command, nothing was written to the errors. If the command serves a store, that line was or nothing, or a beginning of it
--- if a write failed.
+-- the line that says that the store to write to is new
+abbrev pub new_file_line : List ℕ
+new_file_line = codes "new store: the file of --db is missing or empty\n"
+
+-- nothing was written to the errors, or this line, or a beginning of it if a write failed
+abbrev pub MayPrint : Option (List ℕ) → Option (List ℕ) → List ℕ → Type 0
+MayPrint errors errors_new line = (errors_new ≡ errors) ⊎ PrintsFront errors errors_new line
+
+-- Before a command, nothing was written to the errors, but perhaps the line that its store is new: if it serves the store, or if it
+-- carries out a registry command, publishes or imports.
 abbrev pub Tells : Option (List ℕ) → Option (List ℕ) → Command → Type 0
-Tells errors errors_new (OnStore db (Serve entrance connections control)) =
-    (errors_new ≡ errors) ⊎ PrintsFront errors errors_new new_store_line
+Tells errors errors_new (OnStore db (Serve entrance connections control)) = MayPrint errors errors_new new_store_line
+Tells errors errors_new (OnStore db (Register order)) = MayPrint errors errors_new new_file_line
+Tells errors errors_new (OnStore db (Publish words files)) = MayPrint errors errors_new new_file_line
+Tells errors errors_new (OnStore db (Import key list)) = MayPrint errors errors_new new_file_line
 Tells errors errors_new other = errors_new ≡ errors
 
-module _ {P : Type 0} (ran : Ran P) (old new : P) (unread unread_new written written_new : Option (List ℕ)) where
-  -- one command was run, and the run ends by its result
+-- `words` are the words after the name of the program
+module _ {P : Type 0} (ran : Ran P) (words : List (List ℕ)) (old new : P) (came came_new : Account) (written written_new : Option (List ℕ)) where
+  -- the command that the words ask for was run, once, and the run ends by its result
   pub record RunsCommand (errors errors_new : Option (List ℕ)) (ended : Exit) : Type 0 where
     pub command : Command
+    pub asks : Asks words command
     pub told : Result Bool CommandRefusal
     pub tells : Tells errors errors_new command
-    pub runs : ran old new unread unread_new written written_new told command
+    pub runs : ran old new came came_new written written_new told command
     pub ends : ended ≡ exit_of told
 
-  -- no command was run, the parser's text was shown, and nothing was read
+  -- no command was run, because the words ask for none or memory ran out; a text was shown, and nothing was read
   pub record ShowsText (errors errors_new : Option (List ℕ)) (ended : Exit) : Type 0 where
     pub kind : ErrorKind
+    pub why : IsShownFor words kind
     pub ends : EndsShown kind ended
     pub idle : new ≡ old
-    pub input : unread_new ≡ unread
+    pub input : came_new ≡ came
     pub output : SparesOutput kind written written_new
     pub silent : IsSilent errors errors_new ended
 

@@ -1,7 +1,12 @@
 //! The command that the words of the command line ask for.
-ghost use Rattle.std.specs.Prelude.{◌≡◌, if◌then◌else◌};
+ghost use Rattle.std.specs.Prelude.{◌≡◌, ℕ, List, codes, if◌then◌else◌, option_map, map};
+ghost use Rattle.clap.specs.Words.{all_of, found_of, first_of, rows_of, subcommand_rows_of};
+ghost use Rattle.control.specs.declared.order.Order.{Order};
+ghost use Rattle.cli.specs.Asks.{AsksAction, AsksCommand, AsksConnections, AsksEntrance, AsksOrder, Finds};
+ghost use Rattle.cli.specs.Asks.{GivenAsks, ReadsNumber, is_by_words, is_flagged};
 
 use clap::ArgMatches;
+use clap::parser::ValueSource;
 use commands::action::Action;
 use commands::publish::{Files, Words};
 use commands::report::Named;
@@ -10,71 +15,108 @@ use control::Order;
 use runner::Command;
 use world::entry::Right;
 
-/// Returns the command that the words ask for, or None if they name none, which the parser refuses.
-pub fn command_of<'m, 'a>(matches: &'m ArgMatches<'a>) -> Option<Command<'m>> {
-    let (name, matches) = matches.subcommand()?;
-    match name {
+/// Returns the command that the words ask for, or None if they ask for none. The parser has refused words that lack a
+/// required option, so None means that the options fit no form of a command that has two.
+pub fn command_of<'m, 'a>(matches: &'m ArgMatches<'a>) -> Option<Command<'m>>
+    ensures { Finds result (GivenAsks (subcommand_rows_of matches.now)) }
+{
+    let (word, options) = matches.subcommand()?;
+    command_of_word(word, options)
+}
+
+/// Returns the command that has this word and these options.
+fn command_of_word<'m, 'a>(word: &str, options: &'m ArgMatches<'a>) -> Option<Command<'m>>
+    ensures { Finds result (AsksCommand (rows_of (found_of options.now)) word.now) }
+{
+    match word {
         "init" => Some(Command::Init {
-            db: text(matches, "db"),
+            db: text(options, "db")?,
         }),
-        "answer" => Some(answer_command(matches)),
+        "answer" => answer_of(options),
         "extract" => Some(Command::Extract {
-            db: text(matches, "db"),
-            teams: matches.get_strs("team").unwrap_or(&[]),
-            to: text(matches, "to"),
+            db: text(options, "db")?,
+            teams: texts(options, "team")?,
+            to: text(options, "to")?,
         }),
         "migrate" => Some(Command::Migrate {
-            from: text(matches, "from"),
-            to: text(matches, "to"),
+            from: text(options, "from")?,
+            to: text(options, "to")?,
         }),
         "copy" => Some(Command::Copy {
-            control: text(matches, "control"),
-            to: text(matches, "to"),
+            control: text(options, "control")?,
+            to: text(options, "to")?,
         }),
         "ping" => Some(Command::Ping {
-            control: text(matches, "control"),
+            control: text(options, "control")?,
         }),
         "stop" => Some(Command::Stop {
-            control: text(matches, "control"),
+            control: text(options, "control")?,
         }),
-        _ => match order_of(name, matches) {
-            Some(order) => Some(registry_command(order, matches)),
+        _ => match order_of(word, options) {
+            Some(order) => registry_command(order, options),
             None => Some(Command::OnStore {
-                db: text(matches, "db"),
-                action: action_of(name, matches)?,
+                db: text(options, "db")?,
+                action: action_of(word, options)?,
             }),
         },
     }
 }
 
-/// Returns a registry command: on the running server whose socket the words name, or on the store of a file.
-fn registry_command<'a>(order: Order<'a>, matches: &ArgMatches<'a>) -> Command<'a> {
-    match matches.get_str("control") {
-        Some(control) => Command::Order { control, order },
-        None => Command::OnStore {
-            db: text(matches, "db"),
+/// Returns the command `answer`, which takes a file, or `--mem` with a team and its key. None if the options are those
+/// of neither form.
+fn answer_of<'a>(options: &ArgMatches<'a>) -> Option<Command<'a>>
+    ensures { Finds result (AsksCommand (rows_of (found_of options.now)) (codes "answer")) }
+{
+    match (
+        text(options, "db"),
+        is_flagged(options, "mem"),
+        text(options, "team"),
+        text(options, "key"),
+    ) {
+        (Some(db), false, None, None) => Some(Command::OnStore {
+            db,
+            action: Action::Answer,
+        }),
+        (None, true, Some(team), Some(key)) => Some(Command::AnswerInMemory { team, key }),
+        _ => None,
+    }
+}
+
+/// Returns a registry command: on the running server whose socket the words name, or on the store of a file. None if
+/// they name both or neither.
+fn registry_command<'a>(order: Order<'a>, options: &ArgMatches<'a>) -> Option<Command<'a>>
+    ensures { (word : List ℕ) → AsksOrder (rows_of (found_of options.now)) word order.entry
+        → Finds result (AsksCommand (rows_of (found_of options.now)) word) }
+{
+    match (text(options, "db"), text(options, "control")) {
+        (Some(db), None) => Some(Command::OnStore {
+            db,
             action: Action::Register { order },
-        },
+        }),
+        (None, Some(control)) => Some(Command::Order { control, order }),
+        _ => None,
     }
 }
 
 /// Returns the order of a registry command, or None for another command.
-fn order_of<'a>(name: &str, matches: &ArgMatches<'a>) -> Option<Order<'a>> {
-    match name {
+fn order_of<'a>(word: &str, options: &ArgMatches<'a>) -> Option<Order<'a>>
+    ensures { Finds result (AsksOrder (rows_of (found_of options.now)) word.now) }
+{
+    match word {
         "team-add" => Some(Order::TeamAdd {
-            name: text(matches, "team"),
-            group: matches.get_str("group"),
+            name: text(options, "team")?,
+            group: text(options, "group"),
         }),
         "group-add" => Some(Order::GroupAdd {
-            name: text(matches, "group"),
+            name: text(options, "group")?,
         }),
         "key-add" => Some(Order::KeyAdd {
-            shelf: text(matches, "shelf"),
-            key: text(matches, "key"),
-            right: right_of(matches.get_flag("read-only")),
+            shelf: text(options, "shelf")?,
+            key: text(options, "key")?,
+            right: right_of(is_flagged(options, "read-only")),
         }),
         "key-revoke" => Some(Order::KeyRevoke {
-            key: text(matches, "key"),
+            key: text(options, "key")?,
         }),
         _ => None,
     }
@@ -91,76 +133,125 @@ fn right_of(read_only: bool) -> Right
     }
 }
 
-/// Returns the command `answer`, which takes a file, or a team and its key.
-fn answer_command<'a>(matches: &ArgMatches<'a>) -> Command<'a> {
-    match matches.get_str("db") {
-        Some(db) => Command::OnStore {
-            db,
-            action: Action::Answer,
-        },
-        None => Command::AnswerInMemory {
-            team: text(matches, "team"),
-            key: text(matches, "key"),
-        },
-    }
-}
-
 /// Returns the action of a command that only the store of a file can do, or None for a command that has none.
-fn action_of<'a>(name: &str, matches: &ArgMatches<'a>) -> Option<Action<'a>> {
-    match name {
-        "publish" => Some(publish_of(matches)),
+fn action_of<'a>(word: &str, options: &ArgMatches<'a>) -> Option<Action<'a>>
+    ensures { Finds result (AsksAction (rows_of (found_of options.now)) word.now) }
+{
+    match word {
+        "publish" => publish_of(options),
         "import" => Some(Action::Import {
-            key: text(matches, "key"),
-            list: text(matches, "list"),
+            key: text(options, "key")?,
+            list: text(options, "list")?,
         }),
         "inventory" => Some(Action::Inventory {
-            key: text(matches, "key"),
+            key: text(options, "key")?,
         }),
-        "requires" => Some(Action::Requires {
-            version: named(matches),
-        }),
-        "serve" => Some(Action::Serve {
-            entrance: entrance_of(matches),
-            connections: matches.get_one("connections").unwrap_or(u32::MAX),
-            control: matches.get_str("control"),
-        }),
+        "requires" => requires_of(options),
+        "serve" => serve_of(options),
         _ => None,
     }
 }
 
-/// Returns where the connections of `serve` come in.
-fn entrance_of<'a>(matches: &ArgMatches<'a>) -> Entrance {
-    match matches.get_one("port") {
-        Some(port) => Entrance::Port(port),
-        None => Entrance::Input,
-    }
-}
-
 /// Returns the action of `publish`.
-fn publish_of<'a>(matches: &ArgMatches<'a>) -> Action<'a> {
+fn publish_of<'a>(options: &ArgMatches<'a>) -> Option<Action<'a>>
+    ensures { Finds result (AsksAction (rows_of (found_of options.now)) (codes "publish")) }
+{
     let words = Words {
-        key: text(matches, "key"),
-        path: text(matches, "module"),
-        version: text(matches, "version"),
-        time: matches.get_str("time"),
+        key: text(options, "key")?,
+        path: text(options, "module")?,
+        version: text(options, "version")?,
+        time: text(options, "time"),
     };
     let files = Files {
-        gomod: text(matches, "mod"),
-        zip: text(matches, "zip"),
+        gomod: text(options, "mod")?,
+        zip: text(options, "zip")?,
     };
-    Action::Publish { words, files }
+    Some(Action::Publish { words, files })
 }
 
-/// Returns the version that the words name.
-fn named<'a>(matches: &ArgMatches<'a>) -> Named<'a> {
-    Named {
-        key: text(matches, "key"),
-        path: text(matches, "module"),
-        version: text(matches, "version"),
+/// Returns the action of `requires`.
+fn requires_of<'a>(options: &ArgMatches<'a>) -> Option<Action<'a>>
+    ensures { Finds result (AsksAction (rows_of (found_of options.now)) (codes "requires")) }
+{
+    let version = Named {
+        key: text(options, "key")?,
+        path: text(options, "module")?,
+        version: text(options, "version")?,
+    };
+    Some(Action::Requires { version })
+}
+
+/// Returns the action of `serve`.
+fn serve_of<'a>(options: &ArgMatches<'a>) -> Option<Action<'a>>
+    ensures { Finds result (AsksAction (rows_of (found_of options.now)) (codes "serve")) }
+{
+    Some(Action::Serve {
+        entrance: entrance_of(options)?,
+        connections: connections_of(options)?,
+        control: text(options, "control"),
+    })
+}
+
+/// Returns where the connections of `serve` come in, or None if both places are named or neither.
+fn entrance_of<'a>(options: &ArgMatches<'a>) -> Option<Entrance>
+    ensures { Finds result (AsksEntrance (rows_of (found_of options.now))) }
+{
+    match (port_of(options)?, is_flagged(options, "stdin")) {
+        (Some(port), false) => Some(Entrance::Port(port)),
+        (None, true) => Some(Entrance::Input),
+        _ => None,
     }
 }
 
-/// Returns the value of a required option.
-fn text<'a>(matches: &ArgMatches<'a>, name: &str) -> &'a str {
-    matches.get_str(name).unwrap_or("")
+/// Returns the port if it is given, or None if its text is not the number of one, which the parser refuses.
+fn port_of<'a>(options: &ArgMatches<'a>) -> Option<Option<u16>>
+    ensures { ReadsNumber (rows_of (found_of options.now)) (codes "port") 65535 result }
+{
+    options.try_get_one("port").ok()
+}
+
+/// Returns how many connections `serve` answers, or None if that is not a number, which the parser refuses.
+fn connections_of<'a>(options: &ArgMatches<'a>) -> Option<u32>
+    ensures { Finds result (AsksConnections (rows_of (found_of options.now))) }
+{
+    match given_connections(options)? {
+        Some(connections) => Some(connections),
+        None => Some(u32::MAX),
+    }
+}
+
+/// Returns the number of connections if it is given, or None if its text is not a number.
+fn given_connections<'a>(options: &ArgMatches<'a>) -> Option<Option<u32>>
+    ensures { ReadsNumber (rows_of (found_of options.now)) (codes "connections") 4294967295 result }
+{
+    options.try_get_one("connections").ok()
+}
+
+/// Returns the text of an option.
+fn text<'a>(options: &ArgMatches<'a>, name: &str) -> Option<&'a str>
+    ensures { option_map (λ text. text.now) result ≡ first_of name.now (rows_of (found_of options.now)) }
+{
+    options.get_str(name)
+}
+
+/// Returns the texts of an option, one for each time that it is given.
+fn texts<'m, 'a>(options: &'m ArgMatches<'a>, name: &str) -> Option<&'m [&'a str]>
+    ensures { option_map (λ texts. map (λ text. text.now) texts.now) result
+        ≡ all_of name.now (rows_of (found_of options.now)) }
+{
+    options.get_strs(name)
+}
+
+/// Whether the words give a flag.
+fn is_flagged<'a>(options: &ArgMatches<'a>, name: &str) -> bool
+    ensures { result ≡ is_flagged (rows_of (found_of options.now)) name.now }
+{
+    is_by_words(options.value_source(name))
+}
+
+/// Whether a value comes from the words, and not from a default.
+fn is_by_words(source: Option<ValueSource>) -> bool
+    ensures { result ≡ is_by_words source }
+{
+    matches!(source, Some(ValueSource::CommandLine))
 }

@@ -3,36 +3,39 @@ ghost use Rattle.std.specs.Prelude.{◌≡◌};
 ghost use Rattle.clap.specs.Values.{kind_of};
 ghost use Rattle.commands.specs.Exit.{IsSilent, Says, status_of};
 ghost use Rattle.commands.specs.ImportLine.{PrintsFront};
-ghost use Rattle.cli.specs.Run.{EndsShown, Exits, RefusesWords, SparesOutput, Tells, new_store_line};
+ghost use Rattle.words.specs.Table.{texts};
+ghost use Rattle.cli.specs.Run.{EndsShown, Exits, RefusesWords, SparesOutput, Tells, new_file_line, new_store_line};
 
-use crate::arguments::parser;
 use crate::asked::command_of;
 use crate::system::{Runner, SystemStores};
-use clap::ArgMatches;
+use crate::version::VERSION;
 use clap::error::ErrorKind;
 use commands::action::Action;
 use commands::exit::Exit;
 use commands::refusal::CommandRefusal;
 use engine::write::write_bytes;
+use histories::{Hear, Tell};
 use runner::Command;
 use std::alloc::Global;
-use std::io::{self, Read, Write};
+use std::io::{self, Write};
 use std::rt::HostRuntime;
+use words::{matches_of, no_form};
 
 /// Runs the program by the words after its name and returns the exit status: 0 done, 1 refused or not accepted, 2 bad usage.
 ///
 /// A refusal prints one line `goshelf: <word>` on `errors`; `publish` prints its outcome on `output` instead, and `import` a line
-/// for each row. Bad usage prints the parser's text on `errors`, and `serve` a line if its store is new. The texts of the parser are
-/// tested and not proved.
-pub fn command<'a, I: Read, O: Write, E: Write>(
+/// for each row. Bad usage prints the parser's text on `errors`. If the store is new, `serve` prints a line there, and so do commands that
+/// write to the store if that is a terminal. The texts of the parser are tested and not proved.
+pub fn command<'a, I: Hear, O: Tell, E: Tell>(
     rt: &'a HostRuntime,
     words: &[String],
     input: &mut I,
     output: &mut O,
     errors: &mut E,
 ) -> u8
-    ensures { (stores stores_new : SystemStores) × Exits ⟦<SystemStores<'a> as Runner>⟧.ran stores stores_new
-        (I.remaining input.old) (I.remaining input.new) (O.contents output.old) (O.contents output.new)
+    ensures { (stores stores_new : SystemStores)
+        × Exits ⟦<SystemStores<'a> as Runner>⟧.ran (texts words.now) stores stores_new
+        (I.account input.old) (I.account input.new) (O.contents output.old) (O.contents output.new)
         (E.contents errors.old) (E.contents errors.new) result }
 {
     let mut stores = SystemStores { rt };
@@ -41,7 +44,7 @@ pub fn command<'a, I: Read, O: Write, E: Write>(
 
 /// Runs the program with anything that runs commands, and returns the exit status. It runs one command, or none
 /// if it shows the parser's text, for example for `--help`.
-pub fn command_by<P: Runner, I: Read, O: Write, E: Write>(
+pub fn command_by<P: Runner, I: Hear, O: Tell, E: Tell>(
     alloc: Global,
     runner: &mut P,
     words: &[String],
@@ -49,17 +52,16 @@ pub fn command_by<P: Runner, I: Read, O: Write, E: Write>(
     output: &mut O,
     errors: &mut E,
 ) -> u8
-    ensures { Exits P.ran runner.old runner.new
-        (I.remaining input.old) (I.remaining input.new) (O.contents output.old) (O.contents output.new)
+    ensures { Exits P.ran (texts words.now) runner.old runner.new
+        (I.account input.old) (I.account input.new) (O.contents output.old) (O.contents output.new)
         (E.contents errors.old) (E.contents errors.new) result }
 {
-    let matches = match matches_of(alloc, words) {
+    let matches = match matches_of(alloc, VERSION, words) {
         Ok(matches) => matches,
         Err(error) => return end(show(error, output, errors), errors),
     };
     let Some(command) = command_of(&matches) else {
-        // the parser refuses such words
-        return end(Exit::BadUsage, errors);
+        return end(show(no_form(alloc, &matches), output, errors), errors);
     };
     tell_new_store(runner, &command, errors);
     let told = runner.run(&command, input, output);
@@ -67,7 +69,7 @@ pub fn command_by<P: Runner, I: Read, O: Write, E: Write>(
 }
 
 /// Writes the line that says why a run was refused, if it was, and returns the exit status.
-fn end<E: Write>(ended: Exit, errors: &mut E) -> u8
+fn end<E: Tell>(ended: Exit, errors: &mut E) -> u8
     ensures says { Says (E.contents errors.old) (E.contents errors.new) ended }
     ensures status { result ≡ status_of ended }
 {
@@ -75,13 +77,9 @@ fn end<E: Write>(ended: Exit, errors: &mut E) -> u8
     ended.status()
 }
 
-/// Returns what the parser reads in the words. Fails with the text that is shown in place of a run.
-fn matches_of<'a>(alloc: Global, words: &'a [String]) -> Result<ArgMatches<'a>, clap::Error> {
-    parser(alloc)?.try_get_matches_from(words)
-}
-
-/// Writes a line on `errors` if the command serves a store that is new, because a mistyped name answers 404 to everybody.
-fn tell_new_store<P: Runner, E: Write>(runner: &P, command: &Command, errors: &mut E)
+/// Writes a line on `errors` if the store of the command is new, as that of a mistyped name is: if it is served, because it answers 404
+/// to everybody, and if the command writes to it and somebody sees `errors`.
+fn tell_new_store<P: Runner, E: Tell>(runner: &P, command: &Command, errors: &mut E)
     ensures { Tells (E.contents errors.old) (E.contents errors.new) command.now }
 {
     match command {
@@ -89,12 +87,16 @@ fn tell_new_store<P: Runner, E: Write>(runner: &P, command: &Command, errors: &m
             db,
             action: Action::Serve { .. },
         } if runner.is_new(db) => write_new_store(errors),
+        Command::OnStore {
+            db,
+            action: Action::Register { .. } | Action::Publish { .. } | Action::Import { .. },
+        } if runner.is_watched() && runner.is_new(db) => write_new_file(errors),
         _ => {}
     }
 }
 
-/// Writes that line, or a beginning of it if a write fails.
-fn write_new_store<E: Write>(errors: &mut E)
+/// Writes the line for a store that is served, or a beginning of it if a write fails.
+fn write_new_store<E: Tell>(errors: &mut E)
     ensures { PrintsFront (E.contents errors.old) (E.contents errors.new) new_store_line }
 {
     let _ = write_bytes(
@@ -103,9 +105,16 @@ fn write_new_store<E: Write>(errors: &mut E)
     );
 }
 
+/// Writes the line for a store that a command writes to, or a beginning of it if a write fails.
+fn write_new_file<E: Tell>(errors: &mut E)
+    ensures { PrintsFront (E.contents errors.old) (E.contents errors.new) new_file_line }
+{
+    let _ = write_bytes(errors, b"new store: the file of --db is missing or empty\n");
+}
+
 /// Shows the parser's text, and returns how the run ended: help and the version on the output, and what is wrong with the words on
 /// `errors`. If the output fails, the run ends with `goshelf: io`.
-fn show<O: Write, E: Write>(error: clap::Error, output: &mut O, errors: &mut E) -> Exit
+fn show<O: Tell, E: Tell>(error: clap::Error, output: &mut O, errors: &mut E) -> Exit
     ensures ends { EndsShown (kind_of error) result }
     ensures output { SparesOutput (kind_of error) (O.contents output.old) (O.contents output.new) }
     ensures silent { IsSilent (E.contents errors.old) (E.contents errors.new) result }
@@ -125,7 +134,7 @@ fn show<O: Write, E: Write>(error: clap::Error, output: &mut O, errors: &mut E) 
 
 /// Reports that the words could not be read, and returns the exit status. Words that are not UTF-8 are bad usage; if memory ran
 /// out, the run ends with `goshelf: memory`.
-pub fn words_refused<E: Write>(error: io::Error, errors: &mut E) -> u8
+pub fn words_refused<E: Tell>(error: io::Error, errors: &mut E) -> u8
     ensures { RefusesWords (E.contents errors.old) (E.contents errors.new) result }
 {
     let ended = match error.kind() {

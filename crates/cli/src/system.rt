@@ -1,11 +1,12 @@
 //! What runs a command: the files of the system, or any other `Runner`.
-use commands::files::is_missing_or_empty;
 use commands::refusal::CommandRefusal;
+use histories::{Hear, Tell};
 use runner::{Command, run};
 use sqlite::{File, FileStore, Start, Unknown};
 use sqlite_trees::store::Store;
-use std::io::{Read, Write};
+use std::io::{IsTerminal, Write};
 use std::rt::HostRuntime;
+use store::files::is_new_store;
 use store::open::FileShelves;
 use world::shelves::Shelves;
 
@@ -16,17 +17,20 @@ pub trait Runner {
     /// What running a command does.
     ghost ran: { Ran Self };
 
-    /// Whether the file of a store is missing or empty, so that a command begins with a new store.
+    /// Whether a command begins with a new store, because the file is missing or empty and no log is left beside it.
     fn is_new(&self, db: &str) -> bool;
 
+    /// Whether a person may see standard error, which is a terminal.
+    fn is_watched(&self) -> bool;
+
     /// Runs a command and returns whether it was accepted. Fails as [`runner::run`] does.
-    fn run<I: Read, O: Write>(
+    fn run<I: Hear, O: Tell>(
         &mut self,
         command: &Command,
         input: &mut I,
         output: &mut O,
     ) -> Result<bool, CommandRefusal>
-        ensures { ran self.old self.new (I.remaining input.old) (I.remaining input.new)
+        ensures { ran self.old self.new (I.account input.old) (I.account input.new)
             (O.contents output.old) (O.contents output.new) result command.now };
 }
 
@@ -74,10 +78,14 @@ impl<'a> Runner for SystemStores<'a> {
         ⟦<Target as Shelves>⟧.shown (image_at ⟦<UnknownTarget as Start>⟧) };
 
     fn is_new(&self, db: &str) -> bool {
-        is_missing_or_empty(self.rt, db)
+        is_new_store(self.rt, db)
     }
 
-    fn run<I: Read, O: Write>(
+    fn is_watched(&self) -> bool {
+        self.rt.stderr().is_terminal()
+    }
+
+    fn run<I: Hear, O: Tell>(
         &mut self,
         command: &Command,
         input: &mut I,

@@ -5,11 +5,12 @@
 #![tactic(auto)]
 
 use cli::command::{command, words_refused};
+use histories::{Hearing, Telling};
 use std::env;
 use std::process::ExitCode;
 
 fn main(rt: HostRuntime) -> ExitCode {
-    let mut errors = rt.stderr();
+    let mut errors = Telling::new(rt.stderr());
     let mut words = match env::args(&rt) {
         Ok(words) => words,
         Err(error) => return ExitCode::from(words_refused(error, &mut errors)),
@@ -19,7 +20,7 @@ fn main(rt: HostRuntime) -> ExitCode {
         Ok(words) => words,
         Err(error) => return ExitCode::from(words_refused(error.into(), &mut errors)),
     };
-    let mut input = rt.reader();
-    let mut output = rt.stdout();
+    let mut input = Hearing::new(rt.reader());
+    let mut output = Telling::new(rt.stdout());
     ExitCode::from(command(&rt, words.as_slice(), &mut input, &mut output, &mut errors))
 }

@@ -1,13 +1,23 @@
-use Rattle.std.proofs.Common.{inl, inr, refl}
+use Rattle.std.proofs.Common.{inl, inr, refl, rules}
 use Rattle.clap.specs.Values.{kind_of}
-use Rattle.clap.specs.declared.error.kind.ErrorKind.TheVariants.{MissingSubcommand}
+use Rattle.words.specs.Table.{texts}
+use Rattle.cli.proofs.Needed.{found}
+use Rattle.cli.proofs.Shown.{asked_for, error_shown, none_asked, none_shown}
 use Rattle.cli.proofs.command.command_by.Goals as goal
 
 pub returns-in-Err : goal.returns-in-Err
 returns-in-Err g c = record {
   ended = c.show.result;
   errors_run = _;
-  runs = inr (record { kind = kind_of c.in-Err.error; ends = c.show.ensures.ends; idle = refl; input = refl; output = c.show.ensures.output; silent = c.show.ensures.silent });
+  runs = inr (record {
+    kind = kind_of c.in-Err.error;
+    why = error_shown _ c.matches_of.result c.in-Err.error (search rules) c.matches_of.ensures.refuses;
+    ends = c.show.ensures.ends;
+    idle = refl;
+    input = refl;
+    output = c.show.ensures.output;
+    silent = c.show.ensures.silent;
+  });
   says = c.end.ensures.says;
   tells = c.end.ensures.status;
 }
@@ -16,7 +26,16 @@ pub returns-in_default : goal.returns-in_default
 returns-in_default g c = record {
   ended = _;
   errors_run = _;
-  runs = inr (record { kind = MissingSubcommand; ends = refl; idle = refl; input = refl; output = refl; silent = tt });
+  runs = inr (record {
+    kind = kind_of c.no_form.result;
+    why = none_shown (texts c.args.words.now) (kind_of c.no_form.result) c.no_form.ensures (none_asked (texts c.args.words.now) c.matches_of.result c.in-Ok.matches
+        c.command_of.result (search rules) (search rules) c.matches_of.ensures.reads c.command_of.ensures);
+    ends = c.show-in_default.ensures.ends;
+    idle = refl;
+    input = refl;
+    output = c.show-in_default.ensures.output;
+    silent = c.show-in_default.ensures.silent;
+  });
   says = c.end-in_default.ensures.says;
   tells = c.end-in_default.ensures.status;
 }
@@ -27,6 +46,8 @@ returns g c = record {
   errors_run = _;
   runs = inl (record {
     command = c.in-Some.command;
+    asks = asked_for (texts c.args.words.now) c.matches_of.result c.in-Ok.matches c.in-Some.command (search rules) c.matches_of.ensures.refuses
+        c.matches_of.ensures.reads (found c.command_of.result c.in-Some.command _ (search rules) c.command_of.ensures);
     told = c.run-told.result;
     tells = c.tell_new_store.ensures;
     runs = c.run-told.ensures;

@@ -1,9 +1,12 @@
-//! The command line: its commands, their help, and the parser.
+//! The commands with their help, and the parser that is made from them.
+ghost use Rattle.std.specs.Prelude.{◌≡◌, IfOk, map};
+ghost use Rattle.clap.specs.Words.{app_of, rule_of, shape_of};
+ghost use Rattle.words.specs.Table as spec;
+
 use crate::options::{
     ANSWER, COPY, EXTRACT, GROUP_ADD, IMPORT, INIT, INVENTORY, KEY_ADD, KEY_REVOKE, MIGRATE,
-    Needed, OptionRow, PING, PUBLISH, REQUIRES, SERVE, STOP, TEAM_ADD, Value,
+    OptionRow, PING, PUBLISH, REQUIRES, SERVE, STOP, TEAM_ADD, Value,
 };
-use crate::version::VERSION;
 use clap::builder::ValueParser;
 use clap::{Arg, ArgAction, Command};
 use std::alloc::{AllocError, Global};
@@ -187,18 +190,25 @@ Example, and the go command that asks it with the key K:
   GOPROXY=http://127.0.0.1:8080/k/K GONOSUMDB=example.com go get example.com/greet@v1.0.0";
 
 /// Returns the parser of the whole command line. Calls here fail only if memory runs out.
-pub fn parser<'a>(alloc: Global) -> Result<Command<'a>, AllocError> {
-    let program = with_commands(alloc, program(alloc)?, store_commands())?;
+pub fn parser<'a>(alloc: Global, version: &'a str) -> Result<Command<'a>, AllocError>
+    ensures { IfOk result (λ made. app_of made ≡ spec.program) }
+{
+    let program = with_commands(alloc, program(alloc, version)?, store_commands())?;
     with_commands(alloc, program, other_commands())
 }
 
-/// Returns the first table. Each table has a function of its own, because the prover reads all texts of a table at once.
-fn store_commands() -> &'static [CommandRow] {
+/// Returns the first table. Each table has a function of its own, because the prover reads all texts of a table
+/// at once.
+fn store_commands() -> &'static [CommandRow]
+    ensures { map spec.line_of result.now ≡ spec.store_lines }
+{
     STORE_COMMANDS.as_slice()
 }
 
 /// Returns the second table.
-fn other_commands() -> &'static [CommandRow] {
+fn other_commands() -> &'static [CommandRow]
+    ensures { map spec.line_of result.now ≡ spec.other_lines }
+{
     OTHER_COMMANDS.as_slice()
 }
 
@@ -208,7 +218,10 @@ fn with_commands<'a>(
     alloc: Global,
     program: Command<'a>,
     rows: &[CommandRow],
-) -> Result<Command<'a>, AllocError> {
+) -> Result<Command<'a>, AllocError>
+    ensures { IfOk result (λ made.
+        app_of made ≡ spec.with_lines (app_of program.entry) (map spec.line_of rows.now)) }
+{
     let mut program = program;
     for row in rows {
         program = program.subcommand(command(alloc, row)?)?;
@@ -217,22 +230,29 @@ fn with_commands<'a>(
 }
 
 /// Returns the program without its commands.
-fn program<'a>(alloc: Global) -> Result<Command<'a>, AllocError> {
-    described(alloc)
+fn program<'a>(alloc: Global, version: &'a str) -> Result<Command<'a>, AllocError>
+    ensures { IfOk result (λ made. app_of made ≡ spec.bare_program) }
+{
+    described(alloc, version)
         .no_binary_name(true)
         .subcommand_required(true)
         .bin_name("goshelf")
 }
 
 /// Returns the program, as help shows it.
-fn described<'a>(alloc: Global) -> Command<'a> {
+fn described<'a>(alloc: Global, version: &'a str) -> Command<'a>
+    ensures { app_of result ≡ spec.named_program }
+{
     Command::new(alloc, "goshelf")
         .about("A private Go module proxy with team shelves")
-        .version(VERSION)
+        .version(version)
 }
 
-/// Returns a command without its options, as help shows it. A command with forms shows its help, as bad usage, if no option follows.
-fn bare<'a>(alloc: Global, row: &CommandRow) -> Command<'a> {
+/// Returns a command without its options, as help shows it. A command with forms shows its help, as bad usage, if no
+/// option follows.
+fn bare<'a>(alloc: Global, row: &CommandRow) -> Command<'a>
+    ensures { app_of result ≡ spec.bare_command (spec.line_of row.now) }
+{
     let command = Command::new(alloc, row.name)
         .about(row.about)
         .after_help(row.example);
@@ -242,31 +262,46 @@ fn bare<'a>(alloc: Global, row: &CommandRow) -> Command<'a> {
     }
 }
 
+/// Returns the command of a name, without its options, or the bare program if no command has the name.
+pub fn shown_command<'a>(alloc: Global, name: &str) -> Command<'a> {
+    match row_of(store_commands(), name) {
+        Some(row) => bare(alloc, row),
+        None => match row_of(other_commands(), name) {
+            Some(row) => bare(alloc, row),
+            None => Command::new(alloc, "goshelf"),
+        },
+    }
+}
+
+/// Returns the row of a command.
+fn row_of(rows: &'static [CommandRow], name: &str) -> Option<&'static CommandRow> {
+    for row in rows {
+        if row.name == name {
+            return Some(row);
+        }
+    }
+    None
+}
+
 /// Returns a command with its options.
-fn command<'a>(alloc: Global, row: &CommandRow) -> Result<Command<'a>, AllocError> {
+fn command<'a>(alloc: Global, row: &CommandRow) -> Result<Command<'a>, AllocError>
+    ensures { IfOk result (λ made. shape_of made ≡ spec.shape_of_line (spec.line_of row.now)) }
+{
     let mut command = bare(alloc, row);
     for option in row.options {
-        command = command.arg(argument(alloc, option)?)?;
+        command = command.arg(argument(alloc, option))?;
     }
     Ok(command)
 }
 
-/// Returns an option, with when it is required.
-fn argument<'a>(alloc: Global, row: &OptionRow) -> Result<Arg<'a>, AllocError> {
-    let argument = option(alloc, row);
-    match row.needed {
-        Needed::Always => Ok(argument.required(true)),
-        Needed::Never => Ok(argument),
-        Needed::Without(other) => argument.required_unless_present(other),
-        Needed::InsteadOf(other) => argument
-            .required_unless_present(other)?
-            .conflicts_with(other),
-    }
-}
-
-/// Returns an option with its value and its help.
-fn option<'a>(alloc: Global, row: &OptionRow) -> Arg<'a> {
-    let option = Arg::new(alloc, row.name).long(row.name).help(row.help);
+/// Returns an option with its value, its help, and whether it is required.
+fn argument<'a>(alloc: Global, row: &OptionRow) -> Arg<'a>
+    ensures { rule_of result ≡ spec.rule_of_option (spec.option_of row.now) }
+{
+    let option = Arg::new(alloc, row.name)
+        .long(row.name)
+        .help(row.help)
+        .required(row.is_required);
     match row.value {
         Value::Flag => option.action(ArgAction::SetTrue),
         Value::Text(name) => option.value_name(name),

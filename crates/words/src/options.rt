@@ -5,7 +5,8 @@
 pub(crate) struct OptionRow {
     pub(crate) name: &'static str,
     pub(crate) value: Value,
-    pub(crate) needed: Needed,
+    /// Whether the parser refuses the command without it. An option that another can replace is not required.
+    pub(crate) is_required: bool,
     pub(crate) help: &'static str,
 }
 
@@ -24,24 +25,11 @@ pub(crate) enum Value {
     Number(&'static str, u64),
 }
 
-/// When an option is required.
-#[derive(Clone, Copy, Drop)]
-pub(crate) enum Needed {
-    /// Always.
-    Always,
-    /// Never.
-    Never,
-    /// If this other option is not given.
-    Without(&'static str),
-    /// If this other option is not given; both together are refused.
-    InsteadOf(&'static str),
-}
-
 /// The file of the store.
 const DB: OptionRow = OptionRow {
     name: "db",
     value: Value::Text("F"),
-    needed: Needed::Always,
+    is_required: true,
     help: "The file of the store; one that is missing or empty has the shelf common alone",
 };
 
@@ -49,7 +37,7 @@ pub(crate) const INIT: [OptionRow; 1] = [DB];
 
 /// The file of the store, for a command that can take a running server instead.
 const DB_OR_CONTROL: OptionRow = OptionRow {
-    needed: Needed::Without("control"),
+    is_required: false,
     ..DB
 };
 
@@ -57,7 +45,7 @@ const DB_OR_CONTROL: OptionRow = OptionRow {
 const CONTROL: OptionRow = OptionRow {
     name: "control",
     value: Value::Text("S"),
-    needed: Needed::InsteadOf("db"),
+    is_required: false,
     help: "In place of --db, the socket of the serve that has the store open",
 };
 
@@ -65,7 +53,7 @@ const CONTROL: OptionRow = OptionRow {
 const TEAM: OptionRow = OptionRow {
     name: "team",
     value: Value::Text("T"),
-    needed: Needed::Always,
+    is_required: true,
     help: "The team: 1 to 32 bytes of a-z, 0-9 and -, the first a letter, not common",
 };
 
@@ -76,7 +64,7 @@ pub(crate) const TEAM_ADD: [OptionRow; 4] = [
     OptionRow {
         name: "group",
         value: Value::Text("G"),
-        needed: Needed::Never,
+        is_required: false,
         help: "The group that the team joins, for good; without it, the team is in no group",
     },
 ];
@@ -87,7 +75,7 @@ pub(crate) const GROUP_ADD: [OptionRow; 3] = [
     OptionRow {
         name: "group",
         value: Value::Text("G"),
-        needed: Needed::Always,
+        is_required: true,
         help: "The group: 1 to 32 bytes of a-z, 0-9 and -, the first a letter, not common",
     },
 ];
@@ -96,7 +84,7 @@ pub(crate) const GROUP_ADD: [OptionRow; 3] = [
 const KEY: OptionRow = OptionRow {
     name: "key",
     value: Value::Text("K"),
-    needed: Needed::Always,
+    is_required: true,
     help: "A key that may publish",
 };
 
@@ -106,7 +94,7 @@ pub(crate) const KEY_ADD: [OptionRow; 5] = [
     OptionRow {
         name: "shelf",
         value: Value::Text("S"),
-        needed: Needed::Always,
+        is_required: true,
         help: "The shelf that the key belongs to: a team, a group, or common",
     },
     OptionRow {
@@ -116,7 +104,7 @@ pub(crate) const KEY_ADD: [OptionRow; 5] = [
     OptionRow {
         name: "read-only",
         value: Value::Flag,
-        needed: Needed::Never,
+        is_required: false,
         help: "The key may read, and not publish",
     },
 ];
@@ -134,7 +122,7 @@ pub(crate) const KEY_REVOKE: [OptionRow; 3] = [
 const MODULE: OptionRow = OptionRow {
     name: "module",
     value: Value::Text("P"),
-    needed: Needed::Always,
+    is_required: true,
     help: "The module path, as its go.mod names it",
 };
 
@@ -142,7 +130,7 @@ const MODULE: OptionRow = OptionRow {
 const VERSION: OptionRow = OptionRow {
     name: "version",
     value: Value::Text("V"),
-    needed: Needed::Always,
+    is_required: true,
     help: "The version, as v1.0.0",
 };
 
@@ -154,19 +142,19 @@ pub(crate) const PUBLISH: [OptionRow; 7] = [
     OptionRow {
         name: "mod",
         value: Value::Text("FILE"),
-        needed: Needed::Always,
+        is_required: true,
         help: "The file of the go.mod",
     },
     OptionRow {
         name: "zip",
         value: Value::Text("FILE"),
-        needed: Needed::Always,
+        is_required: true,
         help: "The file of the zip",
     },
     OptionRow {
         name: "time",
         value: Value::Text("T"),
-        needed: Needed::Never,
+        is_required: false,
         help: "The time of the version, as 2024-01-31T23:59:59Z",
     },
 ];
@@ -177,7 +165,7 @@ pub(crate) const IMPORT: [OptionRow; 3] = [
     OptionRow {
         name: "list",
         value: Value::Text("CSV"),
-        needed: Needed::Always,
+        is_required: true,
         help: "The file of the list: CSV with the header path,version,time,mod,zip",
     },
 ];
@@ -204,7 +192,7 @@ pub(crate) const REQUIRES: [OptionRow; 4] = [
 const TO: OptionRow = OptionRow {
     name: "to",
     value: Value::Text("G"),
-    needed: Needed::Always,
+    is_required: true,
     help: "The file of the new store: missing, empty, or a store with common alone and no key or version",
 };
 
@@ -213,7 +201,7 @@ pub(crate) const EXTRACT: [OptionRow; 3] = [
     OptionRow {
         name: "team",
         value: Value::Texts("T"),
-        needed: Needed::Always,
+        is_required: true,
         help: "A team; repeat --team for more; common and groups are not teams",
     },
     TO,
@@ -223,7 +211,7 @@ pub(crate) const MIGRATE: [OptionRow; 2] = [
     OptionRow {
         name: "from",
         value: Value::Text("F"),
-        needed: Needed::Always,
+        is_required: true,
         help: "The file of a store of schema 1 or 2, which is only read",
     },
     TO,
@@ -231,22 +219,22 @@ pub(crate) const MIGRATE: [OptionRow; 2] = [
 
 pub(crate) const ANSWER: [OptionRow; 4] = [
     OptionRow {
-        needed: Needed::Without("mem"),
+        is_required: false,
         ..DB
     },
     OptionRow {
         name: "mem",
         value: Value::Flag,
-        needed: Needed::InsteadOf("db"),
+        is_required: false,
         help: "Keep the shelves in memory, beginning with one team and its key",
     },
     OptionRow {
-        needed: Needed::InsteadOf("db"),
+        is_required: false,
         help: "With --mem, the team: 1 to 32 bytes of a-z, 0-9 and -, the first a letter, not common",
         ..TEAM
     },
     OptionRow {
-        needed: Needed::InsteadOf("db"),
+        is_required: false,
         help: "With --mem, the team's publishing key: 16 to 64 bytes of a-z and 0-9",
         ..KEY
     },
@@ -257,32 +245,32 @@ pub(crate) const SERVE: [OptionRow; 5] = [
     OptionRow {
         name: "port",
         value: Value::Number("N", u16::MAX as u64),
-        needed: Needed::Without("stdin"),
+        is_required: false,
         help: "The port, 0 to 65535; 0 lets the system choose, and the port is printed",
     },
     OptionRow {
         name: "stdin",
         value: Value::Flag,
-        needed: Needed::InsteadOf("port"),
+        is_required: false,
         help: "In place of --port, take the connections of the TCP socket that standard input is, which listens already",
     },
     OptionRow {
         name: "connections",
         value: Value::Number("M", u32::MAX as u64),
-        needed: Needed::Never,
+        is_required: false,
         help: "How many connections to serve, one after another; one that fails counts; 4294967295 at most, and by default",
     },
     OptionRow {
         name: "control",
         value: Value::Text("S"),
-        needed: Needed::Never,
+        is_required: false,
         help: "A socket to make, for the commands that take --control; only the user who runs serve, and root, may connect to it",
     },
 ];
 
 pub(crate) const COPY: [OptionRow; 2] = [
     OptionRow {
-        needed: Needed::Always,
+        is_required: true,
         help: "The socket of the serve whose store is copied",
         ..CONTROL
     },
@@ -293,13 +281,13 @@ pub(crate) const COPY: [OptionRow; 2] = [
 ];
 
 pub(crate) const PING: [OptionRow; 1] = [OptionRow {
-    needed: Needed::Always,
+    is_required: true,
     help: "The socket of the serve that is asked",
     ..CONTROL
 }];
 
 pub(crate) const STOP: [OptionRow; 1] = [OptionRow {
-    needed: Needed::Always,
+    is_required: true,
     help: "The socket of the serve that is to end",
     ..CONTROL
 }];

@@ -1,0 +1,2 @@
+mod Needed
+mod Shown

@@ -1,0 +1,136 @@
+-- Which command the words ask for: for each command, which option gives which field.
+use Rattle.std.specs.Prelude.{ℕ, List, [], ◌≡◌, ◌⊎◌, ◌≤◌, Bool, true, false, Option, Some, None, codes, find, if◌then◌else◌, map, option_and_then, option_map}
+use Rattle.std.specs.Borrow.{Bor}
+use Rattle.std.specs.Str.{bytes_eq}
+use Rattle.std.specs.Str.Parse.{IsNumeral, digits_value, without_leading_plus}
+use Rattle.clap.specs.Words.{Row, Text, all_of, first_of, one_of}
+use Rattle.clap.specs.Kinds.{IsAmong}
+use Rattle.clap.specs.declared.error.kind.ErrorKind.{ErrorKind}
+use Rattle.clap.specs.declared.error.kind.ErrorKind.TheVariants.{DisplayHelp, DisplayVersion, OutOfMemory}
+use Rattle.clap.specs.declared.parser.matches.ValueSource.{ValueSource}
+use Rattle.clap.specs.declared.parser.matches.ValueSource.TheVariants.{CommandLine}
+use Rattle.commands.specs.declared.action.Action.{Action}
+use Rattle.commands.specs.declared.action.Action.TheVariants as action
+use Rattle.commands.specs.declared.serve.Entrance.{Entrance}
+use Rattle.commands.specs.declared.serve.Entrance.TheVariants.{Input, Port}
+use Rattle.control.specs.declared.order.Order.{Order}
+use Rattle.control.specs.declared.order.Order.TheVariants.{GroupAdd, KeyAdd, KeyRevoke, TeamAdd}
+use Rattle.runner.specs.declared.Command.{Command}
+use Rattle.runner.specs.declared.Command.TheVariants as command
+use Rattle.words.specs.Table.{faults, given}
+use Rattle.world.specs.declared.entry.Right.TheVariants.{Publishes, Reads}
+
+-- the words themselves are the source
+abbrev pub is_by_words : Option ValueSource → Bool
+is_by_words (Some CommandLine) = true
+is_by_words other = false
+
+-- the one that is asked for is found, or none is asked for
+abbrev pub Finds : {T : Type 0} → Option T → (T → Type 0) → Type 0
+Finds {T} None asks = (asked : T) → asks asked → ⊥
+Finds {T} (Some found) asks = asks found
+
+-- What the words say of the options of a command: `name` is the name of an option without its dashes.
+module _ (rows : List Row) where
+  -- the option has this text
+  abbrev pub Is : Text → Text → Type 0
+  Is name text = first_of name rows ≡ Some text
+
+  -- the option has this text, or is left out
+  abbrev pub MayBe : Text → Option (Bor Text) → Type 0
+  MayBe name value = first_of name rows ≡ option_map (λ text. text.now) value
+
+  -- the option has these texts, one for each time that it is given
+  abbrev pub Are : Text → List (Bor Text) → Type 0
+  Are name values = all_of name rows ≡ Some (map (λ text. text.now) values)
+
+  abbrev pub Lacks : Text → Type 0
+  Lacks name = first_of name rows ≡ None
+
+  -- the flag is given
+  abbrev pub is_flagged : Text → Bool
+  is_flagged name = is_by_words (option_and_then (λ row. row.source) (find (λ row. bytes_eq row.id name) rows))
+
+  -- the option has a text that writes this number, which is at most `most`
+  pub record IsNumber (name : Text) (most n : ℕ) : Type 0 where
+    pub text : Text
+    pub has : one_of name rows ≡ Some text
+    pub numeral : IsNumeral 10 (without_leading_plus text)
+    pub value : n ≡ digits_value 10 (without_leading_plus text)
+    pub limit : n ≤ most
+
+  abbrev pub LacksNumber : Text → Type 0
+  LacksNumber name = one_of name rows ≡ None
+
+  -- an option that takes a number of at most `most` has this number, or is left out, or has a text that writes none
+  abbrev pub ReadsNumber : Text → ℕ → Option (Option ℕ) → Type 0
+  ReadsNumber name most (Some (Some n)) = IsNumber name most n
+  ReadsNumber name most (Some None) = LacksNumber name
+  ReadsNumber name most None = (LacksNumber name → ⊥) × ((n : ℕ) → IsNumber name most n → ⊥)
+
+  -- ---- which command is asked for by its word
+
+  abbrev pub AsksOrder : Text → Order → Type 0
+  AsksOrder word (TeamAdd name group) = (word ≡ codes "team-add") × Is (codes "team") name.now × MayBe (codes "group") group
+  AsksOrder word (GroupAdd name) = (word ≡ codes "group-add") × Is (codes "group") name.now
+  AsksOrder word (KeyAdd shelf key right) = (word ≡ codes "key-add") × Is (codes "shelf") shelf.now × Is (codes "key") key.now
+      × (right ≡ (if is_flagged (codes "read-only") then Reads else Publishes))
+  AsksOrder word (KeyRevoke key) = (word ≡ codes "key-revoke") × Is (codes "key") key.now
+
+  -- where the connections of `serve` come in: at the port, or at standard input in its place
+  abbrev pub AsksEntrance : Entrance → Type 0
+  AsksEntrance (Port port) = IsNumber (codes "port") 65535 port × (is_flagged (codes "stdin") ≡ false)
+  AsksEntrance Input = LacksNumber (codes "port") × (is_flagged (codes "stdin") ≡ true)
+
+  -- how many connections it answers: this number, or the largest if none is given
+  abbrev pub AsksConnections : ℕ → Type 0
+  AsksConnections n = IsNumber (codes "connections") 4294967295 n ⊎ (LacksNumber (codes "connections") × (n ≡ 4294967295))
+
+  -- an action of a command that has one form, with `--db`; the two that have another form too are below
+  abbrev pub AsksAction : Text → Action → Type 0
+  AsksAction word action.Open = ⊥
+  AsksAction word (action.Register order) = ⊥
+  AsksAction word action.Answer = ⊥
+  AsksAction word (action.Publish words files) = (word ≡ codes "publish")
+      × Is (codes "key") words.key.now × Is (codes "module") words.path.now × Is (codes "version") words.version.now
+      × MayBe (codes "time") words.time × Is (codes "mod") files.gomod.now × Is (codes "zip") files.zip.now
+  AsksAction word (action.Import key list) = (word ≡ codes "import") × Is (codes "key") key.now × Is (codes "list") list.now
+  AsksAction word (action.Inventory key) = (word ≡ codes "inventory") × Is (codes "key") key.now
+  AsksAction word (action.Requires version) = (word ≡ codes "requires")
+      × Is (codes "key") version.key.now × Is (codes "module") version.path.now × Is (codes "version") version.version.now
+  AsksAction word (action.Serve entrance connections control) = (word ≡ codes "serve")
+      × AsksEntrance entrance × AsksConnections connections × MayBe (codes "control") control
+
+  abbrev pub AsksCommand : Text → Command → Type 0
+  AsksCommand word (command.Init db) = (word ≡ codes "init") × Is (codes "db") db.now
+  AsksCommand word (command.AnswerInMemory team key) = (word ≡ codes "answer")
+      × Lacks (codes "db") × (is_flagged (codes "mem") ≡ true) × Is (codes "team") team.now × Is (codes "key") key.now
+  AsksCommand word (command.OnStore db (action.Register order)) = Is (codes "db") db.now × Lacks (codes "control")
+      × AsksOrder word order
+  AsksCommand word (command.OnStore db action.Answer) = (word ≡ codes "answer")
+      × Is (codes "db") db.now × (is_flagged (codes "mem") ≡ false) × Lacks (codes "team") × Lacks (codes "key")
+  AsksCommand word (command.OnStore db action) = Is (codes "db") db.now × AsksAction word action
+  AsksCommand word (command.Extract db teams to) = (word ≡ codes "extract")
+      × Is (codes "db") db.now × Are (codes "team") teams.now × Is (codes "to") to.now
+  AsksCommand word (command.Migrate from to) = (word ≡ codes "migrate") × Is (codes "from") from.now × Is (codes "to") to.now
+  AsksCommand word (command.Order control order) = Is (codes "control") control.now × Lacks (codes "db") × AsksOrder word order
+  AsksCommand word (command.Copy control to) = (word ≡ codes "copy") × Is (codes "control") control.now × Is (codes "to") to.now
+  AsksCommand word (command.Ping control) = (word ≡ codes "ping") × Is (codes "control") control.now
+  AsksCommand word (command.Stop control) = (word ≡ codes "stop") × Is (codes "control") control.now
+
+-- the name of a command and its options ask for it
+abbrev pub GivenAsks : Option (Text × List Row) → Command → Type 0
+GivenAsks None asked = ⊥
+GivenAsks (Some p) asked = AsksCommand p.1 p.0 asked
+
+-- the words ask for this command: the tables of options take them, and its own options give its fields
+abbrev pub Asks : List Text → Command → Type 0
+Asks words asked = (faults words ≡ []) × GivenAsks (given words) asked
+
+-- Why a text is shown in place of a run: help and the version only if the words ask for them, a lack of memory for no reason of the
+-- words, and every other text only if the words ask for no command.
+abbrev pub IsShownFor : List Text → ErrorKind → Type 0
+IsShownFor words DisplayHelp = IsAmong DisplayHelp (faults words)
+IsShownFor words DisplayVersion = IsAmong DisplayVersion (faults words)
+IsShownFor words OutOfMemory = Unit {0}
+IsShownFor words other = (asked : Command) → Asks words asked → ⊥

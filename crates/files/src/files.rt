@@ -1,0 +1,61 @@
+//! What is asked of files.
+ghost use Rattle.std.specs.Prelude.{◌≡◌, [], ◌∷◌, ◌++◌, IfOk, IfErr};
+ghost use Rattle.files.specs.History.{Done};
+ghost use Rattle.files.specs.declared.files.Deed.TheVariants.{Closed, Opened, Refused};
+
+/// What was done to a file.
+#[derive(Drop)]
+pub enum Deed<C> {
+    /// Its store was opened.
+    Opened,
+    /// Its store was to be opened, and was not.
+    Refused,
+    /// Its store was closed, and this was left of it.
+    Closed(C),
+}
+
+/// What a store is opened for.
+#[derive(Clone, Copy, Debug, Drop, PartialEq, Eq)]
+pub enum Use {
+    /// It is only read: if there is no file, none is left.
+    Reading,
+    /// It is also written to.
+    Writing,
+}
+
+/// An open store, with the name of its file.
+#[derive(Drop)]
+pub struct OpenFile<'n, S> {
+    pub shelves: S,
+    pub name: &'n str,
+}
+
+/// Files whose stores are `S`. A closed store leaves a `C`, and a store that is not opened is refused with an `E`.
+///
+/// Each opening and closing is noted. A look at a file is not, because it changes nothing.
+pub trait StoreFiles<S, C, E> {
+    ghost use Rattle.std.specs.Prelude.{List, ◌++◌};
+    ghost use Rattle.files.specs.History.{Done};
+
+    /// What was done so far, the oldest first.
+    ghost history: { Self → List (Done C) };
+
+    /// What holds of a store that was just opened.
+    ghost begins: { S → Type 0 };
+
+    /// What is left of a store that is closed.
+    ghost left: { S → C };
+
+    /// Opens the store of a file. Fails with the refusal of the store.
+    fn open<'n>(&mut self, name: &'n str, purpose: Use) -> Result<OpenFile<'n, S>, E>
+        ensures begun { IfOk result (λ file. begins file.shelves × (file.name.now ≡ name.now)) }
+        ensures opened { IfOk result (λ _. history self.new ≡ history self.old ++ (name.now, Opened) ∷ []) }
+        ensures refused { IfErr result (λ _. history self.new ≡ history self.old ++ (name.now, Refused) ∷ []) };
+
+    /// Closes the store of a file, as it is now.
+    fn close<'n>(&mut self, file: OpenFile<'n, S>)
+        ensures { history self.new ≡ history self.old ++ (file.entry.name.now, Closed (left file.entry.shelves)) ∷ [] };
+
+    /// Whether there is a file of this name that can be read and has bytes.
+    fn holds_bytes(&self, name: &str) -> bool;
+}

@@ -1,0 +1,64 @@
+//! One file in memory.
+ghost use Rattle.std.specs.Prelude.{◌≡◌, [], ◌∷◌, ◌++◌};
+ghost use Rattle.files.specs.declared.files.Deed.TheVariants.{Closed};
+
+use crate::files::{Deed, OpenFile, StoreFiles, Use};
+use crate::record::Record;
+
+/// One file with its store in memory: the store is there, or it is open.
+#[derive(Drop)]
+pub struct MemoryStoreFiles<'a, S, E> {
+    name: &'a str,
+    /// Why a store is not opened: there is no such file, or it is open.
+    refusal: E,
+    held: Option<S>,
+    noted: Record<Deed<S>>,
+}
+
+impl<'a, S: Drop, E: Copy> MemoryStoreFiles<'a, S, E> {
+    /// Returns a file of this name with a store, to which nothing was done.
+    pub fn new(name: &'a str, store: S, refusal: E) -> MemoryStoreFiles<'a, S, E>
+        ensures { ⟦<MemoryStoreFiles<'a, S, E> as StoreFiles<S, S, E>>⟧.history result ≡ [] }
+    {
+        MemoryStoreFiles {
+            name,
+            refusal,
+            held: Some(store),
+            noted: Record::new(),
+        }
+    }
+}
+
+impl<'a, S: Drop, E: Copy> StoreFiles<S, S, E> for MemoryStoreFiles<'a, S, E> {
+    ghost history = { λ f. f.noted.deeds };
+
+    ghost begins = { λ _. Unit {0} };
+
+    ghost left = { λ s. s };
+
+    fn open<'n>(&mut self, name: &'n str, _purpose: Use) -> Result<OpenFile<'n, S>, E> {
+        if name == self.name {
+            if let Some(shelves) = self.held.take() {
+                self.noted.note(name.as_bytes(), &Deed::Opened);
+                return Ok(OpenFile { shelves, name });
+            }
+        }
+        self.noted.note(name.as_bytes(), &Deed::Refused);
+        Err(self.refusal)
+    }
+
+    fn close<'n>(&mut self, file: OpenFile<'n, S>)
+        ensures { self.new.noted.deeds
+            ≡ self.old.noted.deeds ++ (file.entry.name.now, Closed file.entry.shelves) ∷ [] }
+    {
+        let deed = Deed::Closed(file.shelves);
+        self.noted.note(file.name.as_bytes(), &deed);
+        if let Deed::Closed(store) = deed {
+            self.held = Some(store);
+        }
+    }
+
+    fn holds_bytes(&self, name: &str) -> bool {
+        self.held.is_some() && name == self.name
+    }
+}

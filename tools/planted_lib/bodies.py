@@ -12,7 +12,7 @@ REFUSED, THROUGH, NO_COUNT = "refused", "LET THROUGH", "DOES NOT COUNT"
 
 @dataclass
 class Body:
-    """A wrong body: the lines that it changes, by file and number, and the functions that these stand in."""
+    """A wrong body: the lines that it changes, by file and number, and the functions that these belong to."""
 
     name: str
     lines: dict
@@ -76,7 +76,7 @@ def bodies_of(crate):
 
 
 def rounds_of(bodies, most):
-    """Returns the bodies in rounds of at most so many, of which no two stand in one function; a wide one has a round for itself."""
+    """Returns the bodies in rounds of at most this many. No two of a round change one function, and a wide body is alone."""
     rounds = []
     for body in bodies:
         open_rounds = (it for it in rounds if not it[0].is_wide and len(it) < most)

@@ -151,7 +151,7 @@ class Said:
 
 
 def kind_of(message):
-    """Returns what a message says of a body, or '' where it says nothing against it."""
+    """Returns what a message says against a body, or '' if it says nothing against it."""
     said = re.sub(r"`[^`]*`", "Q", re.sub(r"\s+", " ", message))
     place, is_error, error = said.partition(" error")
     is_error = is_error and " " not in place
@@ -174,6 +174,6 @@ def short(message):
 
 
 def last_of(text):
-    """Returns the line of a check's output that tells best why it ended."""
+    """Returns the line of a check's output that best says why it ended."""
     lines = [it for it in text.split("\n") if it.strip()] or ["it printed nothing"]
     return short(next((it for it in lines if re.search(r"error|not proved|no proof|killed", it)), lines[-1]))

@@ -78,7 +78,7 @@ def of_page(room, cache, sums):
     """The commands of docs/OPERATING.md: of the versions of example.com in a module cache to a store."""
     new_store(f"{room.folder}/cache.db", ("alpha", KEY, READER))
     script = blocks("docs/OPERATING.md", "sh", "tools/adopt")[0]
-    replaced = {"tools/adopt": f"{sys.executable} {ADOPT}", "goshelf import": f"{PROGRAM} import"}
+    replaced = {"/usr/share/goshelf/tools/adopt": f"{sys.executable} {ADOPT}", "goshelf import": f"{PROGRAM} import"}
     replaced["/var/lib/goshelf/shelves.db"] = f"{room.folder}/cache.db"
     told = shell(room, room.folder, script, {**replaced, "--key KEY": f"--key {KEY}"}, GOMODCACHE=cache)
     few = {it: text for it, text in sums.items() if it[0].startswith("example.com/")}

@@ -1,5 +1,5 @@
 #!/usr/bin/env python3
-"""nginx before `goshelf serve`, by deploy/nginx/ and the commands of docs/OPERATING.md: log in, TLS, its cache, slow clients, logs.
+"""nginx before `goshelf serve`, by deploy/nginx/ and the commands of docs/NGINX.md: log in, TLS, its cache, slow clients, logs.
 
 The files and the commands run as they are, on a machine in a folder (machine.py). Users are added and removed by the page's commands.
 Clients are slow with a head, with a body or with what they are sent. The go command logs in by ~/.netrc.
@@ -20,9 +20,10 @@ import tempfile
 import threading
 import time
 import zipfile
+from concurrent.futures import ThreadPoolExecutor
 
 from harness import ROOT, Suite, done, new_store
-from machine import Machine, block, wait_for
+from machine import Machine, block, read_page, wait_for
 
 NEEDS = ["nginx", "openssl", "go", "git", "curl"]
 LIB = "/example.com/lib"
@@ -47,11 +48,8 @@ class Client:
 
     def add(self, user, shelf, right):
         """Adds a user by the page's commands, and keeps the password that they print."""
-        settings = f"user={user} shelf={shelf} right={right} host=localhost"
-        script = block("sh", ">> /etc/nginx/goshelf/users.map")
-        first, _, rest = script.partition("\n")
-        assert first.startswith("user=ann"), first
-        line = self.machine.does(f"{settings}\n{rest}")
+        script = block("sh", "goshelf-user add ann")
+        line = self.machine.does(script.replace("ann alpha read", f"{user} {shelf} {right}"))
         assert line.split()[:4] == ["machine", "localhost", "login", user], line
         self.passwords[user] = line.split()[5]
 
@@ -60,12 +58,17 @@ class Client:
         return "Basic " + base64.b64encode(f"{user}:{self.passwords[user]}".encode()).decode()
 
     def ask(self, method, target, header, body=None, headers=None):
+        reply = self.reply(method, target, header, body, headers)
+        return reply.status, reply.body
+
+    def reply(self, method, target, header, body=None, headers=None):
+        """The answer, which has been read: its `body`."""
         conn = http.client.HTTPSConnection("localhost", self.machine.front, timeout=60, context=self.context)
         conn.request(method, target, body, {**({"Authorization": header} if header else {}), **(headers or {})})
         reply = conn.getresponse()
-        told = reply.status, reply.read()
+        reply.body = reply.read()
         conn.close()
-        return told
+        return reply
 
     def get(self, target, user="ann"):
         return self.ask("GET", target, self.login(user))
@@ -98,20 +101,10 @@ def rest_of(held):
 
 
 def set_up(suite, folder):
-    """A machine with goshelf behind nginx, by the page's commands."""
+    """A machine with goshelf behind nginx, and its users, by the page's commands."""
     machine = Machine(folder)
     new_store(machine.store, ("alpha", UNUSED), ("beta", "firstkey00000002"), (LONG, "firstkey00000003"))
-    machine.does("systemctl start goshelf")
-    made = "openssl req -x509 -newkey rsa:2048 -nodes -days 2 -subj /CN=localhost -addext subjectAltName=DNS:localhost"
-    machine.does(f"{made} -out /etc/ssl/goshelf.pem -keyout /etc/ssl/goshelf.key")
-    machine.check_out()
-    machine.does(block("sh", "deploy/nginx/users.map"))
-    machine.does("sed -i 's/server_name shelf.example.com;/server_name localhost;/' /etc/nginx/conf.d/goshelf.conf")
-    keys = block("sh", ">> /etc/nginx/goshelf/keys.map")
-    for shelf in ("alpha", "beta", LONG):
-        machine.does(keys.replace("alpha", shelf))
-    machine.does("nginx")
-    wait_for(machine.front)
+    start(machine, lambda block: block.replace("alpha", f"alpha beta {LONG}"))
     client = Client(machine)
     for user in USERS:
         client.add(*user)
@@ -119,6 +112,21 @@ def set_up(suite, folder):
     maps = [f"{folder}/etc/nginx/goshelf/{name}" for name in ("users.map", "keys.map")]
     suite.equal("only root may read the maps", [os.stat(it).st_mode & 0o777 for it in maps], [0o600, 0o600])
     return machine, client
+
+
+def start(machine, paths, change=lambda machine: None):
+    """Starts goshelf and nginx by the page's commands. `paths` makes the command that names the company's paths from
+    the page's, and `change` changes files before nginx starts."""
+    machine.does("systemctl start goshelf")
+    made = "openssl req -x509 -newkey rsa:2048 -nodes -days 2 -subj /CN=localhost -addext subjectAltName=DNS:localhost"
+    machine.does(f"{made} -out /etc/ssl/goshelf.pem -keyout /etc/ssl/goshelf.key")
+    machine.check_out()
+    machine.does(block("sh", "deploy/nginx/users.map"))
+    machine.does("sed -i 's/server_name shelf.example.com;/server_name localhost;/' /etc/nginx/conf.d/goshelf.conf")
+    machine.does(paths(block("sh", ">> /etc/nginx/goshelf/paths.map")))
+    change(machine)
+    machine.does(block("sh", "systemctl restart nginx"))
+    wait_for(machine.front)
 
 
 def settle(client, user="zoe", wanted=200):
@@ -230,7 +238,9 @@ def slow_clients(suite, client):
     head = [client.head("GET", f"{AT}/v1.2.0.zip", it, "Connection: close") + b"\r\n" for it in ("ann", "pub", "ann", "pub")]
     readers = [client.begin(it, 4096) for it in head]
     hold(suite, client, "read nothing of a zip", readers)
-    suite.holds("a late reader gets the whole zip", all(rest_of(it).endswith(b"\r\n\r\n" + LARGEST_ZIP) for it in readers))
+    with ThreadPoolExecutor(len(readers)) as pool:
+        told = list(pool.map(rest_of, readers))
+    suite.holds("late readers get the whole zip", all(it.endswith(b"\r\n\r\n" + LARGEST_ZIP) for it in told))
     for it in (*heads, *bodies, *readers):
         it.close()
     suite.equal("half of a publish leaves nothing", client.get(f"{AT}/v9.0.0.mod")[0], 404)
@@ -273,7 +283,7 @@ def revoked(suite, client):
     held = http.client.HTTPSConnection("localhost", client.machine.front, timeout=60, context=client.context)
     held.request("GET", f"{AT}/v1.0.0.mod", headers={"Authorization": client.login("ann")})
     assert held.getresponse().read() == GOMOD
-    client.machine.does(block("sh", 'sed -i "/ '), user="ann")
+    client.machine.does(block("sh", "goshelf-user remove ann"))
     took = settle(client, "ann", 401)
     suite.holds("a removed user gets a 401 within 10 seconds, on a busy machine", took < 10, took)
     told = {client.get(f"{AT}/{it}", "ann")[0] for it in ("v1.0.0.zip", "v1.0.0.mod", "v1.2.0.zip", "list")}
@@ -322,21 +332,48 @@ def until(holds):
 
 def keys_change(suite, client):
     """A key of goshelf that is changed as the page says: users do not notice, and the old key is worth nothing."""
-    machine = client.machine
-    lists = [client.get(f"{AT}/list")]
-    old = machine.does(block("sh", "new=$(new_secret)") + 'printf %s "$old"')
-    # (nginx's old processes end their connections with the old key)
-    time.sleep(2)
-    lists.append(client.get(f"{AT}/list"))
-    machine.does(block("sh", '--key "$old"'), old=old)
-    lists.append(client.get(f"{AT}/list"))
-    suite.holds("a user gets the same before, between and after", lists[0][0] == 200 and lists == lists[:1] * 3, lists)
+    machine, told, over = client.machine, [], threading.Event()
+    before = machine.read("etc/nginx/goshelf/keys.map")
+    old = re.search(r'^"alpha read" (\w+);', before, re.M)[1]
+
+    def ask():
+        while not over.is_set():
+            told.append(client.get(f"{AT}/list"))
+
+    wanted, asking = client.get(f"{AT}/list"), threading.Thread(target=ask)
+    asking.start()
+    try:
+        printed = machine.sh(block("sh", "goshelf-user rekey"))
+    finally:
+        over.set()
+        asking.join()
+    suite.equal("a key is changed without a word", printed, (0, "", ""))
+    is_right = len(told) > 5 and {wanted} == {*told}
+    suite.holds(f"a user who asks {len(told)} times meanwhile gets the same", is_right, {*told})
     found = re.findall(r'^"alpha read" (\w+);', machine.read("etc/nginx/goshelf/keys.map"), re.M)
-    suite.holds("the key is another", old and len(found) == 1 and found != [old], (old, found))
+    suite.holds("the key is another", len(found) == 1 and found != [old], (old, found))
+    after = machine.read("etc/nginx/goshelf/keys.map").replace(found[0], old)
+    suite.equal("no other is", sorted(after.splitlines()), sorted(before.splitlines()))
     conn = http.client.HTTPConnection("127.0.0.1", machine.behind, timeout=60)
     conn.request("GET", f"/k/{old}{AT}/list")
     suite.equal("the old key is worth nothing", conn.getresponse().status, 404)
     conn.close()
+    suite.equal("and the maps have no fault", machine.sh("goshelf-user check"), (0, "", ""))
+
+
+def of_trouble(suite, machine):
+    """The commands of docs/TROUBLE.md print the requests of the log that the page says, and no other."""
+    page, lines = read_page("TROUBLE.md"), machine.read("var/log/nginx/goshelf.log").splitlines()
+    # (a request that nginx cannot read has no method or no target in its line)
+    log = [it.split() for it in lines if len(it.split()) == 10]
+    for command, wanted in (
+        ("awk '$7 == 429' /var/log/nginx/goshelf.log", [it for it in log if it[6] == "429"]),
+        ("awk '$7 >= 500' /var/log/nginx/goshelf.log", [it for it in log if int(it[6]) >= 500]),
+        ("awk '$9 > 5' /var/log/nginx/goshelf.log", [it for it in log if float(it[8]) > 5]),
+    ):
+        printed = [it.split() for it in machine.does(command).splitlines()]
+        is_right = wanted == [it for it in printed if len(it) == 10]
+        suite.holds(command, f"`{command}`" in page and is_right, (len(printed), len(wanted)))
 
 
 def logs(suite, client):
@@ -349,6 +386,7 @@ def logs(suite, client):
     audit = machine.does(block("sh", "awk '$5 == \"PUT\"")).splitlines()
     suite.holds("who published what, and when", any(re.fullmatch(rf"20\S+ pub alpha {AT}/v1.0.0", it) for it in audit), audit)
     suite.holds("and the other team", any(re.fullmatch(rf"20\S+ bob beta {AT}/v1.0.0", it) for it in audit), audit)
+    of_trouble(suite, machine)
     suite.holds("a stranger is logged as `-`", re.search(rf"^20\S+ 127.0.0.1 - - GET {AT}/list 401 ", text, re.M))
     suite.holds("what came from the cache is marked", re.search(rf"^20\S+ 127.0.0.1 ann alpha GET {AT}/v1.0.0.zip 200 \d+ \S+ HIT$", text, re.M))
 
@@ -443,8 +481,9 @@ def three_modules(suite, client):
     """A user publishes the tutorial's repository of three modules by the page's commands, and another, who only reads, builds with them."""
     made, uses = (block("sh run", it, "TUTORIAL.md") for it in ("mkdir -p team/log", 'import "example.com/team/log"'))
     publish, wanted = block("sh", "--netrc --repository team"), block("output", "published example.com/team v1.0.0", "TUTORIAL.md")
-    publish = publish.replace("https://shelf.example.com", f"https://localhost:{client.machine.front}").replace(",https://proxy.golang.org,direct", "")
-    settings = [it for it in publish.splitlines(True) if not it.startswith("tools/")]
+    url = f"https://localhost:{client.machine.front}"
+    settings = "chmod 600 ~/.netrc\n" + block("sh", "needed only where GOPRIVATE is set")
+    publish, settings = (it.replace("https://shelf.example.com", url) for it in (publish, settings))
     with tempfile.TemporaryDirectory(prefix="goshelf-team-") as folder:
         clean = {name: text for name, text in os.environ.items() if not name.startswith(("GO", "GIT_")) and name != "NETRC"}
         os.symlink(os.path.join(ROOT, "tools"), f"{folder}/tools")
@@ -460,7 +499,7 @@ def three_modules(suite, client):
         begun = time.time()
         ran = user("pub", made + publish)
         suite.equal("three modules are published by ~/.netrc", (ran.stdout, ran.returncode), (wanted, 0)) or print(ran.stderr)
-        ran = user("ann", "".join(settings) + f"mkdir hello\ncd hello\ngo mod init example.com/hello\ncd ..\n{uses}")
+        ran = user("ann", settings + f"mkdir hello\ncd hello\ngo mod init example.com/hello\ncd ..\n{uses}")
         suite.equal("a consumer builds with them by ~/.netrc", (ran.stdout, ran.returncode), ("log and team 2\n", 0)) or print(ran.stderr)
         suite.holds("both take less than five minutes", time.time() - begun < 300, time.time() - begun)
 

@@ -6,12 +6,14 @@ for byte, and say its word or nothing on standard error.
 """
 
 import os
+import pty
 import re
 import socket
 import subprocess
 import sys
+import tty
 
-from harness import PROGRAM, ROOT, Suite, get, in_new_folders, read, reply, run, words_of, write
+from harness import NOBODY, PROGRAM, ROOT, Suite, can_be_nobody, get, in_new_folders, put, read, reply, run, runs_of, words_of, write
 
 NAMES = """
 answer --mem --team alpha --key A | 0
@@ -263,6 +265,33 @@ team-add --db new.db --team alpha --group platform | 0
 HEADER = "path,version,time,mod,zip\n"
 # what `serve` says of a file that is missing or empty
 NEW_STORE = "new store: the file of --db is missing or empty; without a key, each request gets a 404\n"
+NEW_FILE = "new store: the file of --db is missing or empty\n"
+# commands that write to a store, and how they end on a new one: status, word or printed line
+WRITES = """
+team-add --db {} --team alpha | 0
+group-add --db {} --group platform | 0
+key-add --db {} --shelf common --key C | 0
+key-revoke --db {} --key C | 1 no-key
+publish --db {} --key C --module example.com/lib --version v1.0.0 --mod go.mod --zip empty | 1
+    404 not found
+import --db {} --key C --list list.csv | 1
+    1 404 not found
+"""
+# commands that only read, on a file that is missing
+READS = """
+inventory --db none.db --key A | 1 no-key
+requires --db none.db --key A --module example.com/lib --version v1.0.0 | 1 not-found
+answer --db none.db | 0
+answer --db none.db < A example.com/lib/@v/list | 0
+    404 not found
+inventory --db away/none.db --key A | 1 no-key
+inventory --db none/none.db --key A | 1 device
+inventory --db none.db/ --key A | 1 device
+inventory --db nowhere --key A | 1 device
+inventory --db :memory: --key A | 1 device
+inventory --db file:none.db --key A | 1 device
+inventory --db= --key A | 1 device
+"""
 LISTS = {
     "two.csv": HEADER + "example.com/i,v1.0.0,,i.mod,i.zip\nexample.com/i,v1.1.0,2024-01-01T00:00:00Z,i.mod,i.zip\n",
     "one.csv": HEADER + "example.com/i,v1.0.0,,i.mod,i.zip\n",
@@ -454,7 +483,8 @@ def quick_start(suite):
 
 
 def new_store_told(suite):
-    """`serve` says before it listens that its store is new. No other command does, and it does not say so of another file."""
+    """`serve` says before it listens that its store is new, and does not say so of another file. No other command does, unless standard
+    error is a terminal."""
     write({"empty.db": b"", "bad.db": b"no store"})
     serve = "serve --db {} --port 0 --connections 0"
     for name in ("none.db", "empty.db"):
@@ -465,11 +495,57 @@ def new_store_told(suite):
     suite.equal("serve on bytes that are no store", run(serve.format("bad.db").split()), (1, b"", "goshelf: bad-schema\n"))
     suite.equal("serve on a folder", run(serve.format(".").split()), (1, b"", "goshelf: device\n"))
     suite.equal("serve in a folder that is missing", run(serve.format("none/none.db").split()), (1, b"", NEW_STORE + "goshelf: device\n"))
-    suite.equal("answer on a missing file", run("answer --db answer.db".split()), (0, b"", ""))
     suite.equal("team-add on a missing file", run("team-add --db team.db --team alpha".split()), (0, b"", ""))
     with socket.create_server(("127.0.0.1", 0)) as taken:
         words = f"serve --db other.db --port {taken.getsockname()[1]} --connections 0"
         suite.equal("serve on a missing file and a port that is taken", run(words.split()), (1, b"", NEW_STORE + "goshelf: io\n"))
+
+
+def at_terminal(words):
+    """Runs goshelf with a terminal as standard error, and returns its status, its output, and what it printed there."""
+    ours, theirs = pty.openpty()
+    tty.setraw(theirs)
+    ran = subprocess.run([PROGRAM, *words], stdin=subprocess.DEVNULL, stdout=subprocess.PIPE, stderr=theirs, timeout=120)
+    os.write(theirs, b".")
+    told = b""
+    while not told.endswith(b"."):
+        told += os.read(ours, 65_536)
+    os.close(ours)
+    os.close(theirs)
+    return ran.returncode, ran.stdout, told[:-1].decode()
+
+
+def new_file_told(suite):
+    """At a terminal, a command that writes to a store says so if the store is new."""
+    write({"go.mod": "module example.com/lib\n", "empty": "", "list.csv": "path,version,time,mod,zip\nexample.com/lib,v1.0.0,,go.mod,empty\n"})
+    for name, begun in (("none{}.db", None), ("empty{}.db", b"")):
+        for turn, (line, words, _, (status, output, told)) in enumerate(runs_of(WRITES)):
+            file = name.format(turn)
+            if begun is not None:
+                write({file: begun})
+            words = [word.format(file) for word in words]
+            suite.equal(f"{line}, of {file}", at_terminal(words), (status, output, NEW_FILE + told))
+            suite.holds(f"{line}, of {file} again", NEW_FILE not in at_terminal(words)[2])
+    suite.equal("a missing folder", at_terminal("team-add --db none/a.db --team alpha".split()), (1, b"", NEW_FILE + "goshelf: device\n"))
+    for words in ("init --db init.db", "inventory --db none.db --key C", "answer --db none.db", "team-add --db init.db --team alpha"):
+        suite.holds(f"{words} says nothing of it", "new store" not in at_terminal(words.split())[2])
+
+
+def reads_of_none(suite):
+    """A command that only reads leaves no file where none was, and answers as over a store with `common` alone."""
+    os.mkdir("away")
+    os.symlink("none/store.db", "nowhere")
+    before = sorted(os.listdir(".")), os.listdir("away")
+    suite.runs("a missing file", READS)
+    told = run(["answer", "--db", "none.db"], put("example.com/lib", "v1.0.0", b"module example.com/lib\n") + get("-/modules"))
+    suite.equal("a publish to a missing file", told, (0, reply(404, b"not found\n") * 2, ""))
+    suite.equal("no file is left", (sorted(os.listdir(".")), os.listdir("away")), before)
+    if can_be_nobody():
+        os.chmod(".", 0o755)
+        told = run("inventory --db none.db --key alphakey00000001".split(), before=NOBODY)
+        suite.equal("in a folder where nothing may be made", told, (1, b"", "goshelf: device\n"))
+    else:
+        suite.skip("in a folder where nothing may be made", "nobody cannot be had here")
 
 
 def serve(suite):
@@ -504,4 +580,5 @@ def address(suite):
 
 
 if __name__ == "__main__":
-    sys.exit(in_new_folders(Suite(), quick_start, names, bad_usage, helped, one_store, imports, seen, groups, new_store_told, serve, address))
+    told = (new_store_told, new_file_told, reads_of_none)
+    sys.exit(in_new_folders(Suite(), quick_start, names, bad_usage, helped, one_store, imports, seen, groups, *told, serve, address))

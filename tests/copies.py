@@ -155,9 +155,11 @@ def refused(suite):
     other = Server("other.db", "other")
     rows = [
         ("text", "not-empty"), ("other.db", "device"), ("made.db", "not-empty"), ("served.db", "not-empty"), ("./served.db", "not-empty"),
-        (os.path.abspath("served.db"), "not-empty"), ("named.db", "not-empty"), ("linked.db", "not-empty"), ("served.db-wal", "not-empty"),
-        ("linked.log", "not-empty"), ("folder", "device"), ("none/one.db", "device"), ("nowhere.db", "device"), ("/dev/null", "device"), ("", "device"),
-        (":memory:", "device"), ("file:one.db", "device"), ("a path.db", "name"), ("path\n", "name"), ("p" * SAID, "device"), ("p" * (SAID + 1), "name"),
+        (os.path.abspath("served.db"), "not-empty"), ("named.db", "not-empty"), ("linked.db", "not-empty"), ("served.db-wal", "device"),
+        ("linked.log", "device"), ("served.db-journal", "device"), ("./served.db-shm", "device"), ("named.db-journal", "device"),
+        (os.path.abspath("served.db-journal"), "device"), ("other.db-journal", "device"), ("text-wal", "device"),
+        ("folder", "device"), ("none/one.db", "device"), ("nowhere.db", "device"), ("/dev/null", "device"), ("", "device"), (":memory:", "device"),
+        ("file:one.db", "device"), ("a path.db", "name"), ("path\n", "name"), ("p" * SAID, "device"), ("p" * (SAID + 1), "name"),
     ]  # fmt: skip
     for to, word in rows:
         suite.equal(f"a copy to {to[:60]!r}", copy(to), refusal(word))

@@ -220,6 +220,35 @@ extract --db whole.db --team alpha --to team.db | 1 not-empty
 key-add --db key.db --shelf common --key C | 0
 extract --db whole.db --team alpha --to key.db | 1 not-empty
 """
+# names that SQLite gives the files beside a database: by the name itself, by another folder, by a link, and of another database;
+# `away/log` is a link to the log, `away/shared` one to the shared memory of other.db, and `twin` a hard link to its log
+TAKEN = """
+extract --db whole.db --team alpha --to whole.db-journal | 1 device
+extract --db whole.db --team alpha --to whole.db-wal | 1 device
+extract --db whole.db --team alpha --to whole.db-shm | 1 device
+extract --db whole.db --team nosuch --to away/../whole.db-journal | 1 device
+extract --db link --team alpha --to whole.db-journal | 1 device
+extract --db link --team alpha --to link-journal | 1 device
+extract --db away/link --team alpha --to whole.db-shm | 1 device
+extract --db whole.db --team alpha --to away/log | 1 device
+extract --db whole.db --team alpha --to away/shared | 1 device
+extract --db other.db --team alpha --to twin | 1 device
+extract --db whole.db --team alpha --to other.db-journal | 1 device
+extract --db whole.db --team alpha --to text-wal | 1 device
+extract --db none.db --team alpha --to none.db-journal | 1 device
+"""
+NOT_TAKEN = """
+extract --db whole.db --team alpha --to folder-wal | 0
+extract --db whole.db --team alpha --to lone.db-journal | 0
+extract --db whole.db --team alpha --to whole.db-journals | 0
+extract --db whole.db --team alpha --to whole.db.wal | 0
+extract --db whole.db --team alpha --to away/whole.db-journal | 0
+inventory --db lone.db-journal --key A | 0
+    path,version,shelf,class,time,mod_bytes,zip_bytes
+    example.com/lib,v1.0.0,alpha,release,,23,0
+publish --db whole.db --key A --module example.com/lib --version v1.0.0 --mod go.mod --zip empty | 0
+    200 already published
+"""
 INTO_EMPTY = """
 extract --db whole.db --team alpha --to empty | 0
 answer --db empty < A example.com/lib/@v/v1.0.0.mod | 0
@@ -344,5 +373,31 @@ def faults(suite):
     suite.runs("a file without bytes", INTO_EMPTY)
 
 
+def files_below(folder="."):
+    """The names below a folder, with the bytes of each file."""
+    names = (os.path.join(at, name) for at, folders, files in os.walk(folder) for name in (*folders, *files))
+    return {name: read(name) if os.path.isfile(name) else "" for name in names}
+
+
+def taken_names(suite):
+    """A name that SQLite uses is refused before anything is touched; any other is taken, and the whole goes on."""
+    for folder in ("folder", "away"):
+        os.mkdir(folder)
+    os.symlink("whole.db", "link")
+    os.symlink("../whole.db", "away/link")
+    write({"go.mod": "module example.com/lib\n", "text": "no database\n", "empty": ""})
+    suite.runs("one version", ONE_VERSION)
+    new_store("other.db", ("alpha", KEYS["A"]))
+    os.link("other.db-wal", "twin")
+    os.symlink("../whole.db-wal", "away/log")
+    write({"other.db-shm": ""})
+    os.symlink("../other.db-shm", "away/shared")
+    before = files_below()
+    suite.runs("a name that SQLite uses", TAKEN)
+    suite.holds("nothing was touched", files_below() == before, sorted(set(files_below()) ^ set(before)))
+    suite.runs("another name", NOT_TAKEN)
+
+
 if __name__ == "__main__":
-    sys.exit(in_new_folders(Suite(), part, another_team, group_part, another_team_of_the_group, faults))
+    parts = (part, another_team, group_part, another_team_of_the_group, faults, taken_names)
+    sys.exit(in_new_folders(Suite(), *parts))

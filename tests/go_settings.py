@@ -1,5 +1,5 @@
 #!/usr/bin/env python3
-"""What the go settings of docs/OPERATING.md tell the proxy behind the shelf: nothing of a module that the shelf sees, else the names.
+"""What the go settings of docs/NGINX.md tell the proxy behind the shelf: nothing of a module that the shelf sees, else the names.
 
 The proxy behind is one that has no module and notes what it is asked; nothing else is reached.
 """
@@ -64,8 +64,8 @@ def asked(proxies, imported, *words, **settings):
 
 
 def of_pages(suite):
-    """The commands of the pages set what they say, and that of OPERATING undoes it."""
-    with open(os.path.join(ROOT, "docs", "OPERATING.md"), encoding="utf-8") as file:
+    """The commands of the pages set what they say, and that of NGINX undoes it."""
+    with open(os.path.join(ROOT, "docs", "NGINX.md"), encoding="utf-8") as file:
         undo = re.search(r"`(go env -u [A-Z ]*)`", file.read())[1]
     names = ["GOPROXY", "GONOSUMDB", "GONOPROXY"]
     with tempfile.TemporaryDirectory(prefix="goshelf-go-") as folder:
@@ -76,8 +76,8 @@ def of_pages(suite):
             return ran.stdout.splitlines() or ran.stderr
 
         before = after("")
-        found = [it for page in ("README.md", "docs/OPERATING.md") for it in blocks(page, "sh", "go env -w GOPROXY=") if "tools/" not in it]
-        suite.equal("blocks that set the go command", len(found), 2)
+        found = [it for page in ("README.md", "docs/NGINX.md") for it in blocks(page, "sh", "go env -w GOPROXY=") if "tools/" not in it]
+        suite.equal("blocks that set the go command", len(found), 3)
         for script in found:
             proxies = re.search("GOPROXY=(.*)", script)[1]
             suite.equal(f"the settings of {proxies}", after(script), [proxies, "example.com", "none"])

@@ -5,6 +5,7 @@ Nothing of it is seen outside: the bridge is in a namespace too. A host resolves
 
 import base64
 import contextlib
+import copy
 import ctypes
 import http.client
 import os
@@ -14,7 +15,7 @@ import ssl
 import subprocess
 import time
 
-from machine import PLACES, Machine, block
+from machine import Machine, block
 
 NEW_NET = 0x40000000
 LIBC = ctypes.CDLL(None, use_errno=True)
@@ -45,21 +46,13 @@ class Host(Machine):
         self.namespace, self.name, self.address = namespace, name, f"198.18.0.{number}"
 
     def placed(self, text):
-        return PLACES.sub(f"{self.folder}/", text).replace("127.0.0.1:8080", f"127.0.0.1:{self.behind}")
+        return self.placed_on_host(text)
 
     def sh(self, script, **settings):
         where = {"PATH": f"{self.folder}/usr/local/bin:{os.environ['PATH']}:/usr/sbin", "HOME": f"{self.folder}/root", **settings}
         words = ["ip", "netns", "exec", self.namespace, "sh", "-euc", self.placed(script)]
         ran = subprocess.run(words, cwd=f"{self.folder}/root", env=where, capture_output=True, text=True, stdin=subprocess.DEVNULL, timeout=120)
         return ran.returncode, ran.stdout, ran.stderr
-
-    def edit(self, name, *pairs):
-        """Puts new texts for old ones, each of which a file has."""
-        text = self.read(name)
-        for old, new in pairs:
-            assert old in text, (name, old)
-            text = text.replace(old, new)
-        self.write(name, text)
 
     def link(self, up):
         """Takes the host's cable out, or puts it in again."""
@@ -99,11 +92,6 @@ class Host(Machine):
         before = self.workers()
         self.does("nginx -t && nginx -s reload")
         wait_until(lambda: self.workers() and not before & self.workers())
-
-    def workers(self):
-        """The processes of nginx that take connections."""
-        told = subprocess.run(["pgrep", "-P", self.read("nginx.pid").strip(), "-f", "worker process$"], capture_output=True, text=True)
-        return set(told.stdout.split())
 
 
 class Network:
@@ -153,10 +141,16 @@ class Desk:
         self.network, self.namespace, self.passwords, self.kept = network, network.hosts[at].namespace, {}, {}
         self.context = ssl.create_default_context(cadata="".join(certificates))
 
+    def another(self):
+        """Another who asks for the same users, on connections of its own."""
+        desk = copy.copy(self)
+        desk.kept = {}
+        return desk
+
     def add(self, first, user, shelf, right):
-        """Adds a user by the commands of OPERATING, and keeps the password that they print."""
-        settings = f"user={user} shelf={shelf} right={right} host={first.name}"
-        line = first.does(f"{settings}\n{block('sh', '>> /etc/nginx/goshelf/users.map').partition(chr(10))[2]}")
+        """Adds a user by the commands of NGINX, and keeps the password that they print."""
+        line = first.does(block("sh", "goshelf-user add ann").replace("ann alpha read", f"{user} {shelf} {right}"))
+        assert line.split()[:4] == ["machine", first.name, "login", user], line
         self.passwords[user] = line.split()[5]
 
     def login(self, user):

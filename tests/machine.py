@@ -1,10 +1,12 @@
-"""A machine in a folder, on which the commands and files of docs/OPERATING.md and deploy/ run as they are written.
+"""A machine in a folder, on which the commands and files of docs/ and deploy/ run as they are written.
 
 Their absolute names are put below the folder, and ports that are free in the place of 443 and 8080. The commands `goshelf`, `nginx`
 and `systemctl` stand in its /usr/local/bin: the first is the built program, the second starts with the machine's configuration, and the
-third starts and stops the program on the machine's store.
+third starts and stops the program on the machine's store. The public proxy is a port of this host, on which nobody listens
+unless a suite names another.
 """
 
+import contextlib
 import os
 import re
 import shutil
@@ -14,12 +16,25 @@ import time
 
 from harness import PROGRAM, ROOT
 
-# folders whose names the page and deploy/ use; each is put below the folder of the machine
-PLACES = re.compile(r"(?<![\w./~])/(?=(?:etc/(?:nginx|ssl|cron\.d)|var/(?:lib|log|cache|backups)|usr/local|run|root)\b)")
+# folders whose names the pages and deploy/ use; each is put below the folder of the machine
+PLACES = re.compile(
+    r"(?<![\w./~])/(?=(?:etc/(?:nginx|ssl|cron\.d|default)|var/(?:lib|log|cache|backups)|"
+    r"usr/(?:local|share/goshelf)|run|root)\b)"
+)
+# the folders of a new machine
+FOLDERS = (
+    "etc/nginx/conf.d", "etc/nginx/modules-enabled", "etc/ssl/certs", "etc/cron.d", "etc/default", "var/lib/nginx",
+    "var/log/nginx", "var/lib/goshelf", "var/backups", "usr/local/bin", "usr/share", "run", "root",
+)  # fmt: skip
+# the pages for operators
+OPERATORS = ("OPERATING.md", "NGINX.md", "TROUBLE.md")
+# the authorities that nginx takes for the public proxy
+AUTHORITIES = "/etc/ssl/certs/ca-certificates.crt"
 SYSTEMCTL = """\
 #!/bin/sh
 # `systemctl stop goshelf` and `systemctl start goshelf`, for a program that a file names by its number, that number, and how often it
-# was restarted
+# was restarted; and `systemctl restart nginx`
+case "$*" in *nginx) [ "$1" != restart ] || nginx -s reload 2> /dev/null || nginx; exit ;; esac
 case "$1 ${3-}" in
 "show MainPID") cat "@/serve.pid" ;;
 "show NRestarts") cat "@/restarts" ;;
@@ -44,6 +59,7 @@ user www-data;
 worker_processes 2;
 pid @/nginx.pid;
 error_log @/var/log/nginx/error.log;
+include @/etc/nginx/modules-enabled/*.conf;
 events { worker_connections 768; }
 http {
     default_type application/octet-stream;
@@ -75,10 +91,15 @@ def wait_for(port):
     raise TimeoutError(f"nobody listens on {port}")
 
 
-def block(kind, first, page="OPERATING.md"):
-    """A block of code of a page, by its kind and what stands in it."""
-    with open(os.path.join(ROOT, "docs", page), encoding="utf-8") as file:
-        found = [it for it in re.findall(rf"```{kind}\n(.*?)```", file.read(), re.S) if first in it]
+def read_page(name):
+    with open(os.path.join(ROOT, "docs", name), encoding="utf-8") as file:
+        return file.read()
+
+
+def block(kind, first, *pages):
+    """The block of code of these pages, or of those for operators, by its kind and what stands in it."""
+    text = "".join(map(read_page, pages or OPERATORS))
+    found = [it for it in re.findall(rf"```{kind}\n(.*?)```", text, re.S) if first in it]
     assert len(found) == 1, (kind, first, len(found))
     return found[0]
 
@@ -86,12 +107,13 @@ def block(kind, first, page="OPERATING.md"):
 class Machine:
     """A machine in a folder."""
 
-    def __init__(self, folder):
-        self.folder, self.front, self.behind = folder, free_port(), free_port()
-        for name in ("etc/nginx/conf.d", "etc/ssl", "etc/cron.d", "var/lib/nginx", "var/log/nginx", "var/lib/goshelf", "var/backups", "usr/local/bin", "run", "root"):
+    def __init__(self, folder, public=9):
+        self.folder, self.front, self.behind, self.public = folder, free_port(), free_port(), public
+        for name in FOLDERS:
             os.makedirs(f"{folder}/{name}")
         os.chmod(folder, 0o755)
         os.symlink(PROGRAM, f"{folder}/usr/local/bin/goshelf")
+        os.symlink(AUTHORITIES, f"{folder}{AUTHORITIES}")
         self.command("systemctl", SYSTEMCTL.replace("PORT", str(self.behind)))
         nginx = shutil.which("nginx") or "/usr/sbin/nginx"
         self.command("nginx", f'#!/bin/sh\nexec {nginx} -c "@/nginx.conf" -e "@/var/log/nginx/start.log" "$@"\n')
@@ -110,10 +132,23 @@ class Machine:
         with open(f"{self.folder}/{name}", encoding="utf-8", errors="replace") as file:
             return file.read()
 
+    def edit(self, name, *pairs):
+        """Puts new texts for old ones, each of which a file has."""
+        text = self.read(name)
+        for old, new in pairs:
+            assert old in text, (name, old)
+            text = text.replace(old, new)
+        self.write(name, text)
+
     def placed(self, text):
         """A text with its absolute names below the folder, and with the machine's ports."""
-        text = PLACES.sub(f"{self.folder}/", text).replace("127.0.0.1:8080", f"127.0.0.1:{self.behind}")
+        text = self.placed_on_host(text)
         return text.replace("listen 443 ssl", f"listen 127.0.0.1:{self.front} ssl")
+
+    def placed_on_host(self, text):
+        """The same with the ports that its files name, but for goshelf's own."""
+        text = PLACES.sub(f"{self.folder}/", text).replace("127.0.0.1:8080", f"127.0.0.1:{self.behind}")
+        return text.replace("server proxy.golang.org:443;", f"server 127.0.0.1:{self.public};")
 
     def sh(self, script, **settings):
         """Runs a script that is written for a whole machine, in `root`. Returns its status, what it prints, and its errors."""
@@ -128,8 +163,14 @@ class Machine:
         assert status == 0, (script, status, printed, errors)
         return printed
 
+    def workers(self):
+        """The processes of nginx that take connections."""
+        words = ["pgrep", "-P", self.read("nginx.pid").strip(), "-f", "worker process$"]
+        return set(subprocess.run(words, capture_output=True, text=True).stdout.split())
+
     def check_out(self):
-        """Puts the files of deploy/ into `root`, as a checkout has them."""
+        """Puts the files of deploy/ into `root`, which is also /usr/share/goshelf, and installs its commands."""
+        os.symlink(f"{self.folder}/root", f"{self.folder}/usr/share/goshelf")
         for at, _, names in os.walk(os.path.join(ROOT, "deploy")):
             below = os.path.join("root", os.path.relpath(at, ROOT))
             os.makedirs(f"{self.folder}/{below}")
@@ -137,11 +178,15 @@ class Machine:
                 with open(os.path.join(at, name), encoding="utf-8") as file:
                     self.write(f"{below}/{name}", self.placed(file.read()))
                 shutil.copymode(os.path.join(at, name), f"{self.folder}/{below}/{name}")
+                if name.startswith("goshelf-"):
+                    shutil.copy(f"{self.folder}/{below}/{name}", f"{self.folder}/usr/local/bin/{name}")
 
     def close(self):
         """Ends what was started on the machine."""
-        for name, signal in (("nginx.pid", 15), ("serve.pid", 15)):
-            try:
-                os.kill(int(self.read(name)), signal)
-            except (OSError, ValueError):
-                pass
+        for name in ("nginx.pid", "serve.pid"):
+            with contextlib.suppress(OSError, ValueError):
+                number = int(self.read(name))
+                with open(f"/proc/{number}/cmdline", encoding="utf-8", errors="replace") as file:
+                    # (the number of one that has ended may be another's by now)
+                    if self.folder in file.read():
+                        os.kill(number, 15)

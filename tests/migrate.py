@@ -10,10 +10,11 @@ import fcntl
 import os
 import shutil
 import sqlite3
+import subprocess
 import sys
 
 import extracts
-from harness import KEYS, NOBODY, Suite, can_be_nobody, get, in_new_folders, put, raw_replies, read, run, write
+from harness import KEYS, NOBODY, Suite, can_be_nobody, get, in_new_folders, mounted, put, raw_replies, read, run, write
 from tables import order_key, rank_key
 
 # the tables of schemas 1 and 2: those that they share, and those of each
@@ -237,6 +238,12 @@ migrate --from whole.db --to whole.db | 1 not-empty
 migrate --from empty --to empty | 1 not-empty
 migrate --from missing.db --to missing.db | 1 not-empty
 migrate --from old.db --to old.db-wal | 1 device
+migrate --from old.db --to old.db-journal | 1 device
+migrate --from old.db --to old.db-shm | 1 device
+migrate --from link --to old.db-journal | 1 device
+migrate --from text --to text-wal | 1 device
+migrate --from missing.db --to missing.db-journal | 1 device
+migrate --from old.db --to whole.db-journal | 1 device
 migrate --from link --to ./old.db-wal | 1 device
 migrate --from old.db --to team.db | 1 not-empty
 migrate --from old.db --to group.db | 1 not-empty
@@ -267,6 +274,8 @@ def faults(suite):
     for name, content in before.items():
         suite.holds(f"{name} has its bytes after them", read(name) == content)
     suite.holds("a file that is missing is not made", not os.path.exists("missing.db"))
+    unmade = ("old.db-journal", "old.db-shm", "missing.db-journal", "whole.db-journal")
+    suite.equal("no file is made where SQLite has a use for it", [it for it in unmade if os.path.lexists(it)], [])
     suite.equal("no log is left beside a file that was read", [it for it in ("old.db-wal", "foreign-wal", "empty-wal", "first.db-wal") if os.path.exists(it)], [])
 
 
@@ -303,6 +312,25 @@ def logs(suite):
         os.remove("kept.db")
 
 
+def full_disk(suite):
+    """The disk is full while the older store is copied beside the new one: both keep their bytes, and no other file stays."""
+    filled(suite)
+    with_log("kept", 2)
+    room = os.path.getsize("kept/old.db")
+    os.mkdir("small")
+    for size, what in ((room // 2, "the file"), (room + 4096, "the log")):
+        if not mounted("small", str(size)):
+            return suite.skip("a full disk", "no tmpfs can be mounted here")
+        try:
+            for kind, files in (("a missing", {}), ("an empty", {"small/new.db": b""})):
+                write(files)
+                before = files_of("kept"), files_of("small")
+                told = run(["migrate", "--from", "kept/old.db", "--to", "small/new.db"])
+                suite.equal(f"no room for a copy of {what}, beside {kind} file", told, (1, b"", "goshelf: device\n"))
+                left = files_of("kept"), files_of("small")
+                suite.holds(f"no room for a copy of {what}, beside {kind} file: all is as it was", left == before, [sorted(it) for it in left])
+        finally:
+            subprocess.run(["umount", "small"], check=True)
 
 
 def held(suite):
@@ -347,7 +375,7 @@ def read_only(suite):
             before = files_of(folder)
             suite.equal(f"{about}: it migrates", run(["migrate", "--from", f"{folder}/old.db", "--to", new], before=NOBODY), (0, b"", ""))
             suite.holds(f"{about}: the folder is as it was", files_of(folder) == before, sorted(files_of(folder)))
-            suite.equal(f"{about}: nothing is left beside the new store", [it for it in os.listdir("room") if "from" in it], [])
+            suite.equal(f"{about}: nothing is left beside the new store", [it for it in os.listdir("room") if it.startswith("goshelf-")], [])
             suite.holds(f"{about}: each reply is as it was", asked(new) == wanted)
     suite.equal("root too", run(["migrate", "--from", "fixed1/old.db", "--to", "root.db"]), (0, b"", ""))
     os.chmod("fixed1/old.db", 0o400)
@@ -366,8 +394,8 @@ def read_only(suite):
     told = run(["migrate", "--from", "fixed1/old.db", "--to", "room/journal.db"], before=NOBODY)
     suite.equal("a file that may only be read, and has a journal that is not played back", told, (1, b"", "goshelf: device\n"))
     os.remove("fixed1/old.db-journal")
-    suite.equal("and nothing is left beside the new store", [it for it in os.listdir("room") if "from" in it or "locked" in it], [])
+    suite.equal("and nothing is left beside the new store", [it for it in os.listdir("room") if it.startswith("goshelf-") or "locked" in it], [])
 
 
 if __name__ == "__main__":
-    sys.exit(in_new_folders(Suite(), migrated, refused, faults, logs, held, read_only))
+    sys.exit(in_new_folders(Suite(), migrated, refused, faults, logs, full_disk, held, read_only))

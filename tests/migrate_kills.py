@@ -61,6 +61,7 @@ def full_disks(suite):
                 wanted = run(["answer", "--db", new], requests)
                 break
             suite.equal(f"{on}: it is full", told, (1, b"", "goshelf: device\n"))
+            suite.equal(f"{on}: no copy is left", [it for it in os.listdir("small") if not it.startswith("new.db")], [])
             subprocess.run(["mount", "-o", "remount,size=64m", "small"], check=True)
             shutil.copytree("small", "left")
             suite.holds(f"{on}: what is left has common alone", is_common_alone("left/new.db"))
@@ -97,13 +98,14 @@ def kills(suite):
     assert run(["migrate", "--from", "old.db", "--to", "first.db"]) == (0, b"", "")
     whole_run = time.monotonic() - begun
     wanted, whole = run(["answer", "--db", "first.db"], requests), rows_of("first.db")
-    count, ends = (1_000 if "--long" in sys.argv else 100), {"none": 0, "common": 0, "whole": 0}
+    count, ends = (1_000 if "--long" in sys.argv else 100), {"none": 0, "common": 0, "whole": 0, "copy": 0}
     for turn in range(count):
         words = ["migrate", "--from", "old.db", "--to", f"{turn}.db"]
         was_done = killed(words, whole_run * 1.1 * random.random())
-        # a kill right after the old store was opened leaves its log, without a commit
-        if os.path.exists("old.db-wal") and os.path.getsize("old.db-wal") <= 41:
-            os.remove("old.db-wal")
+        # a kill while it copies leaves the copy
+        for name in filter(lambda it: it.startswith("goshelf-"), os.listdir(".")):
+            os.remove(name)
+            ends["copy"] += 1
         wrong = None
         if {name: it for name, it in files_of().items() if name.startswith("old.db")} != before:
             wrong = "the old store is changed"
@@ -123,7 +125,7 @@ def kills(suite):
         for end in ("", "-wal"):
             if os.path.exists(f"{turn}.db{end}"):
                 os.remove(f"{turn}.db{end}")
-    print(f"{count} kills: the new store was missing {ends['none']} times, not whole and taken {ends['common']} times, whole {ends['whole']} times")
+    print(f"{count} kills: the new store was missing {ends['none']} times, not whole and taken {ends['common']} times, whole {ends['whole']} times; {ends['copy']} copies were left")
     suite.holds("some kills left a store that is taken", ends["common"] > 0)
 
 

@@ -14,6 +14,7 @@ import socket
 import subprocess
 import sys
 import tempfile
+import threading
 import time
 
 from harness import Suite, done, mounted
@@ -32,6 +33,8 @@ READERS = ("ann", "pub", "bob", "com", "gil")
 # how long a site takes a login without asking: in the files, and here, to a second
 ASKED_AGAIN = ("proxy_cache_valid 204 1m;", "proxy_cache_valid 204 2s;")
 FORGOTTEN = 3.2
+# how long a host leaves the first one alone that failed twice: 5 seconds, which nginx counts by whole ones
+LEFT_ALONE = 7
 # room that a cache leaves on its disk: in the files, and here
 SMALL = ("min_free=1g", "min_free=2m")
 KEPT = re.compile(r"/@v/[^/]+\.(info|mod|zip)$|^/-/gosum/")
@@ -106,9 +109,17 @@ class Company:
 
     def differing(self, wanted, fronts=None, failures=()):
         """The answers of hosts that are not the wanted ones, apart from failures: statuses that a host may give in their place."""
-        told = ((at, *it, self.desk.ask(at, *it)) for at in fronts or self.fronts for it in wanted)
-        return [(at, user, target, found[0], wanted[user, target][0]) for at, user, target, found in told
+        told = ((at, *it, self.told(at, it, answer, failures)) for at in fronts or self.fronts for it, answer in wanted.items())
+        return [(at, user, target, found[0], found[2][:60], wanted[user, target][0]) for at, user, target, found in told
                 if found != wanted[user, target] and found[0] not in failures]
+
+    def told(self, at, asking, answer, failures):
+        """What a host answers. If it fails where it may not, it is asked again: a site waits only 2 seconds for the first host."""
+        found = self.desk.ask(at, *asking)
+        if found[0] in (502, 504) and found[0] not in (answer[0], *failures):
+            print(f"asked again, after {found}: {at} {asking}")
+            found = self.desk.ask(at, *asking)
+        return found
 
     def back(self, status=200):
         """Waits until the first host answers at each site, as it does again some seconds after it failed."""
@@ -127,13 +138,13 @@ class Company:
 
 
 def set_up_first(first):
-    """The first host, by the commands of OPERATING."""
+    """The first host, by the commands of NGINX."""
     first.check_out()
     first.does(block("sh", "deploy/nginx/users.map"))
     first.edit("etc/nginx/conf.d/goshelf.conf", SMALL)
-    keys = block("sh", ">> /etc/nginx/goshelf/keys.map")
+    first.does(block("sh", ">> /etc/nginx/goshelf/paths.map").replace("alpha", " ".join(SHELVES)))
     for shelf in SHELVES:
-        first.does(keys.replace("alpha", shelf))
+        first.does(f"goshelf-user key {shelf} read 2> nginx.out; goshelf-user key {shelf} publish 2> nginx.out")
     first.start_nginx()
 
 
@@ -224,8 +235,7 @@ def go_past_a_site(suite, company):
     if not shutil.which("go"):
         suite.skip("the go command past a site that is down", "the machine has no go")
         return
-    proxies = shlex.split(block("sh", "GOPROXY=https://site", "DEPLOYMENTS.md"))[-1]
-    proxies = proxies.removeprefix("GOPROXY=").removesuffix(",https://proxy.golang.org,direct")
+    proxies = shlex.split(block("sh", "GOPROXY=https://site", "DEPLOYMENTS.md"))[-1].removeprefix("GOPROXY=")
     desk = company.hosts[DESK]
     lines = "".join(f"machine {name} login ann password {company.desk.passwords['ann']}\n" for name in (SITE, FIRST))
     desk.write("root/.netrc", lines)
@@ -235,6 +245,39 @@ def go_past_a_site(suite, company):
                 "GOTOOLCHAIN": "local", "SSL_CERT_FILE": f"{desk.folder}/etc/ssl/hosts.pem"}
     status, printed, errors = desk.sh("go list -m -versions example.com/lib", **settings)
     suite.equal("the go command asks the first host", (status, printed.split()[:1]), (0, ["example.com/lib"])) or print(errors)
+
+
+def first_reloaded(suite, company):
+    """The first host's nginx reads its files anew, as it does for each new user, while a site is asked without a pause."""
+    suite.equal("the first host's nginx reloads: the store's answers alone", told_over_reloads(company, SITE), [(404, b"not found\n")])
+
+
+def told_over_reloads(company, at, target="/example.com/lib/@v/v9.9.9.info"):
+    """What three who ask at a host are told while the first host's nginx reloads five times."""
+    time.sleep(LEFT_ALONE)
+    told, ended = set(), threading.Event()
+
+    def ask():
+        desk = company.desk.another()
+        while not ended.is_set():
+            found = desk.ask(at, "bob", target)
+            if found[0] in (502, 504):
+                # (a busy machine takes longer than a host waits; a host that gave the first up fails again)
+                found = desk.ask(at, "bob", target)
+            told.add((found[0], found[2]))
+
+    them = [threading.Thread(target=ask) for _ in range(3)]
+    for it in them:
+        it.start()
+    try:
+        for _ in range(5):
+            company.first.reload()
+            time.sleep(0.2)
+    finally:
+        ended.set()
+        for it in them:
+            it.join()
+    return sorted(told)
 
 
 def store_down(suite, company):
@@ -282,11 +325,11 @@ def cut_publish(suite, company):
 def revoked(suite, company):
     """A user who is removed, one removed while a site is cut off, and a key that the store alone revoked."""
     zip_file = "/example.com/lib/@v/v1.0.0.zip"
-    remove = block("sh", 'sed -i "/ $user ')
+    remove = block("sh", "goshelf-user remove ann")
     company.desk.add(company.first, "tom", "alpha", "read")
     company.first.reload()
     suite.equal("a new user", [company.desk.ask(at, "tom", zip_file)[0] for at in FRONTS], [200] * 3)
-    company.first.does(remove, user="tom")
+    company.first.does(remove.replace("ann", "tom"))
     company.first.reload()
     suite.equal("removed: at the first host", company.desk.ask(FIRST, "tom", zip_file)[0], 401)
     suite.equal("what changes, at a site", company.desk.ask(SITE, "tom", "/example.com/lib/@v/list")[0], 401)
@@ -296,11 +339,12 @@ def revoked(suite, company):
     company.first.link(False)
     company.forget()
     suite.equal("a site that was told so holds to it when it is cut off", company.desk.ask(SITE, "tom", zip_file)[0], 401)
-    company.first.does(remove, user="ann")
+    company.first.does(remove)
     company.first.reload()
     suite.equal("removed while sites are cut off: what is kept is answered", company.desk.ask(SITE, "ann", zip_file)[0], 200)
     company.first.link(True)
     company.back(401)
+    time.sleep(LEFT_ALONE)
     company.forget()
     suite.equal("and refused once they are back", [company.desk.ask(at, "ann", zip_file)[0] for at in FRONTS], [401] * 3)
     company.desk.add(company.first, "ann", "alpha", "read")
@@ -412,8 +456,7 @@ def day_old(suite, company):
         shutil.copyfile(f"{first.folder}/copy{end}", first.store + end)
     first.does("systemctl start goshelf")
     suite.equal("each cache still has what was published since", [company.desk.ask(at, "ann", zip_file)[0] for at in FRONTS], [200] * 3)
-    count = block("sh", "$goshelf_shelf", "DEPLOYMENTS.md")
-    first.does(count)
+    first.does(block("sh", "goshelf-uncache", "DEPLOYMENTS.md"))
     first.reload()
     company.forget()
     suite.equal("what was published since is gone", company.own("ann", zip_file)[0], 404)
@@ -432,7 +475,7 @@ def main():
         company = None
         try:
             company = Company(folder)
-            for part in (alike, no_secrets, publishes_are_seen, site_down, store_down, cut_publish, revoked, key_revoked, moved_user, full_disk, day_old):
+            for part in (alike, no_secrets, publishes_are_seen, site_down, first_reloaded, store_down, cut_publish, revoked, key_revoked, moved_user, full_disk, day_old):
                 part(suite, company)
         finally:
             if company:

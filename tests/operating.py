@@ -1,7 +1,7 @@
 #!/usr/bin/env python3
-"""What docs/OPERATING.md has an operator do besides nginx: keys, backups, queries, alerts, an upgrade, a secret that is taken out, tables.
+"""What the pages have an operator do besides nginx: keys, backups, queries, alerts, an upgrade, a team's own store, tables.
 
-The page's commands and the scripts of deploy/ run as they are, on a machine in a folder (machine.py).
+Their commands and the scripts of deploy/ run as they are, on a machine in a folder (machine.py).
 """
 
 import http.server
@@ -14,7 +14,7 @@ import tempfile
 import threading
 
 from harness import PROGRAM, ROOT, Suite, answered, done, get, new_store, read, run
-from machine import Machine, block
+from machine import OPERATORS, Machine, block, read_page
 from refusals import change, reordered
 from store_files import SCHEMA_1, SCHEMA_2
 
@@ -32,12 +32,12 @@ PUBLISHED = [
 ]
 
 
-PAGE = read(os.path.join(ROOT, "docs", "OPERATING.md")).decode()
+PAGES = "".join(map(read_page, OPERATORS))
 
 
 def beginning(first):
-    """The block of the page that begins with these words."""
-    return next(it for it in re.findall(r"```sh\n(.*?)```", PAGE, re.S) if it.startswith(first))
+    """The block of the pages that begins with these words."""
+    return next(it for it in re.findall(r"```sh\n(.*?)```", PAGES, re.S) if it.startswith(first))
 
 
 def publish(machine, key, path, version, zipped, store=None):
@@ -50,19 +50,17 @@ def publish(machine, key, path, version, zipped, store=None):
     return run(line.split())[1].decode().strip()
 
 
-def set_up(folder):
-    """A machine with the scripts of deploy/ and a store, whose program runs."""
-    machine = Machine(folder)
+def set_up(machine):
+    """Gives a machine the scripts of deploy/ and a store, whose program runs."""
     machine.write("restarts", "0\n")
     machine.check_out()
     new_store(machine.store, ("alpha", ALPHA, READER), ("beta", BETA), ("common", COMMON), ("gamma", MEMBER, "", "platform"), groups=[("platform", GROUP)])
     told = [publish(machine, *it) for it in PUBLISHED]
     assert told == ["201 published"] * len(PUBLISHED), told
-    for script in ("goshelf-backup", "goshelf-watch"):
-        machine.does(block("sh", f"install deploy/{script} "))
-    os.makedirs(f"{folder}/var/cache/nginx/goshelf/1/ab")
+    for script in ("goshelf-backup", "goshelf-watch", "goshelf-metrics"):
+        machine.does(block("sh", f"root $(command -v {script})"))
+    os.makedirs(f"{machine.folder}/var/cache/nginx/goshelf/1/ab")
     machine.does("systemctl start goshelf")
-    return machine
 
 
 def runs(machine):
@@ -104,7 +102,8 @@ def keys(suite, machine):
 def cron(suite, machine):
     """The lines for cron run as cron runs them, with few settings."""
     lines = machine.read("etc/cron.d/goshelf").splitlines()
-    suite.equal("the lines for cron", [it.split()[5:] for it in lines], [["root", f"{machine.folder}/usr/local/bin/goshelf-{it}"] for it in ("backup", "watch")])
+    wanted = [["root", f"{machine.folder}/usr/local/bin/goshelf-{it}"] for it in ("backup", "watch", "metrics")]
+    suite.equal("the lines for cron", [it.split()[5:7] for it in lines], wanted)
     ran = subprocess.run(["sh", "-c", lines[0].split()[6]], env={"PATH": "/usr/bin:/bin", "HOME": "/root"}, cwd="/", capture_output=True, text=True)
     suite.equal("a backup by cron", (ran.returncode, ran.stdout, ran.stderr, len(copies(machine))), (0, "", "", 1))
     shutil.rmtree(f"{machine.folder}/var/backups/goshelf")
@@ -112,7 +111,7 @@ def cron(suite, machine):
 
 def by_hand(suite, machine):
     """goshelf copies its store while it runs. sqlite3 copies it once goshelf is stopped; before, its copy is empty, as an inventory shows."""
-    ways = re.findall(r"`(sqlite3 F [^`]*COPY[^`]*)`", PAGE)
+    ways = re.findall(r"`(sqlite3 F [^`]*COPY[^`]*)`", PAGES)
     suite.equal("ways to copy", len(ways), 3)
     listed = beginning("goshelf inventory").replace("KEY", ALPHA)
     for at, way in enumerate(ways):
@@ -170,9 +169,8 @@ def backups(suite, machine):
     status, _, told = machine.sh("goshelf-backup")
     suite.holds("an empty copy is none", status != 0 and len(copies(machine)) == 14, (status, told))
     suite.holds("and goshelf runs all the same", runs(machine))
-    machine.write("var/cache/nginx/goshelf/1/ab/entry", "KEY: alpha /example.com/lib/@v/v1.9.0.zip\n")
-    machine.does(block("sh", "chown --reference"), night=copies(machine)[-1])
-    suite.equal("the cache is empty after that", os.listdir(f"{machine.folder}/var/cache/nginx/goshelf/1/ab"), [])
+    machine.write("root/yes", "yes\n")
+    machine.does(beginning("goshelf-restore\n").replace("goshelf-restore last", "goshelf-restore last < yes"))
     machine.does("systemctl stop goshelf")
     suite.equal("a restored store", asked(machine.store, "example.com/lib/@v/v1.1.0.zip", "example.com/lib/@v/list"), [(200, SECRET), (200, b"v1.0.0\nv1.1.0\nv1.2.0\n")])
     machine.does("systemctl start goshelf")
@@ -192,6 +190,9 @@ def queries(suite, machine):
         suite.holds(first, all(row[: len(want)] == want for row, want in zip(rows[1:], words)) and len(rows) > len(words), printed)
     printed = machine.does(block("sh", "/versions | head"))
     suite.holds("the first backup that has a version", printed.endswith("/2020-01-09T031500Z/versions\n"), printed)
+    printed = machine.does(block("sh", "/versions | sort -u"))
+    shelves = [it.split("|")[0] for it in printed.splitlines()]
+    suite.equal("the shelves that have a module in the backups", shelves, ["alpha"] * 3 + ["beta"])
 
 
 class Health(http.server.BaseHTTPRequestHandler):
@@ -208,6 +209,8 @@ class Health(http.server.BaseHTTPRequestHandler):
         pass
 
 
+CERTIFICATE = """openssl req -x509 -newkey rsa:2048 -nodes -days {days} -subj /CN=localhost \
+    -out /etc/ssl/goshelf.pem -keyout /etc/ssl/goshelf.key"""
 # a command `df` that says how full a disk is, in per cent
 FULL = "#!/bin/sh\necho 'Use%'; echo ' {}%'\n"
 
@@ -217,11 +220,16 @@ def watch(suite, machine):
     server = http.server.ThreadingHTTPServer(("127.0.0.1", 0), Health)
     threading.Thread(target=server.serve_forever, daemon=True).start()
     script = machine.read("usr/local/bin/goshelf-watch").replace("--retry-delay 10", "--retry-delay 1")
-    for line, text in {"health": f"http://127.0.0.1:{server.server_port}/healthz", "certificate": f"{machine.folder}/etc/ssl/host.pem"}.items():
-        script, count = re.subn(rf"^{line}=.*$", f"{line}={text}", script, flags=re.M)
-        suite.equal(f"the page has an operator change one line {line}=", (count, f"`{line}=`" in PAGE), (1, True))
-    machine.write("usr/local/bin/goshelf-watch", script)
-    machine.does("openssl req -x509 -newkey rsa:2048 -nodes -days 30 -subj /CN=localhost -out /etc/ssl/host.pem -keyout /etc/ssl/host.key")
+    # (the host here has no TLS)
+    machine.write("usr/local/bin/goshelf-watch", script.replace("https://", "http://"))
+    settings = machine.read("etc/default/goshelf")
+    wanted = f"GOSHELF_HOST=shelf.example.com\nGOSHELF_CERTIFICATE={machine.folder}/etc/ssl/goshelf.pem\n"
+    suite.equal("the page writes two settings", settings, wanted)
+    machine.does(CERTIFICATE.format(days=30))
+    lacking = machine.sh("rm /etc/default/goshelf; goshelf-watch")
+    names = re.findall(r"has no GOSHELF_(\w+)\n", lacking[1])
+    suite.equal("settings that are missing are problems", (lacking[0], names), (1, ["HOST", "CERTIFICATE"]))
+    machine.write("etc/default/goshelf", settings.replace("shelf.example.com", f"127.0.0.1:{server.server_port}"))
     now = machine.does("date +%Y-%m-%dT%H:%M:%S%:z").strip()
     line = "{} 127.0.0.1 ann alpha GET /example.com/lib/@v/list {} 7 0.001 -\n"
     old, good, bad = line.format("2020-01-01T00:00:00+00:00", 502), line.format(now, 200), line.format(now, 503)
@@ -242,6 +250,13 @@ def watch(suite, machine):
     machine.write("restarts", "2\n")
     says("it was restarted", "2 times")
     says("it was not restarted again", "")
+    program = f"{machine.folder}/usr/local/bin/goshelf"
+    os.rename(program, f"{program}.aside")
+    machine.command("goshelf", '#!/bin/sh\n[ "$*" = "ping --control @/run/goshelf/control" ] && echo "2xx=1 store-failures=3 versions=1"\n')
+    says("the disk of the store failed", "3 times")
+    says("it did not fail again", "")
+    os.rename(f"{program}.aside", program)
+    says("serve began anew", "")
     machine.command("ps", '#!/bin/sh\n[ "$*" != "-o rss= -p $(cat "@/serve.pid")" ] || echo 900000\n')
     says("memory", "900000 KiB of memory")
     os.remove(f"{machine.folder}/usr/local/bin/ps")
@@ -253,9 +268,60 @@ def watch(suite, machine):
     says("backups", "no backup")
     for it in copies(machine):
         os.utime(f"{machine.folder}/var/backups/goshelf/{it}")
-    machine.does("openssl req -x509 -newkey rsa:2048 -nodes -days 10 -subj /CN=localhost -out /etc/ssl/host.pem -keyout /etc/ssl/host.key")
+    machine.does(CERTIFICATE.format(days=10))
     says("the certificate", "within 14 days")
     server.shutdown()
+
+
+# a line of the text format of Prometheus
+SAMPLE = re.compile(
+    r'# (HELP goshelf_\w+ \S.*|TYPE goshelf_\w+ (gauge|counter))|goshelf_\w+\{unit="goshelf"(,class="\dxx")?\} -?\d+'
+)
+
+
+def metrics(suite, machine):
+    """goshelf-metrics prints what ping reports, and ages, in Prometheus's format; with --to it replaces a file."""
+    folder = "/var/lib/prometheus/node-exporter"
+    os.makedirs(f"{machine.folder}{folder}")
+    machine.does(f"curl -s -o out http://127.0.0.1:8080/k/{ALPHA}/-/modules")
+    told = dict(it.split("=", 1) for it in machine.does("goshelf ping --control /run/goshelf/control").split())
+    text = machine.does("goshelf-metrics")
+    suite.equal("each line is of the format", [it for it in text.splitlines() if not SAMPLE.fullmatch(it)], [])
+    found = dict(re.findall(r'^goshelf_(\w+)\{unit="goshelf"(?:,class="\dxx")?\} (-?\d+)$', text, re.M))
+    names = ("connections", "unanswered", "store-failures", "versions")
+    pinged = {it.replace("-", "_"): told[it] for it in names}
+    suite.equal("it has what ping reports", {it: found.get(it, found.get(f"{it}_total")) for it in pinged}, pinged)
+    replies = dict(re.findall(r'class="(\dxx)"\} (\d+)', text))
+    suite.equal("and the replies", replies, {it: told[it] for it in ("2xx", "4xx", "5xx")})
+    since = machine.does(f"date -d {told['since']} +%s").strip()
+    suite.equal("and when serve began", found["start_time_seconds"], since)
+    ages = int(found["backup_age_seconds"]) < 600, 9 * 86_400 < int(found["certificate_left_seconds"]) < 11 * 86_400
+    suite.equal("and the ages", ages, (True, True))
+    suite.equal("it writes a file", machine.sh(f"goshelf-metrics --to {folder}/goshelf.prom"), (0, "", ""))
+    suite.equal("and nothing beside it", os.listdir(f"{machine.folder}{folder}"), ["goshelf.prom"])
+    suite.equal("which all may read", os.stat(f"{machine.folder}{folder}/goshelf.prom").st_mode & 0o777, 0o644)
+    last = machine.read("etc/cron.d/goshelf").splitlines()[-1].split()
+    words = ["env", "-i", "PATH=/usr/bin:/bin", "sh", "-c", " ".join(last[6:])]
+    ran = subprocess.run(words, capture_output=True, text=True)
+    suite.equal("by cron it prints nothing", (ran.returncode, ran.stdout, ran.stderr), (0, "", ""))
+    for words in ("--to", "--file x.prom", "now"):
+        suite.equal(f"goshelf-metrics {words}", machine.sh(f"goshelf-metrics {words}")[:2], (2, ""))
+    for words, status in {"--to ''": 1, "--to x.txt": 1, "--to .prom": 1, "--to none/x.prom": 1}.items():
+        refused = machine.sh(f"goshelf-metrics {words}")
+        suite.holds(f"goshelf-metrics {words}: refused", refused[:2] == (status, "") and refused[2], refused)
+    machine.does("systemctl stop goshelf")
+    down = machine.does("goshelf-metrics")
+    names = re.findall(r"^goshelf_(\w+)\{.* (\d+)$", down, re.M)
+    wanted = ["up", "backup_age_seconds", "certificate_left_seconds"]
+    suite.equal("while goshelf is stopped", [it[0] for it in names], wanted)
+    suite.equal("it is not up", names[0], ("up", "0"))
+    machine.does("systemctl start goshelf")
+    if not shutil.which("promtool"):
+        suite.skip("promtool", "it is not installed")
+        return
+    for name, it in (("up", text), ("down", down)):
+        ran = subprocess.run(["promtool", "check", "metrics"], input=it, capture_output=True, text=True)
+        suite.equal(f"promtool: {name}", (ran.returncode, ran.stdout, ran.stderr), (0, "", ""))
 
 
 def upgrade(suite, machine):
@@ -268,46 +334,14 @@ def upgrade(suite, machine):
     suite.holds("the old program runs", runs(machine))
 
 
-def leaked(suite, machine):
-    """A version that is taken out is gone, from the store's bytes too, and nothing else is."""
-    machine.write("var/cache/nginx/goshelf/1/ab/entry", "KEY: alpha /example.com/lib/@v/v1.1.0.zip\n")
-    machine.does(block("sh", "secure_delete").replace("'P'", "'example.com/lib'").replace("'V'", "'v1.1.0'"))
-    suite.equal("the cache is empty", os.listdir(f"{machine.folder}/var/cache/nginx/goshelf/1/ab"), [])
-    machine.does("systemctl stop goshelf")
-    query = re.search(r"`(SELECT shelf FROM version WHERE path = 'P')`", PAGE)[1].replace("'P'", "'example.com/lib'")
-    suite.equal("other shelves with the path", machine.does(f'sqlite3 {machine.store} "{query}"').split(), ["alpha", "alpha", "beta"])
-    at = "example.com/lib/@v"
-    found = asked(machine.store, f"{at}/v1.1.0.zip", f"{at}/v1.1.0.mod", f"{at}/list", f"{at}/v1.0.0.zip", f"{at}/v1.2.0.zip", "example.com/base/@v/v0.1.0.zip")
-    wanted = [(404, b"not found\n"), (404, b"not found\n"), (200, b"v1.0.0\nv1.2.0\n"), (200, b"one"), (200, b"three"), (200, b"four" * 50_000)]
-    suite.equal("the version is gone, and no other", found, wanted)
-    suite.equal("another team has its own", asked(machine.store, f"{at}/v1.1.0.zip", key=BETA), [(200, b"beta's own")])
-    held = b"".join(read(it) for it in (machine.store, machine.store + "-wal") if os.path.exists(it))
-    suite.holds("no page of it is in the store", not any(SECRET[it : it + 64] in held for it in range(0, len(SECRET), 4096)))
-    suite.equal("the next version is published", publish(machine, ALPHA, "example.com/lib", "v1.3.0", b"next"), "201 published")
-    machine.does("systemctl start goshelf")
-    status, told, _ = machine.sh("goshelf-backup")
-    row = "alpha|example.com/lib|v1.1.0|"
-    suite.holds("the next backup complains", status == 1 and row in told, (status, told))
-    oldest, *others = copies(machine)
-    versions = f"var/backups/goshelf/{oldest}/versions"
-    machine.write(versions, "".join(it for it in machine.read(versions).splitlines(True) if not it.startswith(row)))
-    os.rename(f"{machine.folder}/var/backups/goshelf/{others.pop()}", f"{machine.folder}/root/last")
-    status, told, _ = machine.sh("goshelf-backup")
-    suite.holds("also once the last copy is away", status == 1 and row in told, (status, told))
-    names = re.search(r"`(grep -l '\^alpha\|P\|V\|' \S+)`", PAGE)[1].replace("P|V", "example.com/lib|v1.1.0")
-    found = [it.split("/")[-2] for it in machine.does(names).split()]
-    suite.equal("the page finds every copy that has it", found, others)
-    for it in found:
-        os.rename(f"{machine.folder}/var/backups/goshelf/{it}", f"{machine.folder}/root/{it}")
-    suite.equal("once these are away, a backup is made", (machine.sh("goshelf-backup"), len(copies(machine))), ((0, "", ""), 2))
-
-
 def moved(suite, machine):
     """A team's own store has what the team sees, and answers no other team."""
-    machine.does(block("sh", "goshelf extract"))
+    machine.does(block("sh", "goshelf extract", "DEPLOYMENTS.md"))
     own, at = f"{machine.folder}/root/alpha.db", "example.com/lib/@v"
     suite.holds("goshelf runs after an extract", runs(machine))
-    suite.equal("the team's own store", asked(own, f"{at}/list", f"{at}/v1.0.0.zip", "example.com/base/@v/list"), [(200, b"v1.0.0\nv1.2.0\nv1.3.0\n"), (200, b"one"), (200, b"v0.1.0\n")])
+    found = asked(own, f"{at}/list", f"{at}/v1.0.0.zip", "example.com/base/@v/list")
+    wanted = [(200, b"v1.0.0\nv1.1.0\nv1.2.0\n"), (200, b"one"), (200, b"v0.1.0\n")]
+    suite.equal("the team's own store", found, wanted)
     suite.equal("it answers no other team", asked(own, f"{at}/list", key=BETA), [(404, b"not found\n")])
 
 
@@ -320,12 +354,9 @@ def older(suite, machine, schema, tables):
     change(machine.store, *([statement] for statement in filter(str.strip, tables.split(";"))))
     before = read(machine.store)
     suite.equal(f"a store of schema {schema} is none", run(["inventory", "--db", machine.store, "--key", ALPHA])[2], "goshelf: bad-schema\n")
-    commands = block("sh", "goshelf migrate")
-    suite.equal("the upgrade has three commands", len(commands.splitlines()), 3)
-    machine.does(commands)
+    printed = machine.does(block("sh", "goshelf migrate").replace("KEY", ALPHA))
     suite.holds("goshelf runs after the upgrade", runs(machine))
     machine.does("systemctl stop goshelf")
-    printed = machine.does(block("sh", "goshelf inventory --db /var/lib/goshelf").replace("KEY", ALPHA))
     wanted = "path,version,shelf,class,time,mod_bytes,zip_bytes\nexample.com/lib,v1.0.0,common,release,,23,1\n"
     suite.equal("its versions are there", printed, wanted)
     suite.equal("a team of it is no group", run(["team-add", "--db", machine.store, "--team", "eps", "--group", "alpha"])[2], "goshelf: no-group\n")
@@ -337,14 +368,14 @@ def older(suite, machine, schema, tables):
 def tables(suite, machine):
     """What sqlite3 does with the tables: a zip is read, rows are taken over from other tables, and the highest row number is moved."""
     machine.does("systemctl stop goshelf")
-    script = block("sh", "xxd -r -p").rstrip().replace("'P'", "'example.com/base'").replace("'V'", "'v0.1.0'").replace("'alpha'", "'common'")
+    script = block("sh", "xxd -r -p", "REFERENCE.md").rstrip().replace("'P'", "'example.com/base'").replace("'V'", "'v0.1.0'").replace("'alpha'", "'common'")
     machine.does(f"{script.replace(' F ', f' {machine.store} ')} > zip.out")
     suite.holds("a zip is read", read(f"{machine.folder}/root/zip.out") == b"four" * 50_000)
     other, new = (f"{machine.folder}/root/{it}.db" for it in ("other", "taken"))
     machine.does(f"sqlite3 {machine.store} 'PRAGMA wal_checkpoint(TRUNCATE)'")
     reordered(other, machine.store)
     suite.equal("tables in another order are no store", run(["inventory", "--db", other, "--key", ALPHA])[2], "goshelf: bad-schema\n")
-    machine.does(block("sh", "goshelf init --db NEW").replace("NEW", new).replace("'F'", f"'{other}'"))
+    machine.does(block("sh", "goshelf init --db NEW", "REFERENCE.md").replace("NEW", new).replace("'F'", f"'{other}'"))
     lists = [run(["inventory", "--db", it, "--key", ALPHA]) for it in (new, machine.store)]
     suite.holds("their rows are taken over", lists[0] == lists[1] and lists[0][0] == 0, lists)
     suite.equal("a group is taken over", run(["team-add", "--db", new, "--team", "eps", "--group", "platform"]), (0, b"", ""))
@@ -352,7 +383,7 @@ def tables(suite, machine):
     for number, which in ((2**63 - 1, "max"), (-(2**63), "min")):
         machine.does(f'sqlite3 {new} "{ends.format(number, which)}"')
     lowest = publish(machine, ALPHA, "example.com/lib", "v1.4.0", b"last", new)
-    machine.does(block("sh", "UPDATE version SET id = 0").replace(" F ", f" {new} "))
+    machine.does(block("sh", "UPDATE version SET id = 0", "REFERENCE.md").replace(" F ", f" {new} "))
     found = lowest, publish(machine, ALPHA, "example.com/lib", "v1.4.0", b"last", new)
     suite.equal("a publish without a row number, and with one that was freed", found, ("503 unavailable", "201 published"))
     machine.does("systemctl start goshelf")
@@ -364,9 +395,10 @@ def main():
         suite.skip("the machine", "an operator's commands need root")
         return suite.end()
     with tempfile.TemporaryDirectory(prefix="goshelf-operating-") as folder:
-        machine = set_up(folder)
+        machine = Machine(folder)
         try:
-            for part in (keys, cron, by_hand, backups, queries, watch, upgrade, leaked, moved, tables):
+            set_up(machine)
+            for part in (keys, cron, by_hand, backups, queries, watch, metrics, upgrade, moved, tables):
                 part(suite, machine)
             for schema, tables_of in ((1, SCHEMA_1), (2, SCHEMA_2)):
                 older(suite, machine, schema, tables_of)

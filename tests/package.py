@@ -24,7 +24,12 @@ RELEASE = os.path.join(ROOT, "tools", "release")
 VERSION = os.path.join(ROOT, "crates", "cli", "src", "version.rt")
 UNIT = os.path.join(ROOT, "deploy", "systemd", "goshelf.service")
 # files that a release has among others
-WANTED = {"README.md", "copyright", "docs/OPERATING.md", "docs/REFERENCE.md", "bench/RESULTS.md", "deploy/systemd/goshelf.service", "deploy/warm/goshelf-warm"}
+WANTED = {"README.md", "copyright", "docs/OPERATING.md", "docs/TROUBLE.md", "docs/REFERENCE.md", "bench/RESULTS.md", "deploy/systemd/goshelf.service", "deploy/warm/goshelf-warm",
+          "deploy/goshelf-paths", "deploy/nginx/paths.map", "deploy/nginx/elsewhere.conf", "deploy/nginx/public.conf"}
+# the commands that the package installs
+DEPLOY = os.path.join(ROOT, "deploy")
+SCRIPTS = [it for at in ("", "warm") for it in os.listdir(os.path.join(DEPLOY, at)) if it.startswith("goshelf-")]
+COMMANDS = sorted(["goshelf", *SCRIPTS])
 # the settings of a command on the copy
 SETTINGS = ["PATH=/usr/local/sbin:/usr/local/bin:/usr/sbin:/usr/bin:/sbin:/bin", "DEBIAN_FRONTEND=noninteractive", "LC_ALL=C", "HOME=/root"]
 # the rating of systemd-analyze below which the unit has to stay
@@ -292,6 +297,8 @@ def installed(suite, copy, package, version):
     suite.equal("its folder", copy.prints("stat -c '%a %U %G' /var/lib/goshelf; ls -A /var/lib/goshelf"), "700 goshelf goshelf")
     suite.equal("nothing starts, now or at boot", copy.prints("systemctl is-active goshelf; systemctl is-enabled goshelf"), "inactive disabled")
     suite.equal("the unit is right", copy.sh("systemd-analyze verify goshelf.service"), (0, "", ""))
+    there = copy.prints(f"for it in {' '.join(COMMANDS)}; do command -v $it; done")
+    suite.equal("its commands are there", there.split(), [f"/usr/bin/{it}" for it in COMMANDS])
     suite.holds("its copyright is there", "licence" in copy.sh("cat /usr/share/doc/goshelf/copyright")[1])
     copy.sh("systemctl start goshelf")
     found = copy.prints("systemctl show -P AssertResult goshelf; systemctl is-active goshelf; ls -A /var/lib/goshelf")
@@ -300,8 +307,11 @@ def installed(suite, copy, package, version):
 
 def started(suite, copy):
     """The commands of the page make a store and start goshelf."""
-    status, _, errors = copy.sh(commands("goshelf_VERSION_amd64.deb").partition("\n")[2].replace("KEY", KEY))
-    suite.holds("the commands of the page end well", status == 0 and re.fullmatch(r"(Created symlink .*\n)?", errors), (status, errors))
+    ping = "goshelf ping --control /run/goshelf/control"
+    page = commands("goshelf_VERSION_amd64.deb").partition("\n")[2].replace("KEY", KEY)
+    status, _, errors = copy.sh(f"{page}{ping}")
+    is_right = status == 0 and re.fullmatch(r"(Created symlink .*\n)?", errors)
+    suite.holds("the commands of the page end well, and it takes orders at once", is_right, (status, errors))
     suite.equal("it answers", ask(copy, "-/modules"), "200")
     suite.equal("it starts at boot", copy.prints("systemctl is-enabled goshelf"), "enabled")
     suite.equal("a publish", publish(copy, "v1.0.0"), "published 201")
@@ -312,6 +322,41 @@ def started(suite, copy):
     suite.equal("its socket", copy.prints("stat -c '%F %a %U' /run/goshelf/control /run/goshelf"), "socket 600 goshelf directory 700 goshelf")
     suite.equal("its files are its own", copy.prints("stat -c %U /var/lib/goshelf/* | sort -u"), "goshelf")
     suite.equal("nobody else sees them", copy.sh("setpriv --reuid=65534 --clear-groups ls /var/lib/goshelf")[0], 2)
+
+
+# a drop-in with which serve opens its store late, and one with which it ends late without having opened it
+LATE = """mkdir -p /run/systemd/system/goshelf.service.d
+printf '[Service]\nExecStart=\nExecStart=sh -c "sleep 3; %s"\n' '{}' > /run/systemd/system/goshelf.service.d/late.conf
+systemctl daemon-reload"""
+
+
+def late(suite, copy):
+    """A start ends when goshelf takes orders, also with a store that opens late, and fails if it ends before."""
+    serve = "exec goshelf serve --db /var/lib/goshelf/shelves.db --port 8080 --control /run/goshelf/control"
+    told = copy.sh(f"{LATE.format(serve)}; systemctl restart goshelf; goshelf ping --control /run/goshelf/control")
+    suite.holds("a goshelf that opens late takes orders once it is started", told[0] == 0, told)
+    begun = time.time()
+    status = copy.sh(f"{LATE.format('exit 1')}; systemctl restart goshelf")[0]
+    took = time.time() - begun
+    suite.holds("the start of one that ends fails, at once", status == 1 and took < 30, took)
+    undo = "rm -r /run/systemd/system/goshelf.service.d; systemctl daemon-reload; systemctl restart goshelf"
+    suite.equal("and it is started again", (copy.sh(undo)[0], ask(copy, f"{AT}/list")), (0, "v1.0.0 200"))
+
+
+def doctor(suite, copy):
+    """goshelf-doctor without words looks at the unit."""
+    told = copy.sh("goshelf-doctor")
+    suite.equal("the doctor of a unit that runs", told, (0, "no cause is found: goshelf answers\n", ""))
+    told = copy.sh("systemctl stop goshelf; goshelf-doctor")
+    suite.holds("of one that is stopped", told[0] == 1 and "device: there is no folder /run/goshelf\n" in told[1], told)
+    told = copy.sh("touch /var/lib/goshelf/shelves.db-wal; chown root /var/lib/goshelf/shelves.db-wal; goshelf-doctor")
+    suite.holds("of one with a log of root", told[0] == 1 and "shelves.db-wal belongs to root" in told[1], told)
+    copy.sh("echo GOSHELF_PORT=22222 >> /etc/default/goshelf")
+    listen = "IO::Socket::INET->new(Listen => 1, LocalAddr => \"127.0.0.1:22222\")"
+    told = copy.sh(f"perl -MIO::Socket -e '$s = {listen}; sleep 5' & sleep 1; goshelf-doctor")
+    suite.holds("of one whose port is taken", "io: port 22222 is taken\n" in told[1], told)
+    copy.sh("sed -i '$d' /etc/default/goshelf; systemctl start goshelf")
+    suite.equal("and it runs again", ask(copy, f"{AT}/list"), "v1.0.0 200")
 
 
 def restarted(suite, copy):
@@ -330,7 +375,7 @@ def restarted(suite, copy):
 
 def by_socket(suite, copy):
     """systemd holds the port, by the commands of the page: restarts refuse no connection."""
-    status, _, errors = copy.sh(f"cd /usr/share/goshelf\n{commands('goshelf.socket')}")
+    status, _, errors = copy.sh(commands("goshelf.socket"))
     suite.holds("the port in systemd's hands: the commands of the page end well", status == 0, errors)
     suite.equal("it answers there", ask(copy, f"{AT}/list"), "v1.0.0 200")
     url = f"http://127.0.0.1:8080/k/{KEY}/{AT}/list"
@@ -359,7 +404,11 @@ def stopped(suite, copy):
     """While systemd holds the port, a connection starts a goshelf that was stopped alone; the word of the page and the scripts stop the port too."""
     are = "systemctl is-active goshelf goshelf.socket"
     copy.sh("systemctl stop goshelf")
-    suite.equal("a connection starts a goshelf that was stopped", (ask(copy, f"{AT}/list"), copy.prints(are)), ("v1.0.0 200", "active active"))
+    answer = ask(copy, f"{AT}/list")
+    # (it answers a moment before systemd has heard that it does)
+    copy.sh("for it in $(seq 100); do ! systemctl is-active -q goshelf || exit 0; sleep 0.1; done")
+    told = answer, copy.prints(are)
+    suite.equal("a connection starts a goshelf that was stopped", told, ("v1.0.0 200", "active active"))
     page = read(os.path.join(ROOT, "docs", "OPERATING.md")).decode()
     word = "systemctl stop goshelf.socket goshelf"
     suite.holds("the page has a word for both", f"`{word}`" in page)
@@ -368,11 +417,19 @@ def stopped(suite, copy):
         status, printed, errors = copy.sh(f"{script}\n{connect}")
         suite.equal(f"{name} stops both, and a connection starts neither", (status, printed, errors, copy.prints(are)), (0, "7\n", "", "inactive inactive"))
         suite.equal(f"a start after {name} starts both", (copy.sh("systemctl start goshelf"), copy.prints(are), ask(copy, f"{AT}/list")), ((0, "", ""), "active active", "v1.0.0 200"))
-    copy.sh(f"{COPYING}; install /usr/share/goshelf/deploy/goshelf-backup /usr/local/bin")
+    copy.sh(COPYING)
     suite.equal("a backup that stops goshelf prints nothing", copy.sh("goshelf-backup stop"), (0, "", ""))
     suite.equal("no connection starts it while files are copied", copy.prints("cat /root/during"), " ".join(["7 inactive inactive"] * 2))
     suite.equal("and then both run again", (copy.prints(are), ask(copy, f"{AT}/list")), ("active active", "v1.0.0 200"))
-    copy.sh("rm -r /usr/local/bin/cp /usr/local/bin/goshelf-backup /var/backups/goshelf")
+    copy.sh("rm /usr/local/bin/cp")
+    told = copy.sh("goshelf-restore --yes last")
+    suite.holds("a restore ends well", told[0] == 0 and "lacks 0 versions" in told[1], told)
+    suite.equal("its files are goshelf's", copy.prints("stat -c '%U %a' /var/lib/goshelf/shelves.db"), "goshelf 600")
+    suite.equal("and both run again after it", (copy.prints(are), ask(copy, f"{AT}/list")), ("active active", "v1.0.0 200"))
+    told = copy.sh("goshelf-forget --yes alpha example.com/lib v9.9.9")
+    suite.holds("nothing to take out", told[0] == 1 and "Nothing was taken out" in told[2], told)
+    suite.equal("and both run again after that", (copy.prints(are), ask(copy, f"{AT}/list")), ("active active", "v1.0.0 200"))
+    copy.sh("rm -r /var/backups/goshelf /var/lib/goshelf/aside-*")
 
 
 def second(suite, copy):
@@ -385,8 +442,7 @@ def second(suite, copy):
     copy.sh("systemctl stop goshelf")
     ping = "goshelf ping --control /run/goshelf-second/control"
     suite.equal("the second does without the first", (copy.sh(ping)[0], ask(copy, "-/modules", 8081)), (0, "200"))
-    made = "for it in backup watch; do sed -E 's,(lib/|run/|backups/|start |stop |-q |-P \\w+ )goshelf,&-second,g' deploy/goshelf-$it > /root/$it; done"
-    told = copy.sh(f"cd /usr/share/goshelf; {made}; sh /root/backup; sh /root/backup stop; ls /var/backups")
+    told = copy.sh("export GOSHELF_UNIT=goshelf-second; goshelf-backup; goshelf-backup stop; ls /var/backups")
     suite.equal("a backup of its own", told, (0, "goshelf-second\n", ""))
     suite.equal("both run", (copy.sh("systemctl start goshelf")[0], ask(copy, f"{AT}/list"), ask(copy, "-/modules", 8081)), (0, "v1.0.0 200", "200"))
     copy.sh("systemctl disable --now goshelf-second; rm -r /etc/systemd/system/goshelf-second.service /etc/default/goshelf-second /var/lib/goshelf-second /var/backups/goshelf-second; systemctl daemon-reload")
@@ -414,7 +470,6 @@ def edited(suite, copy):
 
 def upgraded(suite, copy, first, second, version):
     """The commands of the page try another version on a copy, and put it over a running one, which restarts; and the first one again."""
-    copy.sh("cd /usr/share/goshelf; install deploy/goshelf-backup /usr/local/bin/")
     old, new = copy.put(first), copy.put(second)
     names = {f"goshelf_{name}_amd64.deb": os.path.basename(it) for name, it in (("OLD", old), ("NEW", new))}
     tries, over, back = (commands(it) for it in ("dpkg-deb -x", "apt install ./goshelf_NEW", "--allow-downgrades"))
@@ -434,7 +489,7 @@ def upgraded(suite, copy, first, second, version):
     copy.sh("systemctl stop goshelf")
     copy.sh(f"dpkg -i {old}")
     suite.equal("one that was stopped stays so", copy.prints("systemctl is-active goshelf; systemctl is-enabled goshelf"), "inactive enabled")
-    copy.sh("systemctl start goshelf; rm -r /usr/local/bin/goshelf-backup /var/backups/goshelf")
+    copy.sh("systemctl start goshelf; rm -r /var/backups/goshelf")
 
 
 def by_apt(copy, words, **settings):
@@ -465,6 +520,8 @@ def by_hand(suite, copy, tar, version):
     for file in (tar, os.path.join(os.path.dirname(tar), "SHA256SUMS")):
         copy.put(file)
     status, _, errors = copy.sh("cd /root\n" + commands("tar -xzf").replace("VERSION", version))
+    there = copy.prints("ls /usr/local/bin | grep ^goshelf").split()
+    suite.equal("the tar file: its commands are there", there, COMMANDS)
     suite.equal("the tar file: the commands of the page end well", (status, errors), (0, ""))
     suite.equal("the tar file: the unit is right", copy.sh("systemd-analyze verify goshelf.service"), (0, "", ""))
     copy.sh("\n".join(commands("goshelf_VERSION_amd64.deb").replace("KEY", KEY).splitlines()[1:]))
@@ -484,6 +541,8 @@ def on_a_copy(suite, tar, package, version, folder):
             return
         installed(suite, copy, package, version)
         started(suite, copy)
+        late(suite, copy)
+        doctor(suite, copy)
         confined(suite, copy)
         edited(suite, copy)
         by_socket(suite, copy)

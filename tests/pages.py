@@ -2,7 +2,7 @@
 """Checks the pages of the repository, each *.md file that git knows or would add.
 
 Of each page: links lead to files and headings that exist; commits, files, crates and items that it cites in backticks exist; a line has at
-most 100 characters, a table cell 120, and the README 150 lines. The blocks marked `sh run` of a page run one after another in one shell, in a
+most 100 characters, a table cell 120, and the README 120 lines. The blocks marked `sh run` of a page run one after another in one shell, in a
 folder of their own with the built program and tools/ on the path. A block marked `output` is what the last block before it that runs has to print.
 With names of pages, only those are checked. tools/pages calls it too.
 """
@@ -18,7 +18,7 @@ import tempfile
 
 from harness import PROGRAM, ROOT, Suite, shown
 
-LONGEST_README = 150
+LONGEST_README = 120
 LONGEST_CELL = 120
 LONGEST_LINE = 100
 # folders and files at the top whose names pages cite in backticks
@@ -55,6 +55,14 @@ def anchors(text):
     return {re.sub(r"[^\w\- ]", "", head.lower()).replace(" ", "-") for head in heads}
 
 
+def is_in(name, anchor):
+    """Whether a page has this anchor; of any other file, whether it has this line, as `L12`."""
+    text = read(name)
+    if name.endswith(".md"):
+        return anchor in anchors(text)
+    return bool(re.fullmatch(r"L[1-9]\d*", anchor)) and int(anchor[1:]) <= text.count("\n")
+
+
 def bad_links(page, text):
     """The links of a page that lead nowhere. Links to other hosts are not tried."""
     bad = []
@@ -63,9 +71,7 @@ def bad_links(page, text):
             continue
         name, _, anchor = target.partition("#")
         there = os.path.normpath(os.path.join(os.path.dirname(page), name)) if name else page
-        if not os.path.exists(os.path.join(ROOT, there)):
-            bad.append(target)
-        elif anchor and anchor not in anchors(read(there)):
+        if not os.path.exists(os.path.join(ROOT, there)) or anchor and not is_in(there, anchor):
             bad.append(target)
     return bad
 

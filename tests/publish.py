@@ -1,7 +1,7 @@
 #!/usr/bin/env python3
-"""tools/publish: versions of git repositories, as the go command has them from the shelf, and the CI jobs of the tutorial.
+"""tools/publish: versions of git repositories, as the go command has them from the shelf, and the CI jobs of docs/CI.md.
 
-Expected sums are made from what git has at the commit. The README's command and the jobs of docs/TUTORIAL.md are run as the pages have
+Expected sums are made from what git has at the commit. The README's command and the jobs of docs/CI.md are run as the pages have
 them, on clones of tags; only the server's name is put in.
 """
 
@@ -15,10 +15,14 @@ import tempfile
 
 from go_client import escaped
 from harness import KEYS, ROOT, Suite, new_store, run, write
-from repositories import KEY, PUBLISH, READER, TIME, Repository, Room, Server, blocks, code, greet_of, module, shell
+from repositories import KEY, PUBLISH, READER, TIME, UNASKED
+from repositories import Repository, Room, Server, blocks, code, greet_of, module, shell
 
 NEEDS = ["curl", "git", "go"]
 SUITE = Suite()
+# the tags for which a job runs, and others
+VERSION_TAGS = ["v1.0.0", "v10.20.30-rc.1", "one/v0.1.0", "sub/dir/v1.2.3"]
+OTHER_TAGS = ["1.8.0", "nightly", "one/1.8.0", "v1.8", "one/v1", "v", "version-1.2.3", "sub/rev1.2.3", "main"]
 
 
 def versions(greet, old, early):
@@ -41,13 +45,16 @@ def versions(greet, old, early):
 
 
 def publishes(room, server, rows):
-    """Each version is published, with the sums and the time that it has in its repository; and again, when it is there."""
+    """Each version is checked and published, with the sums and the time that it has in its repository."""
     for path, ref, version, repository, commit, folder in rows:
         words = ["--to", server.url, "--key-file", f"{room.folder}/key", "--repository", repository.folder, path, ref]
+        words += ["--pseudo"] if re.search(r"\d{14}-", version) else []
         if path == "github.com/acme/early.go":
             repository.git("checkout", "-q", commit)
         wanted = repository.lines(path, version, commit, folder)
-        SUITE.equal(f"check {path} {ref}", room.publish("--check", *words[4:]), (0, f"checked {wanted}", ""))
+        SUITE.equal(f"check {path} {ref}", room.publish("--check", *words[4:]), (0, f"checked {wanted}", UNASKED))
+        told = f"publish: {server.url} accepts the go.mod and the key, and has no {path} {version} yet\n"
+        SUITE.equal(f"check {path} {ref} there", room.publish("--check", *words), (0, f"checked {wanted}", told))
         SUITE.equal(f"publish {path} {ref}", room.publish(*words), (0, f"published {wanted}", ""))
         info = server.ask("GET", f"{escaped(path)}/@v/{escaped(version)}.info")
         SUITE.holds(f"the time of {path} {version}", info[0] == 200 and f'"{TIME}"'.encode() in info[1], info)
@@ -67,13 +74,39 @@ def ways(room, server, greet):
     SUITE.equal("a version in the place of a tag", room.publish(*subs, "v0.1.0"), told)
     pseudo = f"v0.1.1-0.20240131120000-{greet.last[:12]}"
     told = 0, "already published " + greet.lines("example.com/greet/sub", pseudo, greet.last, "sub"), ""
-    SUITE.equal("a pseudo-version", room.publish(*subs, pseudo), told)
+    SUITE.equal("a pseudo-version, by its name", room.publish(*subs, pseudo), told)
+    told = 0, "already published " + greet.lines("example.com/greet", "v1.0.1", greet.first), ""
+    SUITE.equal("a commit that has a tag", room.publish(*behind, words[0], greet.first), told)
     check = ["--check", "--repository", greet.folder, *words]
-    told = 0, "checked " + greet.lines("example.com/greet", "v1.0.0", greet.first), ""
+    lines = greet.lines("example.com/greet", "v1.0.0", greet.first)
+    told = f"publish: {server.url} has example.com/greet v1.0.0 already, with the same files, sums and time\n"
+    SUITE.equal("a check of what is there", room.publish("--check", *words, *behind), (0, f"checked {lines}", told))
+    told = 0, f"checked {lines}", UNASKED
     SUITE.equal("from a hook of git", room.publish(*check, GIT_DIR="/nosuch", GIT_INDEX_FILE="/nosuch"), told)
     others = {"GOOS": "plan9", "GOARCH": "386", "GOFLAGS": "-mod=vendor", "GOPROXY": "off"}
     SUITE.equal("with the settings of a job for another system", room.publish(*check, **others), told)
     SUITE.equal("without a home", room.publish(*check, HOME=None, GOCACHE=None), told)
+    for name, settings in of_users(room).items():
+        SUITE.equal(f"with {name}", room.publish(*check, at=f"{room.folder}/settings", **settings), told)
+
+
+def of_users(room):
+    """Settings of users of git and go, which another repository may need, but not the copy that go reads."""
+    at, other = f"{room.folder}/settings", '[url "https://other.invalid/"]\n\tinsteadOf = https://example.com/greet\n'
+    os.makedirs(f"{at}/tmp")
+    write({f"{at}/other": f"[user]\n\tname = me\n{other}", f"{at}/never": '[protocol "file"]\n\tallow = never\n'})
+    write({f"{at}/go": "GOFLAGS=-mod=mod\nGOOS=plan9\nGOPROXY=off\n"})
+    return {
+        "GIT_CONFIG_GLOBAL": {"GIT_CONFIG_GLOBAL": f"{at}/other"},
+        "GIT_CONFIG_GLOBAL that allows no files": {"GIT_CONFIG_GLOBAL": f"{at}/never"},
+        "GIT_CONFIG_SYSTEM": {"GIT_CONFIG_SYSTEM": f"{at}/other", "GIT_CONFIG_NOSYSTEM": None},
+        "GIT_CONFIG_PARAMETERS": {"GIT_CONFIG_PARAMETERS": "'protocol.file.allow'='never'"},
+        "GIT_ALLOW_PROTOCOL": {"GIT_ALLOW_PROTOCOL": "https"},
+        "GIT_NAMESPACE": {"GIT_NAMESPACE": "other"},
+        "GIT_DEFAULT_HASH": {"GIT_DEFAULT_HASH": "sha256"},
+        "GOENV": {"GOENV": f"{at}/go"},
+        "a relative GOPATH and TMPDIR": {"GOPATH": "go-path", "TMPDIR": "tmp"},
+    }
 
 
 def from_host(room, server):
@@ -85,6 +118,10 @@ def from_host(room, server):
     for path, ref, version, folder in (("github.com/acme/tool", "v1.0.0", "v1.0.0", ""), ("github.com/acme/tool/sub", "sub/v0.1.0", "v0.1.0", "sub")):
         wanted = 0, "published " + hosted.lines(path, version, hosted.first, folder), ""
         SUITE.equal(f"from its host: {path}", room.publish(*words, path, ref, **settings), wanted)
+        told = f"publish: takes {path} from its host: give --repository . to take it from the clone that you are in\n"
+        wanted = 0, "already " + wanted[1], told
+        found = room.publish(*words, path, ref, at=f"{hosted.folder}/sub", **settings)
+        SUITE.equal(f"from its host, in a clone: {path}", found, wanted)
 
 
 def consumes(room, server, rows):
@@ -116,17 +153,36 @@ def readme(room, server, greet):
 
 
 def jobs(room, server):
-    """The two jobs of the tutorial, each run on a clone of a tag of a repository with three modules."""
+    """The two jobs of docs/CI.md, each run on a clone of a tag of a repository with three modules."""
     team = Repository(room, "team")
     shutil.copytree(os.path.join(ROOT, "tools"), f"{team.folder}/tools", ignore=lambda _, names: set(names) - {"publish"})
     files = {**module("example.com/team"), **module("example.com/team/one", "one"), **module("example.com/team/two", "two")}
     team.first = team.commit(files, "v1.0.0", "one/v0.1.0", "two/v0.2.0")
-    found = blocks("docs/TUTORIAL.md", "yaml")
-    SUITE.equal("jobs of the tutorial", len(found), 2)
+    last = team.commit({"one/one.go": code("one", "\n// changed\n")}, "1.8.0", "nightly", "one/1.8.0")
+    found = blocks("docs/CI.md", "yaml")
+    SUITE.equal("jobs of the page", len(found), 2)
     for text, tags in zip(found, (["v1.0.0", "one/v0.1.0"], ["two/v0.2.0"])):
         SUITE.holds("a job has at most 15 lines", text.count("\n") <= 15, text)
+        found = [it for it in VERSION_TAGS + OTHER_TAGS if runs_for(text, it)]
+        SUITE.equal(f"the tags of the job {text.partition(':')[0]}", found, VERSION_TAGS)
         for tag in tags:
-            job(room, server, team, text, tag)
+            folder, _, version = tag.rpartition("/")
+            told = "published " + team.lines(f"example.com/team/{folder}".rstrip("/"), version, team.first, folder)
+            SUITE.equal(f"a job for {tag}", job(room, server, team, text, tag), (0, told, ""))
+        for tag, front, version in (("1.8.0", "", "1.0.1"), ("nightly", "", "1.0.1"), ("one/1.8.0", "one/", "0.1.1")):
+            told = f"publish: {tag} is not a version: make a tag {front}vMAJOR.MINOR.PATCH and give that, "
+            told = 1, "", f"{told}or give --pseudo to publish v{version}-0.20240131120000-{last[:12]}\n"
+            SUITE.equal(f"a job for {tag}, if it ran", job(room, server, team, text, tag), told)
+
+
+def runs_for(text, tag):
+    """Whether a job runs for a tag: GitLab's expression finds it, or one of GitHub's patterns is the whole of it, where
+    `*` is any text without a slash and `**` any text."""
+    if found := re.search(r"\$CI_COMMIT_TAG =~ /(.*)/'?$", text, re.M):
+        return bool(re.search(found[1], tag))
+    patterns = re.findall(r"'([^']*)'", text.partition("\n")[0])
+    texts = {"**": ".*", "*": "[^/]*", ".": "\\."}
+    return any(re.fullmatch(re.sub(r"\*\*|[*.]", lambda it: texts[it[0]], pattern), tag) for pattern in patterns)
 
 
 def job(room, server, team, text, tag):
@@ -134,10 +190,7 @@ def job(room, server, team, text, tag):
     folder = tempfile.mkdtemp(prefix="job-", dir=room.folder)
     team.git("clone", "-q", "-b", tag, team.folder, f"{folder}/clone")
     own = {"CI_COMMIT_TAG": tag, "GITHUB_REF_NAME": tag, "GOSHELF_KEY": f"{room.folder}/key", "KEY": KEY}
-    told = shell(room, f"{folder}/clone", script_of(text), {"https://shelf.example.com": server.url}, **own)
-    folder_of, _, version = tag.rpartition("/")
-    path = f"example.com/team/{folder_of}".rstrip("/")
-    SUITE.equal(f"a job for {tag}", told, (0, "published " + team.lines(path, version, team.first, folder_of), ""))
+    return shell(room, f"{folder}/clone", script_of(text), {"https://shelf.example.com": server.url}, **own)
 
 
 def script_of(text):

@@ -11,6 +11,7 @@ import http.server
 import io
 import os
 import re
+import shutil
 import signal
 import socket
 import subprocess
@@ -21,7 +22,8 @@ import zipfile
 
 from go_client import h1
 from harness import KEYS, ROOT, Suite, new_store, run, write
-from repositories import KEY, PUBLISH, READER, SHELL, TIME, Repository, Room, Server, free_port, gomod, greet_of, module, zipped
+from repositories import KEY, PUBLISH, READER, SHELL, TIME, UNASKED
+from repositories import Repository, Room, Server, free_port, gomod, greet_of, module, zipped
 
 NEEDS = ["curl", "git", "go", "ps"]
 MIB = 1_048_576
@@ -87,6 +89,11 @@ def in_repository(room, greet, url):
     ]  # fmt: skip
     for name, path, ref, wanted in table:
         refused(room, name, wanted, *words, path, ref)
+    wanted = "main is not a version: make a tag %svMAJOR.MINOR.PATCH and give that, or give --pseudo to publish %s"
+    for path, front, version in (("example.com/greet", "", "v1.0.2"), ("example.com/greet/sub", "sub/", "v0.1.1")):
+        told = wanted % (front, f"{version}-0.20240131120000-{greet.last[:12]}")
+        refused(room, f"a branch of {path}", told, *words, path, "main")
+        refused(room, f"a check of a branch of {path}", told, "--check", *words[4:], path, "main")
     told = room.publish(*words, "example.com/greet/words", "v1.0.0")
     SUITE.holds("other capitals", told[:2] == (1, "") and "names example.com/greet/words" in told[2] and "capitals count" in told[2], told)
     write({f"{greet.folder}/greet.go": "package greet\n"})
@@ -131,9 +138,33 @@ def shallow(room, odd, words):
     subprocess.run(["git", "clone", "-q", "--depth", "1", f"file://{odd.folder}", f"{room.folder}/shallow"], env=room.env, check=True)
     few = ["--check", "--repository", f"{room.folder}/shallow", "example.com/odd"]
     commit = odd.git("rev-parse", "v1.0.3").decode().strip()
-    SUITE.equal("a tag of a shallow clone", room.publish(*few, "v1.0.3"), (0, "checked " + odd.lines("example.com/odd", "v1.0.3", commit), ""))
+    told = 0, "checked " + odd.lines("example.com/odd", "v1.0.3", commit), UNASKED
+    SUITE.equal("a tag of a shallow clone", room.publish(*few, "v1.0.3"), told)
     wanted = f"{room.folder}/shallow is a shallow clone, and the version of a commit depends on the tags before it"
     refused(room, "a commit of a shallow clone", f"{wanted}: git fetch --unshallow --tags", *few, "HEAD")
+    odd.git("config", "uploadpack.allowFilter", "true")
+    words = ["git", "clone", "-q", "--filter=blob:none", f"file://{odd.folder}", f"{room.folder}/partial"]
+    subprocess.run(words, env=room.env, check=True)
+    few = ["--check", "--repository", f"{room.folder}/partial", "example.com/odd"]
+    wanted = f"{room.folder}/partial is a partial clone, which lacks files of its commits: clone it without --filter"
+    refused(room, "a partial clone", wanted, *few, "v1.0.3")
+
+
+def of_mounts(room, greet):
+    """Folders for temporary files: one that is not there, and one where no program may run."""
+    words = ["--check", "--repository", greet.folder, "example.com/greet", "v1.0.0"]
+    at = f"{room.folder}/nosuch"
+    refused(room, "no folder for files", f"no folder can be made in {at}: name another by TMPDIR", *words, TMPDIR=at)
+    at = f"{room.folder}/noexec"
+    os.mkdir(at)
+    mount = ["mount", "-t", "tmpfs", "-o", "size=64m,noexec", "tmpfs", at]
+    if not shutil.which("mount") or subprocess.run(mount, capture_output=True).returncode:
+        SUITE.skip("a folder where no program may run", "nothing can be mounted here")
+        return
+    wanted = f"no program may run in {at}: name another folder by TMPDIR"
+    refused(room, "a folder where no program may run", wanted, *words, TMPDIR=at)
+    SUITE.equal("its temporary files", os.listdir(at), [])
+    subprocess.run(["umount", at], check=True)
 
 
 def of_keys(room, server, greet):
@@ -141,11 +172,14 @@ def of_keys(room, server, greet):
     words = ["--to", server.url, "--repository", greet.folder, "example.com/greet", "v1.0.0"]
     wanted = "the key only reads: use a key that was added without --read-only"
     refused(room, "a key that only reads", wanted, *words, "--key-file", f"{room.folder}/reader")
+    refused(room, "a check of a key that only reads", wanted, "--check", *words, "--key-file", f"{room.folder}/reader")
     unknown = f"{server.url} has no such key, or takes no such path or version: check the key and the URL, then example.com/greet v1.0.0"
     refused(room, "a key of nobody", unknown, *words, "--key-file", f"{room.folder}/nobody")
+    refused(room, "a check of a key of nobody", unknown, "--check", *words, "--key-file", f"{room.folder}/nobody")
     refused(room, "no file of a key", "--key-file names no file that can be read: put the key into a file, and name it", *words, "--key-file", KEY)
-    wanted = "the file of the key holds none: a key is 16 to 64 characters of a-z and 0-9"
+    wanted = "the file of the key does not hold one key: a key is 16 to 64 characters of a-z and 0-9"
     refused(room, "a file without a key", wanted, *words, "--key-file", "/dev/null")
+    refused(room, "two keys", wanted, *words, "--key-file", "-", stdin=f"{KEY}\n{READER}\n".encode())
     secret = "a URL with a key or a password shows it to every user of this machine: use --key-file or --netrc"
     refused(room, "a key in the URL", secret, "--to", f"{server.url}/k/{KEY}", "--netrc", *words[2:])
     refused(room, "no URL", "shelf.example.com is not a URL: it begins with http:// or https://", "--to", "shelf.example.com", "--netrc", *words[2:])
@@ -153,8 +187,9 @@ def of_keys(room, server, greet):
 
 def of_use(room):
     """Bad usage ends with 2."""
-    for line in ("", "--check", "--check a", "--check a b c", "a b", "--to http://x a b", "--nosuch a b", "--check --wait x a b", "--to"):
-        words = line.split()
+    lines = ["", "--check", "--check a", "--check a b c", "a b", "--to http://x a b", "--nosuch a b", "--to"]
+    lines += ["--check --wait x a b", "--check --to http://x a b", "--check --key-file x a b", "--check --netrc a b"]
+    for words in map(str.split, lines):
         status, output, errors = room.publish(*words)
         SUITE.holds(f"usage: {words}", (status, output) == (2, "") and "usage: tools/publish" in errors, (status, output, errors))
     status, output, errors = room.publish("--help")
@@ -178,9 +213,12 @@ def conflicts(room, server):
     there = h1([(f"{path}@v1.1.0/{name}", it) for name, it in changed.items()])
     _, here, mod = other.lines(path, "v1.1.0", first).splitlines()
     front = "{} {} is there with other bytes, which never change: publish a new version\nthere: {} {} {}\nthere: {}\nhere:  {}\nhere:  {}"
-    refused(room, "other files", front.format(path, "v1.1.0", path, "v1.1.0", there, mod, here, mod), *words, "v1.1.0")
+    other_files = front.format(path, "v1.1.0", path, "v1.1.0", there, mod, here, mod)
+    refused(room, "other files", other_files, *words, "v1.1.0")
+    refused(room, "a check of other files", other_files, "--check", *words, "v1.1.0")
     times = f"{path} v1.2.0 is there with the same sums and the time 2024-02-01T12:00:00Z, not {TIME}: leave it, it never changes"
     refused(room, "another time", times, *words, "v1.2.0")
+    refused(room, "a check of another time", times, "--check", *words, "v1.2.0")
     _, here, mod = other.lines(path, "v1.3.0", first).splitlines()
     no_zip = "(the go command reads no such zip)"
     refused(room, "rubbish", front.format(path, "v1.3.0", path, "v1.3.0", no_zip, mod, here, mod), *words, "v1.3.0")
@@ -195,34 +233,100 @@ def of_goshelf(room, server):
     refused(room, "a go.mod that is not valid", wanted, *words, "example.com/bad", "v1.0.0")
 
 
+# lines that goshelf refuses in a go.mod, and whether a check without a server finds them; and others, which it takes
+FAULTS = [
+    ("require example.com/y v1", True), ("frobnicate y", True), ("exclude example.com/y v1.0", True),
+    ("retract v1", True), ("require example.com/y v2.0.0", True), ("require example.com/y/v2 v1.0.0", True),
+    ("require ( )", True),
+    ("replace example.com/y => example.com/z v2.0.0", True), ("replace example.com/y => C:\\y", True),
+    ("retract [v1.1.0, v1.0.0]", False), ("retract v2.0.0", False),
+]  # fmt: skip
+TAKEN = """require(
+\texample.com/x v1.0.0
+)
+require example.com/y v1.0.0 // indirect\r
+require "example.com/z" v1.0.0
+require gopkg.in/y.v2 v2.0.0
+require (
+\texample.com/w v2.0.0+incompatible // require
+\t// toolchain (
+)
+replace example.com/y => ../y
+exclude v2 v1.0.0
+replace example.com/y v1.0.0 => example.com/v/v3 v3.0.0-rc.1
+retract [v1.1.0,v1.2.0]
+retract(
+\tv1.0.0 // (
+\t[v1.3.0, v1.4.0]
+)
+toolchain go1.21.0
+tool example.com/x/cmd
+godebug default=go1.21
+ignore ./static
+"""
+
+
+def of_checks(room, server):
+    """A check finds what goshelf refuses in a go.mod, and says the line. (A last row shows that it stores nothing.)"""
+    lines, path = Repository(room, "lines"), "example.com/lines"
+    words = ["--check", "--repository", lines.folder, path]
+    there = ["--to", server.url, "--key-file", f"{room.folder}/key"]
+    for at, (line, is_found) in enumerate(FAULTS):
+        first = lines.commit({**module(path), "go.mod": f"{gomod(path)}{line}\n"}, f"v0.{at}.0")
+        wanted = f"line 4 of the go.mod is not valid: mend it, and tag a new version ({line})"
+        refused(room, f"a check, there, of {line}", wanted, *words, f"v0.{at}.0", *there)
+        told = 0, "checked " + lines.lines(path, f"v0.{at}.0", first), UNASKED
+        told = (1, "", f"publish: {wanted}\n") if is_found else told
+        SUITE.equal(f"a check of {line}", room.publish(*words, f"v0.{at}.0"), told)
+    lines.commit({"go.mod": gomod(path, "example.com/con v1.0.0")}, "v0.99.0")
+    told, begins = room.publish(*words, "v0.99.0"), "publish: go mod verify fails: example.com/con"
+    SUITE.holds("a check by `go mod verify`", told[0] == 1 and told[2].startswith(begins), told)
+    first = lines.commit({"go.mod": gomod(path) + TAKEN}, "v1.0.0")
+    told = 0, "checked " + lines.lines(path, "v1.0.0", first), UNASKED
+    SUITE.equal("a check of lines that goshelf takes", room.publish(*words, "v1.0.0"), told)
+    long_path = "example.com/" + "/".join(["a" * 60] * 4)[:243]
+    for path, version in ((path, "v1.0.0"), ("gopkg.in/lines.v2", "v2.0.0"), (long_path, "v1.1.0")):
+        first = lines.commit({"go.mod": gomod(path)}, version) if version != "v1.0.0" else first
+        yet = f"publish: {server.url} accepts the go.mod and the key, and has no {path} {version} yet\n"
+        told = 0, "checked " + lines.lines(path, version, first), yet
+        SUITE.equal(f"a check, there, of {path}", room.publish(*words[:3], path, version, *there), told)
+
+
 def from_host(room, url):
     """What stands against a version without a clone, which the go command fetches from the host of the path: a user's insteadOf here."""
     hosted = Repository(room, "hosted")
     hosted.commit(module("github.com/acme/tool"), "v1.0.0")
+    hosted.commit({"tool.go": "package tool\n"})
     settings = {"GIT_CONFIG_COUNT": "1", "GIT_CONFIG_KEY_0": f"url.{hosted.folder}.insteadOf", "GIT_CONFIG_VALUE_0": "https://github.com/acme/wrong"}
     words = ["--to", url, "--key-file", f"{room.folder}/key", "github.com/acme/wrong"]
     sentence = "the go.mod at v1.0.0 names github.com/acme/tool, not github.com/acme/wrong: publish it by that path; capitals count"
     refused(room, "from its host: another path", sentence, *words, "v1.0.0", **settings)
+    begins = "main is not a version: make a tag vMAJOR.MINOR.PATCH and give that, or give --pseudo to publish v1.0.1-0."
+    own = {**settings, "GIT_CONFIG_VALUE_0": "https://github.com/acme/tool"}
+    told = room.publish(*words[:-1], "github.com/acme/tool", "main", **own)
+    SUITE.holds("from its host: a branch", told[:2] == (1, "") and told[2].startswith(f"publish: {begins}"), told)
     refused(room, "from its host: no version", "v1.0 is not a version: name the tag vMAJOR.MINOR.PATCH", *words, "v1.0", **settings)
     told = room.publish(*words, "v9.9.9", **settings)
     begins = told[2].startswith("publish: the go command makes no zip of github.com/acme/wrong at v9.9.9:")
     SUITE.holds("from its host: no tag", told[:2] == (1, "") and begins, told)
 
 
-def of_others(room, greet):
-    """What servers answer that are not goshelf, and what goshelf answers that is hard to bring about."""
-    behind = http.server.ThreadingHTTPServer(("127.0.0.1", 0), Answers)
-    threading.Thread(target=behind.serve_forever, daemon=True).start()
-    url = f"http://127.0.0.1:{behind.server_port}"
-    words = ["--to", url, "--key-file", f"{room.folder}/key", "--repository", greet.folder, "example.com/greet", "v1.0.0"]
-    table = [
+def answers(url):
+    """What a server may answer, each as its status, its body, and what is said of it."""
+    return [
         (200, "", f"{url} answers 200 and is no goshelf: check the URL ()"),
         (200, "<html>\nhello", f"{url} answers 200 and is no goshelf: check the URL (<html>)"),
         (301, "", f"{url} leads to another URL: give that to --to"),
         (400, "bad mod-length\n", "the header Mod-Length did not arrive: let the server in front of goshelf pass it on"),
         (401, "", f"{url} wants a user: give --netrc, and a line of ~/.netrc with the host, the user and its password"),
         (404, "<html>", f"{url} answers 404 and is no goshelf: check the URL (<html>)"),
-        (409, "conflict\n", "example.com/greet v1.0.0 is there with other bytes, which never change: publish a new version"),
+        (403, "not your path\n",
+         f"{url} does not let you publish example.com/greet: "
+         "publish a path of your own, or ask the operator for this one"),
+        (409, "conflict\n",
+         f"example.com/greet v1.0.0 is there with another go.mod, zip or time, and {url} answers 409 to a GET of it: "
+         "publish a new version"),
+        (429, "too many requests at once\n", f"{url} gets too many requests at once: run this again in a minute"),
         (413, "", f"{url} takes no body of SIZE bytes: raise client_max_body_size of the server in front"),
         (422, "major-mismatch\n", "v1.0.0 does not fit the path example.com/greet: version 2 and higher need a path that ends in /v2 and so on"),
         (422, "bad-time\n", f"the time {TIME} does not fit v1.0.0: check the clock of whoever made the commit"),
@@ -235,11 +339,25 @@ def of_others(room, greet):
         (503, "unavailable\n", "the store met a fault and published nothing: run this again, and tell the operator if it stays"),
         (507, "full\n", "the shelf has 4096 versions of example.com/greet and takes no more: go on under a new path"),
     ]  # fmt: skip
-    for status, body, wanted in table:
+
+
+def of_others(room, greet):
+    """What servers answer that are not goshelf, and what goshelf answers that is hard to bring about."""
+    behind = http.server.ThreadingHTTPServer(("127.0.0.1", 0), Answers)
+    threading.Thread(target=behind.serve_forever, daemon=True).start()
+    url = f"http://127.0.0.1:{behind.server_port}"
+    words = ["--to", url, "--key-file", f"{room.folder}/key", "--repository", greet.folder, "example.com/greet", "v1.0.0"]
+    for status, body, wanted in answers(url):
         Answers.answer = status, body.encode()
         code, output, errors = room.publish(*words)
         told = code, output, re.sub(r"of \d+ bytes", "of SIZE bytes", errors)
         SUITE.equal(f"an answer {status} {body.partition(chr(10))[0]}", told, (1, "", f"publish: {wanted}\n"))
+    Answers.answer = 201, b"published\n"
+    wanted = f"{url} answers 201 and is no goshelf: check the URL (published)"
+    refused(room, "a check that a server publishes", wanted, "--check", *words)
+    Answers.answer = 422, b"bad-gomod 0\n"
+    wanted = "the header Version-Time did not arrive: let the server in front of goshelf pass it on"
+    refused(room, "a check through a server that drops a header", wanted, "--check", *words)
     keys = [it for it in Answers.words if any(key in it for key in KEYS.values())]
     SUITE.holds("no key among the words of a process", Answers.words and not keys, keys)
     told = room.publish("--to", url.replace("http", "https"), *words[2:])
@@ -256,6 +374,14 @@ def by_netrc(room, url, words):
     user = "Basic " + base64.b64encode(f"alpha:{KEY}".encode()).decode()
     SUITE.holds("a user", (status, errors) == (0, "") and output.startswith("published example.com/greet v1.0.0\n"), (status, output, errors))
     SUITE.equal("what the server is asked", Answers.asked, [("PUT", "/example.com/greet/@v/v1.0.0", user)])
+    netrc = {"NETRC": f"{room.folder}/netrc"}
+    wanted = f"{netrc['NETRC']} logs in as a user who only reads: ask the operator of {url} for the right to publish"
+    Answers.answer = 403, b"forbidden\n"
+    refused(room, "a user who only reads", wanted, *words, "--netrc", **netrc)
+    refused(room, "a check of a user who only reads", wanted, "--check", *words, "--netrc", **netrc)
+    wanted = f"{url} takes no such path or version, or has lost the key of your user: check example.com/greet v1.0.0, "
+    Answers.answer = 404, b"not found\n"
+    refused(room, "a user whose key is revoked", f"{wanted}then ask the operator", *words, "--netrc", **netrc)
     Answers.answer = 401, b""
     netrc = f"{room.folder}/netrc"
     refused(room, "another user", f"{url} knows no such user: mend the line for its host in {netrc}", *words, "--netrc", NETRC=netrc)
@@ -271,14 +397,20 @@ def of_transfers(room, greet):
     again = "Run this again: it ends well if the version is there."
     wanted = f"{url} did not answer within 2 seconds, so it may or may not have published. {again}"
     refused(room, "a server that does not answer", wanted, "--to", url, "--wait", "2", *words)
+    wanted = f"{url} did not answer within 2 seconds: run this again"
+    refused(room, "a check of a server that does not answer", wanted, "--check", "--to", url, "--wait", "2", *words)
     child = subprocess.Popen([SHELL, PUBLISH, "--to", url, *words], env=room.env, stdout=subprocess.PIPE, stderr=subprocess.PIPE,
                              start_new_session=True)
-    held.accept()
-    held.accept()
+    for _ in range(3):
+        held.accept()
     os.killpg(child.pid, signal.SIGTERM)
     child.communicate(timeout=60)
     SUITE.equal("a run that is stopped: its status, and its temporary files", (child.returncode, os.listdir(room.tmp)), (143, []))
     held.close()
+    url, proxy = "http://shelf.example", "http://nosuch.invalid:3128"
+    wanted = f"no host has the name of the proxy by which to ask {url}: mend http_proxy and https_proxy, "
+    wanted += "or name the host in no_proxy"
+    refused(room, "a proxy that is not", wanted, "--to", url, *words, http_proxy=proxy)
     refused(room, "a host that is not", "no host has the name in http://nosuch.invalid: check the URL", "--to", "http://nosuch.invalid", *words)
 
 
@@ -299,8 +431,8 @@ def table_of_pages(room):
     missing = [it for it in phrases if not all(word in printed for word in re.split(r"\b[A-Z]{2,}\b(?!-)", it))]
     SUITE.holds("the table of refusals: each was printed", len(phrases) > 15 and not missing, (len(phrases), missing))
     unlisted = [it for it in printed.splitlines() if it.startswith("publish: ") and not any(is_of(it, row) for row in phrases)]
-    notes = ("there: ", "here: ", "the zip there has other bytes")
-    unlisted = [it for it in unlisted if not it[9:].startswith(notes) and not re.search(r"needed|lacks|too many|no option|takes a number", it)]
+    notes = ("there: ", "here: ", "the zip there has other bytes", "not checked without", f"{room.served} accepts the")
+    unlisted = [it for it in unlisted if not it[9:].startswith(notes) and not re.search(r"needed|lacks|too many|no option|takes a number|need --to", it)]
     SUITE.holds("the table of refusals: none lacks", not unlisted, unlisted)
 
 
@@ -315,13 +447,16 @@ def session(folder):
     greet, nobody = greet_of(room), f"http://127.0.0.1:{free_port()}"
     new_store(store, ("alpha", KEY, READER))
     server = Server(store)
+    room.served = server.url
     of_keys(room, server, greet)
     conflicts(room, server)
     of_goshelf(room, server)
+    of_checks(room, server)
     server.stop()
     in_repository(room, greet, nobody)
     from_host(room, nobody)
     of_shape(room, nobody)
+    of_mounts(room, greet)
     of_others(room, greet)
     of_transfers(room, greet)
     hangs_up(room, greet)

@@ -1,8 +1,8 @@
 #!/usr/bin/env python3
-"""Each cause that docs/OPERATING.md names for a word on standard error, and docs/REFERENCE.md for a publish, and what they say to do.
+"""Each cause that docs/REFERENCE.md or goshelf-doctor names for a refusal, and what they say to do.
 
 Every row makes the cause, runs a command, and looks at its exit status and its word; where
-the page names a remedy, the command is run again after it. Rights are tried as nobody, where the machine lets a process become that; a
+they name a remedy, the command is run again after it. Rights are tried as nobody, where the machine lets a process become that; a
 full disk on a small tmpfs, where it lets one be mounted; sqlite3 by Python's own.
 """
 
@@ -14,6 +14,8 @@ import sqlite3
 import subprocess
 import sys
 import tempfile
+import threading
+import time
 
 import harness
 from harness import KEY, KEYS, NOBODY, PROGRAM, ROOT, Suite, add_platform, answered, can_be_nobody, mounted, put, run
@@ -82,11 +84,26 @@ def publish_of(words):
     return put(path, version, f"{text}\n".encode(), b"zip" if zipped == "-" else zipped.encode(), KEYS[letter], "" if time == "-" else time)
 
 
+DOCTOR = os.path.join(ROOT, "deploy", "goshelf-doctor")
+
+
 class Refusals(Suite):
-    """Rows of a cause and the word that it is wanted to end with; an empty one where the command is to end well."""
+    """Rows of a cause and the expected error word, which is empty where the command ends well."""
 
     def wants(self, cause, wanted, told):
         self.equal(f"{wanted or 'done'}: {cause}", told, wanted)
+
+    def finds(self, wanted, *words, before=()):
+        """goshelf-doctor finds one cause, and prints this of it; none if nothing is wanted."""
+        settings = {**os.environ, "GOSHELF": PROGRAM}
+        ran = subprocess.run([*before, DOCTOR, *words], capture_output=True, text=True, env=settings, timeout=120)
+        lines = ran.stdout.splitlines()
+        if wanted:
+            is_right = ran.returncode == 1 and len(lines) == 2 and wanted in lines[0] and lines[1].startswith("    ")
+        else:
+            is_right = ran.returncode == 0 and len(lines) == 1 and lines[0].startswith("no cause is found")
+        found = ran.returncode, ran.stdout, ran.stderr
+        self.holds(f"the doctor: {wanted or 'nothing'}", is_right and not ran.stderr, found)
 
 
 def keys(version):
@@ -110,7 +127,7 @@ def change(name, *statements):
 
 # bytes of a piece of a zip but for its last
 PIECE = 65_536
-# what docs/OPERATING.md has sqlite3 run in a new store, to take over the rows of a file f
+# what docs/REFERENCE.md has sqlite3 run in a new store, to take over the rows of a file f
 TAKE_OVER = (
     "BEGIN",
     "INSERT INTO shelf SELECT name, parent FROM f.shelf WHERE name <> 'common'",
@@ -149,31 +166,52 @@ def device(suite):
     serve = subprocess.Popen([PROGRAM, *"serve --db d.db --port 0".split()], stdout=subprocess.PIPE)
     serve.stdout.readline()
     suite.wants("serve has the store open", "device", word("team-add --db d.db --team beta"))
+    suite.finds(f"device: process {serve.pid} ({PROGRAM} serve) has d.db open", "--db", "d.db")
     serve.terminate()
     serve.wait()
     suite.wants("serve was stopped", "", word("team-add --db d.db --team beta"))
+    suite.finds("", "--db", "d.db")
     other = sqlite3.connect("d.db", isolation_level=None)
     other.execute("BEGIN IMMEDIATE")
     suite.wants("an sqlite3 with a transaction", "device", word("team-add --db d.db --team gamma"))
+    suite.finds(f"device: process {os.getpid()} (", "--db", "d.db")
     other.execute("ROLLBACK")
     other.close()
     suite.wants("the transaction was rolled back", "", word("team-add --db d.db --team gamma"))
     os.link("d.db", "second.db")
     suite.wants("a second name by a hard link", "device", word("team-add --db d.db --team delta"))
+    suite.finds("device: d.db has a second name, by a hard link", "--db", "d.db")
     os.remove("second.db")
     suite.wants("the link was removed", "", word("team-add --db d.db --team delta"))
     subprocess.run([sys.executable, "-c", LEAVES_A_JOURNAL, "d.db"], check=True)
     suite.holds("a program with SQLite left a journal", os.path.getsize("d.db-journal") > 0, "it is empty")
     suite.wants("a rollback journal beside the file", "device", word("team-add --db d.db --team epsilon"))
+    suite.finds("device: another program with SQLite left a rollback journal, d.db-journal", "--db", "d.db")
     left = sqlite3.connect("d.db")
     suite.equal("sqlite3 plays it back", left.execute("SELECT count(*) FROM shelf").fetchone(), (5,))
     left.close()
     suite.wants("the journal was played back", "", word("team-add --db d.db --team epsilon"))
+    for name in ("d.db-journal", "d.db-wal", "d.db-shm"):
+        suite.wants(f"SQLite's name {name} for a new store", "device", word(f"extract --db d.db --team beta --to {name}"))
+    suite.wants("another name", "", word("extract --db d.db --team beta --to beta.db"))
+    os.rename("d.db", "away.db")
+    suite.wants("a log whose file is gone", "device", word("team-add --db d.db --team zeta"))
+    suite.finds("device: there is a log d.db-wal without d.db", "--db", "d.db")
+    open("d.db", "wb").close()
+    suite.finds("device: there is a log d.db-wal without d.db", "--db", "d.db")
+    os.rename("away.db", "d.db")
+    suite.wants("the file was put back", "", word("team-add --db d.db --team zeta"))
     os.mkdir("folder")
     suite.wants("a folder in the place of the file", "device", word("init --db folder"))
     suite.wants("no such folder", "device", word("init --db none/d.db"))
     suite.wants("the name :memory:", "device", word("init --db :memory:"))
     suite.wants("an empty name", "device", word("init --db="))
+    for wanted, name in (
+        ("folder is a folder", "folder"), ("there is no folder ", "none/d.db"), ("'' does not name a file", ""),
+        ("':memory:' does not name a file", ":memory:"), ("the path has more than 4087 bytes", "d" * 4_100),
+    ):  # fmt: skip
+        suite.finds(f"device: {wanted}", "--db", name)
+    suite.finds("bad-schema: there is no file missing.db", "--db", "missing.db")
 
 
 def rights(suite):
@@ -185,11 +223,22 @@ def rights(suite):
     new_store("theirs/r.db")
     os.chown("theirs", 65534, 65534)
     suite.wants("a file that may not be written", "device", word("team-add --db theirs/r.db --team beta", before=NOBODY))
+    for it in ("theirs/r.db", "theirs/r.db-wal"):
+        os.chown(it, 65534, 65534)
+        os.chmod("theirs/r.db-wal", 0o600)
+        if it == "theirs/r.db":
+            said = "device: nobody may not write to theirs/r.db-wal, which belongs to root"
+            suite.finds(said, "--db", "theirs/r.db", before=NOBODY)
+            said = "device: theirs/r.db-wal belongs to root, and its folder to nobody, who cannot open it"
+            suite.finds(said, "--db", "theirs/r.db")
     for name in os.listdir("theirs"):
         os.chown(f"theirs/{name}", 65534, 65534)
     suite.wants("it may be written", "", word("team-add --db theirs/r.db --team beta", before=NOBODY))
     os.mkdir("closed")
     suite.wants("a folder that may not be written", "device", word("init --db closed/r.db", before=NOBODY))
+    suite.finds("device: nobody may not write to ", "--db", "closed/r.db", before=NOBODY)
+    os.chmod("closed", 0o700)
+    suite.finds("device: nobody may not enter ", "--db", "closed/r.db", before=NOBODY)
 
 
 def full_disk(suite):
@@ -210,6 +259,7 @@ def full_disk(suite):
                 pass
         told = word("team-add --db small/f.db --team beta")
         suite.wants("a full disk", "device", told)
+        suite.finds("device: the disk of ", "--db", "small/f.db")
         os.remove("small/filler")
         suite.wants("the disk has room again", "", word("team-add --db small/f.db --team gamma"))
         suite.wants("nothing was lost", "taken", word("team-add --db small/f.db --team alpha"))
@@ -224,27 +274,38 @@ def bad_schema(suite):
     with open("damaged.db", "r+b") as file:
         file.write(b"\xff" * 16)
     suite.wants("no database", "bad-schema", word("team-add --db damaged.db --team beta"))
+    suite.finds("bad-schema: damaged.db is not a database", "--db", "damaged.db")
     cut = open("b.db", "rb").read()[:5000]
     open("cut.db", "wb").write(cut)
     suite.wants("a damaged file", "bad-schema", word("team-add --db cut.db --team beta"))
+    suite.finds("bad-schema: cut.db is damaged (", "--db", "cut.db")
     change("tables.db", ["CREATE TABLE x (a INTEGER) STRICT"])
     suite.wants("other tables", "bad-schema", word("team-add --db tables.db --team beta"))
-    for cause, statement in (
-        ("a row that means no shelf", "INSERT INTO shelf VALUES ('No Team', 'common')"),
-        ("a parent that is no group", "INSERT INTO shelf VALUES ('beta', 'alpha')"),
-        ("ANALYZE", "ANALYZE"),
+    suite.finds("bad-schema: tables.db has other tables", "--db", "tables.db")
+    rows = "the rows do not describe shelves: "
+    for cause, statement, said in (
+        ("a row that means no shelf", "INSERT INTO shelf VALUES ('No Team', 'common')", f"{rows}'No Team' is not a name"),
+        ("a parent that is no group", "INSERT INTO shelf VALUES ('beta', 'alpha')", f"{rows}the parent of beta"),
+        ("a key of no shelf", "INSERT INTO access VALUES ('nokey00000000001', 'none', 1)", f"{rows}a row of access"),
+        ("another schema", "UPDATE meta SET value = 4", "rows.db has schema 4"),
+        ("a table more", "CREATE TABLE x (a INTEGER) STRICT", "rows.db has other tables"),
+        ("ANALYZE", "ANALYZE", "ANALYZE in sqlite3 added a table"),
     ):
         shutil.copy("b.db", "rows.db")
         change("rows.db", [statement])
         suite.wants(cause, "bad-schema", word("team-add --db rows.db --team beta"))
+        suite.finds(f"bad-schema: {said}", "--db", "rows.db")
     change("rows.db", ["DROP TABLE sqlite_stat1"])
     suite.wants("sqlite_stat1 was dropped", "", word("team-add --db rows.db --team beta"))
     reordered("order.db", "b.db")
     suite.wants("the tables in another order", "bad-schema", word("team-add --db order.db --team beta"))
+    suite.finds("bad-schema: another program made the tables, in another order", "--db", "order.db")
     change("two.db", *([statement] for statement in filter(str.strip, SCHEMA_2.split(";"))))
     change("one.db", *([statement] for statement in filter(str.strip, SCHEMA_1.split(";"))))
     for name in ("one", "two"):
         suite.wants(f"a store of schema {name}", "bad-schema", word(f"team-add --db {name}.db --team beta"))
+        number = {"one": 1, "two": 2}[name]
+        suite.finds(f"bad-schema: {name}.db has schema {number}, of an older goshelf", "--db", f"{name}.db")
         suite.wants(f"schema {name} is migrated", "", word(f"migrate --from {name}.db --to migrated-{name}.db"))
         suite.wants(f"schema {name} was migrated", "", word(f"team-add --db migrated-{name}.db --team beta"))
     suite.wants("migrate: a store of schema 3", "bad-schema", word("migrate --from migrated-one.db --to none.db"))
@@ -376,6 +437,36 @@ def names(suite):
         suite.wants(f"requires: {cause}", "not-found", word(f"requires --db n.db {words}"))
 
 
+def sockets(suite):
+    """Causes of a command with --control, as the doctor finds them; tests/control.py has the words of the commands."""
+    new_store("s.db")
+    suite.finds("device: there is no socket control", "--control", "control")
+    suite.finds("device: there is no folder ", "--control", "none/control")
+    suite.finds("io: the name of the socket has more than 107 bytes", "--control", "c" * 108)
+    suite.finds("io: s.db is another file, not a socket", "--control", "s.db")
+    serve = subprocess.Popen([PROGRAM, *"serve --db s.db --port 0 --control control".split()], stdout=subprocess.PIPE)
+    serve.stdout.readline()
+    suite.finds("", "--control", "control")
+    told = subprocess.run([DOCTOR, "--db", "s.db"], capture_output=True, text=True).stdout
+    is_right = "\n    use --control control, or stop it\n" in told
+    suite.holds("the doctor names the socket of who has the store open", is_right, told)
+    if can_be_nobody():
+        os.chmod(".", 0o755)
+        suite.finds("device: nobody may not connect to control", "--control", "control", before=NOBODY)
+    serve.kill()
+    serve.wait()
+    suite.finds("device: nobody listens at control: serve ended", "--control", "control")
+    false = socket.socket(socket.AF_UNIX)
+    false.bind("false")
+    false.listen()
+    threading.Thread(target=lambda: false.accept()[0].close(), daemon=True).start()
+    time.sleep(0.1)
+    threading.Thread(target=lambda: false.accept()[0].close(), daemon=True).start()
+    suite.finds("io: serve listens at false, and does not answer", "--control", "false")
+    for words in (["--db"], ["--db", "s.db", "more"], ["--store", "s.db"], ["s.db"], [""]):
+        suite.equal(f"the doctor, {words}", subprocess.run([DOCTOR, *words], capture_output=True).returncode, 2)
+
+
 def memory(suite):
     if not shutil.which("prlimit"):
         suite.skip("memory", "there is no prlimit here")
@@ -395,8 +486,10 @@ def main():
     suite = Refusals()
     with tempfile.TemporaryDirectory() as folder:
         os.chdir(folder)
-        for part in (device, rights, full_disk, bad_schema, numbers, files, outcomes, extracts, migrations, names, memory):
+        for part in (device, rights, full_disk, bad_schema, numbers, files, outcomes, extracts, migrations, names):
             part(suite)
+        sockets(suite)
+        memory(suite)
         os.chdir("/")
     return suite.end()
 

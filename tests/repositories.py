@@ -15,6 +15,9 @@ from harness import KEYS, PROGRAM, ROOT, write
 PUBLISH, ADOPT = (os.path.join(ROOT, "tools", it) for it in ("publish", "adopt"))
 SHELL = shutil.which("dash") or "sh"
 KEY, READER = KEYS["A"], KEYS["R"]
+# what a check says that asks no server
+UNASKED = "publish: not checked without --to: the other rules of go.mod files, a key, and whether the version is there"
+UNASKED += "\n"
 # the time of each commit, as git is told it and as goshelf is to have it
 STAMP, TIME = "2024-01-31T13:00:00+0100", "2024-01-31T12:00:00Z"
 
@@ -36,11 +39,13 @@ class Room:
         clean = {name: text for name, text in os.environ.items() if not name.startswith(("GO", "GIT_")) and "proxy" not in name.lower()}
         self.env = {**clean, **own}
 
-    def publish(self, *words, stdin=b"", **more):
-        """Runs tools/publish, and returns its status, standard output and standard error. A setting of None is left out. It has to
-        leave no temporary file and to keep keys to itself; what it does not is added to the errors."""
+    def publish(self, *words, stdin=b"", at=None, **more):
+        """Runs tools/publish in a folder, and returns its status, standard output and standard error. A setting of None
+        is left out. It has to leave no temporary file and to keep keys to itself; what it does not is added to the
+        errors."""
         env = {name: text for name, text in {**self.env, **more}.items() if text is not None}
-        ran = subprocess.run([SHELL, PUBLISH, *words], input=stdin, capture_output=True, env=env, timeout=300)
+        how = {"cwd": at or self.folder, "input": stdin, "env": env}
+        ran = subprocess.run([SHELL, PUBLISH, *words], capture_output=True, timeout=300, **how)
         output, errors = ran.stdout.decode(), ran.stderr.decode()
         self.said.append(errors)
         shown = [it for it in KEYS.values() if it in output + errors]

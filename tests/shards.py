@@ -44,6 +44,22 @@ WRONG_FILES = {
     "shard first 127.0.0.1:1\nteam alpha\nteam beta\ngroup platform gamma\n": "delta is at no shard",
 }
 
+# a file of shards that has other teams or groups than the store, and what is said of it
+ALL = "team alpha\nteam beta\ngroup platform gamma\nteam delta\n"
+NOT_THE_STORE = {
+    "team alpha\n": [f"no line has {it}, which the store has" for it in ("beta", "delta", "gamma", "platform")],
+    f"{ALL}team omega\n": ["the store has no team or group omega"],
+    ALL.replace("alpha", "alhpa"): ["no line has alpha, which the store has", "the store has no team or group alhpa"],
+    "group platform\n": ["a has no team, and goshelf extract makes no store without one"],
+    ALL.replace("platform gamma\nteam", "platform gamma"): [
+        "delta is in no group in the store, and in the group platform here"],
+    f"{ALL.replace('platform gamma', 'platform')}shard b 127.0.0.1:2\nteam gamma\n": [
+        "gamma is in the group platform in the store, and a team in no group here"],
+    ALL.replace("group platform gamma", "team platform\nteam gamma"): [
+        "platform is a group in the store, and a team in no group here",
+        "gamma is in the group platform in the store, and a team in no group here"],
+}  # fmt: skip
+
 
 def key(shelf, right="publish"):
     return f"{shelf}{right}key0000000000"[:20]
@@ -121,11 +137,13 @@ class Company:
         machine, rights = self.machine, ("read", "publish")
         machine.check_out()
         machine.does(CERTIFICATE)
-        for name in ("etc/nginx/goshelf", "var/cache/nginx/goshelf"):
+        for name in ("etc/nginx/goshelf", "var/cache/nginx/goshelf", "var/cache/nginx/goshelf-public"):
             os.makedirs(f"{machine.folder}/{name}")
         os.chmod(f"{machine.folder}/var/cache/nginx/goshelf", 0o777)
         machine.write("etc/nginx/goshelf/keys.map", "".join(f'"{it} {right}" {key(it, right)};\n' for it in SHELVES for right in rights))
         machine.write("etc/nginx/goshelf/users.map", "".join(user_line(it, right) for it in SHELVES for right in rights))
+        machine.write("etc/nginx/goshelf/paths.map", '"example.com" "{}";\n'.format(" ".join(SHELVES)))
+        machine.does("install -m 0644 deploy/nginx/elsewhere.conf deploy/nginx/public.conf /etc/nginx/goshelf/")
         machine.does(f"{ROOT}/tools/shards conf {self.file} < deploy/nginx/goshelf.conf > /etc/nginx/conf.d/goshelf.conf")
         machine.does("nginx")
         wait_for(machine.front)
@@ -252,11 +270,22 @@ def made(suite, company):
     status, lines, errors = company.tool("make", folder, keys=one.file)
     suite.equal("and none in the place of one that is there", (status, lines, errors), (1, [], "shards: first is not made: goshelf: not-empty\n"))
     name = f"{company.folder}/wrong"
-    for text, said in {"team omega\n": "shards: a is not made: goshelf: no-team\n", "group platform\n": "a has no team, and goshelf extract"}.items():
+    before = {it: os.path.getmtime(one.file + it) for it in ("", "-wal") if os.path.exists(one.file + it)}
+    for text, said in NOT_THE_STORE.items():
         with open(name, "w", encoding="utf-8") as file:
             file.write("shard a 127.0.0.1:1\n" + text)
-        status, lines, errors = company.tool("make", company.folder, file=name, keys=one.file)
-        suite.holds(f"{text!r}: {said}", (status > 0, lines) == (True, []) and said in errors, (status, errors))
+        os.mkdir(f"{folder}/none")
+        status, lines, errors = company.tool("make", f"{folder}/none", file=name, keys=one.file)
+        found = status, lines, errors.replace(f"{name}: ", "").splitlines()
+        suite.equal(f"make of {text!r}", found, (2, [], [f"shards: {it}" for it in said]))
+        left = os.listdir(f"{folder}/none"), os.path.exists(f"{one.file}-shm")
+        suite.equal(f"make of {text!r} makes nothing", left, ([], False))
+        os.rmdir(f"{folder}/none")
+    suite.equal("and leaves the store as it was", {it: os.path.getmtime(one.file + it) for it in before}, before)
+    for store in (f"{folder}/missing.db", company.file):
+        status, lines, errors = company.tool("make", folder, keys=store)
+        is_right = (status, lines) == (1, []) and "cannot be read" in errors
+        suite.holds(f"make of {os.path.basename(store)}", is_right, errors)
     one.start()
     for it, teams in TEAMS.items():
         shard = Goshelf(f"{folder}/{it}.db")
@@ -273,7 +302,8 @@ def new_team(suite, company):
     second, machine = company.shards["second"], company.machine
     second.stop()
     add(second.file, "zeta")
-    maps = {it: machine.read(f"etc/nginx/goshelf/{it}.map") for it in ("keys", "users")}
+    maps = {it: machine.read(f"etc/nginx/goshelf/{it}.map") for it in ("keys", "users", "paths")}
+    maps["paths"] += '"example.com/zeta" "zeta";\n'
     for right, words in (("read", ["--read-only"]), ("publish", [])):
         done("key-add", "--db", second.file, "--shelf", "zeta", "--key", key("zeta", right), *words)
         maps["keys"] += f'"zeta {right}" {key("zeta", right)};\n'

@@ -108,6 +108,8 @@ WRONG_KEYS = {
 
 # names that are not opened as files: of a folder, and those that sqlite takes for something else
 NO_FILES = ("folder", ":memory:", "", "file:a.db")
+# what serve says of a store whose file is missing or empty
+NEW_STORE = "new store: the file of --db is missing or empty; without a key, each request gets a 404\n"
 
 
 def changed(name, sql):
@@ -187,6 +189,8 @@ def refused(suite):
         ("a file of schema 2 that says 3", changed("says-3.db", SCHEMA_2 + "UPDATE meta SET value = 3;")),
         ("a file with another table", foreign),
         ("a text", b"This is a text and no database."),
+        ("the letter S", b"S"),
+        ("the letters SQ", b"SQ"),
     ):
         for number, row in enumerate(COMMANDS.strip().split("\n")):
             # a file of its own, since a command may leave a log beside the file that it refuses
@@ -195,6 +199,41 @@ def refused(suite):
             line, word = row.replace(" F", f" {name}").split(" | ")
             suite.equal(f"{cause}: {row}", (run(words_of(line)), read(name) == content), ((1, b"", f"goshelf: {word}\n"), True))
     suite.equal("the file that was damaged in copies is opened", run("team-add --db good.db --team beta".split()), (0, b"", ""))
+
+
+def logs_alone(suite):
+    """A log whose database file is gone or empty is kept, and no command makes another file for it."""
+    new_store("good.db", ("alpha", KEY))
+    log = read("good.db-wal")
+    for cause, files in (("a log without its file", {}), ("a log beside an empty file", {"": b""})):
+        for number, row in enumerate([*COMMANDS.strip().split("\n"), "migrate --from F --to fresh.db | bad-schema"]):
+            # a file of its own, since a command may change what it does not refuse
+            name = f"{cause.replace(' ', '-')}-{number}.db"
+            write({f"{name}{end}": content for end, content in [*files.items(), ("-wal", log)]})
+            line = row.replace(" F", f" {name}").split(" | ")[0]
+            told = run(words_of(line))
+            left = {end: read(name + end) for end in ("", "-wal") if os.path.exists(name + end)}
+            # an older file that is missing or empty is not opened
+            word = "bad-schema" if line.startswith(f"migrate --from {name}") else "device"
+            suite.equal(f"{cause}: {line}", (told, left), ((1, b"", f"goshelf: {word}\n"), {**files, "-wal": log}))
+
+
+def started(suite):
+    """What a crash leaves of a store that was being made is opened: no bytes or a 0 in the file, and no more than a header in the log."""
+    for cause, file, log in (
+        ("no files", None, None),
+        ("two empty files", b"", b""),
+        ("an empty file and a log of a header", b"", b"7" + bytes(40)),
+        ("a 0 and a log of a header", b"\0", b"7" + bytes(40)),
+        ("a log that is empty, without its file", None, b""),
+    ):
+        name = f"{cause.replace(' ', '-')}.db"
+        for end, content in (("", file), ("-wal", log)):
+            if content is not None:
+                write({name + end: content, f"served-{name}{end}": content})
+        suite.equal(f"{cause}: team-add", run(["team-add", "--db", name, "--team", "alpha"]), (0, b"", ""))
+        status, _, told = run(["serve", "--db", f"served-{name}", "--port", "0", "--connections", "0"])
+        suite.equal(f"{cause}: serve says whether the file was empty", (status, told), (0, "" if file else NEW_STORE))
 
 
 def keys(suite):
@@ -219,4 +258,4 @@ def no_files(suite):
 
 
 if __name__ == "__main__":
-    sys.exit(in_new_folders(Suite(), keeps, zips, lengths, refused, keys, no_files))
+    sys.exit(in_new_folders(Suite(), keeps, zips, lengths, refused, logs_alone, started, keys, no_files))

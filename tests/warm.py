@@ -16,15 +16,15 @@ from go_client import module
 from harness import Suite, done, read, write
 from hosts import wait_until
 from machine import block
-from one import DESK, FIRST, KEPT, equal
-from warm_hosts import BOTH, COPY, HOME, NOT_WHOLE, PAGE, WARM, play, publishes, store_of
+from one import DESK, FIRST, KEPT, equal, told_over_reloads
+from warm_hosts import BOTH, COPY, ELSEWHERE, HOME, NOT_WHOLE, PAGE, SECOND_WAY, WARM, play, publishes, store_of
 
 NEEDS = ["curl", "flock", "ip", "nginx", "openssl", "pgrep", "sqlite3"]
 
 
 def before_the_copy(suite, company):
     """The warm host has no store yet: the first host answers."""
-    company.maps(block("sh", "echo '20 * * * *", PAGE).partition("\n")[0])
+    company.maps(block("sh", "root $(command -v goshelf-warm) store", PAGE).partition("\n")[0])
     suite.equal("publishes at the warm host", publishes(company, "v1.0.0"), {(201, b"published\n")})
     suite.equal("a version whose name ends like a file's", {company.put("pub", "example.com/lib", f"v1.0.0-rc.{it}") for it in ("zip", "mod", "info")}, {(201, b"published\n")})
     equal(suite, company, "no copy")
@@ -33,7 +33,7 @@ def before_the_copy(suite, company):
 def first_copy(suite, company):
     """The commands of the page make a copy and have cron make the next ones. Then the copy answers."""
     warm = company.warm
-    told = warm.sh(block("sh", "echo '20 * * * *", PAGE))
+    told = warm.sh(block("sh", "root $(command -v goshelf-warm) store", PAGE))
     suite.equal("a copy comes without a word", told, (0, "", ""))
     lines = [it.split() for it in warm.read("etc/cron.d/goshelf-warm").splitlines()]
     script = f"{warm.folder}/usr/local/bin/goshelf-warm"
@@ -49,7 +49,8 @@ def first_copy(suite, company):
     begun = len(company.lines(FIRST, 0))
     kept = {it: answer for it, answer in wanted.items() if answer[0] == 200 and KEPT.search(it[1])}
     suite.equal(f"{len(kept)} files", company.differing(kept, (WARM,)), [])
-    suite.equal("for which the first host is not asked", company.lines(FIRST, begun), [])
+    asked = [it for it in company.lines(FIRST, begun) if KEPT.search(it.split()[5]) and it.split()[6] == "200"]
+    suite.equal("for which the first host is not asked", asked, [])
     suite.equal("strangers get nothing", {company.desk.ask(WARM, None, it)[0] for it in ("/example.com/lib/@v/v1.0.0.zip", "/example.com/lib/@v/list")}, {401})
     suite.equal("nor does who has another password", {company.desk.ask(WARM, None, it, headers={"Authorization": "Basic YW5uOng="})[0] for it in ("/example.com/lib/@v/v1.0.0.zip", "/x")}, {401})
     heads = [company.desk.ask(at, "ann", "/example.com/lib/@v/v1.0.0.zip", "HEAD") for at in company.fronts]
@@ -115,7 +116,7 @@ def go_goes_on(suite, company):
     public = static(f"{desk.folder}/public", module("golang.example/tool", "v1.0.0"))
     desk.write("root/.netrc", f"machine {BOTH} login ann password {company.desk.passwords['ann']}\n")
     write({f"{desk.folder}/etc/ssl/hosts.pem": "".join(company.hosts[name].read("etc/ssl/goshelf.pem") for name in company.fronts)})
-    proxies = shlex.split(block("sh", f"GOPROXY=https://{BOTH}", PAGE))[-1].removeprefix("GOPROXY=").replace("https://proxy.golang.org,direct", f"file://{public}")
+    proxies = shlex.split(block("sh", f"GOPROXY=https://{BOTH}", PAGE))[-1].removeprefix("GOPROXY=") + f",file://{public}"
     settings = {"GOPROXY": proxies, "GONOSUMDB": "*", "GOFLAGS": "-modcacherw", "GOTOOLCHAIN": "local", "SSL_CERT_FILE": f"{desk.folder}/etc/ssl/hosts.pem"}
     app = "mkdir -p app; cd app; printf 'module app\\n\\ngo 1.17\\n\\nrequire (\\n\\texample.com/greet v1.0.0\\n\\tgolang.example/tool v1.0.0\\n)\\n' > go.mod; go mod download all"
     hosts, names = f"/etc/netns/{desk.namespace}/hosts", read(f"/etc/netns/{desk.namespace}/hosts").decode()
@@ -196,14 +197,14 @@ def sent(company, path, body, is_half, wait, harm):
 def removed(suite, company):
     """A user who is removed, one removed while the warm host is cut off, and maps that nginx refuses."""
     first, warm, zip_file = company.first, company.warm, "/example.com/lib/@v/v1.0.0.zip"
-    remove = block("sh", 'sed -i "/ $user ')
+    remove = block("sh", "goshelf-user remove ann").replace("ann", "tom")
     company.copy()
     company.desk.add(first, "tom", "alpha", "read")
     first.reload()
     suite.equal("a new user is known here with the maps", [company.desk.ask(it, "tom", zip_file)[0] for it in company.fronts], [200, 401])
     company.maps()
     suite.equal("then also here", [company.desk.ask(it, "tom", zip_file)[0] for it in company.fronts], [200] * 2)
-    first.does(remove, user="tom")
+    first.does(remove)
     first.reload()
     suite.equal("removed: at the first host", company.desk.ask(FIRST, "tom", zip_file)[0], 401)
     suite.equal("what the copy lacks", company.desk.ask(WARM, "tom", "/example.com/lib/@v/list")[0], 401)
@@ -214,7 +215,7 @@ def removed(suite, company):
     first.reload()
     company.maps()
     warm.link(False)
-    first.does(remove, user="tom")
+    first.does(remove)
     first.reload()
     told = warm.sh("goshelf-warm maps")
     suite.holds("no maps come while the host is cut off, and it says so", told[0] == 1 and "no whole copy of the first host's maps came" in told[1], told)
@@ -228,9 +229,25 @@ def removed(suite, company):
     told = warm.sh("goshelf-warm maps")
     suite.holds("maps that nginx refuses are named", told[0] == 1 and told[1] == "goshelf-warm: nginx refuses the first host's maps: the old ones stay\n", told)
     suite.equal("the old ones stay", (warm.read("etc/nginx/goshelf/users.map") == good, warm.sh("nginx -q -t")[0], sorted(os.listdir(f"{warm.folder}/etc/nginx/goshelf"))),
-                (True, 0, ["keys.map", "users.map"]))
+                (True, 0, ["elsewhere.conf", "keys.map", "paths.map", "public.conf", "users.map"]))
     first.write("etc/nginx/goshelf/users.map", good)
     suite.equal("the same maps again", warm.sh("goshelf-warm maps"), (0, "", ""))
+    warm.stop_nginx()
+    company.desk.add(first, "tim", "alpha", "read")
+    told = warm.sh("goshelf-warm maps")
+    stay = told[:2] == (1, "goshelf-warm: nginx does not run: the old maps stay\n")
+    suite.holds("without an nginx the old maps stay", stay and warm.read("etc/nginx/goshelf/users.map") == good, told)
+    warm.start_nginx()
+    company.maps()
+    suite.equal("so the next run brings the new ones", company.desk.ask(WARM, "tim", zip_file)[0], 200)
+    paths = "etc/nginx/goshelf/paths.map"
+    good = first.read(paths)
+    first.write(paths, good + '"golang.org/x/mod" "alpha";\n')
+    told = warm.sh("goshelf-warm maps")
+    suite.equal("a change of paths.map alone comes too", (told, warm.read(paths)), ((0, "", ""), first.read(paths)))
+    first.write(paths, good)
+    first.does(remove.replace("tom", "tim"))
+    company.maps()
     equal(suite, company, "users")
 
 
@@ -281,7 +298,7 @@ def restored(suite, company):
     for it in COPY:
         shutil.copyfile(f"{first.folder}/root/{it}", f"{first.folder}/{HOME}/{it}")
     first.does("systemctl start goshelf")
-    first.does(block("sh", "$goshelf_shelf", PAGE))
+    first.does(block("sh", "goshelf-uncache", PAGE))
     first.reload()
     target = "/example.com/lib/@v/v1.90.0.zip"
     suite.equal("the first host lacks it, the copy has it", [company.desk.ask(at, "ann", target)[0] for at in company.fronts], [404, 200])
@@ -293,6 +310,30 @@ def restored(suite, company):
     equal(suite, company, "a restored store")
 
 
+def public_modules(suite, company):
+    """By the first way the warm host asks the public proxy itself: here nobody, so that its text shows who asked."""
+    conf, target = "etc/nginx/conf.d/goshelf.conf", ELSEWHERE[0]
+    company.warm.edit(conf, SECOND_WAY[::-1])
+    company.warm.reload()
+    begun = len(company.lines(FIRST, 0))
+    told = company.desk.ask(WARM, "ann", target)[::2]
+    suite.equal("a public module", told, (502, b"the public proxy does not answer: try again in a minute\n"))
+    asked = [it for it in company.lines(FIRST, begun) if target in it]
+    suite.equal("for which the first host is not asked", asked, [])
+    told = company.desk.ask(WARM, "bob", "/example.com/own/@v/v8.0.0", "PUT", b"x", {"Mod-Length": "1"})[::2]
+    suite.equal("who reads may not publish", told[0], 403)
+    told = company.desk.ask(WARM, "pub", target.removesuffix(".mod"), "PUT", b"x", {"Mod-Length": "1"})[::2]
+    suite.equal("nor may anybody below no path of paths.map", told, (403, b"not your path\n"))
+    company.warm.edit(conf, SECOND_WAY)
+    company.warm.reload()
+
+
+def first_reloaded(suite, company):
+    """The first host's nginx reads its files anew while the warm host is asked for what the copy lacks."""
+    told = told_over_reloads(company, WARM)
+    suite.equal("the first host's nginx reloads: the store's answers alone", told, [(404, b"not found\n")])
+
+
 def promoted(suite, company):
     """The first host is lost: the warm host becomes the first, by the commands of the page."""
     warm = company.warm
@@ -301,6 +342,8 @@ def promoted(suite, company):
     company.first.link(False)
     before = warm.workers()
     warm.does(block("sh", "rm /etc/cron.d/goshelf-warm", PAGE))
+    warm.edit("etc/nginx/conf.d/goshelf.conf", SECOND_WAY)
+    warm.does("nginx -s reload")
     wait_until(lambda: warm.workers() and not before & warm.workers())
     company.desk.kept.clear()
     suite.equal("the warm host answers all as the first did", company.differing(wanted, (WARM,)), [])
@@ -309,4 +352,5 @@ def promoted(suite, company):
 
 
 if __name__ == "__main__":
-    sys.exit(play(Suite(), (before_the_copy, first_copy, old_copy, copy_down, go_goes_on, removed, key_revoked, restored, under_way, promoted)))
+    parts = (before_the_copy, first_copy, old_copy, first_reloaded, copy_down, go_goes_on, public_modules, removed, key_revoked)
+    sys.exit(play(Suite(), (*parts, restored, under_way, promoted)))

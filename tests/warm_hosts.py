@@ -19,8 +19,9 @@ from machine import block
 from one import FIRST, KEPT, Company
 
 WARM, BOTH, PAGE = "warm.example.com", "modules.example.com", "DEPLOYMENTS.md"
-# paths that are on no shelf, which the public proxy may have
-ELSEWHERE = ("/golang.org/x/mod/@v/v0.1.0.mod", "/golang.org/x/mod/@v/list", "/golang.org/x/mod/@latest", "/x")
+# modules that are not the company's: goshelf has none of them, and nginx answers them as goshelf would, by the second way
+ELSEWHERE = ("/golang.org/x/mod/@v/v0.1.0.mod", "/golang.org/x/mod/@v/list", "/golang.org/x/mod/@latest")
+SECOND_WAY = ("    default $goshelf_public;\n", "    default nowhere;\n")
 HOME, COPY = "var/lib/goshelf", ("shelves.db", "shelves.db-wal")
 NOT_WHOLE = "no whole copy of the first host's store came"
 # answers that need no other than the copy
@@ -121,6 +122,8 @@ class Warm(Company):
         host.command("ssh", SSH.format(python=sys.executable))
         host.write("root/goshelf-first.pem", certificate)
         host.does(block("sh", "deploy/warm/server.conf", PAGE))
+        for it in (self.first, host):
+            it.edit("etc/nginx/conf.d/goshelf.conf", SECOND_WAY)
         host.start_nginx()
 
     def targets(self):

@@ -5,6 +5,10 @@ One goshelf is asked alone, and then 1, 2 and 4 of them behind nginx by tools/sh
 among them, without and with nginx's cache. Each is asked three times: with publishes and an empty cache, where every answer is compared with that
 of the one goshelf; by other builds, as fast as it answers; and at --load of that rate, in bursts, for the latencies. Build the program first
 (`./goshelf --version`); nginx and a C compiler are on the path (Debian: nginx-light, gcc).
+
+With --public 95, 95 of 100 requests of a build are for public modules, and each deployment behind a cache is asked in
+three ways: goshelf answers 404 and the public proxy stands behind in GOPROXY; nginx answers that 404 itself; or nginx
+is the one URL. The public proxy is an nginx of its own on this machine, which company_public.py makes.
 """
 
 import argparse
@@ -22,6 +26,7 @@ import time
 
 from company_plan import Company, Plan
 from company_plot import plot
+from company_public import ONE, SECOND, WAYS, Outside, files, free_port
 
 ROOT = os.path.dirname(os.path.dirname(os.path.abspath(__file__)))
 PROGRAM = os.path.abspath(os.environ.get("GOSHELF") or os.path.join(ROOT, "crates", "goshelf", "out", "goshelf"))
@@ -42,6 +47,8 @@ http {{
 class Direct:
     """goshelf is asked itself, by a key in the target."""
 
+    outside = None
+
     def __init__(self, company, store):
         self.company, self.store = company, store
 
@@ -56,8 +63,10 @@ class Direct:
 class Front:
     """nginx is asked, by a login."""
 
-    def __init__(self, company, port):
+    def __init__(self, company, port, outside):
         self.listens, self.users, self.random = port, company.sizes.users, random.Random(company.sizes.seed)
+        # the public proxy's port, where this has no public modules
+        self.outside = outside
 
     def port(self, _):
         return self.listens
@@ -121,20 +130,17 @@ def run(*words):
     subprocess.run([PROGRAM, *words], check=True)
 
 
-def free_port():
-    with socket.socket() as held:
-        held.bind(("127.0.0.1", 0))
-        return held.getsockname()[1]
-
-
-def config(company, folder, port, stores, is_cached):
-    """nginx's file by tools/shards, without TLS and limits."""
+def config(company, folder, port, stores, is_cached, way, outside):
+    """nginx's file by tools/shards, without TLS and limits, for a way to have public modules."""
     write_shards(company, stores, f"{folder}/shards.conf")
     with open(os.path.join(ROOT, "deploy", "nginx", "goshelf.conf"), "rb") as file:
         told = subprocess.run([os.path.join(ROOT, "tools", "shards"), "conf", f"{folder}/shards.conf"], stdin=file, capture_output=True, check=True).stdout.decode()
     text = "\n".join(it for it in told.split("\n") if not re.match(r"\s*(ssl_|limit_)", it))
     text = text.replace("listen 443 ssl;", f"listen 127.0.0.1:{port} backlog=4096;").replace("/var/log/nginx/", f"{folder}/")
     text = text.replace("/etc/nginx/goshelf/", f"{folder}/").replace("/var/cache/nginx/goshelf", f"{folder}/cache")
+    text = text.replace("server proxy.golang.org:443;", f"server 127.0.0.1:{outside.tls if outside else 9};")
+    if way == SECOND:
+        text = text.replace("default $goshelf_public;", "default nowhere;")
     return text if is_cached else text.replace("proxy_cache goshelf;", "proxy_cache off;")
 
 
@@ -160,16 +166,18 @@ def maps(company):
 class Nginx:
     """nginx over stores."""
 
-    def __init__(self, company, folder, stores, is_cached):
+    def __init__(self, company, folder, stores, is_cached, way, outside):
         self.listens = free_port()
-        os.makedirs(f"{folder}/cache")
-        files = {"goshelf.conf": config(company, folder, self.listens, stores, is_cached), **maps(company)}
-        files["nginx.conf"] = NGINX.format(folder=folder, workers=company.sizes.workers)
-        for name, text in files.items():
+        for name in ("cache", "cache-public"):
+            os.makedirs(f"{folder}/{name}")
+            os.chmod(f"{folder}/{name}", 0o777)
+        os.chmod(folder, 0o777)
+        conf = config(company, folder, self.listens, stores, is_cached, way, outside)
+        texts = {"goshelf.conf": conf, **maps(company), **files(folder, company.shelves, way, outside)}
+        texts["nginx.conf"] = NGINX.format(folder=folder, workers=company.sizes.workers)
+        for name, text in texts.items():
             with open(f"{folder}/{name}", "w", encoding="utf-8") as file:
                 file.write(text)
-        for name in (folder, f"{folder}/cache"):
-            os.chmod(name, 0o777)
         command = shutil.which("nginx") or "/usr/sbin/nginx"
         self.folder, self.child = folder, subprocess.Popen([command, "-c", f"{folder}/nginx.conf", "-e", f"{folder}/start.log"])
         for _ in range(600):
@@ -180,8 +188,7 @@ class Nginx:
         sys.exit(f"nginx does not start: {read(f'{folder}/start.log')}")
 
     def workers(self):
-        told = subprocess.run(["pgrep", "-P", str(self.child.pid), "-f", "worker process"], capture_output=True, text=True).stdout
-        return list(map(int, told.split()))
+        return workers_of(self.child)
 
     def looked_up(self):
         """HIT, or why not, of each request that nginx looked up in its cache."""
@@ -191,6 +198,11 @@ class Nginx:
     def stop(self):
         self.child.terminate()
         self.child.wait()
+
+
+def workers_of(nginx):
+    words = ["pgrep", "-P", str(nginx.pid), "-f", "worker process"]
+    return list(map(int, subprocess.run(words, capture_output=True, text=True).stdout.split()))
 
 
 def read(name):
@@ -218,19 +230,24 @@ def ask(folder, plan, lanes):
         return list(OUTCOME.iter_unpack(file.read())), float(told), usage.ru_utime + usage.ru_stime
 
 
-def measured(sizes, folder, name, stores, is_cached):
-    """Asks one deployment, or a store itself where is_cached is None. Returns its row, and the answers to the first requests."""
+def measured(sizes, folder, name, stores, is_cached, way, outside):
+    """Asks one deployment, or a store itself where is_cached is None. Returns its row, and the answers to the first
+    requests, without the 404s after which the public proxy is asked."""
     company, nginx = Company(sizes), None
     for it in stores:
         it.start()
     try:
         if is_cached is not None:
-            nginx = Nginx(company, tempfile.mkdtemp(dir=folder), stores, is_cached)
-        front = Front(company, nginx.listens) if nginx else Direct(company, stores[0])
-        answers, _, _ = ask(folder, Plan(company, front).fill(0), sizes.lanes)
-        row = {"name": name, **flat_out(sizes, folder, front, stores, nginx)}
+            nginx = Nginx(company, tempfile.mkdtemp(dir=folder), stores, is_cached, way, outside)
+        behind = outside.plain if outside and way != ONE else None
+        front = Front(company, nginx.listens, behind) if nginx else Direct(company, stores[0])
+        plan = Plan(company, front).fill(0)
+        answers, _, _ = ask(folder, plan, sizes.lanes)
+        if found := {answers[it][0] for it in plan.absent} - {404}:
+            sys.exit(f"{name}: public modules get {found} where they are not to be had")
+        row = {"name": name, **flat_out(sizes, folder, front, stores, nginx, outside)}
         row["latencies"] = at_load(sizes, folder, front, row["rate"] * sizes.load)
-        return row, [it[:1] + it[2:] for it in answers]
+        return row, [it[:1] + it[2:] for place, it in enumerate(answers) if place not in plan.absent]
     finally:
         for it in [*stores, *([nginx] if nginx else [])]:
             it.stop()
@@ -241,14 +258,17 @@ def others(sizes, front, rate):
     return Plan(Company(argparse.Namespace(**{**vars(sizes), "seed": sizes.seed + 1, "publishes": 0})), front).fill(rate)
 
 
-def flat_out(sizes, folder, front, stores, nginx):
+def flat_out(sizes, folder, front, stores, nginx, outside):
     """The highest rate, and microseconds of processor time of an answer at each hop."""
     groups = {"goshelf": [it.child.pid for it in stores], "nginx": nginx.workers() if nginx else []}
+    if outside:
+        groups["public"] = workers_of(outside.child)
     plan, begun = others(sizes, front, 0), nginx.looked_up() if nginx else ()
     before = {it: seconds_of(numbers) for it, numbers in groups.items()}
     _, seconds, own = ask(folder, plan, sizes.lanes)
     row = {it: (seconds_of(numbers) - before[it]) / plan.count * 1e6 for it, numbers in groups.items()}
     looked = nginx.looked_up()[len(begun) :] if nginx else []
+    row["builds"] = sizes.builds / seconds
     return {**row, "rate": plan.count / seconds, "client": own / plan.count * 1e6, "busy": own / seconds, "hits": looked.count("HIT") / max(1, len(looked))}
 
 
@@ -264,11 +284,15 @@ def quantile(row, share):
 
 def table(rows, wrong):
     """The rows as a table of Markdown."""
-    heads = ["deployment", "answers a second", "goshelf", "nginx", "client", "client busy", "hits", "p50", "p99", "p99.9", "differ"]
+    named = [it for it in ("goshelf", "nginx", "public", "client") if it in rows[0]]
+    heads = ["deployment", "answers a second", "builds a second", *named, "client busy", "hits"]
+    heads += ["p50", "p99", "p99.9", "differ"]
     lines = [heads, ["---"] * len(heads)]
     for row in rows:
-        hops = [f"{row[it]:.0f} µs" for it in ("goshelf", "nginx", "client")]
-        lines.append([row["name"], f"{row['rate']:,.0f}", *hops, f"{row['busy']:.0%}", f"{row['hits']:.0%}", *(f"{quantile(row, it):.2f} ms" for it in QUANTILES), str(wrong[row["name"]])])
+        hops = [f"{row[it]:.0f} µs" for it in named]
+        rates, shares = (f"{row[it]:,.0f}" for it in ("rate", "builds")), (f"{row[it]:.0%}" for it in ("busy", "hits"))
+        latencies = (f"{quantile(row, it):.2f} ms" for it in QUANTILES)
+        lines.append([row["name"], *rates, *hops, *shares, *latencies, str(wrong[row["name"]])])
     return "\n".join("| " + " | ".join(it) + " |" for it in lines)
 
 
@@ -277,12 +301,21 @@ def options():
     for name, default, text in (("seed", 1, "another one makes another company"), ("teams", 8, "teams"), ("groups", 4, "groups that share them out"), ("modules", 30, "modules of a shelf"),
                                 ("versions", 4, "versions of a module"), ("needs", 30, "modules that a build needs at most"), ("builds", 1_500, "builds"),
                                 ("publishes", 40, "publishes"), ("zip", 8_000, "bytes of a zip, on average"), ("users", 10, "users of each shelf and right"),
-                                ("lanes", 32, "connections at once"), ("workers", 1, "processes of nginx")):
+                                ("lanes", 32, "connections at once"), ("workers", 1, "processes of nginx"),
+                                ("public", 0, "of 100 requests of a build those for public modules")):
         parser.add_argument(f"--{name}", type=int, default=default, help=f"{text} ({default:,})")
     parser.add_argument("--load", type=float, default=0.5, help="the share of the highest rate at which latencies are measured (0.5)")
     parser.add_argument("--stores", default="1,2,4", help="how many stores to share the teams among (1,2,4)")
     parser.add_argument("--plot", default="company.svg", help="the file of the plot (company.svg)")
     return parser.parse_args()
+
+
+def deployments(sizes, count):
+    """Those of a number of stores: the name, whether nginx keeps answers (None: no nginx), the way to public modules."""
+    if sizes.public:
+        return [(f"{count} behind a cache, {it}", True, it) for it in WAYS]
+    behind = [(f"{count} behind nginx", False, ONE), (f"{count} behind a cache", True, ONE)]
+    return [("1 alone", None, ONE), *behind] if count == 1 else behind
 
 
 def main():
@@ -291,16 +324,18 @@ def main():
         os.chmod(folder, 0o755)
         subprocess.run(["cc", "-O2", "-D_GNU_SOURCE", "-o", f"{folder}/client", os.path.join(ROOT, "bench", "company.c")], check=True)
         rows, wrong, first = [], {}, None
+        outside = Outside(tempfile.mkdtemp(dir=folder), sizes.zip) if sizes.public else None
         for count in map(int, sizes.stores.split(",")):
             company = Company(sizes)
             stores = [Store(company, tempfile.mkdtemp(dir=folder), shelves) for shelves in company.share(count)]
-            ways = [(f"{count} behind nginx", False), (f"{count} behind a cache", True)]
-            for name, is_cached in ([("1 alone", None)] if count == 1 else []) + ways:
-                row, outcomes = measured(sizes, folder, name, stores, is_cached)
+            for name, is_cached, way in deployments(sizes, count):
+                row, outcomes = measured(sizes, folder, name, stores, is_cached, way, outside)
                 first = first or outcomes
                 wrong[name] = sum(one != other for one, other in zip(first, outcomes)) + abs(len(first) - len(outcomes))
                 rows.append(row)
                 print(f"{name}: {row['rate']:,.0f} answers a second", file=sys.stderr, flush=True)
+        if outside:
+            outside.stop()
         # (before the folder goes, which takes a minute where a cache has filled it)
         print(f"{len(first):,} requests; statuses {({it: sum(one[0] == it for one in first) for it in sorted({one[0] for one in first})})}")
         print(table(rows, wrong), flush=True)

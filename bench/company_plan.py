@@ -11,6 +11,8 @@ KINDS = (("pinned", 80), ("upgrade", 12), ("new import", 8))
 # lists of requests that one go command has under way at a time
 PARALLEL = 4
 TIME = "2024-01-31T12:00:00Z"
+# what every build needs of public modules is among so many
+PUBLIC = [f"public.example/m{number}" for number in range(200)]
 
 
 class Company:
@@ -70,6 +72,12 @@ class Company:
         paths += self.popular(self.modules["common"], 2 * count)
         return [(path, self.random.choice(self.versions[-2:])) for path in paths]
 
+    def public(self, count):
+        """What a build asks of public modules beside this number of requests for the company's, by their share."""
+        wanted = count * self.sizes.public // (100 - self.sizes.public)
+        paths = itertools.islice(itertools.cycle(self.popular(PUBLIC, 60)), (wanted + 1) // 2) if wanted else ()
+        return [f"/{path}/@v/v1.0.0.{end}" for path in paths for end in ("mod", "zip")]
+
     def builds(self):
         """The lists of requests of every build, as pairs of a team and its targets, in bursts of builds that need the same."""
         names, weights = zip(*KINDS)
@@ -103,18 +111,33 @@ class Plan:
 
     def __init__(self, company, front):
         self.company, self.front = company, front
-        self.parts, self.count, self.due = [], 0, 0
+        self.parts, self.count, self.due, self.absent = [], 0, 0, set()
 
-    def list(self, shelf, requests):
-        """Adds a list of requests of a shelf, each as its bytes."""
-        self.parts.append(f"L {int(self.due * 1e6)} {self.front.port(shelf)}\n".encode())
+    def list(self, port, requests):
+        """Adds a list of requests at a port, each as its bytes."""
+        self.parts.append(f"L {int(self.due * 1e6)} {port}\n".encode())
         for request in requests:
             self.parts.append(b"R %d\n%s" % (len(request), request))
             self.count += 1
 
     def gets(self, team, lists_of_targets):
         for them in lists_of_targets:
-            self.list(team, [self.front.head("GET", team, it, False) + b"\r\n" for it in them])
+            self.at_front(team, them)
+        self.public(team, self.company.public(sum(map(len, lists_of_targets))))
+
+    def at_front(self, team, targets):
+        port = self.front.port(team)
+        self.list(port, [self.front.head("GET", team, it, False) + b"\r\n" for it in targets])
+
+    def public(self, team, targets):
+        """Asks for public modules: at the front, and if that has none, at the public proxy. `absent` has the places of
+        the former."""
+        for start in range(min(PARALLEL, len(targets))):
+            them, begun = targets[start::PARALLEL], self.count
+            self.at_front(team, them)
+            if self.front.outside:
+                self.absent.update(range(begun, self.count))
+                self.list(self.front.outside, [f"GET {it} HTTP/1.1\r\nHost: localhost\r\n\r\n".encode() for it in them])
 
     def publish(self, team, number):
         """A publish of a version, and the publisher's look at it."""
@@ -122,7 +145,7 @@ class Plan:
         headers, body = self.company.publish(path, version, self.company.sizes.zip)
         put = self.front.head("PUT", team, f"/{path}/@v/{version}", True) + headers + b"\r\n" + body
         looks = [self.front.head("GET", team, f"/{path}/@v/{it}", False) + b"\r\n" for it in ("list", f"{version}.info")]
-        self.list(team, [put, *looks])
+        self.list(self.front.port(team), [put, *looks])
 
     def fill(self, rate):
         """Adds every build and publish. With a rate, bursts are due so that there are so many answers a second on average."""

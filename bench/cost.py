@@ -27,6 +27,9 @@ KINDS = {
     "a list": f"{PATH}/@v/list",
     "@latest": f"{PATH}/@latest",
     "a .mod that is not there": f"{PATH}/@v/v9.9.9.mod",
+    "a .mod of a path that is not there": "example.org/public/@v/v1.0.0.mod",
+    "a list of a path that is not there": "example.org/public/@v/list",
+    "@latest of a path that is not there": "example.org/public/@latest",
 }
 
 

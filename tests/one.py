@@ -35,6 +35,8 @@ ASKED_AGAIN = ("proxy_cache_valid 204 1m;", "proxy_cache_valid 204 2s;")
 FORGOTTEN = 3.2
 # how long a host leaves the first one alone that failed twice: 5 seconds, which nginx counts by whole ones
 LEFT_ALONE = 7
+# seconds after which a failure is one that stays, fewer than a host is left alone
+SOON = 3
 # room that a cache leaves on its disk: in the files, and here
 SMALL = ("min_free=1g", "min_free=2m")
 KEPT = re.compile(r"/@v/[^/]+\.(info|mod|zip)$|^/-/gosum/")
@@ -253,16 +255,20 @@ def first_reloaded(suite, company):
 
 
 def told_over_reloads(company, at, target="/example.com/lib/@v/v9.9.9.info"):
-    """What three who ask at a host are told while the first host's nginx reloads five times."""
+    """What three who ask at a host are told while the first host's nginx reloads five times. Who is told of a failure asks again.
+
+    After a failure nginx sends one request to find out whether the first host is back, and has the others fail until that one is answered.
+    A host that it leaves alone fails for 5 seconds.
+    """
     time.sleep(LEFT_ALONE)
     told, ended = set(), threading.Event()
 
     def ask():
         desk = company.desk.another()
         while not ended.is_set():
-            found = desk.ask(at, "bob", target)
-            if found[0] in (502, 504):
-                # (a busy machine takes longer than a host waits; a host that gave the first up fails again)
+            found, begun = desk.ask(at, "bob", target), time.time()
+            while found[0] in (502, 504) and time.time() - begun < SOON:
+                time.sleep(0.05)
                 found = desk.ask(at, "bob", target)
             told.add((found[0], found[2]))
 

@@ -4,7 +4,7 @@
 Of each page: links lead to files and headings that exist; commits, files, crates and items that it cites in backticks exist; a line has at
 most 100 characters, a table cell 120, and the README 120 lines. The blocks marked `sh run` of a page run one after another in one shell, in a
 folder of their own with the built program and tools/ on the path. A block marked `output` is what the last block before it that runs has to print.
-With names of pages, only those are checked. tools/pages calls it too.
+A sheet of docs/theorems/ is what tools/theorems prints. With names of pages, only those are checked. tools/pages calls it too.
 """
 
 import os
@@ -21,6 +21,7 @@ from harness import PROGRAM, ROOT, Suite, shown
 LONGEST_README = 120
 LONGEST_CELL = 120
 LONGEST_LINE = 100
+SHEETS = "docs/theorems/"
 # folders and files at the top whose names pages cite in backticks
 PLACES = re.compile(r"(?:\.ci|bench|crates|deploy|docs|examples|tests|tools)/[\w./*-]+|[\w-]+\.(?:md|txt)")
 COMMIT = re.compile(r"(?=.*\d)(?=.*[a-f])[0-9a-f]{7,12}")
@@ -203,7 +204,20 @@ def run_blocks(suite, page, found):
             suite.equal(name, parts[at].rstrip("\n"), wanted.rstrip("\n"))
 
 
-def check(suite, page, known):
+def wrong_sheets():
+    """What tools/theorems says is wrong with the sheets, line by line."""
+    tool = os.path.join(ROOT, "tools", "theorems")
+    ran = subprocess.run([tool, "--check"], capture_output=True, text=True)
+    return [*ran.stdout.splitlines(), *ran.stderr.splitlines()[-1:]]
+
+
+def check_sheet(suite, page, wrong):
+    """Adds the row of a sheet; what names no sheet, such as a traceback, is wrong with each."""
+    bad = [it for it in wrong if it.startswith(f"{page}: ") or not it.startswith(SHEETS)]
+    suite.holds(f"{page}: sheet", not bad, shown(bad))
+
+
+def check(suite, page, known, wrong):
     """Adds the rows of one page."""
     text = read(page)
     own, used = crates()
@@ -216,6 +230,8 @@ def check(suite, page, known):
         ("lines", bad_lines(text)),
     ):
         suite.holds(f"{page}: {what}", not bad, shown(bad))
+    if page.startswith(SHEETS) and page != f"{SHEETS}README.md":
+        check_sheet(suite, page, wrong)
     if page == "README.md":
         suite.holds(f"{page}: length", text.count("\n") <= LONGEST_README, f"{text.count(chr(10))} lines")
     if found := blocks(text):
@@ -224,10 +240,10 @@ def check(suite, page, known):
 
 def main():
     suite = Suite()
-    known = {"*": words_of("*")}
+    known, wrong = {"*": words_of("*")}, wrong_sheets()
     for page in sys.argv[1:] or lines_of("git", "ls-files", "-co", "--exclude-standard", "*.md"):
         if not page.startswith("-"):
-            check(suite, page, known)
+            check(suite, page, known, wrong)
     sys.exit(suite.end())
 
 

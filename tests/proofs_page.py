@@ -45,6 +45,9 @@ def main():
         ran = subprocess.run([os.path.join(ROOT, "tools", words[0]), *words[1:]], capture_output=True, text=True)
         suite.equal(what, (ran.returncode, ran.stdout), (0, ""))
     check_refusals(suite, tool("proofs"))
+    lines = ["pub enum Area {", "    Shelf,", "    At(Text),", "}"]
+    words = tool("theorems").Definition(("wire", "", "Area"), "wire/src/area.rt", 1, lines).words()
+    suite.equal("a sheet does not take the name of a variant for a type", words, ["pub", "enum", "Area", "Text"])
     return suite.end()
 
 

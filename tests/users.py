@@ -190,7 +190,7 @@ def uncached(suite, client):
     suite.equal("two teams publish", told, [201, 201])
     before, beside = machine.read(name), sorted(os.listdir(f"{machine.folder}/etc/nginx/conf.d"))
     for number in (2, 3):
-        wanted = 0, f"the caches begin anew: their generation is {number}\n", ""
+        wanted = 0, f"the caches are reset: their generation is {number}\n", ""
         suite.equal(f"the number is {number}", machine.sh("goshelf-uncache"), wanted)
         raised = before.replace('"$goshelf_shelf 1"', f'"$goshelf_shelf {number}"')
         suite.equal(f"nothing else changed to {number}", machine.read(name), raised)

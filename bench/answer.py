@@ -71,7 +71,7 @@ def measure(name, count, requests):
 
 
 def gets_on_a_store(entries, gets):
-    """Seconds of so many GETs on a store of so many versions, without the time that making the store takes."""
+    """Seconds of this many GETs on a store of this many versions, without the time that making the store takes."""
     made = lambda: (publish(*place(n)) for n in range(entries))
     # The asked versions are spread over the store.
     asked = (get(*place(n * 7919 % entries), "mod") for n in range(gets))
@@ -86,7 +86,7 @@ def gets_on_a_store(entries, gets):
 
 
 def on_one_path(name, versions, count, rest):
-    """Requests a second of one question about a path of so many versions, without the time of the publishes."""
+    """Requests a second of one question about a path of this many versions, without the time of the publishes."""
     made = lambda: (publish("example.com/many", f"v1.{n // 64}.{n % 64}") for n in range(versions))
     before, _, _, _ = run(made())
     after, memory, _, _ = run(itertools.chain(made(), (ask(rest) for _ in range(count))))
@@ -95,7 +95,7 @@ def on_one_path(name, versions, count, rest):
 
 
 def in_pieces(length, requests):
-    """Seconds and peak memory of the program on a stream that comes through a pipe in pieces of so many bytes."""
+    """Seconds and peak memory of the program on a stream that comes through a pipe in pieces of this many bytes."""
     stream = b"".join(itertools.chain.from_iterable(requests))
     with tempfile.TemporaryFile() as target:
         started = time.monotonic()

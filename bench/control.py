@@ -61,7 +61,7 @@ class Server:
         return begun, ended
 
     def pinged(self, versions):
-        """The microseconds of processor time that a ping takes, which has to tell so many versions."""
+        """The microseconds of processor time that a ping takes, which has to report this many versions."""
         before = used(self.child)
         told = self.told("ping")
         if not told.endswith(f" versions={versions}\n".encode()):
@@ -234,7 +234,7 @@ def copy(words, folder, client):
 
 
 def large(file, count):
-    """A store with so many zips of 1 MiB."""
+    """A store with this many zips of 1 MiB."""
     conn = store.made(file)
     conn.execute("BEGIN")
     for n in range(count):

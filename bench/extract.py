@@ -48,7 +48,7 @@ def made(file):
 
 
 def filled(file, entries):
-    """A store of so many versions with 1 KiB zips, those of the teams by turns."""
+    """A store of this many versions with 1 KiB zips, those of the teams by turns."""
     conn = made(file)
     conn.execute("BEGIN")
     for team in TEAMS:

@@ -16,13 +16,13 @@ MIB = 1_048_576
 
 
 def gomod(length):
-    """A go.mod of so many bytes, most of which are a comment."""
+    """A go.mod of this many bytes, most of which are a comment."""
     head = f"module {PATH}\n//".encode()
     return head + b"a" * (length - len(head) - 1) + b"\n"
 
 
 def filled(file, count, length):
-    """A store with so many versions on `alpha`, and as many others on `common`, without zips."""
+    """A store with this many versions on `alpha`, and as many others on `common`, without zips."""
     conn = made(file)
     conn.execute("PRAGMA synchronous = OFF")
     text = gomod(length)

@@ -78,7 +78,7 @@ def removed(file):
 
 
 def copied(file):
-    """The name of a copy of a store, in the place of the last one."""
+    """The name of a copy of a store, in place of the last one."""
     removed(f"{file}.copy")
     for end in ("", "-wal"):
         if os.path.exists(file + end):
@@ -94,7 +94,7 @@ def opened(program, file):
 
 
 def cost(program, file, count, request):
-    """Instructions of one of so many requests, the nth of which is `request(n)`, without the opening."""
+    """Instructions of one of this many requests, the nth of which is `request(n)`, without the opening."""
     return counted(program, file, tuple(b"".join(request(n)) for n in range(count)))
 
 

@@ -103,7 +103,7 @@ def counted(program, file, stream):
 
 
 def asked(program, file, rests, times, before):
-    """Instructions of these questions of a team, asked in turn so many times behind others, with the opening."""
+    """Instructions of these questions of a team, asked in turn this many times behind others, with the opening."""
     stream = tuple(b"".join(get("alpha", rest)) for rest in before + rests * times)
     return counted(program, file, stream)
 

@@ -1,8 +1,8 @@
 #!/usr/bin/env python3
 """What the lists of a whole shelf cost: `-/modules` and `inventory` of 1,000, 10,000 and 100,000 paths with a version each.
 
-Build the program first (`./goshelf --version`). With --program FILE it measures that program, with --zip BYTES each zip has so many (1,024), and
-with --paths N there is one store, of so many paths.
+Build the program first (`./goshelf --version`). With --program FILE it measures that program, with --zip BYTES each zip has this many (1,024), and
+with --paths N there is one store, of this many paths.
 Each line tells the bytes of the text, the processor time beside that of opening the store, and the peak of memory beside the opening's. With
 --count it also tells instructions by valgrind's count, less the opening's, for all but the largest store.
 """
@@ -25,7 +25,7 @@ VERSION = "v1.0.0"
 
 
 def filled(file, paths, zip_length):
-    """A store of so many paths, made by sqlite3 in one transaction."""
+    """A store of this many paths, made by sqlite3 in one transaction."""
     conn = made(file)
     conn.execute("BEGIN")
     order, rank = keys(VERSION)

@@ -2,7 +2,7 @@
 """Memory and time of the program on stores of several sizes: to open one, to fetch its largest zip, to publish the largest one, to serve.
 
 Build the program first (`./goshelf --version`). The stores are made by sqlite3, with the tables of bench/store.py. With numbers, the stores of
-so many MiB alone (100, 500).
+this many MiB alone (100, 500).
 """
 
 import os
@@ -22,7 +22,7 @@ ZIPS = (1024, MIB, LARGEST)
 
 
 def filled(file, size, zip_length):
-    """A store of about so many bytes with zips of this length, made in one transaction: how many versions it has."""
+    """A store of about this many bytes with zips of this length, made in one transaction: how many versions it has."""
     conn = made(file)
     conn.execute("BEGIN")
     # a small version takes about 1,480 bytes in the tables, a larger one hardly more than its zip

@@ -29,7 +29,7 @@ OF_A_PATH = 4000
 
 
 def filled(file, schema, entries):
-    """A store of an older schema with so many versions, those of the teams by turns."""
+    """A store of an older schema with this many versions, those of the teams by turns."""
     conn = sqlite3.connect(file, isolation_level=None)
     for text in (*SHARED, *OWN[schema]):
         conn.execute(text)

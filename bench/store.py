@@ -83,7 +83,7 @@ def insert(conn, n, zip_length):
 
 
 def filled(file, entries):
-    """A store of so many versions with 1 KiB zips, made by sqlite3 in one transaction."""
+    """A store of this many versions with 1 KiB zips, made by sqlite3 in one transaction."""
     conn = made(file)
     conn.execute("BEGIN")
     for n in range(entries):
@@ -113,7 +113,7 @@ def answered(file, requests):
 
 
 def published(folder, count, zip_length):
-    """Milliseconds of one of so many publishes, and of one of as many by sqlite3, and the program's peak, each into a new store."""
+    """Milliseconds of one of this many publishes, and of one of as many by sqlite3, and the program's peak, each into a new store."""
     ours, theirs = (os.path.join(folder, f"{name}.db") for name in ("ours", "theirs"))
     made(ours).close()
     opening, _ = answered(ours, [])
@@ -152,7 +152,7 @@ def middle(values):
 
 
 def filled_file(folder, entries):
-    """The file of a store of so many versions, with the time and the memory of its opening."""
+    """The file of a store of this many versions, with the time and the memory of its opening."""
     file = os.path.join(folder, f"store{entries}.db")
     filled(file, entries)
     seconds, peaks = zip(*(answered(file, []) for _ in range(ROUNDS)))
@@ -165,7 +165,7 @@ def filled_file(folder, entries):
 
 
 def fetching(file, entries, gets):
-    """Seconds of so many GETs of a .mod from a store, without its opening. The asked versions are spread over the store.
+    """Seconds of this many GETs of a .mod from a store, without its opening. The asked versions are spread over the store.
     They are so many that what an opening takes more or less from run to run hardly counts."""
     opening, _ = answered(file, [])
     seconds, _ = answered(file, (get(n * 7919 % entries) for n in range(gets)))

@@ -37,7 +37,7 @@ def publish(port, size, n, name="z"):
 
 
 def filled(program, file, beyond):
-    """Makes a store with all versions, and so many more of the largest size."""
+    """Makes a store with all versions, and this many more of the largest size."""
     for words in (["team-add", "--team", "alpha"], ["key-add", "--shelf", "alpha", "--key", KEY]):
         subprocess.run([program, *words, "--db", file], check=True)
     child, port = started(program, file)

@@ -394,7 +394,7 @@ def at_once(suite):
 
 
 def stopped(suite):
-    """`stop` ends a server: the request in hand is answered, and the store is free then."""
+    """`stop` ends a server: the current request is answered, and the store is free then."""
     new_store("served.db", ("alpha", KEY))
     words = ["stop", "--control", CONTROL]
     suite.equal("stop where nobody listens", run(words), (1, b"", "goshelf: device\n"))
@@ -409,7 +409,7 @@ def stopped(suite):
         thread.start()
         time.sleep(0.2)
         held.sendall(put("example.com/lib", "v1.0.0", GOMOD)[-5:])
-        suite.equal("the request in hand is answered", rest(held), reply(201, b"published\n"))
+        suite.equal("the current request is answered", rest(held), reply(201, b"published\n"))
         thread.join()
     suite.equal("stop ends well", results, [(0, b"", "")])
     suite.equal("and the server with 0", server.child.wait(60), 0)

@@ -45,7 +45,7 @@ def zips_in(store, numbers):
 
 
 def path_of(length):
-    """A path of so many bytes, in folders that are made."""
+    """A path of this many bytes, in folders that are made."""
     path = os.getcwd()
     while length - len(path) > 250:
         path = os.path.join(path, "d" * 200)

@@ -52,7 +52,7 @@ def extract(file, to):
 
 
 def refused(suite, whole, at, pages, before):
-    """Extracts onto a disk of so many pages; where that is refused, again onto the same one with more room. Whether it was refused."""
+    """Extracts onto a disk of this many pages; where that is refused, again onto the same one with more room. Whether it was refused."""
     part, on = os.path.join(at, "part.db"), f"a disk of {pages} pages"
     try:
         told = extract(whole, part)

@@ -257,7 +257,7 @@ answer --db empty < A example.com/lib/@v/v1.0.0.mod | 0
 
 
 def published(count):
-    """What an import of so many versions prints."""
+    """What an import of this many versions prints."""
     return "".join(f"    {n} 201 published\n" for n in range(1, count + 1))
 
 

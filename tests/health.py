@@ -58,7 +58,7 @@ def counts():
 
 
 def counts_of(connections):
-    """The counts, once so many connections were taken. A ping goes before peers who wait to be taken."""
+    """The counts, once this many connections were taken. A ping goes before peers who wait to be taken."""
     for _ in range(200):
         if counts()[0] >= connections:
             break

@@ -119,7 +119,7 @@ class Network:
         return self.made[-1]
 
     def write_names(self):
-        """`ip netns exec` puts this file in the place of /etc/hosts."""
+        """`ip netns exec` puts this file in place of /etc/hosts."""
         lines = "".join(f"{it.address} {it.name}\n" for it in self.hosts.values())
         for host in self.hosts.values():
             os.makedirs(f"/etc/netns/{host.namespace}")

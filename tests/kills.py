@@ -141,7 +141,7 @@ def is_kept(store, acknowledged, underway):
 
 
 def kills(suite, folder, count):
-    """Kills the program so many times, a row for each kill; prints what was counted."""
+    """Kills the program this many times, a row for each kill; prints what was counted."""
     begun, acknowledged, next_number, stores = time.time(), [], 0, 0
     store, whole, idle, publishes = None, 0, 0, 0
     for turn in range(count):

@@ -1,6 +1,6 @@
 """A machine in a folder, on which the commands and files of docs/ and deploy/ run as they are written.
 
-Their absolute names are put below the folder, and ports that are free in the place of 443 and 8080. The commands `goshelf`, `nginx`
+Their absolute names are put below the folder, and ports that are free in place of 443 and 8080. The commands `goshelf`, `nginx`
 and `systemctl` stand in its /usr/local/bin: the first is the built program, the second starts with the machine's configuration, and the
 third starts and stops the program on the machine's store. The public proxy is a port of this host, on which nobody listens
 unless a suite names another.

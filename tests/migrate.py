@@ -3,7 +3,7 @@
 
 The store of the worked rows is filled by the program, and Python's sqlite3 writes its rows into files of the older schemas, by their SQL
 texts. Each is migrated, and each request by each key gets the bytes that the whole store answers. Then sqlite3 spoils an older file in one
-way after another, and a store may only be read, or has rows in its log alone.
+way after another, and a store is read-only, or has rows in its log alone.
 """
 
 import fcntl
@@ -348,9 +348,9 @@ def held(suite):
 
 
 def read_only(suite):
-    """An older store that may only be read: by its file, by its folder, by both; by its owner, and by somebody else."""
+    """A read-only older store: by its file, by its folder, by both; by its owner, and by somebody else."""
     if not can_be_nobody():
-        return suite.skip("a file that may only be read", "nobody cannot be had here")
+        return suite.skip("a read-only file", "the user nobody cannot be used here")
     filled(suite)
     wanted = asked("whole.db")
     os.mkdir("room")
@@ -385,14 +385,14 @@ def read_only(suite):
     told = run(["migrate", "--from", "fixed1/old.db", "--to", "fixed1/new.db"], before=NOBODY)
     suite.equal("a folder where nothing may be made", told, (1, b"", "goshelf: device\n"))
     told = run(["migrate", "--from", "fixed1/old.db", "--to", "fixed1/old.db"], before=NOBODY)
-    suite.equal("a file that may only be read, into itself", told, (1, b"", "goshelf: not-empty\n"))
+    suite.equal("a read-only file, into itself", told, (1, b"", "goshelf: not-empty\n"))
     with open("fixed1/old.db", "r+b") as held:
         fcntl.lockf(held, fcntl.LOCK_EX, 512, 1 << 30)
         told = run(["migrate", "--from", "fixed1/old.db", "--to", "room/locked.db"], before=NOBODY)
-        suite.equal("a file that may only be read, and that another program has open", told, (1, b"", "goshelf: device\n"))
+        suite.equal("a read-only file that another program has open", told, (1, b"", "goshelf: device\n"))
     write({"fixed1/old.db-journal": b"\xd9"})
     told = run(["migrate", "--from", "fixed1/old.db", "--to", "room/journal.db"], before=NOBODY)
-    suite.equal("a file that may only be read, and has a journal that is not played back", told, (1, b"", "goshelf: device\n"))
+    suite.equal("a read-only file with a journal that is not played back", told, (1, b"", "goshelf: device\n"))
     os.remove("fixed1/old.db-journal")
     suite.equal("and nothing is left beside the new store", [it for it in os.listdir("room") if it.startswith("goshelf-") or "locked" in it], [])
 

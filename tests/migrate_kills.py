@@ -17,7 +17,7 @@ from tables import order_key, rank_key
 
 
 def small_zips(file, count=60):
-    """Makes a store of schema 2 with so many versions of 40,000 bytes, and returns the requests for all of them."""
+    """Makes a store of schema 2 with this many versions of 40,000 bytes, and returns the requests for all of them."""
     conn = connected(file)
     for text in (*SHARED, *OWN[2]):
         conn.execute(text)

@@ -65,7 +65,7 @@ def lines_in(trace):
 
 def raced(folder, to, turn, before=()):
     """Runs `migrate`, stopped behind one of its calls on both files, and meanwhile commits a key. Returns how the run ended, how the
-    commit did, and whether there were so many calls."""
+    commit did, and whether there were this many calls."""
     trace = os.path.abspath("trace")
     if os.path.exists(trace):
         os.remove(trace)
@@ -117,9 +117,9 @@ def commits(suite):
 
 
 def reader(suite):
-    """The file may only be read, so it is locked as a reader does, which does not hold off a program that keeps a log."""
+    """The file is read-only, so it is locked as a reader does, which does not hold off a program that keeps a log."""
     if not can_be_nobody():
-        return suite.skip("a file that may only be read", "nobody cannot be had here")
+        return suite.skip("a read-only file", "the user nobody cannot be used here")
     filled(suite)
     os.chmod(".", 0o777)
     step, tried = 1 if "--long" in sys.argv else 3, 0
@@ -132,7 +132,7 @@ def reader(suite):
         ended, committed, is_reached = raced("folder", "new.db", turn, NOBODY)
         is_whole = ended != (0, "") or {row[0] for row in rows_of("new.db")[0][1]} in (base, base | {KEY})
         wrong = None if (committed, keys_of("folder")) == ((0, ""), base | {KEY}) and is_whole else (ended, committed)
-        suite.counts(f"a file that may only be read, behind call {turn}", wrong)
+        suite.counts(f"a read-only file, behind call {turn}", wrong)
         shutil.rmtree("folder")
         for end in ("", "-wal"):
             if os.path.exists(f"new.db{end}"):
@@ -140,7 +140,7 @@ def reader(suite):
         if not is_reached:
             break
         tried += 1
-    suite.holds(f"a file that may only be read: it was stopped behind {tried} calls", tried > 2)
+    suite.holds(f"a read-only file: it was stopped behind {tried} calls", tried > 2)
 
 
 def behind_the_commit(suite):

@@ -71,7 +71,7 @@ def ways(room, server, greet):
     SUITE.equal("a key on standard input", room.publish(*piped, stdin=stdin), told)
     subs = ["--to", server.url, "--key-file", f"{room.folder}/key", "--repository", greet.folder, "example.com/greet/sub"]
     told = 0, "already published " + greet.lines("example.com/greet/sub", "v0.1.0", greet.first, "sub"), ""
-    SUITE.equal("a version in the place of a tag", room.publish(*subs, "v0.1.0"), told)
+    SUITE.equal("a version in place of a tag", room.publish(*subs, "v0.1.0"), told)
     pseudo = f"v0.1.1-0.20240131120000-{greet.last[:12]}"
     told = 0, "already published " + greet.lines("example.com/greet/sub", pseudo, greet.last, "sub"), ""
     SUITE.equal("a pseudo-version, by its name", room.publish(*subs, pseudo), told)

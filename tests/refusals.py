@@ -202,7 +202,7 @@ def device(suite):
     os.rename("away.db", "d.db")
     suite.wants("the file was put back", "", word("team-add --db d.db --team zeta"))
     os.mkdir("folder")
-    suite.wants("a folder in the place of the file", "device", word("init --db folder"))
+    suite.wants("a folder in place of the file", "device", word("init --db folder"))
     suite.wants("no such folder", "device", word("init --db none/d.db"))
     suite.wants("the name :memory:", "device", word("init --db :memory:"))
     suite.wants("an empty name", "device", word("init --db="))

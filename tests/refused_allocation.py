@@ -20,7 +20,7 @@ import harness
 from harness import KEY, MEMORY, PLATFORM, PROGRAM, Suite, new_store, put
 
 NEEDS = ["cc"]
-# in the short form, one of so many allocations over a file
+# in the short form, one in this many allocations over a file
 SHARE = 10
 
 LIBRARY = """
@@ -132,7 +132,7 @@ def judge(n, runs):
 
 
 def sweep(suite, name, runs, share):
-    """Adds a row for each allocation that is refused: one of so many."""
+    """Adds a row for each allocation that is refused: one in this many."""
     status, output, errors = runs.run(REQUESTS, COUNT="1")
     if not suite.holds(f"{name}: no 503 with ample memory", status == 0 and not any(number == 503 for number, _ in replies(output)), errors):
         return

@@ -163,7 +163,7 @@ def blocks(page, kind, word=""):
 
 
 def shell(room, folder, script, replaced, **more):
-    """Runs a block of a page in a folder, with other words in the place of some, and returns its status, output and errors."""
+    """Runs a block of a page in a folder, with other words in place of some, and returns its status, output and errors."""
     for old, new in replaced.items():
         assert old in script, old
         script = script.replace(old, new)

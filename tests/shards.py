@@ -268,7 +268,7 @@ def made(suite, company):
     told = company.tool("make", folder, keys=one.file)
     suite.equal("make makes a store for each", told, (0, [f"{it} is {folder}/{it}.db" for it in TEAMS], ""))
     status, lines, errors = company.tool("make", folder, keys=one.file)
-    suite.equal("and none in the place of one that is there", (status, lines, errors), (1, [], "shards: first is not made: goshelf: not-empty\n"))
+    suite.equal("and none in place of one that is there", (status, lines, errors), (1, [], "shards: first is not made: goshelf: not-empty\n"))
     name = f"{company.folder}/wrong"
     before = {it: os.path.getmtime(one.file + it) for it in ("", "-wal") if os.path.exists(one.file + it)}
     for text, said in NOT_THE_STORE.items():

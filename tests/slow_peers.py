@@ -41,7 +41,7 @@ class Door:
         self.port = int(self.server.stdout.readline().rpartition(b":")[2])
 
     def plain(self, room=None):
-        """A connection, with room for so many bytes of what is answered."""
+        """A connection, with room for this many bytes of what is answered."""
         held = socket.socket()
         held.settimeout(60)
         if room:
@@ -239,7 +239,7 @@ KINDS = [
 
 
 def behind(door, acts, count):
-    """Makes a request behind so many peers. Returns the seconds until it is answered, and what each peer was sent."""
+    """Makes a request behind this many peers. Returns the seconds until it is answered, and what each peer was sent."""
     peers = [Peer(door, acts) for _ in range(count)]
     for it in peers:
         # these come and go, and the others go on for as long as they are let

@@ -180,7 +180,7 @@ def under_way(suite, company):
 
 
 def sent(company, path, body, is_half, wait, harm):
-    """The status that a publish gets during which harm is done: behind half of it, or so many seconds after all of it was sent."""
+    """The status that a publish gets during which harm is done: behind half of it, or this many seconds after all of it was sent."""
     head = f"module {path}\n".encode()
     text = f"PUT /{path}/@v/v1.0.0 HTTP/1.1\r\nHost: {WARM}\r\nAuthorization: {company.desk.login('pub')}\r\nConnection: close\r\n"
     text += f"Mod-Length: {len(head)}\r\nContent-Length: {len(head + body)}\r\n\r\n"

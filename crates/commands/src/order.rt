@@ -45,7 +45,7 @@ pub fn order_over<R: Hear, W: Tell>(
     told_ending(told, &asked)
 }
 
-/// The order that is sent for another: one that comes to the same in every world, and whose group can stand in a line.
+/// Returns the order to send for another: one that is equivalent in every world, and whose group can stand in a line.
 fn order_to_send<'a>(order: &Order<'a>) -> Order<'a>
     ensures { spec.IsSentFor order.now result }
 {
@@ -94,7 +94,7 @@ fn unsayable(order: &Order) -> CommandRefusal
     }
 }
 
-/// Why a command is refused whose name keeps its rule or does not.
+/// Returns `refusal` if the name is valid, otherwise `Name`.
 fn refusal_by(keeps: bool, refusal: CommandRefusal) -> CommandRefusal
     ensures { result ≡ spec.refusal_by keeps refusal }
 {
@@ -155,7 +155,7 @@ fn copy_ending(told: Result<Outcome, Untold>) -> Result<(), CommandRefusal>
     }
 }
 
-/// Has the `serve` that listens at a socket end, after the request in hand. `Device` if nobody listens there or the system refuses the
+/// Ends the `serve` that listens at a socket, after the current request. `Device` if nobody listens there or the system refuses the
 /// connection; otherwise it ends as `stop_over` does.
 pub fn stop_at(rt: &HostRuntime, path: &str) -> Result<(), CommandRefusal>
     ensures { spec.StopsThere result }
@@ -170,8 +170,8 @@ pub fn stop_at(rt: &HostRuntime, path: &str) -> Result<(), CommandRefusal>
     }
 }
 
-/// Writes the line that ends a server, and reads the line of its outcome. `Device` or `Memory` if the server tells that failure, and
-/// `Io` if it tells anything else but its end, or nothing.
+/// Writes the line that ends a server, and reads the line of its outcome. `Device` or `Memory` if the server reports that failure,
+/// and `Io` after any other reply but its end, or none.
 pub fn stop_over<R: Hear, W: Tell>(
     alloc: Global,
     reader: &mut R,

@@ -150,7 +150,7 @@ fn input_listener(rt: &HostRuntime) -> io::Result<TcpListener> {
     Ok(listener)
 }
 
-/// Whether the system would take bytes, or refuse them at once. Of sockets that have no peer, that is all but those that listen.
+/// Polls a socket for writability, once. Of sockets that have no peer, all are writable but those that listen.
 fn may_be_written(rt: &HostRuntime, stream: &TcpStream) -> io::Result<bool> {
     let mut poll = Poll::new(rt)?;
     let mut events = Events::with_capacity(rt.alloc(), 1)?;

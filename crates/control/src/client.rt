@@ -21,7 +21,7 @@ use histories::{Hear, Tell};
 use std::alloc::{AllocError, Global};
 use world::entry::Right;
 
-/// The most bytes of a health's line without its end. Where each count has the most digits that it can have there are 232.
+/// The most bytes of a health line without its end. The longest has at most 232, where each count has all its digits.
 const LONGEST_HEALTH: usize = 255;
 
 /// Why no outcome was read.

@@ -12,7 +12,7 @@ pub(crate) struct OptionRow {
 
 /// The value of an option, with its name in help.
 /// A value is taken as it is, even an empty one; one that begins with a dash needs `=`. The parser refuses a number
-/// that is too large, in its own words.
+/// that is too large, with its own error words.
 #[derive(Clone, Copy, Drop)]
 pub(crate) enum Value {
     /// None: the option is a flag.

@@ -143,7 +143,7 @@ def at_once(suite, company):
     made = len(outside.servers[outside.port].taken) - before
     suite.holds("100 misses go over few connections", company.asked() - begun == 100 and made <= 16, made)
     outside.how["/pub.example/hang"] = is_slow
-    company.machine.edit("etc/nginx/goshelf/elsewhere.conf", ("goshelf_out 200", "goshelf_out 10"))
+    company.machine.edit("etc/nginx/goshelf/public.conf", ("goshelf_out 200", "goshelf_out 10"))
     company.reload()
     with ThreadPoolExecutor(30) as pool:
         hanging = [pool.submit(company.ask, f"/pub.example/hang{it}/@v/list", "bob") for it in range(30)]
@@ -153,7 +153,7 @@ def at_once(suite, company):
         suite.holds("at once", time.time() - begun < 1, time.time() - begun)
         statuses = [it.result()[0] for it in hanging]
     suite.equal("the others are refused", (statuses.count(502), statuses.count(429)), (10, 20))
-    company.machine.edit("etc/nginx/goshelf/elsewhere.conf", ("goshelf_out 10", "goshelf_out 200"))
+    company.machine.edit("etc/nginx/goshelf/public.conf", ("goshelf_out 10", "goshelf_out 200"))
     company.reload()
 
 

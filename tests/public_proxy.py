@@ -118,7 +118,7 @@ def headers(suite, company):
     suite.equal("no header stops the cache, and one entry serves all shelves", found, (1, 1))
     reply = company.client.reply("GET", "/pub.example/kept/@v/v1.0.0.mod", company.client.login("ann"))
     found = [reply.headers.get_all(it) for it in ("Set-Cookie", "Goshelf-Part")]
-    suite.equal("its cookie and its part do not arrive", found, [None, ["public"]])
+    suite.equal("its cookie and its part do not arrive", found, [None, ["public alpha 1"]])
     outside.add("pub.example/sent", "v1.0.0", files=FILES)
     outside.how["/pub.example/sent/@v/v1.0.0.zip"] = follows
     begun = company.asked()

@@ -1,5 +1,6 @@
 #!/usr/bin/env python3
-"""A synthetic company asks as the go command does: answers a second, processor time of an answer at each hop, and latencies.
+"""A synthetic company asks as the go command does: answers and builds a second, processor time of a build (goshelf and
+nginx) and of an answer at each hop, and latencies.
 
 One goshelf is asked alone, and then 1, 2 and 4 of them behind nginx by tools/shards and deploy/nginx (without TLS), the teams shared out
 among them, without and with nginx's cache. Each is asked three times: with publishes and an empty cache, where every answer is compared with that
@@ -34,7 +35,7 @@ OUTCOME = struct.Struct("=IIQQ")
 TICK = os.sysconf("SC_CLK_TCK")
 QUANTILES = (0.5, 0.99, 0.999)
 NGINX = """
-daemon off; worker_processes {workers}; pid {folder}/pid; error_log {folder}/errors crit; worker_rlimit_nofile 16384;
+daemon off; pcre_jit on; worker_processes {workers}; pid {folder}/pid; error_log {folder}/errors crit; worker_rlimit_nofile 16384;
 events {{ worker_connections 4096; }}
 http {{
     client_body_temp_path {folder}/body; proxy_temp_path {folder}/proxy; fastcgi_temp_path {folder}/fastcgi; uwsgi_temp_path {folder}/uwsgi;
@@ -259,7 +260,7 @@ def others(sizes, front, rate):
 
 
 def flat_out(sizes, folder, front, stores, nginx, outside):
-    """The highest rate, and microseconds of processor time of an answer at each hop."""
+    """The highest rate, and microseconds of processor time of an answer at each hop and of a build."""
     groups = {"goshelf": [it.child.pid for it in stores], "nginx": nginx.workers() if nginx else []}
     if outside:
         groups["public"] = workers_of(outside.child)
@@ -269,6 +270,7 @@ def flat_out(sizes, folder, front, stores, nginx, outside):
     row = {it: (seconds_of(numbers) - before[it]) / plan.count * 1e6 for it, numbers in groups.items()}
     looked = nginx.looked_up()[len(begun) :] if nginx else []
     row["builds"] = sizes.builds / seconds
+    row["build"] = (row["goshelf"] + row["nginx"]) * plan.count / sizes.builds
     return {**row, "rate": plan.count / seconds, "client": own / plan.count * 1e6, "busy": own / seconds, "hits": looked.count("HIT") / max(1, len(looked))}
 
 
@@ -285,12 +287,13 @@ def quantile(row, share):
 def table(rows, wrong):
     """The rows as a table of Markdown."""
     named = [it for it in ("goshelf", "nginx", "public", "client") if it in rows[0]]
-    heads = ["deployment", "answers a second", "builds a second", *named, "client busy", "hits"]
+    heads = ["deployment", "answers a second", "builds a second", "a build", *named, "client busy", "hits"]
     heads += ["p50", "p99", "p99.9", "differ"]
     lines = [heads, ["---"] * len(heads)]
     for row in rows:
-        hops = [f"{row[it]:.0f} µs" for it in named]
-        rates, shares = (f"{row[it]:,.0f}" for it in ("rate", "builds")), (f"{row[it]:.0%}" for it in ("busy", "hits"))
+        hops = [f"{row['build'] / 1000:.1f} ms", *(f"{row[it]:.0f} µs" for it in named)]
+        rates = f"{row['rate']:,.0f}", f"{row['builds']:,.1f}"
+        shares = (f"{row[it]:.0%}" for it in ("busy", "hits"))
         latencies = (f"{quantile(row, it):.2f} ms" for it in QUANTILES)
         lines.append([row["name"], *rates, *hops, *shares, *latencies, str(wrong[row["name"]])])
     return "\n".join("| " + " | ".join(it) + " |" for it in lines)

@@ -2,7 +2,7 @@
 """What a request costs `goshelf answer --mem`, and a GET `goshelf serve`: instructions by valgrind's count, reads by strace's, and peak memory.
 
 Build the program first (`./goshelf --version`); it wants valgrind and strace. With --program FILE it measures that program. With --gets it
-measures GETs alone.
+measures GETs alone, with --changes what opens, changes or misses in a file alone.
 """
 
 import fcntl
@@ -135,9 +135,29 @@ def long_heads():
     yield "one target", b"GET /" + b"x" * (16_384 - 5 - 9 - 4) + b" HTTP/1.1" + end
 
 
+def changes(program, folder):
+    """What an opening, a publish of a new path and a first GET of a path that is not there take, of a store in a file:
+    names and instructions."""
+
+    def run(*requests):
+        return instructions(program, stream_of(*requests), words=["answer", "--db", made(program, folder)])
+
+    def each(request):
+        few, many = (run(publish(PATH, VERSION), *map(request, range(100, last))) for last in (300, 500))
+        return (many - few) // 200
+
+    yield "an opening and a closing", run()
+    yield "a publish of a new path", each(lambda number: publish(f"example.com/new{number}", VERSION))
+    yield "a first GET of a path that is not there", each(lambda number: ask(f"example.org/public{number}/@v/v1.0.0.mod"))
+
+
 def main():
     program = sys.argv[sys.argv.index("--program") + 1] if "--program" in sys.argv else PROGRAM
     with tempfile.TemporaryDirectory() as folder:
+        if "--changes" in sys.argv:
+            for name, count in changes(program, folder):
+                print(f"{name}: {count:,} instructions")
+            return
         for name, rest in KINDS.items():
             memory = of_a_get(program, rest, lambda: WORDS)
             file = of_a_get(program, rest, lambda: ["answer", "--db", made(program, folder)])

@@ -1,0 +1,78 @@
+#!/usr/bin/env python3
+"""A public module that nginx has not cached: what nginx adds to the public proxy's own time.
+
+The company and its public proxy are those of tests/one_url.py, by docs/NGINX.md, over TLS and with a login. The public
+proxy takes --delay milliseconds (20) for an answer. It is asked itself and through nginx in turn, --count times (200)
+each, by a client that keeps its connections, and so does nginx. Build the program first; it wants root, nginx, openssl
+and go.
+"""
+
+import argparse
+import http.client
+import os
+import socket
+import ssl
+import statistics
+import sys
+import tempfile
+import time
+
+sys.path.insert(0, os.path.join(os.path.dirname(os.path.dirname(os.path.abspath(__file__))), "tests"))
+from developers import Developers
+from outside import NAME
+
+# in one piece, so that no end waits for the other's acknowledgement
+ANSWER = b"HTTP/1.1 200 OK\r\nContent-Type: text/plain\r\nContent-Length: 9\r\n\r\nmodule x\n"
+
+
+def seconds_of(conn, target, headers):
+    """How long an answer takes, which has to be a 200."""
+    begun = time.perf_counter()
+    conn.request("GET", target, headers=headers)
+    reply = conn.getresponse()
+    reply.read()
+    if reply.status != 200:
+        sys.exit(f"{target} gets {reply.status}")
+    return time.perf_counter() - begun
+
+
+def itself(outside):
+    """A connection to the public proxy, by its name."""
+    conn = http.client.HTTPConnection(NAME, outside.port)
+    context = ssl.create_default_context(cafile=outside.authority)
+    conn.sock = context.wrap_socket(socket.create_connection(("127.0.0.1", outside.port)), server_hostname=NAME)
+    return conn
+
+
+def measured(company, delay, count):
+    """The milliseconds of each answer of the public proxy itself, and of each through nginx."""
+    outside, client = company.outside, company.client
+    outside.how["/slow.example/"] = lambda handler, _: (time.sleep(delay), handler.wfile.write(ANSWER))
+    own = itself(outside)
+    front = http.client.HTTPSConnection("localhost", company.machine.front, context=client.context)
+    login = {"Authorization": client.login("ann")}
+    times = [], []
+    for it in range(count + 1):
+        times[0].append(1000 * seconds_of(own, f"/slow.example/m{it}/@v/v1.0.0.mod", {}))
+        times[1].append(1000 * seconds_of(front, f"/slow.example/m{it}/@v/v1.0.0.mod", login))
+    # the first answer makes the connections
+    return [it[1:] for it in times]
+
+
+def main():
+    parser = argparse.ArgumentParser(description=__doc__, formatter_class=argparse.RawDescriptionHelpFormatter)
+    parser.add_argument("--delay", type=int, default=20)
+    parser.add_argument("--count", type=int, default=200)
+    sizes = parser.parse_args()
+    with tempfile.TemporaryDirectory(prefix="goshelf-misses-") as folder:
+        company = Developers(folder)
+        try:
+            times = measured(company, sizes.delay / 1000, sizes.count)
+        finally:
+            company.close()
+    for name, them in zip(("the public proxy itself", "through nginx"), times):
+        print(f"{name}: {statistics.median(them):.2f} ms ({min(them):.2f} at least)")
+
+
+if __name__ == "__main__":
+    main()

@@ -12,6 +12,12 @@ pub enum Deed<C> {
     Refused,
     /// Its store was closed, and this was left of it.
     Closed(C),
+    /// It and its log were read, and copied into files that were made for that.
+    Copied,
+    /// It was made, and no file had its name before.
+    Made,
+    /// It lost its name.
+    Unlinked,
 }
 
 /// What a store is opened for.
@@ -26,7 +32,7 @@ pub enum Use {
 /// An open store, with the name of its file.
 #[derive(Drop)]
 pub struct OpenFile<'n, S> {
-    pub shelves: S,
+    pub store: S,
     pub name: &'n str,
 }
 
@@ -48,14 +54,11 @@ pub trait StoreFiles<S, C, E> {
 
     /// Opens the store of a file. Fails with the refusal of the store.
     fn open<'n>(&mut self, name: &'n str, purpose: Use) -> Result<OpenFile<'n, S>, E>
-        ensures begun { IfOk result (λ file. begins file.shelves × (file.name.now ≡ name.now)) }
+        ensures begun { IfOk result (λ file. begins file.store × (file.name.now ≡ name.now)) }
         ensures opened { IfOk result (λ _. history self.new ≡ history self.old ++ (name.now, Opened) ∷ []) }
         ensures refused { IfErr result (λ _. history self.new ≡ history self.old ++ (name.now, Refused) ∷ []) };
 
     /// Closes the store of a file, as it is now.
     fn close<'n>(&mut self, file: OpenFile<'n, S>)
-        ensures { history self.new ≡ history self.old ++ (file.entry.name.now, Closed (left file.entry.shelves)) ∷ [] };
-
-    /// Whether there is a file of this name that can be read and has bytes.
-    fn holds_bytes(&self, name: &str) -> bool;
+        ensures { history self.new ≡ history self.old ++ (file.entry.name.now, Closed (left file.entry.store)) ∷ [] };
 }

@@ -38,9 +38,9 @@ impl<'a, S: Drop, E: Copy> StoreFiles<S, S, E> for MemoryStoreFiles<'a, S, E> {
 
     fn open<'n>(&mut self, name: &'n str, _purpose: Use) -> Result<OpenFile<'n, S>, E> {
         if name == self.name {
-            if let Some(shelves) = self.held.take() {
+            if let Some(store) = self.held.take() {
                 self.noted.note(name.as_bytes(), &Deed::Opened);
-                return Ok(OpenFile { shelves, name });
+                return Ok(OpenFile { store, name });
             }
         }
         self.noted.note(name.as_bytes(), &Deed::Refused);
@@ -49,16 +49,12 @@ impl<'a, S: Drop, E: Copy> StoreFiles<S, S, E> for MemoryStoreFiles<'a, S, E> {
 
     fn close<'n>(&mut self, file: OpenFile<'n, S>)
         ensures { self.new.noted.deeds
-            ≡ self.old.noted.deeds ++ (file.entry.name.now, Closed file.entry.shelves) ∷ [] }
+            ≡ self.old.noted.deeds ++ (file.entry.name.now, Closed file.entry.store) ∷ [] }
     {
-        let deed = Deed::Closed(file.shelves);
+        let deed = Deed::Closed(file.store);
         self.noted.note(file.name.as_bytes(), &deed);
         if let Deed::Closed(store) = deed {
             self.held = Some(store);
         }
-    }
-
-    fn holds_bytes(&self, name: &str) -> bool {
-        self.held.is_some() && name == self.name
     }
 }

@@ -1,0 +1,13 @@
+-- One deed after another.
+use Rattle.std.proofs.Common.{ℕ, ◌≡◌, List, [], ◌∷◌, ◌++◌, ◌∙◌, ap}
+use Rattle.std.proofs.lemmas.List.{append_assoc}
+use Rattle.files.specs.History.{Done}
+use Rattle.files.specs.declared.files.Deed.TheVariants.{Opened, Closed}
+
+-- a store that was opened, and then closed under that name
+pub opened_closed : {C : Type 0} (before mid after : List (Done C)) (name other : List ℕ) (end : C) → other ≡ name
+    → mid ≡ before ++ (name, Opened) ∷ [] → after ≡ mid ++ (other, Closed end) ∷ []
+    → after ≡ before ++ (name, Opened) ∷ (name, Closed end) ∷ []
+opened_closed before mid after name other end same opened closed =
+    closed ∙ (ap (λ n. mid ++ (n, Closed end) ∷ []) same ∙ (ap (λ m. m ++ (name, Closed end) ∷ []) opened
+    ∙ append_assoc before ((name, Opened) ∷ []) ((name, Closed end) ∷ [])))

@@ -51,7 +51,7 @@ module _ (w x : World) (s : List ℕ) (chains : chain w s ≡ chain x s) (same :
       ap (λ o. highest_left (module_of o) (versions_of w s p)) (heading_same w x s p (version_text top) chains same)
       ∙ ap (highest_left (module_of (heading x s p (version_text top)))) (versions_of_same p)
 
-  latest_same : (p : List ℕ) → latest_of w s p ≡ latest_of x s p
+  pub latest_same : (p : List ℕ) → latest_of w s p ≡ latest_of x s p
   latest_same p = ap (λ vs. latest_by w s p (highest vs)) (versions_of_same p) ∙ latest_by_same p (highest (versions_of x s p))
 
   latest_reply_same : (p : List ℕ) (v : Option SemanticVersion) → latest_reply w s p v ≡ latest_reply x s p v

@@ -78,13 +78,13 @@ low_decided w x s o p d low = low
 -- ---- a request
 
 -- what both worlds know of the key
-record Known (w x : World) (k : List ℕ) (h : Holder) : Type 0 where
-  first : map.get w.keys k ≡ Some h
-  second : map.get x.keys k ≡ Some h
-  chains : chain w h.shelf ≡ chain x h.shelf
-  seen : SameSeen w x h.shelf
+pub record Known (w x : World) (k : List ℕ) (h : Holder) : Type 0 where
+  pub first : map.get w.keys k ≡ Some h
+  pub second : map.get x.keys k ≡ Some h
+  pub chains : chain w h.shelf ≡ chain x h.shelf
+  pub seen : SameSeen w x h.shelf
 
-known : (w x : World) (s t k : List ℕ) (own : belongs w k t) → IsWorld w → IsWorld x → Low w x s → sees w s t ≡ true → Known w x k own.0
+pub known : (w x : World) (s t k : List ℕ) (own : belongs w k t) → IsWorld w → IsWorld x → Low w x s → sees w s t ≡ true → Known w x k own.0
 known w x s t k own is is_x low st =
     let near : sees w s own.0.shelf ≡ true = ap (sees w s) own.2 ∙ st in
     record {
@@ -112,7 +112,7 @@ low_put w x s k h p low both =
     (subst (λ d. Low (after_decision w (Some h) p (decision w (Some h) p)) (after_decision x (Some h) p d) s) (decision_same w x h p both.chains both.seen)
     (low_decided w x s (Some h) p (decision w (Some h) p) low)))
 
-same_key : (j k : List ℕ) → Some j ≡ Some k → k ≡ j
+pub same_key : (j k : List ℕ) → Some j ≡ Some k → k ≡ j
 same_key j k e = cc
 
 pub no_key : (k : List ℕ) → None ≡ Some k → ⊥

@@ -3,6 +3,7 @@ pub mod Checks
 pub mod Misfits
 pub mod Runs
 mod AfterRead
+pub mod Needs
 pub mod Views
 pub mod Alike
 pub mod Sound
@@ -10,6 +11,7 @@ pub mod Chains
 pub mod Apart
 pub mod Isolated
 pub mod Blind
+mod Faults
 pub mod Stays
 pub mod Served
 pub mod Repeated

@@ -1,5 +1,8 @@
+pub mod Calls
 pub mod Listed
 pub mod Machine
+pub mod Needs
+pub mod Faults
 pub mod Publishing
 pub mod Runs
 pub mod Laws

@@ -6,6 +6,7 @@ ghost use Rattle.shelf.specs.PathLaws.{VersionsAreSeen, PathsAreSeen, PathsAreTo
 ghost use Rattle.shelf.specs.PathLaws.{LatestIsTheTop, NoneIsLatest, LatestIsTold, LatestIsNotFound};
 ghost use Rattle.shelf.specs.Isolation.{IsIsolated, PurgedRunsAgree, FaultyRunsAgree, MarksAreAsLong};
 ghost use Rattle.shelf.specs.Isolation.{MarksAreAtTheirMoment, OnlyOthersGo, PurgeIsTheSame, AgreeIsLow, IsBlind};
+ghost use Rattle.shelf.specs.Faults.{NeedsAreOwn, UnknownNeedsNothing, NeedsAreAlike, FaultsAreAlike};
 ghost use Rattle.shelf.specs.Profiles.{ProfileInForceIsTheMachine, Profile2KeepsAnswers};
 ghost use Rattle.shelf.specs.Ungrouped.{EachIsOfOne, RepliesWithoutGroups, ListsWithoutGroups};
 ghost use Rattle.shelf.specs.Parts.{PartIsLow, IsBlindThroughout, PartTellsTheSame, OthersAreNotFound};
@@ -123,4 +124,14 @@ pub fn without_groups()
     ensures worlds { EachIsOfOne }
     ensures event { RepliesWithoutGroups }
     ensures list { ListsWithoutGroups }
+{}
+
+/// After its key, a request asks only the shelf that holds it. In all worlds that are the same to a shelf, a request with a key of
+/// a shelf that it sees asks the same, in one order; and over stores that refuse the same questions it meets the same fault, unless
+/// memory for its own text ran out. So a 503 tells nothing of what others keep.
+pub fn faults()
+    ensures own { NeedsAreOwn }
+    ensures unknown { UnknownNeedsNothing }
+    ensures alike { NeedsAreAlike }
+    ensures faults { FaultsAreAlike }
 {}

@@ -43,10 +43,13 @@
 #![tactic(auto)]
 
 pub mod ask;
+pub mod asked;
+pub mod asking;
 pub mod decide;
 mod judge;
 pub mod laws;
 mod listed;
+mod noted;
 mod queries;
 pub mod reply;
 pub mod run;

@@ -1,1 +1,2 @@
+mod HelpLemmas
 mod Left

@@ -11,6 +11,7 @@ ghost use Rattle.clap.specs.Words.{FailsBy, kind_of, subcommand_rows_of};
 ghost use Rattle.words.specs.Table.{faults, given, texts};
 
 mod arguments;
+pub mod laws;
 mod options;
 
 use crate::arguments::{parser, shown_command};

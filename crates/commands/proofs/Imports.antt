@@ -1,11 +1,12 @@
 -- An import row by row.
-use Rattle.std.proofs.Common.{◌≡◌, ◌+◌, ℕ, List, [], ◌∷◌, ◌++◌, ◌&&◌, Bool, true, false, Option, Some, None, Ok, Err, Result, length, refl, sym, ap, subst, ◌∙◌, inl, inr, arith, append_assoc}
+use Rattle.std.proofs.Common.{◌≡◌, ◌≤◌, ◌+◌, ℕ, List, [], ◌∷◌, ◌++◌, ◌&&◌, Bool, true, false, Option, Some, None, Ok, Err, Result, length, refl, sym, ap, subst, ◌∙◌, inl, inr, arith, append_assoc}
 use Rattle.std.proofs.lemmas.List.{append-nil, map-append}
 use Rattle.std.proofs.KnownBytes.{Appends-trans}
 use Rattle.std.specs.Io.KnownBytes.{Appends}
 use Rattle.std.specs.List.{list_all}
 use Rattle.csv.specs.declared.parser.State.{State}
 use Rattle.csv.specs.declared.reader.Reader.{Reader}
+use Rattle.engine.specs.Causes.{FailsWith}
 use Rattle.engine.specs.declared.fault.Io.{Io}
 use Rattle.engine.specs.declared.fault.Io.TheVariants as io
 use Rattle.engine.proofs.RunLemmas.{met_either}
@@ -25,8 +26,8 @@ use Rattle.world.proofs.Causes.{grown_more, grown_before}
 use Rattle.commands.specs.Import as spec
 use Rattle.commands.specs.Import.{DoneRow, GoesThrough, Publishes, DoesRow, Imports, Answers, HasNoFile, Unfetched}
 use Rattle.commands.specs.ImportFiles.{IsBodyOf}
-use Rattle.commands.specs.ImportLine.{IsFront, PrintsFront}
 use Rattle.commands.specs.ImportList.{HasRead, IsAt, Line, fields_of_line, header}
+use Rattle.commands.specs.Printed.{IsFront, PrintsFront}
 use Rattle.commands.specs.Publish.{answer_of}
 use Rattle.commands.specs.declared.import.Closing.{Closing}
 use Rattle.commands.specs.declared.import.Ending.{Ending}
@@ -220,3 +221,10 @@ pub all_more : (done_rows : List DoneRow) (t : DoneRow) → list_all spec.is_acc
 all_more [] t = and_true (spec.is_accepted t)
 all_more (u ∷ done_rows) t =
     ap (λ b. spec.is_accepted u && b) (all_more done_rows t) ∙ and_assoc (spec.is_accepted u) (list_all spec.is_accepted done_rows) (spec.is_accepted t)
+
+-- ---- why an import fails
+
+-- a call that failed because the output did, after others over which the count of its failures did not fall
+pub fails_later : {T : Type 0} (a b c : ℕ) (result : Result T Io) → a ≤ b → FailsWith b c result → FailsWith a c result
+fails_later a b c (Ok x) before fails = omega (arith, before, fails)
+fails_later a b c (Err e) before fails = omega (arith, before, fails)

@@ -4,6 +4,7 @@ mod OutlineLines
 mod ImportLists
 mod Imports
 mod Openings
+mod Printed
 mod Repeated
 mod Written
 mod Rows

@@ -1,7 +1,7 @@
 -- How a run ends, and what it writes about that.
 use Rattle.std.specs.Prelude.{ℕ, List, ◌≡◌, ◌++◌, codes, Bool, true, false, Option, Result, Ok, Err}
 use Rattle.commands.specs.Ending.{word}
-use Rattle.commands.specs.ImportLine.{PrintsFront}
+use Rattle.commands.specs.Printed.{PrintsFront}
 use Rattle.commands.specs.declared.refusal.CommandRefusal.{CommandRefusal}
 use Rattle.commands.specs.declared.exit.Exit.{Exit}
 use Rattle.commands.specs.declared.exit.Exit.TheVariants.{Done, NotAccepted, Refused, BadUsage}

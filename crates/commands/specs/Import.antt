@@ -18,8 +18,9 @@ use Rattle.wire.specs.declared.reply.Fixed.{Fixed}
 use Rattle.wire.specs.declared.reply.Fixed.TheVariants.{Unavailable}
 use Rattle.world.specs.Store.{Shown, GrewOrFull}
 use Rattle.commands.specs.ImportFiles.{IsBodyOf}
-use Rattle.commands.specs.ImportLine.{IsFront, PrintsFront, accepts_outcome, numbered, outcome_text}
+use Rattle.commands.specs.ImportLine.{accepts_outcome, numbered, outcome_text}
 use Rattle.commands.specs.ImportList.{HasRead, IsNoText, IsNone, Line, Meets, fields_of_line, header}
+use Rattle.commands.specs.Printed.{IsFront, PrintsFront}
 use Rattle.commands.specs.Publish.{answer_of, asked}
 use Rattle.commands.specs.declared.import.Closing.{Closing}
 use Rattle.commands.specs.declared.import.Closing.TheVariants as closing

@@ -12,6 +12,7 @@ pub mod Lines
 pub mod Opening
 pub mod Order
 pub mod Ping
+pub mod Printed
 pub mod Publish
 pub mod Reading
 pub mod Repetition

@@ -1,6 +1,8 @@
 -- The world that a run over shelves in memory begins with, and how it ends.
 use Rattle.std.specs.Prelude.{ℕ, List, ◌≡◌, true, Option, None, Result, Ok, Err}
 use Rattle.histories.specs.Account.{Account}
+use Rattle.histories.specs.Calls.{Reads, Writes}
+use Rattle.engine.specs.Causes.{IsCaused}
 use Rattle.engine.specs.Served.{ServesAllHeard}
 use Rattle.engine.specs.declared.fault.Io.{Io as Failure}
 use Rattle.world.specs.InMemory.{in_memory}
@@ -45,3 +47,8 @@ AnswersAll old new came came_new written written_new (Ok u) = ServesAllHeard old
 AnswersAll old new came came_new written written_new (Err Io) =
     (failure : Failure) × ServesAllHeard old new came came_new written written_new (Err failure)
 AnswersAll old new came came_new written written_new (Err other) = ⊥
+
+-- A stream failed, and this was done until then: a call of the input failed or no read is left, or a call of the output failed.
+abbrev pub Breaks : (Failure → Type 0) → Reads → Reads → Writes → Writes → Type 0
+Breaks done reads reads_new writes writes_new =
+    (failure : Failure) × done failure × IsCaused reads reads_new writes writes_new failure

@@ -1,5 +1,6 @@
 -- The health of a running `serve`, printed.
 use Rattle.std.specs.Prelude.{ℕ, ◌≡◌, ◌⊎◌, Bool, List, Option, Result, Ok, Err}
+use Rattle.histories.specs.Calls.{Writes}
 use Rattle.world.specs.declared.registry.StoreFault.TheVariants as fault
 use Rattle.control.specs.Asking.{AsksForHealth}
 use Rattle.control.specs.declared.client.Untold.{Untold}
@@ -7,6 +8,7 @@ use Rattle.control.specs.declared.outcome.Outcome.{Outcome}
 use Rattle.control.specs.declared.outcome.Outcome.TheVariants as outcome
 use Rattle.control.specs.declared.told.Told.{Told}
 use Rattle.control.specs.declared.told.Told.TheVariants as spoken
+use Rattle.commands.specs.Printed.{HasCause}
 use Rattle.commands.specs.Report.{Prints}
 use Rattle.commands.specs.declared.refusal.CommandRefusal.{CommandRefusal}
 use Rattle.commands.specs.declared.refusal.CommandRefusal.TheVariants.{Device, Memory, Io}
@@ -32,6 +34,14 @@ pub record PingsOver (unread unread_new written written_new printed printed_new 
   pub told : Result Told Untold
   pub asks : AsksForHealth unread unread_new written written_new told
   pub prints : Prints printed printed_new result (health_ending told)
+
+-- the line that asks for the health was written, and if no line of a health was printed, that is because of what was read in its place
+-- or because the output failed
+pub record FailsOver (unread unread_new written written_new : Option (List ℕ)) (writes writes_new : Writes) (result : Result Bool CommandRefusal)
+    : Type 0 where
+  pub told : Result Told Untold
+  pub asks : AsksForHealth unread unread_new written written_new told
+  pub cause : HasCause writes writes_new result (health_ending told)
 
 -- so it was over a connection, or there was none
 abbrev pub PingsThere : Option (List ℕ) → Option (List ℕ) → Result Bool CommandRefusal → Type 0

@@ -20,6 +20,7 @@ use Rattle.engine.specs.Reply.{fixed_of}
 use Rattle.wire.specs.Reply.{line_bytes, fixed_status}
 use Rattle.wire.specs.declared.reply.Fixed.{Fixed}
 use Rattle.wire.specs.declared.reply.Fixed.TheVariants as fixed
+use Rattle.commands.specs.Printed.{PrintsFront}
 use Rattle.commands.specs.declared.files.FileFault.{FileFault}
 use Rattle.commands.specs.declared.files.FileFault.TheVariants as file
 use Rattle.commands.specs.declared.publish.Words.{Words}
@@ -54,12 +55,16 @@ answer_of (Err fault) = fixed.Unavailable
 abbrev pub accepts : ℕ → Bool
 accepts status = (status == 200) || (status == 201)
 
--- the line of the answer was printed, and the result is whether it accepts; or the output failed
+-- the line of an answer
+abbrev pub answer_line : Fixed → List ℕ
+answer_line answer = line_bytes answer ++ codes "\n"
+
+-- the line of the answer was printed, and the result is whether it accepts; or the output failed and a beginning of it was printed
 abbrev pub Tells : Fixed → Option (List ℕ) → Option (List ℕ) → Result Bool CommandRefusal → Type 0
 Tells answer written written_new result =
     MatchResult result
-    (λ accepted. (accepted ≡ accepts (fixed_status answer)) × Appends written written_new (line_bytes answer ++ codes "\n"))
-    (λ e. e ≡ Io)
+    (λ accepted. (accepted ≡ accepts (fixed_status answer)) × Appends written written_new (answer_line answer))
+    (λ e. (e ≡ Io) × PrintsFront written written_new (answer_line answer))
 
 -- From old to new the store did what was asked, as the machine does in each world that it stood for, or met a fault (or memory ran
 -- out before that) and changed nothing; and the line of the answer was printed.

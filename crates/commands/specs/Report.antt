@@ -8,6 +8,7 @@ use Rattle.world.specs.Store.{Shown, Reads}
 use Rattle.world.specs.declared.registry.StoreFault.{StoreFault}
 use Rattle.world.specs.declared.registry.StoreFault.TheVariants as fault
 use Rattle.commands.specs.Inventory.{Inventories}
+use Rattle.commands.specs.Printed.{PrintsFront}
 use Rattle.commands.specs.Requirements.{required_by}
 use Rattle.commands.specs.declared.inventory.InventoryFault.{InventoryFault}
 use Rattle.commands.specs.declared.inventory.InventoryFault.TheVariants as why
@@ -29,10 +30,13 @@ requirements_ending (Ok None) = Err NotFound
 requirements_ending (Err fault.Device) = Err Device
 requirements_ending (Err fault.Memory) = Err Memory
 
--- the text was printed, or the output failed; if there is no text, the result is the refusal, and nothing is printed
+-- The text was printed, or the output failed and a beginning of it was printed. If there is no text, the result is the refusal, and
+-- nothing is printed.
 abbrev pub Prints : Option (List ℕ) → Option (List ℕ) → Result Bool CommandRefusal → Result (List ℕ) CommandRefusal → Type 0
 Prints written written_new result (Ok text) =
-    MatchResult result (λ accepted. (accepted ≡ true) × Appends written written_new text) (λ e. e ≡ Io)
+    MatchResult result
+    (λ accepted. (accepted ≡ true) × Appends written written_new text)
+    (λ e. (e ≡ Io) × PrintsFront written written_new text)
 Prints written written_new result (Err refusal) = (result ≡ Err refusal) × (written_new ≡ written)
 
 -- the inventory of a key was read, which changes nothing, and printed

@@ -5,18 +5,15 @@ use Rattle.world.specs.Store.{Shown}
 use Rattle.socket.specs.Connections.{GoesThroughMost}
 use Rattle.control.specs.Copying.{GoesOnRead}
 use Rattle.control.specs.declared.copies.CopyRefusal.{CopyRefusal}
+use Rattle.commands.specs.Printed.{PrintsFront}
 use Rattle.commands.specs.declared.refusal.CommandRefusal.{CommandRefusal}
 use Rattle.commands.specs.declared.refusal.CommandRefusal.TheVariants.{Io}
 use Rattle.commands.specs.declared.serve.Entrance.{Entrance}
 use Rattle.commands.specs.declared.serve.Entrance.TheVariants.{Port, Input}
 
--- the line of a port, without its end
-abbrev pub port_text : ℕ → List ℕ
-port_text port = codes "listening on 127.0.0.1:" ++ decimal port
-
 -- the line of a port
 abbrev pub port_line : ℕ → List ℕ
-port_line port = port_text port ++ codes "\n"
+port_line port = codes "listening on 127.0.0.1:" ++ (decimal port ++ codes "\n")
 
 -- the line of standard input
 abbrev pub input_line : List ℕ
@@ -31,14 +28,24 @@ abbrev pub Announces : Entrance → Option (List ℕ) → Option (List ℕ) → 
 Announces (Port port) written written_new = PrintsPort port written written_new
 Announces Input written written_new = Appends written written_new input_line
 
+-- a beginning of the line of a port was printed, or all of it: of the one that is named, or of any for 0
+abbrev pub PrintsPortFront : ℕ → Option (List ℕ) → Option (List ℕ) → Type 0
+PrintsPortFront port written written_new =
+    (bound : ℕ) × (port ≢ 0 → bound ≡ port) × PrintsFront written written_new (port_line bound)
+
+-- a beginning of the line of the entrance was printed, or all of it
+abbrev pub AnnouncesFront : Entrance → Option (List ℕ) → Option (List ℕ) → Type 0
+AnnouncesFront (Port port) written written_new = PrintsPortFront port written written_new
+AnnouncesFront Input written written_new = PrintsFront written written_new input_line
+
 -- The entrance was printed, and the store went through at most as many requests as there are connections. Or the entrance can't be
--- opened, or the output failed, and the store stays as it was.
+-- opened, or the output failed, and a beginning of the line was printed, and the store stays as it was.
 abbrev pub Listens :
     {S : Type 0} → (S → Shown) → S → S → Entrance → ℕ → Option (List ℕ) → Option (List ℕ) → Result (Unit {0}) CommandRefusal → Type 0
 Listens shown old new entrance connections written written_new result =
     MatchResult result
     (λ _. Announces entrance written written_new × GoesThroughMost (shown old) (shown new) connections)
-    (λ e. (e ≡ Io) × (new ≡ old))
+    (λ e. (e ≡ Io) × (new ≡ old) × AnnouncesFront entrance written written_new)
 
 -- what a copy does: a relation of the store before and after it, the path, and the result
 abbrev pub Copied : Type 0 → Type 1
@@ -50,14 +57,15 @@ Counted S = S → S → ℕ → Type 0
 
 -- The entrance was printed, and the store went through at most as many requests as there are connections, with orders between them,
 -- and copies of the machine's world at that moment, and versions counted in it. Or it ended before it served, because the entrance or
--- the socket can't be opened, the clock can't be read, the output failed or memory ran out, and the store stays as it was.
+-- the socket can't be opened, the clock can't be read, the output failed or memory ran out, and a beginning of the line was printed,
+-- and the store stays as it was.
 abbrev pub ListensToBoth :
     {S : Type 0} → (S → Shown) → Copied S → Counted S → S → S → Entrance → ℕ
     → Option (List ℕ) → Option (List ℕ) → Result (Unit {0}) CommandRefusal → Type 0
 ListensToBoth shown copied counted old new entrance connections written written_new result =
     MatchResult result
     (λ _. Announces entrance written written_new × GoesOnRead shown copied counted old new connections)
-    (λ e. (e ≡ Io) × (new ≡ old))
+    (λ e. (e ≡ Io) × (new ≡ old) × AnnouncesFront entrance written written_new)
 
 -- serving without a socket of operators, or with one
 abbrev pub ListensAs :

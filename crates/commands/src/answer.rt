@@ -1,5 +1,7 @@
 //! `answer`: the requests on the input, answered on the output.
-ghost use Rattle.commands.specs.Opening.{AnswersAll};
+ghost use Rattle.std.specs.Prelude.{◌≡◌, [], Err, OnErr, OnOk};
+ghost use Rattle.engine.specs.Served.{ServesAllHeard};
+ghost use Rattle.commands.specs.Opening.{AnswersAll, Breaks};
 
 use crate::refusal::CommandRefusal;
 use engine::answer_all;
@@ -14,8 +16,14 @@ pub fn answer_input<S: Shelves, I: Hear, O: Tell>(
     input: &mut I,
     output: &mut O,
 ) -> Result<(), CommandRefusal>
-    ensures { AnswersAll (S.shown shelves.old) (S.shown shelves.new)
+    ensures answers { AnswersAll (S.shown shelves.old) (S.shown shelves.new)
         (I.account input.old) (I.account input.new) (O.contents output.old) (O.contents output.new) result }
+    // It fails only if a call of the input or of the output failed, or if no read is left.
+    ensures cause { OnErr result (Breaks (λ failure. ServesAllHeard (S.shown shelves.old) (S.shown shelves.new)
+        (I.account input.old) (I.account input.new) (O.contents output.old) (O.contents output.new) (Err failure))
+        (I.reads input.old) (I.reads input.new) (O.writes output.old) (O.writes output.new)) }
+    // What was written is flushed.
+    ensures flushed { OnOk result ((O.writes output.new).unflushed ≡ []) }
 {
     match answer_all(alloc, input, output, shelves) {
         Ok(()) => Ok(()),

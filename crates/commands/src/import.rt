@@ -1,6 +1,7 @@
 //! `import`: publishes each row of a list.
-ghost use Rattle.std.specs.Prelude.{◌≡◌, ◌&&◌, ℕ, List, [], ◌∷◌, ◌++◌, Option, option_copied};
+ghost use Rattle.std.specs.Prelude.{◌≡◌, ◌&&◌, ℕ, List, [], ◌∷◌, ◌++◌, Option, option_copied, OnOk};
 ghost use Rattle.csv.specs.Records.{fields_of};
+ghost use Rattle.engine.specs.Causes.{FailsWith};
 ghost use Rattle.commands.specs.Import as spec;
 ghost use Rattle.commands.specs.ImportFiles.{IsBodyOf};
 ghost use Rattle.commands.specs.ImportList.{HasRead, header, line_of_row};
@@ -70,8 +71,12 @@ pub fn import<S: Shelves, L: Read + Drop, F: Sources, O: Tell>(
     sources: &F,
     output: &mut O,
 ) -> Result<Ending, Io>
-    ensures { spec.Imports (S.shown shelves.old) (S.shown shelves.new) (F.known sources.now) key.now
+    ensures imports { spec.Imports (S.shown shelves.old) (S.shown shelves.new) (F.known sources.now) key.now
         (L.remaining list) (O.contents output.old) (O.contents output.new) result }
+    // It fails only if a call of the output failed.
+    ensures fails { FailsWith (O.writes output.old).failed (O.writes output.new).failed result }
+    // What was printed is flushed.
+    ensures flushed { (O.writes output.old).unflushed ≡ [] → OnOk result ((O.writes output.new).unflushed ≡ []) }
 {
     let mut reader = open(alloc, list);
     let mut fields = StringRecord::new(alloc);
@@ -135,10 +140,12 @@ fn import_next<S: Shelves, R: Read, F: Sources, O: Tell>(
     number: u64,
     output: &mut O,
 ) -> Result<Step, Io>
-    ensures { (list : Option (List ℕ)) (rows : List (List (List ℕ))) → HasRead R.remaining list rows reader.old
+    ensures steps { (list : Option (List ℕ)) (rows : List (List (List ℕ))) → HasRead R.remaining list rows reader.old
         → spec.StepIs R.remaining (S.shown shelves.old) (S.shown shelves.new)
         (F.known sources.now) key.now list rows reader.new number
         (O.contents output.old) (O.contents output.new) result }
+    ensures fails { FailsWith (O.writes output.old).failed (O.writes output.new).failed result }
+    ensures flushed { (O.writes output.old).unflushed ≡ [] → OnOk result ((O.writes output.new).unflushed ≡ []) }
 {
     if let Some(closing) = read_row(reader, fields) {
         return Ok(Step::Over(closing));
@@ -237,7 +244,9 @@ fn close<O: Tell>(
     accepted: bool,
     output: &mut O,
 ) -> Result<Ending, Io>
-    ensures { spec.Closes number closing accepted (O.contents output.old) (O.contents output.new) result }
+    ensures closes { spec.Closes number closing accepted (O.contents output.old) (O.contents output.new) result }
+    ensures fails { FailsWith (O.writes output.old).failed (O.writes output.new).failed result }
+    ensures flushed { (O.writes output.old).unflushed ≡ [] → OnOk result ((O.writes output.new).unflushed ≡ []) }
 {
     match closing {
         Closing::End if accepted => Ok(Ending::AllIn),

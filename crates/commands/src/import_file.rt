@@ -1,6 +1,7 @@
 //! `import` of a list in a file.
 ghost use Rattle.std.specs.Prelude.{◌≡◌};
 ghost use Rattle.commands.specs.ImportFile as spec;
+ghost use Rattle.commands.specs.Printed.{FailsEarlyOrByOutput};
 
 use crate::import::{Ending, import};
 use crate::refusal::CommandRefusal;
@@ -13,7 +14,7 @@ use world::shelves::Shelves;
 
 /// Publishes each row of the list in a file, with files of the system, and returns whether the whole list was read and every row
 /// accepted. `BadRow` if the header or a row is bad. `Io` if the list can't be opened, and then nothing is done, or if a line can't be
-/// printed.
+/// printed: then a beginning of it is printed, or all of it.
 pub fn import_file<S: Shelves, O: Tell>(
     rt: &HostRuntime,
     shelves: &mut S,
@@ -21,8 +22,11 @@ pub fn import_file<S: Shelves, O: Tell>(
     list: &str,
     output: &mut O,
 ) -> Result<bool, CommandRefusal>
-    ensures { spec.ImportsFile S.shown shelves.old shelves.new key.now
+    ensures imports { spec.ImportsFile S.shown shelves.old shelves.new key.now
         (O.contents output.old) (O.contents output.new) result }
+    // It ends with `Io` only if a call of the output failed, or before it did anything, because the list can't be opened.
+    ensures cause { FailsEarlyOrByOutput shelves.old shelves.new (O.contents output.old) (O.contents output.new)
+        (O.writes output.old) (O.writes output.new) result }
 {
     let Ok(list) = File::open(rt, list) else {
         return Err(CommandRefusal::Io);

@@ -1,8 +1,10 @@
 //! The lines that an import prints.
-ghost use Rattle.std.specs.Prelude.{◌≡◌, codes};
-ghost use Rattle.engine.specs.Written.{Writes};
+ghost use Rattle.std.specs.Prelude.{◌≡◌, [], codes, OnOk};
+ghost use Rattle.engine.specs.Causes.{FailsWith};
 ghost use Rattle.commands.specs.ImportLine as spec;
+ghost use Rattle.commands.specs.Printed.{PrintsText};
 
+use crate::printing::print_both;
 use crate::publish::is_accepted;
 use engine::Io;
 use engine::write::write_both;
@@ -34,8 +36,12 @@ impl RowOutcome {
 
 /// Prints the line of a row: its number, a space, and the answer or `no file`. `Io::Write` if the output fails.
 pub fn print_outcome<O: Tell>(number: u64, outcome: RowOutcome, output: &mut O) -> Result<(), Io>
-    ensures { spec.Prints (O.contents output.old) (O.contents output.new)
+    ensures prints { PrintsText (O.contents output.old) (O.contents output.new)
         (spec.numbered number (spec.outcome_text outcome)) result }
+    // It fails only if a call of the output failed.
+    ensures fails { FailsWith (O.writes output.old).failed (O.writes output.new).failed result }
+    // What was printed is flushed.
+    ensures flushed { OnOk result ((O.writes output.new).unflushed ≡ []) }
 {
     match outcome {
         RowOutcome::NoFile => print_numbered(number, b"no file", output),
@@ -49,31 +55,23 @@ pub fn print_outcome<O: Tell>(number: u64, outcome: RowOutcome, output: &mut O) 
 
 /// Prints the line of a bad row. `Io::Write` if the output fails.
 pub fn print_bad_row<O: Tell>(number: u64, output: &mut O) -> Result<(), Io>
-    ensures { spec.Prints (O.contents output.old) (O.contents output.new)
+    ensures prints { PrintsText (O.contents output.old) (O.contents output.new)
         (spec.numbered number (codes "bad row")) result }
+    // It fails only if a call of the output failed.
+    ensures fails { FailsWith (O.writes output.old).failed (O.writes output.new).failed result }
+    // What was printed is flushed.
+    ensures flushed { OnOk result ((O.writes output.new).unflushed ≡ []) }
 {
     print_numbered(number, b"bad row", output)
 }
 
 /// Prints a line: a number, a space and a text. `Io::Write` if the output fails: then a beginning of it is printed, or all.
 fn print_numbered<O: Tell>(number: u64, text: &[u8], output: &mut O) -> Result<(), Io>
-    ensures { spec.Prints (O.contents output.old) (O.contents output.new) (spec.numbered number text.now) result }
-{
-    match write_numbered(number, text, output) {
-        Ok(()) => {}
-        Err(fault) => return Err(fault),
-    }
-    match output.flush() {
-        Ok(()) => Ok(()),
-        Err(_) => Err(Io::Write),
-    }
-}
-
-/// Writes a line: a number, a space and a text. `Io::Write` if a write fails.
-fn write_numbered<O: Tell>(number: u64, text: &[u8], output: &mut O) -> Result<(), Io>
-    ensures { Writes (O.contents output.old) (O.contents output.new) (spec.numbered number text.now) result }
+    ensures prints { PrintsText (O.contents output.old) (O.contents output.new) (spec.numbered number text.now) result }
+    ensures fails { FailsWith (O.writes output.old).failed (O.writes output.new).failed result }
+    ensures flushed { OnOk result ((O.writes output.new).unflushed ≡ []) }
 {
     let mut digits = Buffer::new();
     write_both(output, digits.format(number).as_bytes(), b" ")?;
-    write_both(output, text, b"\n")
+    print_both(text, b"\n", output)
 }

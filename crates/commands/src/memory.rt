@@ -1,7 +1,7 @@
 //! Shelves in memory, for one run of the program.
-ghost use Rattle.std.specs.Prelude.{◌≡◌, ◌⊎◌, true, None, OnOk, OnErr, IfOk, IfErr};
+ghost use Rattle.std.specs.Prelude.{◌≡◌, ◌⊎◌, [], true, None, Err, OnOk, OnErr, IfOk, IfErr};
 ghost use Rattle.world.specs.World.{only_common, with_team, is_team_name, is_key};
-ghost use Rattle.commands.specs.Opening.{AnsweredFor, AreNames, opening};
+ghost use Rattle.commands.specs.Opening.{AnsweredFor, AreNames, Breaks, ServedFrom, opening};
 
 use crate::refusal::CommandRefusal;
 use engine::answer_all;
@@ -67,8 +67,14 @@ pub fn answer_in_memory<I: Hear, O: Tell>(
     input: &mut I,
     output: &mut O,
 ) -> Result<(), CommandRefusal>
-    ensures { AnsweredFor team.now key.now
+    ensures answers { AnsweredFor team.now key.now
         (I.account input.old) (I.account input.new) (O.contents output.old) (O.contents output.new) result }
+    // It ends with `Io` only if a call of the input or of the output failed, or if no read is left.
+    ensures cause { IfErr result (λ e. e ≡ CommandRefusal.Io → Breaks (λ failure. ServedFrom (opening team.now key.now)
+        (I.account input.old) (I.account input.new) (O.contents output.old) (O.contents output.new) (Err failure))
+        (I.reads input.old) (I.reads input.new) (O.writes output.old) (O.writes output.new)) }
+    // What was written is flushed.
+    ensures flushed { OnOk result ((O.writes output.new).unflushed ≡ []) }
 {
     let mut shelves = match shelves_with(alloc, team, key) {
         Ok(shelves) => shelves,

@@ -1,6 +1,7 @@
 //! The health of a running `serve`, asked for and printed.
-ghost use Rattle.std.specs.Prelude.{◌≡◌};
+ghost use Rattle.std.specs.Prelude.{◌≡◌, [], OnOk};
 ghost use Rattle.commands.specs.Ping as spec;
+ghost use Rattle.commands.specs.Printed.{HasCause};
 ghost use Rattle.commands.specs.Report.{Prints};
 
 use crate::refusal::CommandRefusal;
@@ -8,15 +9,14 @@ use crate::report::print_text;
 use control::{Outcome, Told, Untold, ask_for_health, server_at};
 use histories::{Hear, Hearing, Tell, Telling};
 use std::alloc::Global;
-use std::io::Write;
 use std::rt::HostRuntime;
 use text::Text;
 use world::registry::StoreFault;
 
 /// Asks the `serve` that listens at a socket for its health, prints the line and returns true. `Device` if nobody listens there, the
 /// system refuses the connection, or the store of that server met a fault; `Memory` if the server had no memory for the line. `Io` if
-/// no such line came, or the output failed.
-pub fn ping_at<O: Write>(
+/// no such line came, or the output failed: then a beginning of the line is printed, or all of it.
+pub fn ping_at<O: Tell>(
     rt: &HostRuntime,
     path: &str,
     output: &mut O,
@@ -36,14 +36,19 @@ pub fn ping_at<O: Write>(
 
 /// Writes the line of a ping, reads the line of the health, prints it and returns true. What is no line of a health is not printed.
 /// Fails as `ping_at` does once it is connected.
-pub fn ping_over<R: Hear, W: Tell, O: Write>(
+pub fn ping_over<R: Hear, W: Tell, O: Tell>(
     alloc: Global,
     reader: &mut R,
     writer: &mut W,
     output: &mut O,
 ) -> Result<bool, CommandRefusal>
-    ensures { spec.PingsOver (R.remaining reader.old) (R.remaining reader.new)
+    ensures pings { spec.PingsOver (R.remaining reader.old) (R.remaining reader.new)
         (W.contents writer.old) (W.contents writer.new) (O.contents output.old) (O.contents output.new) result }
+    // It fails only because of what came in the place of the line, or because a call of the output failed.
+    ensures cause { spec.FailsOver (R.remaining reader.old) (R.remaining reader.new)
+        (W.contents writer.old) (W.contents writer.new) (O.writes output.old) (O.writes output.new) result }
+    // What was printed is flushed.
+    ensures flushed { OnOk result ((O.writes output.new).unflushed ≡ []) }
 {
     let told = ask_for_health(alloc, reader, writer);
     print_health(health_ending(told), output)
@@ -74,11 +79,13 @@ fn refusal_of(outcome: Outcome) -> CommandRefusal
 }
 
 /// Prints the line of a health, if there is one.
-fn print_health<O: Write>(
+fn print_health<O: Tell>(
     told: Result<Text, CommandRefusal>,
     output: &mut O,
 ) -> Result<bool, CommandRefusal>
-    ensures { Prints (O.contents output.old) (O.contents output.new) result told }
+    ensures prints { Prints (O.contents output.old) (O.contents output.new) result told }
+    ensures cause { HasCause (O.writes output.old) (O.writes output.new) result told }
+    ensures flushed { OnOk result ((O.writes output.new).unflushed ≡ []) }
 {
     match told {
         Ok(line) => print_text(line.as_str().as_bytes(), output),

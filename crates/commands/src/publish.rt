@@ -1,20 +1,22 @@
 //! A publish of a version from files.
-ghost use Rattle.std.specs.Prelude.{◌≡◌, ◌++◌, codes, option_copied, IfOk, OnOk};
-ghost use Rattle.std.specs.Io.KnownBytes.{Appends};
+ghost use Rattle.std.specs.Prelude.{◌≡◌, ◌⊎◌, [], option_copied, Err, IfErr, IfOk, OnOk};
+ghost use Rattle.engine.specs.Causes.{FailsWith};
 ghost use Rattle.shelf.specs.Machine.{ask_reply, after_ask};
 ghost use Rattle.world.specs.Store.{Does};
-ghost use Rattle.wire.specs.Reply.{line_bytes};
+ghost use Rattle.commands.specs.Printed.{FailsEarlyOrByOutput, HasFailed, PrintsText};
 ghost use Rattle.commands.specs.Publish as spec;
 
 use crate::files::{FileFault, read_file};
+use crate::printing::print_both;
 use crate::refusal::CommandRefusal;
+use engine::Io;
 use engine::page::fixed_of;
+use histories::Tell;
 use modver::read_time;
 use shelf::ask::{Ask, Body, GivenTime, Publish};
 use shelf::reply::Reply;
 use shelf::step::step;
 use std::alloc::{AllocError, Global};
-use std::io::Write;
 use std::rt::HostRuntime;
 use text::Text;
 use wire::fixed_line;
@@ -42,16 +44,21 @@ pub struct Files<'a> {
 
 /// Reads two files, publishes them and prints the outcome. It returns whether the version now has these files. If memory runs
 /// out while it reads, it does nothing on the store and the outcome is the 503. `Io` if a file can't be read, and then it does
-/// nothing, or if the output fails.
-pub fn publish<S: Shelves, O: Write>(
+/// nothing, or if the output fails: then a beginning of the outcome's line is printed, or all of it.
+pub fn publish<S: Shelves, O: Tell>(
     rt: &HostRuntime,
     shelves: &mut S,
     words: &Words,
     files: &Files,
     output: &mut O,
 ) -> Result<bool, CommandRefusal>
-    ensures { spec.PublishesFiles S.shown shelves.old shelves.new (spec.asked_by words.now)
+    ensures publishes { spec.PublishesFiles S.shown shelves.old shelves.new (spec.asked_by words.now)
         (O.contents output.old) (O.contents output.new) result }
+    // It fails only if a call of the output failed, or before it did anything, because a file can't be read.
+    ensures cause { FailsEarlyOrByOutput shelves.old shelves.new (O.contents output.old) (O.contents output.new)
+        (O.writes output.old) (O.writes output.new) result }
+    // What was printed is flushed.
+    ensures flushed { OnOk result ((O.writes output.new).unflushed ≡ []) }
 {
     let read = read_files(rt, files);
     publish_read(rt.alloc(), shelves, words, read, output)
@@ -59,15 +66,17 @@ pub fn publish<S: Shelves, O: Write>(
 
 /// Publishes the files that were read, and prints the outcome. If they were not read, it does nothing on the store: it prints the
 /// 503 if memory ran out, and otherwise fails with `Io`.
-fn publish_read<S: Shelves, O: Write>(
+fn publish_read<S: Shelves, O: Tell>(
     alloc: Global,
     shelves: &mut S,
     words: &Words,
     read: Result<Body, FileFault>,
     output: &mut O,
 ) -> Result<bool, CommandRefusal>
-    ensures { spec.EndsBy S.shown shelves.old shelves.new (spec.asked_by words.now)
+    ensures ends { spec.EndsBy S.shown shelves.old shelves.new (spec.asked_by words.now)
         (O.contents output.old) (O.contents output.new) result read }
+    ensures cause { IfErr result (λ _. (read ≡ Err FileFault.Io) ⊎ HasFailed (O.writes output.old) (O.writes output.new)) }
+    ensures flushed { OnOk result ((O.writes output.new).unflushed ≡ []) }
 {
     match read {
         Ok(body) => publish_files(alloc, shelves, words, body, output),
@@ -85,16 +94,20 @@ fn read_files(rt: &HostRuntime, files: &Files) -> Result<Body, FileFault> {
 }
 
 /// Publishes files as the machine does and prints the outcome. It returns whether the version now has these files. `Io` if the
-/// output fails.
-pub fn publish_files<S: Shelves, O: Write>(
+/// output fails: then a beginning of the outcome's line is printed, or all of it.
+pub fn publish_files<S: Shelves, O: Tell>(
     alloc: Global,
     shelves: &mut S,
     words: &Words,
     body: Body,
     output: &mut O,
 ) -> Result<bool, CommandRefusal>
-    ensures { spec.PublishesAndTells (S.shown shelves.old) (S.shown shelves.new) (spec.asked_by words.now body)
+    ensures publishes { spec.PublishesAndTells (S.shown shelves.old) (S.shown shelves.new) (spec.asked_by words.now body)
         (O.contents output.old) (O.contents output.new) result }
+    // It fails only if a call of the output failed.
+    ensures cause { IfErr result (λ _. HasFailed (O.writes output.old) (O.writes output.new)) }
+    // What was printed is flushed.
+    ensures flushed { OnOk result ((O.writes output.new).unflushed ≡ []) }
 {
     let told = publish_by(alloc, shelves, words, body);
     tell(answer_of(told), output)
@@ -160,8 +173,10 @@ pub(crate) fn answer_of(told: Result<Reply, StoreFault>) -> Fixed
 }
 
 /// Prints an answer as a line, and returns whether it accepts the publish. `Io` if the output fails.
-fn tell<O: Write>(answer: Fixed, output: &mut O) -> Result<bool, CommandRefusal>
-    ensures { spec.Tells answer (O.contents output.old) (O.contents output.new) result }
+fn tell<O: Tell>(answer: Fixed, output: &mut O) -> Result<bool, CommandRefusal>
+    ensures tells { spec.Tells answer (O.contents output.old) (O.contents output.new) result }
+    ensures cause { IfErr result (λ _. HasFailed (O.writes output.old) (O.writes output.new)) }
+    ensures flushed { OnOk result ((O.writes output.new).unflushed ≡ []) }
 {
     match print_line(answer, output) {
         Ok(()) => Ok(is_accepted(answer.status().as_u16())),
@@ -176,13 +191,13 @@ pub(crate) fn is_accepted(status: u16) -> bool
     status == 200 || status == 201
 }
 
-/// Prints an answer as a line: the number of its status, a space and its body. Fails if the output does.
-fn print_line<O: Write>(answer: Fixed, output: &mut O) -> std::io::Result<()>
-    ensures { OnOk result (Appends (O.contents output.old) (O.contents output.new) (line_bytes answer ++ codes "\n")) }
+/// Prints an answer as a line: the number of its status, a space and its body. `Io::Write` if the output fails.
+fn print_line<O: Tell>(answer: Fixed, output: &mut O) -> Result<(), Io>
+    ensures prints { PrintsText (O.contents output.old) (O.contents output.new) (spec.answer_line answer) result }
+    ensures fails { FailsWith (O.writes output.old).failed (O.writes output.new).failed result }
+    ensures flushed { OnOk result ((O.writes output.new).unflushed ≡ []) }
 {
     let mut line = [0; 40];
     let len = fixed_line(answer, &mut line);
-    output.write_all(&line[..len])?;
-    output.write_all(b"\n")?;
-    output.flush()
+    print_both(&line[..len], b"\n", output)
 }

@@ -2,7 +2,9 @@
 ghost use Rattle.std.specs.Prelude.{◌≡◌};
 ghost use Rattle.commands.specs.Ending as spec;
 
+use engine::Io;
 use std::alloc::AllocError;
+use std::io;
 use world::registry::{Registered, StoreFault};
 
 /// Why a command was refused, with exit status 1.
@@ -55,6 +57,18 @@ impl CommandRefusal {
             CommandRefusal::BadRow => "bad-row",
             CommandRefusal::Io => "io",
         }
+    }
+}
+
+impl From<io::Error> for CommandRefusal {
+    fn from(_: io::Error) -> CommandRefusal {
+        CommandRefusal::Io
+    }
+}
+
+impl From<Io> for CommandRefusal {
+    fn from(_: Io) -> CommandRefusal {
+        CommandRefusal::Io
     }
 }
 

@@ -1,28 +1,33 @@
 //! What is read of a store, printed.
-ghost use Rattle.std.specs.Prelude.{◌≡◌, OnOk, Ok};
-ghost use Rattle.std.specs.Io.KnownBytes.{Appends};
+ghost use Rattle.std.specs.Prelude.{◌≡◌, [], IfErr, OnOk, Ok};
+ghost use Rattle.commands.specs.Printed.{FailsByOutput, HasCause, HasFailed};
 ghost use Rattle.commands.specs.Report as spec;
 
 use crate::inventory::{InventoryFault, inventory};
+use crate::printing::print_one;
 use crate::refusal::CommandRefusal;
 use crate::requirements::requirements;
+use histories::Tell;
 use outline::outlines::Outlines;
 use std::alloc::Global;
-use std::io::{self, Write};
 use world::bytes::Bytes;
 use world::registry::StoreFault;
 use world::shelves::Shelves;
 
 /// Prints the inventory of a key, and returns true. `NoKey` if there is no such key, `Device` or `Memory` if the store meets a
-/// fault: then nothing is printed. `Io` if the output fails.
-pub fn print_inventory<S: Outlines, O: Write>(
+/// fault: then nothing is printed. `Io` if the output fails: then a beginning of the inventory is printed, or all of it.
+pub fn print_inventory<S: Outlines, O: Tell>(
     alloc: Global,
     shelves: &mut S,
     key: &str,
     output: &mut O,
 ) -> Result<bool, CommandRefusal>
-    ensures { spec.PrintsInventory (S.shown shelves.old) (S.shown shelves.new) key.now
+    ensures prints { spec.PrintsInventory (S.shown shelves.old) (S.shown shelves.new) key.now
         (O.contents output.old) (O.contents output.new) result }
+    // It ends with `Io` only if a call of the output failed.
+    ensures cause { FailsByOutput (O.writes output.old) (O.writes output.new) result }
+    // What was printed is flushed.
+    ensures flushed { OnOk result ((O.writes output.new).unflushed ≡ []) }
 {
     let told = inventory(alloc, shelves, key);
     print(inventory_ending(told), output)
@@ -30,15 +35,19 @@ pub fn print_inventory<S: Outlines, O: Write>(
 
 /// Prints what the go.mod of a version requires, and returns true. `NotFound` if the path or the version is invalid, there is no
 /// such key or its shelf does not see the version, `Device` or `Memory` if the store meets a fault: then nothing is printed. `Io`
-/// if the output fails.
-pub fn print_requirements<S: Shelves, O: Write>(
+/// if the output fails: then a beginning of the lines is printed, or all of them.
+pub fn print_requirements<S: Shelves, O: Tell>(
     alloc: Global,
     shelves: &mut S,
     version: &Named,
     output: &mut O,
 ) -> Result<bool, CommandRefusal>
-    ensures { spec.PrintsRequirements (S.shown shelves.old) (S.shown shelves.new) version.now
+    ensures prints { spec.PrintsRequirements (S.shown shelves.old) (S.shown shelves.new) version.now
         (O.contents output.old) (O.contents output.new) result }
+    // It ends with `Io` only if a call of the output failed.
+    ensures cause { FailsByOutput (O.writes output.old) (O.writes output.new) result }
+    // What was printed is flushed.
+    ensures flushed { OnOk result ((O.writes output.new).unflushed ≡ []) }
 {
     let told = requirements(alloc, shelves, version.key, version.path, version.version);
     print(requirements_ending(told), output)
@@ -77,11 +86,13 @@ fn requirements_ending(told: Result<Option<Bytes>, StoreFault>) -> Result<Bytes,
 }
 
 /// Prints a text and returns true, or fails with the refusal if there is none. `Io` if the output fails.
-fn print<O: Write>(
+fn print<O: Tell>(
     told: Result<Bytes, CommandRefusal>,
     output: &mut O,
 ) -> Result<bool, CommandRefusal>
-    ensures { spec.Prints (O.contents output.old) (O.contents output.new) result told }
+    ensures prints { spec.Prints (O.contents output.old) (O.contents output.new) result told }
+    ensures cause { HasCause (O.writes output.old) (O.writes output.new) result told }
+    ensures flushed { OnOk result ((O.writes output.new).unflushed ≡ []) }
 {
     let text = match told {
         Ok(text) => text,
@@ -90,20 +101,14 @@ fn print<O: Write>(
     print_text(text.as_slice(), output)
 }
 
-/// Prints a text and returns true. `Io` if the output fails.
-pub(crate) fn print_text<O: Write>(text: &[u8], output: &mut O) -> Result<bool, CommandRefusal>
-    ensures { spec.Prints (O.contents output.old) (O.contents output.new) result (Ok text.now) }
+/// Prints a text and returns true. `Io` if the output fails: then a beginning of the text is printed, or all of it.
+pub(crate) fn print_text<O: Tell>(text: &[u8], output: &mut O) -> Result<bool, CommandRefusal>
+    ensures prints { spec.Prints (O.contents output.old) (O.contents output.new) result (Ok text.now) }
+    ensures cause { IfErr result (λ _. HasFailed (O.writes output.old) (O.writes output.new)) }
+    ensures flushed { OnOk result ((O.writes output.new).unflushed ≡ []) }
 {
-    match write_text(text, output) {
+    match print_one(text, output) {
         Ok(()) => Ok(true),
         Err(_) => Err(CommandRefusal::Io),
     }
-}
-
-/// Writes a text, and flushes. Fails if the output does.
-fn write_text<O: Write>(text: &[u8], output: &mut O) -> io::Result<()>
-    ensures { OnOk result (Appends (O.contents output.old) (O.contents output.new) text.now) }
-{
-    output.write_all(text)?;
-    output.flush()
 }

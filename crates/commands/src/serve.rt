@@ -1,16 +1,21 @@
 //! `serve`: one request on each of some connections, and the orders of operators between them.
-ghost use Rattle.std.specs.Prelude.{◌≡◌, ◌≢◌, ◌++◌, codes, decimal, option_copied, IfOk, OnOk};
-ghost use Rattle.std.specs.Io.KnownBytes.{Appends};
-ghost use Rattle.commands.specs.Serve.{Announces, ListensToBoth, ListensAs, PrintsPort, input_line, port_line, port_text};
+ghost use Rattle.std.specs.Prelude.{◌≡◌, ◌≢◌, [], option_copied, OnErr, OnOk};
+ghost use Rattle.commands.specs.Printed.{PrintsText};
+ghost use Rattle.commands.specs.Serve.{Announces, AnnouncesFront, ListensToBoth, ListensAs};
+ghost use Rattle.commands.specs.Serve.{PrintsPort, PrintsPortFront, input_line, port_line};
 
 use crate::moment::time_now;
+use crate::printing::{print_both, print_one};
 use crate::refusal::CommandRefusal;
 use control::{Copies, Doors, operators_at, remove_socket, serve_both};
+use engine::Io;
+use engine::write::write_bytes;
+use histories::Tell;
 use itoa::Buffer;
 use mio::unix::SourceFd;
 use mio::{Events, Interest, Poll, Token};
 use socket::serve_on;
-use std::io::{self, ErrorKind, Write};
+use std::io::{self, ErrorKind};
 use std::net::{Ipv4Addr, TcpListener, TcpStream};
 use std::os::fd::{AsFd, AsRawFd, OwnedFd};
 use std::os::unix::net::UnixListener;
@@ -30,8 +35,9 @@ pub enum Entrance {
 /// Prints the line of the entrance, and serves the connections that come in: the store goes through at most as many requests as there
 /// are connections. If a socket `control` is named, the orders of operators who connect to it are carried out between them, copies by
 /// `copies`, and do not count; a ping is told the versions that `copies` counts. `Io` if the entrance or the socket can't be opened, the
-/// clock can't be read for the start time, the output fails, or memory runs out before it serves; a connection that fails only counts.
-pub fn serve<S: Shelves, K: Copies<S>, O: Write>(
+/// clock can't be read for the start time, the output fails, or memory runs out before it serves: then nothing of the line is printed, a
+/// beginning or all of it, and the store stays as it was. A connection that fails only counts.
+pub fn serve<S: Shelves, K: Copies<S>, O: Tell>(
     rt: &HostRuntime,
     shelves: &mut S,
     copies: &mut K,
@@ -40,8 +46,10 @@ pub fn serve<S: Shelves, K: Copies<S>, O: Write>(
     control: Option<&str>,
     output: &mut O,
 ) -> Result<(), CommandRefusal>
-    ensures { ListensAs S.shown K.copied K.counted shelves.old shelves.new entrance connections
+    ensures serves { ListensAs S.shown K.copied K.counted shelves.old shelves.new entrance connections
         (option_copied control.entry) (O.contents output.old) (O.contents output.new) result }
+    // What was printed is flushed.
+    ensures flushed { OnOk result ((O.writes output.new).unflushed ≡ []) }
 {
     match control {
         None => {
@@ -56,7 +64,7 @@ pub fn serve<S: Shelves, K: Copies<S>, O: Write>(
 }
 
 /// Serves the connections of peers, and the operators of a socket, which is made first and taken away at the end.
-fn serve_operators<S: Shelves, K: Copies<S>, O: Write>(
+fn serve_operators<S: Shelves, K: Copies<S>, O: Tell>(
     rt: &HostRuntime,
     shelves: &mut S,
     copies: &mut K,
@@ -65,8 +73,9 @@ fn serve_operators<S: Shelves, K: Copies<S>, O: Write>(
     path: &str,
     output: &mut O,
 ) -> Result<(), CommandRefusal>
-    ensures { ListensToBoth S.shown K.copied K.counted shelves.old shelves.new entrance connections
+    ensures serves { ListensToBoth S.shown K.copied K.counted shelves.old shelves.new entrance connections
         (O.contents output.old) (O.contents output.new) result }
+    ensures flushed { OnOk result ((O.writes output.new).unflushed ≡ []) }
 {
     let Some(since) = time_now(rt) else {
         return Err(CommandRefusal::Io);
@@ -96,21 +105,29 @@ fn serve_operators<S: Shelves, K: Copies<S>, O: Write>(
 }
 
 /// What takes the connections of both.
-fn open_doors<O: Write>(
+fn open_doors<O: Tell>(
     rt: &HostRuntime,
     entrance: Entrance,
     operators: UnixListener,
     output: &mut O,
-) -> io::Result<Doors>
-    ensures { OnOk result (Announces entrance (O.contents output.old) (O.contents output.new)) }
+) -> Result<Doors, CommandRefusal>
+    ensures ok { OnOk result (Announces entrance (O.contents output.old) (O.contents output.new)) }
+    ensures err { OnErr result (AnnouncesFront entrance (O.contents output.old) (O.contents output.new)) }
+    ensures flushed { OnOk result ((O.writes output.new).unflushed ≡ []) }
 {
     let peers = listen(rt, entrance, output)?;
-    Doors::new(rt, peers, operators)
+    Ok(Doors::new(rt, peers, operators)?)
 }
 
-/// Takes the entrance, and prints it.
-fn listen<O: Write>(rt: &HostRuntime, entrance: Entrance, output: &mut O) -> io::Result<TcpListener>
-    ensures { OnOk result (Announces entrance (O.contents output.old) (O.contents output.new)) }
+/// Takes the entrance, and prints it. If the output fails, a beginning of the line is printed, or all of it.
+fn listen<O: Tell>(
+    rt: &HostRuntime,
+    entrance: Entrance,
+    output: &mut O,
+) -> Result<TcpListener, CommandRefusal>
+    ensures ok { OnOk result (Announces entrance (O.contents output.old) (O.contents output.new)) }
+    ensures err { OnErr result (AnnouncesFront entrance (O.contents output.old) (O.contents output.new)) }
+    ensures flushed { OnOk result ((O.writes output.new).unflushed ≡ []) }
 {
     match entrance {
         Entrance::Port(port) => listen_at(rt, port, output),
@@ -124,8 +141,14 @@ fn listen<O: Write>(rt: &HostRuntime, entrance: Entrance, output: &mut O) -> io:
 
 /// Binds a port of 127.0.0.1, and prints it; the system chooses one in the place of 0.
 /// A named port is printed as it was named, and only a chosen one is asked of the system.
-fn listen_at<O: Write>(rt: &HostRuntime, port: u16, output: &mut O) -> io::Result<TcpListener>
-    ensures { OnOk result (PrintsPort port (O.contents output.old) (O.contents output.new)) }
+fn listen_at<O: Tell>(
+    rt: &HostRuntime,
+    port: u16,
+    output: &mut O,
+) -> Result<TcpListener, CommandRefusal>
+    ensures ok { OnOk result (PrintsPort port (O.contents output.old) (O.contents output.new)) }
+    ensures err { OnErr result (PrintsPortFront port (O.contents output.old) (O.contents output.new)) }
+    ensures flushed { OnOk result ((O.writes output.new).unflushed ≡ []) }
 {
     let listener = TcpListener::bind(rt, (Ipv4Addr::LOCALHOST, port))?;
     let bound = match port {
@@ -164,38 +187,19 @@ fn may_be_written(rt: &HostRuntime, stream: &TcpStream) -> io::Result<bool> {
 }
 
 /// Prints the line that tells of standard input.
-fn print_input<O: Write>(output: &mut O) -> io::Result<()>
-    ensures { OnOk result (Appends (O.contents output.old) (O.contents output.new) input_line) }
+fn print_input<O: Tell>(output: &mut O) -> Result<(), Io>
+    ensures prints { PrintsText (O.contents output.old) (O.contents output.new) input_line result }
+    ensures flushed { OnOk result ((O.writes output.new).unflushed ≡ []) }
 {
-    output.write_all(b"listening on standard input\n")?;
-    output.flush()
+    print_one(b"listening on standard input\n", output)
 }
 
 /// Prints the line that tells the port.
-fn print_port<O: Write>(port: u16, output: &mut O) -> io::Result<()>
-    ensures { OnOk result (Appends (O.contents output.old) (O.contents output.new) (port_line port)) }
-{
-    print_address(port, output)?;
-    output.write_all(b"\n")?;
-    output.flush()
-}
-
-/// Prints what stands in that line.
-fn print_address<O: Write>(port: u16, output: &mut O) -> io::Result<()>
-    ensures { OnOk result (Appends (O.contents output.old) (O.contents output.new) (port_text port)) }
+fn print_port<O: Tell>(port: u16, output: &mut O) -> Result<(), Io>
+    ensures prints { PrintsText (O.contents output.old) (O.contents output.new) (port_line port) result }
+    ensures flushed { OnOk result ((O.writes output.new).unflushed ≡ []) }
 {
     let mut digits = Buffer::new();
-    print_both(
-        b"listening on 127.0.0.1:",
-        digits.format(port).as_bytes(),
-        output,
-    )
-}
-
-/// Prints one text after another.
-fn print_both<O: Write>(first: &[u8], second: &[u8], output: &mut O) -> io::Result<()>
-    ensures { OnOk result (Appends (O.contents output.old) (O.contents output.new) (first.now ++ second.now)) }
-{
-    output.write_all(first)?;
-    output.write_all(second)
+    write_bytes(output, b"listening on 127.0.0.1:")?;
+    print_both(digits.format(port).as_bytes(), b"\n", output)
 }

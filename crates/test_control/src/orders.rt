@@ -233,7 +233,7 @@ fn is_pinged(alloc: Global, row: &str) -> Result<bool, Fail> {
         alloc,
         &mut reader,
         &mut Telling::new(&mut sent),
-        &mut printed,
+        &mut Telling::new(&mut printed),
     );
     let wanted = match column(row, 1) {
         "" => String::new(alloc),

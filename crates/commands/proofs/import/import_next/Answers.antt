@@ -1,21 +1,22 @@
 use Rattle.std.proofs.Common.{inr, refl, subst, ◌++◌, ◌∷◌, []}
 use Rattle.csv.specs.Records.{fields_of}
-use Rattle.commands.specs.ImportLine.{PrintsFront, numbered, outcome_text}
+use Rattle.commands.specs.ImportLine.{numbered, outcome_text}
 use Rattle.commands.specs.ImportList.{HasRead, line_of_row}
+use Rattle.commands.specs.Printed.{PrintsFront}
 use Rattle.commands.proofs.ImportLists.{read_begins}
 use Rattle.commands.proofs.Imports.{nothing_done}
 use Rattle.commands.proofs.import.import_next.Goals as goal
 
-pub returns-in-Some : goal.returns-in-Some
-returns-in-Some g c =
+pub returns-in-Some-clause-steps : goal.returns-in-Some-clause-steps
+returns-in-Some-clause-steps g c =
     λ list rows so. record {
       through = nothing_done (g.F.Sources.known c.args.sources.now) c.args.key.now _;
       closing = c.in-Some.ensures list rows so;
       output = refl;
     }
 
-pub returns-in_default-row_of : goal.returns-in_default-row_of
-returns-in_default-row_of g c =
+pub returns-in_default-row_of-clause-steps : goal.returns-in_default-row_of-clause-steps
+returns-in_default-row_of-clause-steps g c =
     λ list rows so. record {
       through = nothing_done (g.F.Sources.known c.args.sources.now) c.args.key.now _;
       closing = inr (
@@ -26,8 +27,8 @@ returns-in_default-row_of g c =
       output = refl;
     }
 
-pub returns-in-Err : goal.returns-in-Err
-returns-in-Err g c =
+pub returns-in-Err-clause-steps : goal.returns-in-Err-clause-steps
+returns-in-Err-clause-steps g c =
     λ list rows so.
     let row = c.in-Some-row_of.row in
     let does = c.import_row-outcome.ensures in
@@ -37,7 +38,7 @@ returns-in-Err g c =
         through = does.through;
         read = subst (λ f. HasRead g.R.Read.remaining list (rows ++ f ∷ []) c.read_row.new.reader) c.in-Some-row_of.ensures read;
       },
-      c.in-Err.ensures.0,
+      c.in-Err.ensures.prints.0,
       subst (λ o. PrintsFront (g.O.Write.contents c.args.output.now) (g.O.Write.contents c.print_outcome.new.output) (numbered c.args.number (outcome_text o)))
-          does.is c.in-Err.ensures.1,
+          does.is c.in-Err.ensures.prints.1,
     )

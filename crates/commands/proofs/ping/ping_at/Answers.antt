@@ -2,4 +2,4 @@ use Rattle.std.proofs.Common.{inl}
 use Rattle.commands.proofs.ping.ping_at.Goals as goal
 
 pub returns-in-Ok : goal.returns-in-Ok
-returns-in-Ok g c = inl (_, _, _, _, c.ping_over.ensures)
+returns-in-Ok g c = inl (_, _, _, _, c.ping_over.ensures.pings)

@@ -6,8 +6,10 @@ Python's sqlite3 makes the files that are no stores. Each command with --db is t
 
 import os
 import sqlite3
+import struct
 import sys
 
+from control import CONTROL, Server
 from harness import KEY, KEYS, MEMORY, Suite, get, in_new_folders, new_store, put, raw_replies, read, reply, run, words_of, write
 
 KEPT_FILES = {"go.mod": "module example.com/lib\n", "Z": "Z\n"}
@@ -201,6 +203,108 @@ def refused(suite):
     suite.equal("the file that was damaged in copies is opened", run("team-add --db good.db --team beta".split()), (0, b"", ""))
 
 
+def logged(name, made, later, stale=()):
+    """The bytes of a database, its log and its shared memory, as a killed sqlite3 leaves them that wrote the last
+    statements to the log alone. The log begins anew for them: without bytes, or over the frames of stale statements."""
+    conn = sqlite3.connect(name, isolation_level=None)
+    conn.execute("PRAGMA journal_mode = WAL")
+    conn.execute("PRAGMA wal_autocheckpoint = 0")
+    for sql in (made, *stale):
+        conn.executescript(sql)
+    conn.execute(f"PRAGMA wal_checkpoint({'RESTART' if stale else 'TRUNCATE'})")
+    conn.executescript(later)
+    files = {end: read(name + end) for end in ("", "-wal", "-shm")}
+    conn.close()
+    return files
+
+
+def salted(log, salt):
+    """A log whose frames have another salt than its header."""
+    head = log[:16] + salt + log[20:24]
+    one = two = 0
+    for at in range(0, 24, 8):
+        # the magic number of the header says in which order the checksum takes the bytes of a word
+        first, second = struct.unpack(">II" if log[3] & 1 else "<II", head[at : at + 8])
+        one = (one + first + two) & 0xFFFF_FFFF
+        two = (two + second + one) & 0xFFFF_FFFF
+    return head + struct.pack(">II", one, two) + log[32:]
+
+
+FOREIGN = "CREATE TABLE x (a INTEGER, b TEXT) STRICT; INSERT INTO x VALUES (1, 'one'), (2, 'two');"
+ADDED = "INSERT INTO x VALUES (3, 'three');"
+# enough frames that those of another commit do not cover them
+STALE = ["INSERT INTO x SELECT a + 2, hex(zeroblob(3000)) FROM x;"] * 9
+
+
+def of_no_store():
+    """Files that hold no store, each with what it is. Another program wrote their logs."""
+    foreign = logged("foreign.db", FOREIGN, ADDED)
+    log = foreign["-wal"]
+    yield "a database with another table", foreign
+    yield "one that is in its log alone", logged("early.db", "", FOREIGN)
+    yield "one over stale frames", logged("stale.db", FOREIGN, ADDED, STALE)
+    yield "one whose log has another salt", {**foreign, "-wal": salted(log, flipped(log[16:20], 0))}
+    yield "one whose log has a salt of the same first byte", {**foreign, "-wal": salted(log, flipped(log[16:20], 1))}
+    yield "one whose log has another header", {**foreign, "-wal": flipped(log, 0)}
+    yield "one whose log is not signed", {**foreign, "-wal": flipped(log, 24)}
+    yield "one whose log has a header alone", {**foreign, "-wal": log[:32]}
+    yield "one whose log is a text", {**foreign, "-wal": b"This is a text and no log. " * 9}
+    yield "one whose log is empty", {**foreign, "-wal": b""}
+    yield "one with a torn frame", {**foreign, "-wal": log + log[32:90]}
+    yield "one with half a frame", {**foreign, "-wal": log[:-2000]}
+    yield "tables of schema 2", logged("older.db", SCHEMA_2, "INSERT INTO shelf VALUES ('beta');")
+    new_store("bad.db")
+    bad = logged("bad.db", FILL, WRONG_KEYS["empty keys"])
+    yield "a store with keys of no version", bad
+    yield "a store with a damaged page", {**bad, "": flipped(bad[""], 4096 * 3 + 2)}
+
+
+def beside(name):
+    """The bytes of each file whose name begins so, by the rest of its name."""
+    return {it[len(name) :]: read(it) for it in os.listdir(".") if it.startswith(name)}
+
+
+def logs_of_others(suite):
+    """A file that holds no store keeps every byte, and so do its log and its shared memory. No other file appears."""
+    new_store("good.db")
+    changed("good.db", FILL)
+    new_store("served.db", ("alpha", KEY))
+    server = Server("served.db")
+    rows = [*COMMANDS.strip().split("\n"), f"copy --control {CONTROL} --to F | not-empty"]
+    for number, (cause, files) in enumerate(of_no_store()):
+        name = f"no-store-{number}.db"
+        # what a look finds does not hang on the command, so most files meet a few
+        for row in rows if number == 0 else [it for it in rows if it.startswith(("inventory", "init", "copy"))]:
+            write({name + end: content for end, content in files.items()})
+            line, word = row.replace(" F", f" {name}").split(" | ")
+            told, left = run(words_of(line)), beside(name)
+            harmed = sorted(it for it in {*files, *left} if files.get(it) != left.get(it))
+            suite.equal(f"{cause}, with a log: {row}", (told, harmed), ((1, b"", f"goshelf: {word}\n"), []))
+    server.kill()
+
+
+def logs_of_stores(suite):
+    """A store whose newest commits are in its log alone, where another program wrote them, opens with all of them."""
+    for cause, stale, tail in (
+        ("the commit is the end of the log", (), b""),
+        ("stale frames follow it", ["UPDATE shelf SET name = name;"] * 9, b""),
+        ("a part of a frame follows it", (), bytes(range(90))),
+    ):
+        name = f"{cause.replace(' ', '-')}.db"
+        new_store("made.db", ("beta", KEYS["B"]))
+        files = logged("made.db", "", FILL, stale)
+        write({f"{name}{end}": content for end, content in [*files.items(), ("-wal", files["-wal"] + tail)]})
+        os.unlink("made.db")
+        listed = b"path,version,shelf,class,time,mod_bytes,zip_bytes\nexample.com/lib,v1.0.0,alpha,release,,23,1\n"
+        suite.equal(f"{cause}: inventory", run(["inventory", "--db", name, "--key", KEY]), (0, listed, ""))
+        suite.equal(f"{cause}: the key of before", run(["inventory", "--db", name, "--key", KEYS["B"]])[0], 0)
+        suite.equal(f"{cause}: team-add", run(["team-add", "--db", name, "--team", "gamma"]), (0, b"", ""))
+        conn = sqlite3.connect(name)
+        names = [row[0] for row in conn.execute("SELECT name FROM shelf ORDER BY name")]
+        conn.close()
+        suite.equal(f"{cause}: sqlite3 finds all shelves", names, ["alpha", "beta", "common", "gamma"])
+
+
 def logs_alone(suite):
     """A log whose database file is gone or empty is kept, and no command makes another file for it."""
     new_store("good.db", ("alpha", KEY))
@@ -258,4 +362,5 @@ def no_files(suite):
 
 
 if __name__ == "__main__":
-    sys.exit(in_new_folders(Suite(), keeps, zips, lengths, refused, logs_alone, started, keys, no_files))
+    LOGS = (logs_of_others, logs_of_stores, logs_alone)
+    sys.exit(in_new_folders(Suite(), keeps, zips, lengths, refused, *LOGS, started, keys, no_files))

@@ -7,3 +7,4 @@ pub mod ExtractedLemmas
 pub mod MigratedLemmas
 pub mod OlderLemmas
 pub mod CountedLemmas
+pub mod LookLemmas

@@ -8,3 +8,4 @@ pub mod Names
 pub mod Restart
 pub mod Migrated
 pub mod Older
+pub mod Still

@@ -34,7 +34,7 @@ const KEPT_PAGES: usize = 8_192;
 const NEW_SIZE: usize = 4_096;
 
 /// The bytes of a log's header and of a frame's. sqlite passes over a shorter log.
-const SHORTEST_LOG: usize = 32 + 24;
+pub(crate) const SHORTEST_LOG: usize = 32 + 24;
 
 /// Opens the files at a path, which it creates if they do not exist, and returns them with a number that it drew at
 /// random.

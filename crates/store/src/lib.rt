@@ -40,6 +40,7 @@ mod counting;
 mod extract;
 pub mod files;
 pub mod laws;
+mod look;
 pub mod migrate;
 pub mod open;
 pub mod open_older;

@@ -13,6 +13,7 @@ ghost use Rattle.store.specs.Names.{IsNoFileName};
 ghost use Rattle.store.specs.Restart.{HoldsStore, HoldsNoStore, IsStray, RecoversStore, Keeps};
 
 use crate::files::{connect_files, open_pair};
+use crate::look::look;
 use crate::store::SqlShelves;
 use setup::refusal::Refusal;
 use sqlite::{
@@ -62,7 +63,7 @@ impl<S: Alter> SqlShelves<S> {
 /// Opens the store in two files, or returns them with the refusal, as `open_from` does. The number salts the log.
 ///
 /// It has no runtime, so it can open no other files, and it cannot return fewer than it was given.
-fn open_over<D: Disk + Drop>(
+pub(crate) fn open_over<D: Disk + Drop>(
     alloc: Global,
     files: Files<D>,
     seed: u64,
@@ -121,6 +122,10 @@ impl<T: Start> SqlShelves<FileStore<FileFrom<T>>> {
         let (files, seed) = match open_pair(rt, path, start) {
             Ok(opened) => opened,
             Err(refusal) => return Err((refusal, None)),
+        };
+        let files = match look::<FileFrom<T>, T>(rt.alloc(), files, seed) {
+            Ok(files) => files,
+            Err(refused) => return Err(refused),
         };
         match open_over(rt.alloc(), files, seed) {
             Ok(shelves) => Ok(shelves),

@@ -7,6 +7,7 @@ pub mod Laws
 pub mod Line
 pub mod Order
 pub mod Outcome
+pub mod Pace
 pub mod Pinging
 pub mod Told
 pub mod Turns

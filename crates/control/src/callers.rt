@@ -1,19 +1,26 @@
 //! Callers: peers, who send requests, and operators, who send orders.
-ghost use Rattle.std.specs.Prelude.{IfOk, IfSome};
+ghost use Rattle.std.specs.Prelude.{◌≡◌, IfOk, IfSome};
+ghost use Rattle.histories.specs.Timing.{KeepsTime};
+ghost use Rattle.control.specs.Hearing.{ObeysBy};
+ghost use Rattle.control.specs.Pace.{time_for_order};
 ghost use Rattle.control.specs.Visits.{IsUnheard};
 
 use crate::copies::Copies;
 use crate::obeying::obey;
-use crate::patience::Timed;
+use crate::patience::ForOrder;
 use crate::tally::Tally;
 use crate::told::Told;
 use engine::Io;
-use histories::{BoundRead, BoundWrite, Connection, Hear, Hearing, Telling, over_tcp, over_unix};
+use histories::{
+    BoundRead, BoundWrite, Connection, HasCalls, Hear, Hearing, HearingInTime, Start, Telling,
+    TellingInTime, over_tcp, over_unix,
+};
 use mio::unix::SourceFd;
 use mio::{Events, Interest, Poll, Token};
 use socket::Peer;
 use std::alloc::Global;
 use std::io::{self, ErrorKind, Write};
+use std::marker::Brand;
 use std::net::{TcpListener, TcpStream};
 use std::os::fd::AsRawFd;
 use std::os::unix::net::{UnixListener, UnixStream};
@@ -41,13 +48,22 @@ pub struct Obeyed<O> {
 pub trait Operator {
     ghost use Rattle.std.specs.Prelude.{ℕ, List, Option};
     ghost use Rattle.histories.specs.Account.{Account};
+    ghost use Rattle.histories.specs.Timing.{KeepsTime};
+    ghost use Rattle.histories.specs.declared.call.Call.{Call};
     ghost use Rattle.control.specs.Hearing.{ObeysBy};
+    ghost use Rattle.control.specs.Pace.{time_for_order};
 
     /// The bytes that came from it so far.
     ghost came: { Self → Account };
 
     /// The bytes that were sent to it, if they are known.
     ghost written: { Self → Option (List ℕ) };
+
+    /// The calls that bear on how long a read from it waits, the last of them first.
+    ghost read_calls: { Self → List Call };
+
+    /// The calls that bear on how long a write to it waits, the last of them first.
+    ghost write_calls: { Self → List Call };
 
     /// Carries out its order, as `obey` does. A ping gets this tally.
     fn obeyed<C: Clock, S: Shelves, K: Copies<S>>(
@@ -60,14 +76,21 @@ pub trait Operator {
     ) -> Obeyed<Self>
     where
         Self: Sized,
-        ensures { ObeysBy S.shown K.copied K.counted tally.now shelves.old shelves.new
-            (came self) (came result.operator) (written self) (written result.operator) result.told };
+        ensures obeys { ObeysBy S.shown K.copied K.counted tally.now shelves.old shelves.new
+            (came self) (came result.operator) (written self) (written result.operator) result.told }
+        // No read, and no write, began after its time or waited longer than what was left of it.
+        ensures reads_in_time { KeepsTime time_for_order (read_calls self) (read_calls result.operator) }
+        ensures writes_in_time { KeepsTime time_for_order (write_calls self) (write_calls result.operator) };
 }
 
 impl<R: BoundRead + Drop, W: BoundWrite + Drop> Operator for Connection<R, W> {
     ghost came = { λ o. ⟦<Hearing<R> as Hear>⟧.account o.reader };
 
     ghost written = { λ o. ⟦<Telling<W> as Write>⟧.contents o.writer };
+
+    ghost read_calls = { λ o. ⟦<Hearing<R> as HasCalls>⟧.calls o.reader };
+
+    ghost write_calls = { λ o. ⟦<Telling<W> as HasCalls>⟧.calls o.writer };
 
     /// All reads of the line together have 2 seconds, and so have all writes of the outcome.
     fn obeyed<C: Clock, S: Shelves, K: Copies<S>>(
@@ -78,17 +101,49 @@ impl<R: BoundRead + Drop, W: BoundWrite + Drop> Operator for Connection<R, W> {
         shelves: &mut S,
         copies: &mut K,
     ) -> Obeyed<Connection<R, W>> {
-        let Connection { reader, writer } = self;
-        let mut line = Timed::new(reader, clock);
-        let mut outcome = Timed::new(writer, clock);
-        let told = obey(alloc, &mut line, &mut outcome, tally, shelves, copies);
-        Obeyed {
-            operator: Connection {
-                reader: line.into_inner(),
-                writer: outcome.into_inner(),
-            },
-            told,
-        }
+        obey_since::<C, Brand, Brand, R, W, S, K>(alloc, clock, self, tally, shelves, copies)
+    }
+}
+
+/// Carries out the order of an operator, as `obey` does. All reads of the line together have 2 seconds, and so have
+/// all writes of the outcome.
+fn obey_since<
+    C: Clock,
+    I: Start,
+    J: Start,
+    R: BoundRead + Drop,
+    W: BoundWrite + Drop,
+    S: Shelves,
+    K: Copies<S>,
+>(
+    alloc: Global,
+    clock: &C,
+    operator: Connection<R, W>,
+    tally: &Tally,
+    shelves: &mut S,
+    copies: &mut K,
+) -> Obeyed<Connection<R, W>>
+    requires reads { ⟦<Hearing<R> as HasCalls>⟧.calls operator.reader ≡ I.calls }
+    requires writes { ⟦<Telling<W> as HasCalls>⟧.calls operator.writer ≡ J.calls }
+    ensures obeys { ObeysBy S.shown K.copied K.counted tally.now shelves.old shelves.new
+        (⟦<Hearing<R> as Hear>⟧.account operator.reader) (⟦<Hearing<R> as Hear>⟧.account result.operator.reader)
+        (⟦<Telling<W> as Write>⟧.contents operator.writer) (⟦<Telling<W> as Write>⟧.contents result.operator.writer)
+        result.told }
+    ensures reads_in_time { KeepsTime time_for_order I.calls
+        (⟦<Hearing<R> as HasCalls>⟧.calls result.operator.reader) }
+    ensures writes_in_time { KeepsTime time_for_order J.calls
+        (⟦<Telling<W> as HasCalls>⟧.calls result.operator.writer) }
+{
+    let Connection { reader, writer } = operator;
+    let mut line: HearingInTime<'_, C, ForOrder, I, R> = HearingInTime::new(reader, clock);
+    let mut outcome: TellingInTime<'_, C, ForOrder, J, W> = TellingInTime::new(writer, clock);
+    let told = obey(alloc, &mut line, &mut outcome, tally, shelves, copies);
+    Obeyed {
+        operator: Connection {
+            reader: line.into_inner(),
+            writer: outcome.into_inner(),
+        },
+        told,
     }
 }
 

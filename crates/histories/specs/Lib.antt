@@ -2,3 +2,4 @@ pub mod Account
 pub mod Calls
 pub mod Counted
 pub mod End
+pub mod Timing

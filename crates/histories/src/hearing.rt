@@ -1,17 +1,20 @@
 //! A reader that keeps account of what it gave.
-ghost use Rattle.std.specs.Prelude.{◌≡◌, refl, IsTrue};
+ghost use Rattle.std.specs.Prelude.{◌≡◌, [], ◌∷◌, refl, IsTrue, MatchResult};
 ghost use Rattle.std.specs.Io.KnownBytes.{IsAtEnd};
 ghost use Rattle.histories.specs.End.{ended-prop};
 ghost use Rattle.std.specs.Io.{ReadsAtMost};
 ghost use Rattle.histories.specs.Account.{Account, GivesTo, IsSound, new_account};
 ghost use Rattle.histories.specs.Calls.{CallsRead, Reads, no_reads};
 ghost use Rattle.histories.specs.Counted.{times};
+ghost use Rattle.histories.specs.declared.call.Call.TheVariants as call;
 
+use crate::call::Call;
+use crate::calls::Calls;
 use crate::count::Count;
 use crate::record::Record;
-use crate::wait::BoundRead;
+use crate::wait::{BoundRead, HasCalls};
 use std::io::{self, Read};
-use std::time::Duration;
+use std::time::{Clock, Duration, Instant};
 
 /// A reader that keeps account of what it gave.
 pub trait Hear: Read {
@@ -42,6 +45,7 @@ pub struct Hearing<R: Read> {
     begun: Count,
     last: Record,
     failed: Count,
+    calls: Calls,
     is_over: bool,
     ghost ended: { IsTrue is_over → IsAtEnd (R.remaining inner) } by { ended-prop is_over (R.remaining inner) },
 }
@@ -51,6 +55,7 @@ impl<R: Read> Hearing<R> {
     pub fn new(inner: R) -> Hearing<R>
         ensures came { ⟦<Hearing<R> as Hear>⟧.account result ≡ new_account (R.remaining inner) }
         ensures reads { ⟦<Hearing<R> as Hear>⟧.reads result ≡ no_reads }
+        ensures calls { result.calls.calls ≡ [] }
     {
         Hearing {
             inner,
@@ -58,6 +63,7 @@ impl<R: Read> Hearing<R> {
             begun: Count::new(),
             last: Record::new(),
             failed: Count::new(),
+            calls: Calls::new(),
             is_over: false,
         }
     }
@@ -76,14 +82,28 @@ impl<R: Read> Hear for Hearing<R> {
 
     ghost reads = { λ h. record { begun = times h.begun; last = h.last.bytes; failed = times h.failed } };
 
-    fn hear(&mut self, buf: &mut [u8]) -> io::Result<usize> {
+    fn hear(&mut self, buf: &mut [u8]) -> io::Result<usize>
+        ensures bound { ReadsAtMost result buf.new }
+        ensures gives { GivesTo
+            (record { heard = self.old.noted.bytes; is_over = self.old.is_over; left = R.remaining self.old.inner })
+            (record { heard = self.new.noted.bytes; is_over = self.new.is_over; left = R.remaining self.new.inner }) result buf.new }
+        ensures calls { CallsRead
+            (record { begun = times self.old.begun; last = self.old.last.bytes; failed = times self.old.failed })
+            (record { begun = times self.new.begun; last = self.new.last.bytes; failed = times self.new.failed }) result buf.new }
+        // The account of calls has the read, and the bytes that it gave.
+        ensures noted { MatchResult result (λ n. self.new.calls.calls ≡ call.Moves n ∷ call.Begins ∷ self.old.calls.calls)
+            (λ _. self.new.calls.calls ≡ call.Begins ∷ self.old.calls.calls) }
+    {
         self.begun.one_more();
+        self.calls.note(&[Call::Begins]);
         self.last = Record::new();
         if self.is_over {
+            self.calls.note(&[Call::Moves(0)]);
             return Ok(0);
         }
         match self.inner.read(buf) {
             Ok(n) => {
+                self.calls.note(&[Call::Moves(n)]);
                 self.noted.note(&buf[..n]);
                 self.last.note(&buf[..n]);
                 self.is_over = n == 0 && !buf.is_empty();
@@ -101,12 +121,44 @@ impl<R: Read> Hear for Hearing<R> {
     ghost sound = { λ h. h.ended };
 }
 
-impl<R: BoundRead> BoundRead for Hearing<R> {
-    fn bound_reads(&self, longest: Duration) -> io::Result<()> {
-        self.inner.bound_reads(longest)
+impl<R: Read> HasCalls for Hearing<R> {
+    ghost calls = { λ h. h.calls.calls };
+}
+
+impl<R: BoundRead> Hearing<R> {
+    /// Reads the clock, and notes what it shows. Fails if it can't be read.
+    pub(crate) fn look<C: Clock>(&mut self, clock: &C) -> io::Result<Instant>
+        ensures account { ⟦<Hearing<R> as Hear>⟧.account self.new ≡ ⟦<Hearing<R> as Hear>⟧.account self.old }
+        ensures reads { ⟦<Hearing<R> as Hear>⟧.reads self.new ≡ ⟦<Hearing<R> as Hear>⟧.reads self.old }
+        ensures noted { MatchResult result (λ now. self.new.calls.calls ≡ call.Shows now ∷ self.old.calls.calls)
+            (λ _. self.new.calls ≡ self.old.calls) }
+    {
+        let now = Instant::now(clock)?;
+        self.calls.note(&[Call::Shows(now)]);
+        Ok(now)
     }
 
-    fn stop_waiting(&self) -> io::Result<()> {
-        self.inner.stop_waiting()
+    /// Makes every later read fail that waits longer than this, and notes that. Fails if the bound can't be set.
+    pub(crate) fn bound(&mut self, longest: Duration) -> io::Result<()>
+        ensures account { ⟦<Hearing<R> as Hear>⟧.account self.new ≡ ⟦<Hearing<R> as Hear>⟧.account self.old }
+        ensures reads { ⟦<Hearing<R> as Hear>⟧.reads self.new ≡ ⟦<Hearing<R> as Hear>⟧.reads self.old }
+        ensures noted { MatchResult result (λ _. self.new.calls.calls ≡ call.Bounds longest ∷ self.old.calls.calls)
+            (λ _. self.new.calls ≡ self.old.calls) }
+    {
+        self.inner.bound_reads(longest)?;
+        self.calls.note(&[Call::Bounds(longest)]);
+        Ok(())
+    }
+
+    /// Makes every later read fail that would wait, and notes that. Fails if the system refuses that.
+    pub(crate) fn stop_waiting(&mut self) -> io::Result<()>
+        ensures account { ⟦<Hearing<R> as Hear>⟧.account self.new ≡ ⟦<Hearing<R> as Hear>⟧.account self.old }
+        ensures reads { ⟦<Hearing<R> as Hear>⟧.reads self.new ≡ ⟦<Hearing<R> as Hear>⟧.reads self.old }
+        ensures noted { MatchResult result (λ _. self.new.calls.calls ≡ call.Stops ∷ self.old.calls.calls)
+            (λ _. self.new.calls ≡ self.old.calls) }
+    {
+        self.inner.stop_waiting()?;
+        self.calls.note(&[Call::Stops]);
+        Ok(())
     }
 }

@@ -1,15 +1,18 @@
 //! A writer that keeps account of what it took.
-ghost use Rattle.std.specs.Prelude.{◌≡◌, [], Some};
+ghost use Rattle.std.specs.Prelude.{◌≡◌, [], ◌∷◌, Some, MatchResult};
 ghost use Rattle.std.specs.Io.{WritesAtMost};
 ghost use Rattle.std.specs.Io.KnownBytes.{Keeps, WriteAppends};
 ghost use Rattle.histories.specs.Calls.{CallsFlush, CallsWrite, Writes, no_writes};
 ghost use Rattle.histories.specs.Counted.{times};
+ghost use Rattle.histories.specs.declared.call.Call.TheVariants as call;
 
+use crate::call::Call;
+use crate::calls::Calls;
 use crate::count::Count;
 use crate::record::Record;
-use crate::wait::BoundWrite;
+use crate::wait::{BoundWrite, HasCalls};
 use std::io::{self, Write};
-use std::time::Duration;
+use std::time::{Clock, Duration, Instant};
 
 /// A writer that keeps account of the calls to it.
 pub trait Tell: Write {
@@ -35,6 +38,7 @@ pub struct Telling<W> {
     noted: Record,
     unflushed: Record,
     failed: Count,
+    calls: Calls,
 }
 
 impl<W: Write> Telling<W> {
@@ -43,12 +47,14 @@ impl<W: Write> Telling<W> {
         ensures bytes { ⟦<Telling<W> as Write>⟧.contents result ≡ Some [] }
         ensures writes { ⟦<Telling<W> as Tell>⟧.writes result ≡ no_writes }
         ensures inner { result.inner ≡ inner }
+        ensures calls { result.calls.calls ≡ [] }
     {
         Telling {
             inner,
             noted: Record::new(),
             unflushed: Record::new(),
             failed: Count::new(),
+            calls: Calls::new(),
         }
     }
 }
@@ -75,9 +81,14 @@ impl<W: Write> Tell for Telling<W> {
             (record { unflushed = self.new.unflushed.bytes; failed = times self.new.failed }) result buf.now }
         // What is noted is what the writer inside took.
         ensures passed { WriteAppends (W.contents self.old.inner) (W.contents self.new.inner) result buf.now }
+        // The account of calls has the write, and the bytes that it took.
+        ensures noted { MatchResult result (λ n. self.new.calls.calls ≡ call.Moves n ∷ call.Begins ∷ self.old.calls.calls)
+            (λ _. self.new.calls.calls ≡ call.Begins ∷ self.old.calls.calls) }
     {
+        self.calls.note(&[Call::Begins]);
         match self.inner.write(buf) {
             Ok(n) => {
+                self.calls.note(&[Call::Moves(n)]);
                 self.noted.note(&buf[..n]);
                 self.unflushed.note(&buf[..n]);
                 if n == 0 && !buf.is_empty() {
@@ -94,6 +105,7 @@ impl<W: Write> Tell for Telling<W> {
 
     fn settle(&mut self) -> io::Result<()>
         ensures bytes { self.new.noted ≡ self.old.noted }
+        ensures waits { self.new.calls ≡ self.old.calls }
         ensures calls { CallsFlush (record { unflushed = self.old.unflushed.bytes; failed = times self.old.failed })
             (record { unflushed = self.new.unflushed.bytes; failed = times self.new.failed }) result }
         ensures passed { Keeps (W.contents self.old.inner) (W.contents self.new.inner) }
@@ -111,12 +123,36 @@ impl<W: Write> Tell for Telling<W> {
     }
 }
 
-impl<W: BoundWrite> BoundWrite for Telling<W> {
-    fn bound_writes(&self, longest: Duration) -> io::Result<()> {
-        self.inner.bound_writes(longest)
+impl<W: Write> HasCalls for Telling<W> {
+    ghost calls = { λ t. t.calls.calls };
+}
+
+impl<W: BoundWrite> Telling<W> {
+    /// Reads the clock, and notes what it shows. Fails if it can't be read.
+    pub(crate) fn look<C: Clock>(&mut self, clock: &C) -> io::Result<Instant>
+        ensures same { self.new ≡ record self.old { calls = self.new.calls } }
+        ensures noted { MatchResult result (λ now. self.new.calls.calls ≡ call.Shows now ∷ self.old.calls.calls)
+            (λ _. self.new.calls ≡ self.old.calls) }
+    {
+        let now = Instant::now(clock)?;
+        self.calls.note(&[Call::Shows(now)]);
+        Ok(now)
     }
 
-    fn shut(&self) -> io::Result<()> {
+    /// Makes every later write that waits longer than this fail, or return what it wrote until then, and notes that. Fails if the
+    /// bound can't be set.
+    pub(crate) fn bound(&mut self, longest: Duration) -> io::Result<()>
+        ensures same { self.new ≡ record self.old { calls = self.new.calls } }
+        ensures noted { MatchResult result (λ _. self.new.calls.calls ≡ call.Bounds longest ∷ self.old.calls.calls)
+            (λ _. self.new.calls ≡ self.old.calls) }
+    {
+        self.inner.bound_writes(longest)?;
+        self.calls.note(&[Call::Bounds(longest)]);
+        Ok(())
+    }
+
+    /// Makes every later write fail, and the other side read an end. Fails if the system refuses that.
+    pub fn shut(&self) -> io::Result<()> {
         self.inner.shut()
     }
 }

@@ -24,6 +24,15 @@ pub trait BoundWrite: Write {
     fn shut(&self) -> io::Result<()>;
 }
 
+/// One side of a connection, with an account of the calls that bear on how long it is waited for.
+pub trait HasCalls {
+    ghost use Rattle.std.specs.Prelude.{List};
+    ghost use Rattle.histories.specs.declared.call.Call.{Call};
+
+    /// These calls so far, the last of them first.
+    ghost calls: { Self → List Call };
+}
+
 impl BoundRead for TcpStream {
     fn bound_reads(&self, longest: Duration) -> io::Result<()> {
         self.set_read_timeout(Some(longest))

@@ -3,13 +3,19 @@ ghost use Rattle.std.specs.Prelude.{◌≡◌, [], None, IfOk, IfErr};
 ghost use Rattle.engine.specs.Causes.{AsksWhileUnfinished};
 ghost use Rattle.engine.specs.First.{ServesFirst, ServesHeard};
 ghost use Rattle.engine.specs.Isolated.{AnswersByItsShelf, AnswersHeardByItsShelf};
+ghost use Rattle.histories.specs.Timing.{KeepsTime};
+ghost use Rattle.socket.specs.Pace.{time_for_message};
 
-use crate::pace::{Paced, Phase};
+use crate::pace::ForMessage;
 use crate::rest::drop_rest;
 use engine::{Io, Session, end_turn};
-use histories::{BoundRead, BoundWrite, Connection, Hear, Hearing, Tell, Telling, over_tcp};
+use histories::{
+    BoundRead, BoundWrite, Connection, HasCalls, Hear, Hearing, HearingInTime, Start, Tell,
+    Telling, TellingInTime, over_tcp,
+};
 use std::alloc::Global;
-use std::io::{self, Write};
+use std::io::{self, Read, Write};
+use std::marker::Brand;
 use std::net::{TcpListener, TcpStream};
 use std::time::Clock;
 use wire::RouteTable;
@@ -35,40 +41,79 @@ pub struct Answered<R, W> {
 ///
 /// `Io::Read`: a read failed, nothing was done, and nothing is written. `Io::Write`: a write or the flush failed; a beginning
 /// of the reply is written or all of it, and the shelves are as after the request.
-pub fn answer_in_time<
+pub fn answer_in_time<C: Clock, R: BoundRead + Drop, W: BoundWrite + Drop, S: Shelves>(
+    alloc: Global,
+    clock: &C,
+    routes: &mut RouteTable,
+    reader: Hearing<R>,
+    writer: Telling<W>,
+    shelves: &mut S,
+) -> Answered<Hearing<R>, Telling<W>>
+    ensures heard { ServesHeard (S.shown shelves.old) (S.shown shelves.new)
+        (⟦<Hearing<R> as Hear>⟧.account reader) (⟦<Hearing<R> as Hear>⟧.account result.reader)
+        (⟦<Telling<W> as Write>⟧.contents writer) (⟦<Telling<W> as Write>⟧.contents result.writer) result.status }
+    // So it is for a reader whose bytes are known before they are read.
+    ensures serves { ServesFirst (S.shown shelves.old) (S.shown shelves.new)
+        (⟦<Hearing<R> as Read>⟧.remaining reader) (⟦<Hearing<R> as Read>⟧.remaining result.reader)
+        (⟦<Telling<W> as Write>⟧.contents writer) (⟦<Telling<W> as Write>⟧.contents result.writer) result.status }
+    // An empty input and a failed read leave the shelves untouched.
+    ensures empty { IfOk result.status (λ status. status ≡ None → shelves.new ≡ shelves.old) }
+    ensures unread { IfErr result.status (λ e. e ≡ Io.Read → shelves.new ≡ shelves.old) }
+    // No read began once the bytes that came say what is to be answered.
+    ensures asks { AsksWhileUnfinished []
+        (⟦<Hearing<R> as Hear>⟧.account reader) (⟦<Hearing<R> as Hear>⟧.account result.reader)
+        (⟦<Hearing<R> as Hear>⟧.reads reader) (⟦<Hearing<R> as Hear>⟧.reads result.reader) }
+    // What was written is flushed.
+    ensures flushed { IfOk result.status (λ _. (⟦<Telling<W> as Tell>⟧.writes result.writer).unflushed ≡ []) }
+    // No read, and no write, began after its time or waited longer than what was left of it.
+    ensures reads_in_time { KeepsTime time_for_message
+        (⟦<Hearing<R> as HasCalls>⟧.calls reader) (⟦<Hearing<R> as HasCalls>⟧.calls result.reader) }
+    ensures writes_in_time { KeepsTime time_for_message
+        (⟦<Telling<W> as HasCalls>⟧.calls writer) (⟦<Telling<W> as HasCalls>⟧.calls result.writer) }
+    // The answer does not depend on the shelves that the caller does not see.
+    ensures isolated_heard { AnswersHeardByItsShelf (S.shown shelves.old) (S.shown shelves.new)
+        (⟦<Hearing<R> as Hear>⟧.account reader) (⟦<Hearing<R> as Hear>⟧.account result.reader)
+        (⟦<Telling<W> as Write>⟧.contents writer) (⟦<Telling<W> as Write>⟧.contents result.writer) result.status }
+    // So it is for a reader whose bytes are known before they are read.
+    ensures isolated { AnswersByItsShelf (S.shown shelves.old) (S.shown shelves.new)
+        (⟦<Hearing<R> as Read>⟧.remaining reader)
+        (⟦<Telling<W> as Write>⟧.contents writer) (⟦<Telling<W> as Write>⟧.contents result.writer) result.status }
+{
+    answer_since::<C, Brand, Brand, R, W, S>(alloc, clock, routes, reader, writer, shelves)
+}
+
+/// Answers as `answer_in_time` does.
+fn answer_since<
     C: Clock,
-    R: Hear + BoundRead + Drop,
-    W: Tell + BoundWrite + Drop,
+    K: Start,
+    J: Start,
+    R: BoundRead + Drop,
+    W: BoundWrite + Drop,
     S: Shelves,
 >(
     alloc: Global,
     clock: &C,
     routes: &mut RouteTable,
-    reader: R,
-    writer: W,
+    reader: Hearing<R>,
+    writer: Telling<W>,
     shelves: &mut S,
-) -> Answered<R, W>
+) -> Answered<Hearing<R>, Telling<W>>
+    requires reads { ⟦<Hearing<R> as HasCalls>⟧.calls reader ≡ K.calls }
+    requires writes { ⟦<Telling<W> as HasCalls>⟧.calls writer ≡ J.calls }
     ensures heard { ServesHeard (S.shown shelves.old) (S.shown shelves.new)
-        (R.account reader) (R.account result.reader) (W.contents writer) (W.contents result.writer) result.status }
-    // So it is for a reader whose bytes are known before they are read.
-    ensures serves { ServesFirst (S.shown shelves.old) (S.shown shelves.new)
-        (R.remaining reader) (R.remaining result.reader) (W.contents writer) (W.contents result.writer) result.status }
-    // An empty input and a failed read leave the shelves untouched.
+        (⟦<Hearing<R> as Hear>⟧.account reader) (⟦<Hearing<R> as Hear>⟧.account result.reader)
+        (⟦<Telling<W> as Write>⟧.contents writer) (⟦<Telling<W> as Write>⟧.contents result.writer) result.status }
     ensures empty { IfOk result.status (λ status. status ≡ None → shelves.new ≡ shelves.old) }
     ensures unread { IfErr result.status (λ e. e ≡ Io.Read → shelves.new ≡ shelves.old) }
-    // No read began once the bytes that came say what is to be answered.
-    ensures asks { AsksWhileUnfinished [] (R.account reader) (R.account result.reader) (R.reads reader) (R.reads result.reader) }
-    // What was written is flushed.
-    ensures flushed { IfOk result.status (λ _. (W.writes result.writer).unflushed ≡ []) }
-    // The answer does not depend on the shelves that the caller does not see.
-    ensures isolated_heard { AnswersHeardByItsShelf (S.shown shelves.old) (S.shown shelves.new)
-        (R.account reader) (R.account result.reader) (W.contents writer) (W.contents result.writer) result.status }
-    // So it is for a reader whose bytes are known before they are read.
-    ensures isolated { AnswersByItsShelf (S.shown shelves.old) (S.shown shelves.new)
-        (R.remaining reader) (W.contents writer) (W.contents result.writer) result.status }
+    ensures asks { AsksWhileUnfinished []
+        (⟦<Hearing<R> as Hear>⟧.account reader) (⟦<Hearing<R> as Hear>⟧.account result.reader)
+        (⟦<Hearing<R> as Hear>⟧.reads reader) (⟦<Hearing<R> as Hear>⟧.reads result.reader) }
+    ensures flushed { IfOk result.status (λ _. (⟦<Telling<W> as Tell>⟧.writes result.writer).unflushed ≡ []) }
+    ensures reads_in_time { KeepsTime time_for_message K.calls (⟦<Hearing<R> as HasCalls>⟧.calls result.reader) }
+    ensures writes_in_time { KeepsTime time_for_message J.calls (⟦<Telling<W> as HasCalls>⟧.calls result.writer) }
 {
-    let mut request = Paced::new(reader, clock, Phase::Message);
-    let mut reply = Paced::new(writer, clock, Phase::Message);
+    let mut request: HearingInTime<'_, C, ForMessage, K, R> = HearingInTime::new(reader, clock);
+    let mut reply: TellingInTime<'_, C, ForMessage, J, W> = TellingInTime::new(writer, clock);
     let mut session = Session::new(alloc);
     let turned = session.turn(routes, &mut request, &mut reply, shelves);
     let status = end_turn(&mut reply, turned);
@@ -91,8 +136,11 @@ pub trait Peer {
     ghost use Rattle.std.specs.Prelude.{ℕ, List, [], Option, ◌≡◌, IfOk};
     ghost use Rattle.histories.specs.Account.{Account};
     ghost use Rattle.histories.specs.Calls.{Reads, Writes};
+    ghost use Rattle.histories.specs.Timing.{KeepsTime};
+    ghost use Rattle.histories.specs.declared.call.Call.{Call};
     ghost use Rattle.engine.specs.Causes.{AsksWhileUnfinished};
     ghost use Rattle.engine.specs.First.{ServesHeard};
+    ghost use Rattle.socket.specs.Pace.{time_for_message, time_for_rest};
 
     /// The bytes that came from it so far.
     ghost came: { Self → Account };
@@ -105,6 +153,12 @@ pub trait Peer {
 
     /// The calls to write to it and to flush it so far.
     ghost writes: { Self → Writes };
+
+    /// The calls that bear on how long a read from it waits, the last of them first.
+    ghost read_calls: { Self → List Call };
+
+    /// The calls that bear on how long a write to it waits, the last of them first.
+    ghost write_calls: { Self → List Call };
 
     /// Answers its first request, and returns and fails as `engine::answer_one` does. The caller lends the router.
     fn answer<C: Clock, S: Shelves>(
@@ -121,13 +175,19 @@ pub trait Peer {
         // No read began once the bytes that came say what is to be answered.
         ensures asks { AsksWhileUnfinished [] (came self) (came result.peer) (reads self) (reads result.peer) }
         // What was written is flushed.
-        ensures flushed { IfOk result.status (λ _. (writes result.peer).unflushed ≡ []) };
+        ensures flushed { IfOk result.status (λ _. (writes result.peer).unflushed ≡ []) }
+        // No read, and no write, began after its time or waited longer than what was left of it.
+        ensures reads_in_time { KeepsTime time_for_message (read_calls self) (read_calls result.peer) }
+        ensures writes_in_time { KeepsTime time_for_message (write_calls self) (write_calls result.peer) };
 
     /// Ends the connection after a reply with this status.
     fn end<C: Clock>(self, clock: &C, status: u16) -> Self
     where
         Self: Sized,
-        ensures { written result ≡ written self };
+        ensures written { written result ≡ written self }
+        // So it is of what is still read, and nothing more is written.
+        ensures reads_in_time { KeepsTime time_for_rest (read_calls self) (read_calls result) }
+        ensures writes_none { write_calls result ≡ write_calls self };
 }
 
 impl<R: BoundRead + Drop, W: BoundWrite + Drop> Peer for Connection<R, W> {
@@ -138,6 +198,10 @@ impl<R: BoundRead + Drop, W: BoundWrite + Drop> Peer for Connection<R, W> {
     ghost reads = { λ p. ⟦<Hearing<R> as Hear>⟧.reads p.reader };
 
     ghost writes = { λ p. ⟦<Telling<W> as Tell>⟧.writes p.writer };
+
+    ghost read_calls = { λ p. ⟦<Hearing<R> as HasCalls>⟧.calls p.reader };
+
+    ghost write_calls = { λ p. ⟦<Telling<W> as HasCalls>⟧.calls p.writer };
 
     fn answer<C: Clock, S: Shelves>(
         self,

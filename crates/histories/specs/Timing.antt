@@ -1,0 +1,81 @@
+-- How long reads and writes may wait. Lists of calls have the last call first.
+use Rattle.std.specs.Prelude.{ℕ, ◌≡◌, ◌+◌, ◌-◌, ◌<◌, ◌≤◌, Bool, false, List, [], ◌∷◌, ◌++◌, Option, Some, None, ⊤}
+use Rattle.std.specs.Duration.{as_nanos}
+use Rattle.std.specs.Time.{instant_nanos}
+use Rattle.std.specs.declared.time.Instant.{Instant}
+use Rattle.histories.specs.declared.call.Call.{Call}
+use Rattle.histories.specs.declared.call.Call.TheVariants.{Shows, Bounds, Stops, Begins, Moves}
+
+-- the bytes that these calls moved
+abbrev pub moved_in : List Call → ℕ
+moved_in [] = 0
+moved_in (Shows now ∷ before) = moved_in before
+moved_in (Bounds longest ∷ before) = moved_in before
+moved_in (Stops ∷ before) = moved_in before
+moved_in (Begins ∷ before) = moved_in before
+moved_in (Moves bytes ∷ before) = moved_in before + bytes
+
+-- the first reading of the clock among these calls, in nanoseconds, or this one if there is none
+abbrev pub first_shown : ℕ → List Call → ℕ
+first_shown now [] = now
+first_shown now (Shows earlier ∷ before) = first_shown (instant_nanos earlier) before
+first_shown now (Bounds longest ∷ before) = first_shown now before
+first_shown now (Stops ∷ before) = first_shown now before
+first_shown now (Begins ∷ before) = first_shown now before
+first_shown now (Moves bytes ∷ before) = first_shown now before
+
+-- by one of these calls each later wait was ruled out
+abbrev pub IsStopped : List Call → Type 0
+IsStopped [] = ⊥
+IsStopped (Shows now ∷ before) = IsStopped before
+IsStopped (Bounds longest ∷ before) = IsStopped before
+IsStopped (Stops ∷ before) = ⊤
+IsStopped (Begins ∷ before) = IsStopped before
+IsStopped (Moves bytes ∷ before) = IsStopped before
+
+-- The clock showed this after these calls. So much of the time is left that began with the first reading, and some is.
+abbrev pub IsLeft : (ℕ → ℕ) → List Call → Instant → ℕ → Type 0
+IsLeft allowed before now left =
+    (0 < left) × ((instant_nanos now - first_shown (instant_nanos now) before) + left ≤ allowed (moved_in before))
+
+-- A read or a write that begins after these calls, which came after the ones at the start, begins in time: the clock was read, some time
+-- was left by it, and then the wait was bounded by no more than that, or waits were ruled out before.
+abbrev pub MayBegin : (ℕ → ℕ) → List Call → List Call → Type 0
+MayBegin allowed start (Bounds longest ∷ Shows now ∷ before) = IsLeft allowed before now (as_nanos longest)
+MayBegin allowed start (Shows now ∷ before) = IsLeft allowed before now 1 × IsStopped (before ++ start)
+MayBegin allowed start other = ⊥
+
+-- each read and each write among these calls began in time
+abbrev pub EachMayBegin : (ℕ → ℕ) → List Call → List Call → Type 0
+EachMayBegin allowed start [] = ⊤
+EachMayBegin allowed start (Shows now ∷ before) = EachMayBegin allowed start before
+EachMayBegin allowed start (Bounds longest ∷ before) = EachMayBegin allowed start before
+EachMayBegin allowed start (Stops ∷ before) = EachMayBegin allowed start before
+EachMayBegin allowed start (Begins ∷ before) = MayBegin allowed start before × EachMayBegin allowed start before
+EachMayBegin allowed start (Moves bytes ∷ before) = EachMayBegin allowed start before
+
+-- From old to new each read and each write began in time: the time that is allowed, in nanoseconds, for the bytes that were moved before,
+-- from the first reading of the clock after old.
+abbrev pub KeepsTime : (ℕ → ℕ) → List Call → List Call → Type 0
+KeepsTime allowed old new = ∥ ((since : List Call) × (new ≡ since ++ old) × EachMayBegin allowed old since) ∥₁
+
+-- ---- what a stream in time knows
+
+-- the time began at the first reading among these calls, if there is one
+abbrev pub BeganAt : Option Instant → List Call → Type 0
+BeganAt None since = (now : ℕ) → first_shown now since ≡ now
+BeganAt (Some first) since = (now : ℕ) → first_shown now since ≡ instant_nanos first
+
+-- These calls came since the start, with the ones at it. The time began then, and at least so many bytes were moved.
+pub record Since (allowed : ℕ → ℕ) (start : List Call) (first : Option Instant) (moved : ℕ) (waits : Bool) (calls : List Call) : Type 0 where
+  pub since : List Call
+  pub same : calls ≡ since ++ start
+  pub each : EachMayBegin allowed start since
+  pub began : BeganAt first since
+  pub most : moved ≤ moved_in since
+  pub stopped : waits ≡ false → IsStopped calls
+
+-- so it is, and a read or a write may begin
+abbrev pub IsReady : (ℕ → ℕ) → List Call → Option Instant → ℕ → Bool → List Call → Type 0
+IsReady allowed start first moved waits calls =
+    ∥ ((s : Since allowed start first moved waits calls) × MayBegin allowed start s.since) ∥₁

@@ -1,0 +1,18 @@
+//! What bears on how long a stream is waited for.
+
+use std::time::{Duration, Instant};
+
+/// A call that bears on how long a reader or a writer is waited for.
+#[derive(Clone, Copy)]
+pub enum Call {
+    /// The clock was read, and showed this.
+    Shows(Instant),
+    /// Each later wait was bounded by this.
+    Bounds(Duration),
+    /// Each later wait was ruled out.
+    Stops,
+    /// A read or a write began.
+    Begins,
+    /// It moved this many bytes.
+    Moves(usize),
+}

@@ -1,4 +1,4 @@
-use Rattle.std.proofs.Common.{refl}
+use Rattle.std.proofs.Common.{refl, Ok}
 use Rattle.runner.proofs.Ran.{alone, ran}
 use Rattle.runner.proofs.run.Goals as goal
 
@@ -22,3 +22,10 @@ returns-in-Stop g c = ran _ _ _ _ _ _ _ _ _ _ _ _ c.in-Stop.is (alone _ _ _ _ c.
 
 pub returns-in-Ping : goal.returns-in-Ping
 returns-in-Ping g c = ran _ _ _ _ _ _ _ _ _ _ _ _ c.in-Ping.is (record { pings = c.ping_at.ensures; input = refl })
+
+pub returns-in_ok-answer_in_memory-in-AnswerInMemory : goal.returns-in_ok-answer_in_memory-in-AnswerInMemory
+returns-in_ok-answer_in_memory-in-AnswerInMemory g c = ran _ _ _ _ _ _ _ _ _ _ _ _ c.in-AnswerInMemory.is (record {
+  ended = Ok c.in_ok-answer_in_memory-in-AnswerInMemory.field-0;
+  answers = c.in_ok-answer_in_memory-in-AnswerInMemory.ensures.answers;
+  tells = refl;
+})

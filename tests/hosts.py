@@ -81,7 +81,8 @@ class Host(Machine):
 
     def start_nginx(self):
         self.does("nginx")
-        wait_until(lambda: self.listens(443))
+        # (who waits for a reload compares its two processes of before)
+        wait_until(lambda: self.listens(443) and len(self.workers()) == 2)
 
     def listens(self, port):
         with inside(self.namespace), socket.socket() as probe:

@@ -127,8 +127,8 @@ GivenAsks (Some p) asked = AsksCommand p.1 p.0 asked
 abbrev pub Asks : List Text → Command → Type 0
 Asks words asked = (faults words ≡ []) × GivenAsks (given words) asked
 
--- Why a text is shown in place of a run: help and the version only if the words ask for them, a lack of memory for no reason of the
--- words, and every other text only if the words ask for no command.
+-- Why a text is shown in place of a run: help and the version only if the words ask for them, a lack of memory for no
+-- reason of the words, and every other text only if the words ask for no command.
 abbrev pub IsShownFor : List Text → ErrorKind → Type 0
 IsShownFor words DisplayHelp = IsAmong DisplayHelp (faults words)
 IsShownFor words DisplayVersion = IsAmong DisplayVersion (faults words)

@@ -14,8 +14,8 @@ use Rattle.runner.specs.declared.Command.{Command}
 use Rattle.runner.specs.declared.Command.TheVariants.{OnStore}
 use Rattle.cli.specs.Asks.{Asks, IsShownFor}
 
--- How a run ends that shows the parser's text in place of a command, by the text's kind: well for help and the version, or with `Io`
--- if they can't be written; with `Memory` if memory ran out; and with bad usage for every other text.
+-- How a run ends that shows the parser's text in place of a command, by the text's kind: well for help and the version,
+-- or with `Io` if they can't be written; with `Memory` if memory ran out; and with bad usage for every other text.
 abbrev pub EndsShown : ErrorKind → Exit → Type 0
 EndsShown DisplayHelp ended = (ended ≡ Done) ⊎ (ended ≡ Refused Io)
 EndsShown DisplayVersion ended = (ended ≡ Done) ⊎ (ended ≡ Refused Io)
@@ -45,8 +45,8 @@ new_file_line = codes "new store: the file of --db is missing or empty\n"
 abbrev pub MayPrint : Option (List ℕ) → Option (List ℕ) → List ℕ → Type 0
 MayPrint errors errors_new line = (errors_new ≡ errors) ⊎ PrintsFront errors errors_new line
 
--- Before a command, nothing was written to the errors, but perhaps the line that its store is new: if it serves the store, or if it
--- carries out a registry command, publishes or imports.
+-- Before a command, nothing was written to the errors, but perhaps the line that its store is new: if it serves the
+-- store, or if it carries out a registry command, publishes or imports.
 abbrev pub Tells : Option (List ℕ) → Option (List ℕ) → Command → Type 0
 Tells errors errors_new (OnStore db (Serve entrance connections control)) = MayPrint errors errors_new new_store_line
 Tells errors errors_new (OnStore db (Register order)) = MayPrint errors errors_new new_file_line

@@ -21,11 +21,13 @@ use std::io::{self, Write};
 use std::rt::HostRuntime;
 use words::{matches_of, no_form};
 
-/// Runs the program by the words after its name and returns the exit status: 0 done, 1 refused or not accepted, 2 bad usage.
+/// Runs the program by the words after its name and returns the exit status: 0 done, 1 refused or not accepted, 2 bad
+/// usage.
 ///
-/// A refusal prints one line `goshelf: <word>` on `errors`; `publish` prints its outcome on `output` instead, and `import` a line
-/// for each row. Bad usage prints the parser's text on `errors`. If the store is new, `serve` prints a line there, and so do commands that
-/// write to the store if that is a terminal. The texts of the parser are tested and not proved.
+/// A refusal prints one line `goshelf: <word>` on `errors`; `publish` prints its outcome on `output` instead, and
+/// `import` a line for each row. Bad usage prints the parser's text on `errors`. If the store is new, `serve` prints a
+/// line there, and so do commands that write to the store if that is a terminal. The texts of the parser are tested and
+/// not proved.
 pub fn command<'a, I: Hear, O: Tell, E: Tell>(
     rt: &'a HostRuntime,
     words: &[String],
@@ -77,8 +79,8 @@ fn end<E: Tell>(ended: Exit, errors: &mut E) -> u8
     ended.status()
 }
 
-/// Writes a line on `errors` if the store of the command is new, as that of a mistyped name is: if it is served, because it answers 404
-/// to everybody, and if the command writes to it and somebody sees `errors`.
+/// Writes a line on `errors` if the store of the command is new, as that of a mistyped name is: if it is served,
+/// because it answers 404 to everybody, and if the command writes to it and somebody sees `errors`.
 fn tell_new_store<P: Runner, E: Tell>(runner: &P, command: &Command, errors: &mut E)
     ensures { Tells (E.contents errors.old) (E.contents errors.new) command.now }
 {
@@ -112,8 +114,8 @@ fn write_new_file<E: Tell>(errors: &mut E)
     let _ = write_bytes(errors, b"new store: the file of --db is missing or empty\n");
 }
 
-/// Shows the parser's text, and returns how the run ended: help and the version on the output, and what is wrong with the words on
-/// `errors`. If the output fails, the run ends with `goshelf: io`.
+/// Shows the parser's text, and returns how the run ended: help and the version on the output, and what is wrong with
+/// the words on `errors`. If the output fails, the run ends with `goshelf: io`.
 fn show<O: Tell, E: Tell>(error: clap::Error, output: &mut O, errors: &mut E) -> Exit
     ensures ends { EndsShown (kind_of error) result }
     ensures output { SparesOutput (kind_of error) (O.contents output.old) (O.contents output.new) }
@@ -132,8 +134,8 @@ fn show<O: Tell, E: Tell>(error: clap::Error, output: &mut O, errors: &mut E) ->
     }
 }
 
-/// Reports that the words could not be read, and returns the exit status. Words that are not UTF-8 are bad usage; if memory ran
-/// out, the run ends with `goshelf: memory`.
+/// Reports that the words could not be read, and returns the exit status. Words that are not UTF-8 are bad usage; if
+/// memory ran out, the run ends with `goshelf: memory`.
 pub fn words_refused<E: Tell>(error: io::Error, errors: &mut E) -> u8
     ensures { RefusesWords (E.contents errors.old) (E.contents errors.new) result }
 {

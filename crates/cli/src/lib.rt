@@ -1,4 +1,5 @@
-//! One whole run of the program: it reads the words of the command line, runs their command, and reports how that ended.
+//! One whole run of the program: it reads the words of the command line, runs their command, and reports how that
+//! ended.
 #![tactic(auto)]
 
 mod asked;

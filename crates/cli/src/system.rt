@@ -37,8 +37,8 @@ pub trait Runner {
 /// The store of files as they are found. Clauses say nothing about what they held.
 pub type Found = FileShelves<Unknown>;
 
-/// What the files held that a command writes anew. Clauses say no more about them than about `Unknown`. A `serve` writes such a file
-/// for each copy, so this type is `Copy`, which `Unknown` is not.
+/// What the files held that a command writes anew. Clauses say no more about them than about `Unknown`. A `serve`
+/// writes such a file for each copy, so this type is `Copy`, which `Unknown` is not.
 #[derive(Clone, Copy, Drop)]
 pub struct UnknownTarget;
 

@@ -52,9 +52,9 @@ module _ {S : Type 0} (shown : S → Shown) (copied : Copied S) (counted : Count
     pub told : result ≡ acceptance ended
     pub came : new.came ≡ old.came
 
-  -- What is done by the kind of action: nothing, one command of the registry, one publish, those of a list, an inventory or the
-  -- requirements of a version are printed, all requests of the input are answered, or no more requests than there are connections,
-  -- and orders, copies and pings between them.
+  -- What is done by the kind of action: nothing, one command of the registry, one publish, those of a list, an
+  -- inventory or the requirements of a version are printed, all requests of the input are answered, or no more requests
+  -- than there are connections, and orders, copies and pings between them.
   abbrev pub Acts : Result Bool CommandRefusal → Action → Type 0
   Acts result action.Open = (new ≡ old) × (result ≡ Ok true)
   Acts result (action.Register order) = RegistersAlone order result

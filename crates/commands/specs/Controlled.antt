@@ -26,8 +26,8 @@ pub record AreConnected (copied : List ℕ → Result (Unit {0}) CopyRefusal →
   pub heard : command.told ≡ Ok told
   pub server : Heeds copied pinged old new sent (spoken.Outcome told)
 
--- The command ends by the machine's reply to the order in this world, and the store stands for the world after it. Or it ends by a
--- fault of the store, which still stands for this world.
+-- The command ends by the machine's reply to the order in this world, and the store stands for the world after it. Or
+-- it ends by a fault of the store, which still stands for this world.
 abbrev pub EndsAt : Shown → World → Order → Result (Unit {0}) CommandRefusal → Type 0
 EndsAt new w order result =
     ((result ≡ ending (Ok (outcome_in w order))) × new.stands (after w (event_of order)))

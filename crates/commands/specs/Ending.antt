@@ -37,8 +37,8 @@ ending (Ok registered.NoGroup) = Err refusal.NoGroup
 ending (Err fault.Device) = Err refusal.Device
 ending (Err fault.Memory) = Err refusal.Memory
 
--- From old to new the order was carried out: in each world that the store stood for, it gave the machine's reply and made the world
--- after the order's event, or met a fault and changed nothing; and the command ends by that.
+-- From old to new the order was carried out: in each world that the store stood for, it gave the machine's reply and
+-- made the world after the order's event, or met a fault and changed nothing; and the command ends by that.
 pub record Registers (old new : Shown) (order : Order) (result : Result (Unit {0}) CommandRefusal) : Type 0 where
   pub told : Result Registered StoreFault
   pub does : Does old new told (λ w. outcome_in w order) (λ w. after w (event_of order))

@@ -6,7 +6,8 @@ use Rattle.commands.specs.declared.refusal.CommandRefusal.{CommandRefusal}
 use Rattle.commands.specs.declared.exit.Exit.{Exit}
 use Rattle.commands.specs.declared.exit.Exit.TheVariants.{Done, NotAccepted, Refused, BadUsage}
 
--- how a run ends by the result of its command: that it is accepted, that it is done and not accepted, or why it was refused
+-- how a run ends by the result of its command: that it is accepted, that it is done and not accepted, or why it was
+-- refused
 abbrev pub exit_of : Result Bool CommandRefusal → Exit
 exit_of (Ok true) = Done
 exit_of (Ok false) = NotAccepted
@@ -29,8 +30,8 @@ module _ (errors errors_new : Option (List ℕ)) where
   IsSilent BadUsage = Unit {0}
   IsSilent other = errors_new ≡ errors
 
-  -- If the command was refused, a beginning of the line of its word was written to the errors: all of it, unless a write failed.
-  -- Otherwise nothing was.
+  -- If the command was refused, a beginning of the line of its word was written to the errors: all of it, unless a
+  -- write failed. Otherwise nothing was.
   abbrev pub Says : Exit → Type 0
   Says (Refused why) = PrintsFront errors errors_new (line_of why)
   Says other = errors_new ≡ errors

@@ -43,7 +43,8 @@ time_of (c ∷ cs) = Some (c ∷ cs)
 abbrev pub ask_of : List ℕ → Line → Body → Ask
 ask_of key l body = asked key l.path l.version (time_of l.time) body
 
--- what was done with a row: the machine was asked and answered, a file could not be read, or memory ran out for the files
+-- what was done with a row: the machine was asked and answered, a file could not be read, or memory ran out for the
+-- files
 pub data Done : Type 0 where
   Answers : Ask → Answer → Done
   HasNoFile : Done

@@ -21,7 +21,8 @@ module _ (files : List ℕ → Option (Option (List ℕ))) (l : Line) where
   abbrev pub ZipIs : Result (List ℕ) SourceFault → Type 0
   ZipIs read = IsRead zip_limit (files l.zip) read
 
-  -- This may be read as the files of a row, by what is known of them. If the path or the version is invalid, they are not read.
+  -- This may be read as the files of a row, by what is known of them. If the path or the version is invalid, they are
+  -- not read.
   abbrev pub IsBodyOf : Result Body SourceFault → Type 0
   IsBodyOf (Ok body) = IsReadable l → GoModIs (Ok body.gomod) × ZipIs (Ok body.zip)
   IsBodyOf (Err NoFile) = IsReadable l × (GoModIs (Err NoFile) ⊎ ZipIs (Err NoFile))

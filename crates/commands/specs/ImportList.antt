@@ -42,7 +42,8 @@ IsRowOf fields (Some row) = fields ≡ fields_of_row row
 
 -- ---- reading
 
--- If the bytes of the list are known, its records begin with these rows, and behind them the reader is in this state with this rest.
+-- If the bytes of the list are known, its records begin with these rows, and behind them the reader is in this state
+-- with this rest.
 abbrev pub IsAt : Option (List ℕ) → List (List (List ℕ)) → State → Option (List ℕ) → Type 0
 IsAt None rows state source = Unit {0}
 IsAt (Some text) rows state source =

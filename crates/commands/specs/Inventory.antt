@@ -114,8 +114,8 @@ ending (Ok None) = Err why.NoKey
 ending (Err fault.Device) = Err why.Device
 ending (Err fault.Memory) = Err why.Memory
 
--- From old to new the inventory of the key was read, in each world that the store stood for, or a fault was met. Nothing was
--- changed, and the result is what was read.
+-- From old to new the inventory of the key was read, in each world that the store stood for, or a fault was met.
+-- Nothing was changed, and the result is what was read.
 pub record Inventories (old new : Shown) (key : List ℕ) (result : Result (List ℕ) InventoryFault) : Type 0 where
   pub told : Result (Option (List ℕ)) StoreFault
   pub reads : Reads old new told (λ w. inventory_of w (map.get w.keys key))

@@ -26,8 +26,8 @@ abbrev pub ServedFrom : World → Account → Account → Option (List ℕ) → 
 ServedFrom start came came_new written written_new result =
     (end : World) × ServesAllHeard (in_memory start) (in_memory end) came came_new written written_new result
 
--- If the team and the key keep their rules, the requests are answered, or memory ran out before that. Otherwise nothing is read or
--- written.
+-- If the team and the key keep their rules, the requests are answered, or memory ran out before that. Otherwise nothing
+-- is read or written.
 abbrev pub AnsweredFor :
     List ℕ → List ℕ → Account → Account → Option (List ℕ) → Option (List ℕ) → Result (Unit {0}) CommandRefusal → Type 0
 AnsweredFor team key came came_new written written_new (Ok u) =
@@ -48,7 +48,8 @@ AnswersAll old new came came_new written written_new (Err Io) =
     (failure : Failure) × ServesAllHeard old new came came_new written written_new (Err failure)
 AnswersAll old new came came_new written written_new (Err other) = ⊥
 
--- A stream failed, and this was done until then: a call of the input failed or no read is left, or a call of the output failed.
+-- A stream failed, and this was done until then: a call of the input failed or no read is left, or a call of the output
+-- failed.
 abbrev pub Breaks : (Failure → Type 0) → Reads → Reads → Writes → Writes → Type 0
 Breaks done reads reads_new writes writes_new =
     (failure : Failure) × done failure × IsCaused reads reads_new writes writes_new failure

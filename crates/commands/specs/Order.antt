@@ -17,8 +17,8 @@ use Rattle.commands.specs.declared.refusal.CommandRefusal.TheVariants.{Name, NoT
 
 -- ---- what is sent
 
--- The group that is sent for one. A group whose name breaks the rule may fit in no line, so `common` replaces it, which is no group
--- either.
+-- The group that is sent for one. A group whose name breaks the rule may fit in no line, so `common` replaces it, which
+-- is no group either.
 abbrev pub group_sent : Option (List ℕ) → Option (List ℕ)
 group_sent None = None
 group_sent (Some group) = if is_team_name group then Some group else Some common
@@ -61,8 +61,8 @@ told_ending order (Err untold.Io) = Err Io
 abbrev pub EndsInEach : Order → Result (Unit {0}) CommandRefusal → Type 0
 EndsInEach order result = (w : World) → IsWorld w → result ≡ ending (Ok (outcome_in w order))
 
--- The line of an order with the same effect was sent as `Asks` says, and the command ends by the result. If that order has no line,
--- the command ends as the order does in each world.
+-- The line of an order with the same effect was sent as `Asks` says, and the command ends by the result. If that order
+-- has no line, the command ends as the order does in each world.
 pub record OrdersOver
     (unread unread_new written written_new : Option (List ℕ)) (order : Order) (result : Result (Unit {0}) CommandRefusal) : Type 0 where
   pub asked : Order
@@ -78,7 +78,8 @@ OrdersThere order result =
     ((unread unread_new written written_new : Option (List ℕ)) × OrdersOver unread unread_new written written_new order result)
     ⊎ (result ≡ Err Device)
 
--- how `copy` ends, by the result of sending its order; a path that no line can carry counts as a name that breaks its rule
+-- how `copy` ends, by the result of sending its order; a path that no line can carry counts as a name that breaks its
+-- rule
 abbrev pub copy_ending : Result Outcome Untold → Result (Unit {0}) CommandRefusal
 copy_ending (Ok (outcome.Registered registered)) = ending (Ok registered)
 copy_ending (Ok (outcome.Failed fault)) = ending (Err fault)

@@ -35,8 +35,8 @@ pub record PingsOver (unread unread_new written written_new printed printed_new 
   pub asks : AsksForHealth unread unread_new written written_new told
   pub prints : Prints printed printed_new result (health_ending told)
 
--- the line that asks for the health was written, and if no line of a health was printed, that is because of what was read in its place
--- or because the output failed
+-- the line that asks for the health was written, and if no line of a health was printed, that is because of what was
+-- read in its place or because the output failed
 pub record FailsOver (unread unread_new written written_new : Option (List ℕ)) (writes writes_new : Writes) (result : Result Bool CommandRefusal)
     : Type 0 where
   pub told : Result Told Untold

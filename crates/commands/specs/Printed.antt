@@ -28,7 +28,8 @@ HasFailed writes writes_new = writes.failed < writes_new.failed
 abbrev pub FailsByOutput : {T : Type 0} → Writes → Writes → Result T CommandRefusal → Type 0
 FailsByOutput writes writes_new result = IfErr result (λ e. e ≡ Io → HasFailed writes writes_new)
 
--- A command that ended with `Io` did so because its output failed, or before it did anything on the store or printed anything.
+-- A command that ended with `Io` did so because its output failed, or before it did anything on the store or printed
+-- anything.
 abbrev pub FailsEarlyOrByOutput : {S T : Type 0} → S → S → Option (List ℕ) → Option (List ℕ) → Writes → Writes
     → Result T CommandRefusal → Type 0
 FailsEarlyOrByOutput old new written written_new writes writes_new result =

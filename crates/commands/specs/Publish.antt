@@ -59,15 +59,16 @@ accepts status = (status == 200) || (status == 201)
 abbrev pub answer_line : Fixed → List ℕ
 answer_line answer = line_bytes answer ++ codes "\n"
 
--- the line of the answer was printed, and the result is whether it accepts; or the output failed and a beginning of it was printed
+-- the line of the answer was printed, and the result is whether it accepts; or the output failed and a beginning of it
+-- was printed
 abbrev pub Tells : Fixed → Option (List ℕ) → Option (List ℕ) → Result Bool CommandRefusal → Type 0
 Tells answer written written_new result =
     MatchResult result
     (λ accepted. (accepted ≡ accepts (fixed_status answer)) × Appends written written_new (answer_line answer))
     (λ e. (e ≡ Io) × PrintsFront written written_new (answer_line answer))
 
--- From old to new the store did what was asked, as the machine does in each world that it stood for, or met a fault (or memory ran
--- out before that) and changed nothing; and the line of the answer was printed.
+-- From old to new the store did what was asked, as the machine does in each world that it stood for, or met a fault (or
+-- memory ran out before that) and changed nothing; and the line of the answer was printed.
 pub record PublishesAndTells
     (old new : Shown) (ask : Ask) (written written_new : Option (List ℕ)) (result : Result Bool CommandRefusal) : Type 0 where
   pub told : Result Reply StoreFault
@@ -75,8 +76,8 @@ pub record PublishesAndTells
   pub tells : Tells (answer_of told) written written_new result
 
 module _ {S : Type 0} (shown : S → Shown) (old new : S) (ask : Body → Ask) where
-  -- How a publish ends, by how its two files were read. If they were, they are published, and the outcome is printed. If memory ran
-  -- out, the 503 is printed; if one can't be read, nothing is; and the store stays as it was.
+  -- How a publish ends, by how its two files were read. If they were, they are published, and the outcome is printed.
+  -- If memory ran out, the 503 is printed; if one can't be read, nothing is; and the store stays as it was.
   abbrev pub EndsBy : Option (List ℕ) → Option (List ℕ) → Result Bool CommandRefusal → Result Body FileFault → Type 0
   EndsBy written written_new result (Ok body) =
       PublishesAndTells (shown old) (shown new) (ask body) written written_new result

@@ -42,8 +42,8 @@ abbrev pub EndsAllIn : List ℕ → List DoneRow → Type 0
 EndsAllIn text done_rows =
     (n : ℕ) × (why : Closing) × IsOver (Some text) done_rows n why × (AllIn ≡ ending_of (list_all is_accepted done_rows) why)
 
--- Once a list was imported whole by a key of s, importing it again after any events, with equal files and by a key that then may
--- publish to s, answers each row `200 already published` or 503, and changes nothing.
+-- Once a list was imported whole by a key of s, importing it again after any events, with equal files and by a key that
+-- then may publish to s, answers each row `200 already published` or 503, and changes nothing.
 abbrev pub RepeatedImportChangesNothing : Type 0
 RepeatedImportChangesNothing =
     (files : List ℕ → Option (Option (List ℕ))) (text k again s : List ℕ) (old mid later new : World) (done_rows repeated : List DoneRow)

@@ -30,8 +30,8 @@ requirements_ending (Ok None) = Err NotFound
 requirements_ending (Err fault.Device) = Err Device
 requirements_ending (Err fault.Memory) = Err Memory
 
--- The text was printed, or the output failed and a beginning of it was printed. If there is no text, the result is the refusal, and
--- nothing is printed.
+-- The text was printed, or the output failed and a beginning of it was printed. If there is no text, the result is the
+-- refusal, and nothing is printed.
 abbrev pub Prints : Option (List ℕ) → Option (List ℕ) → Result Bool CommandRefusal → Result (List ℕ) CommandRefusal → Type 0
 Prints written written_new result (Ok text) =
     MatchResult result

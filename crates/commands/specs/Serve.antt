@@ -38,8 +38,9 @@ abbrev pub AnnouncesFront : Entrance → Option (List ℕ) → Option (List ℕ)
 AnnouncesFront (Port port) written written_new = PrintsPortFront port written written_new
 AnnouncesFront Input written written_new = PrintsFront written written_new input_line
 
--- The entrance was printed, and the store went through at most as many requests as there are connections. Or the entrance can't be
--- opened, or the output failed, and a beginning of the line was printed, and the store stays as it was.
+-- The entrance was printed, and the store went through at most as many requests as there are connections. Or the
+-- entrance can't be opened, or the output failed, and a beginning of the line was printed, and the store stays as it
+-- was.
 abbrev pub Listens :
     {S : Type 0} → (S → Shown) → S → S → Entrance → ℕ → Option (List ℕ) → Option (List ℕ) → Result (Unit {0}) CommandRefusal → Type 0
 Listens shown old new entrance connections written written_new result =
@@ -55,10 +56,10 @@ Copied S = S → S → List ℕ → Result (Unit {0}) CopyRefusal → Type 0
 abbrev pub Counted : Type 0 → Type 1
 Counted S = S → S → ℕ → Type 0
 
--- The entrance was printed, and the store went through at most as many requests as there are connections, with orders between them,
--- and copies of the machine's world at that moment, and versions counted in it. Or it ended before it served, because the entrance or
--- the socket can't be opened, the clock can't be read, the output failed or memory ran out, and a beginning of the line was printed,
--- and the store stays as it was.
+-- The entrance was printed, and the store went through at most as many requests as there are connections, with orders
+-- between them, and copies of the machine's world at that moment, and versions counted in it. Or it ended before it
+-- served, because the entrance or the socket can't be opened, the clock can't be read, the output failed or memory ran
+-- out, and a beginning of the line was printed, and the store stays as it was.
 abbrev pub ListensToBoth :
     {S : Type 0} → (S → Shown) → Copied S → Counted S → S → S → Entrance → ℕ
     → Option (List ℕ) → Option (List ℕ) → Result (Unit {0}) CommandRefusal → Type 0

@@ -5,8 +5,8 @@ use Rattle.world.specs.World.{text_cmp}
 use Rattle.commands.specs.declared.sources.SourceFault.{SourceFault}
 use Rattle.commands.specs.declared.sources.SourceFault.TheVariants.{NoFile, Memory}
 
--- The result of reading at most this many bytes of a file and one more, by what is known of it: its first bytes, or that there is no
--- such file. Memory may run out.
+-- The result of reading at most this many bytes of a file and one more, by what is known of it: its first bytes, or
+-- that there is no such file. Memory may run out.
 abbrev pub IsRead : ℕ → Option (Option (List ℕ)) → Result (List ℕ) SourceFault → Type 0
 IsRead most None result = Unit {0}
 IsRead most (Some None) (Ok bytes) = ⊥

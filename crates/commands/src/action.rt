@@ -43,8 +43,8 @@ pub enum Action<'a> {
     },
     /// `answer --db F`: answers the requests on the input.
     Answer,
-    /// `serve`: answers one request on each of this many connections, and between them carries out the orders that come over a
-    /// socket, if one is named, copies among them.
+    /// `serve`: answers one request on each of this many connections, and between them carries out the orders that come
+    /// over a socket, if one is named, copies among them.
     Serve {
         entrance: Entrance,
         connections: u32,
@@ -52,9 +52,9 @@ pub enum Action<'a> {
     },
 }
 
-/// Does one action on a store and returns whether it was accepted; only a publish and an import can be done and not accepted.
-/// `copies` makes the copies that are ordered while the store is served, and counts its versions for a ping. Fails as the function of
-/// the action does.
+/// Does one action on a store and returns whether it was accepted; only a publish and an import can be done and not
+/// accepted. `copies` makes the copies that are ordered while the store is served, and counts its versions for a ping.
+/// Fails as the function of the action does.
 pub fn act_on<S: Outlines, K: Copies<S>, I: Hear, O: Tell>(
     rt: &HostRuntime,
     shelves: &mut S,

@@ -66,7 +66,8 @@ fn has_bytes<R: Read>(reader: &mut R) -> io::Result<bool>
     Ok(reader.read(&mut byte)? > 0)
 }
 
-/// Returns the bytes of a file, at most `most` and one more. `Io` if the file can't be opened or read, `Memory` if memory runs out.
+/// Returns the bytes of a file, at most `most` and one more. `Io` if the file can't be opened or read, `Memory` if
+/// memory runs out.
 pub fn read_file(rt: &HostRuntime, path: &str, most: u64) -> Result<Bytes, FileFault>
     requires { most < 2 ^ 63 }
 {
@@ -74,8 +75,8 @@ pub fn read_file(rt: &HostRuntime, path: &str, most: u64) -> Result<Bytes, FileF
     read_at_most(rt.alloc(), file, most)
 }
 
-/// Returns the bytes of a reader, at most `most` and one more, so that the caller sees that a text is too long. `Io` if a read
-/// fails, `Memory` if memory runs out.
+/// Returns the bytes of a reader, at most `most` and one more, so that the caller sees that a text is too long. `Io` if
+/// a read fails, `Memory` if memory runs out.
 pub fn read_at_most<R: Read + Drop>(alloc: Global, reader: R, most: u64) -> Result<Bytes, FileFault>
     requires { most < 2 ^ 63 }
     ensures { IfOk result (λ bytes. IfSome (R.remaining reader) (λ all. bytes ≡ take (most + 1) all)) }

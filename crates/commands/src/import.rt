@@ -53,14 +53,14 @@ pub enum Step {
     Over(Closing),
 }
 
-/// Publishes each row of a list with a key, prints a line for each once it is done, and returns how the import ended. The line is
-/// the number of the row, and its answer or `no file`.
+/// Publishes each row of a list with a key, prints a line for each once it is done, and returns how the import ended.
+/// The line is the number of the row, and its answer or `no file`.
 ///
-/// A row is published with the files that it names, by the checks of a publish. If one of them can't be read, its line is
-/// `no file` and nothing is stored for it; if memory runs out for them, its line is `503 unavailable`. The line `bad row` ends the
-/// import if the header is wrong or absent, or a row is not UTF-8 or does not have five fields. The line `503 unavailable` ends it
-/// if the rest of the list can't be read.
-/// A list of the header alone ends as all accepted. A list with more rows than a `u64` counts ends as one whose rest can't be read.
+/// A row is published with the files that it names, by the checks of a publish. If one of them can't be read, its line
+/// is `no file` and nothing is stored for it; if memory runs out for them, its line is `503 unavailable`. The line `bad
+/// row` ends the import if the header is wrong or absent, or a row is not UTF-8 or does not have five fields. The line
+/// `503 unavailable` ends it if the rest of the list can't be read. A list of the header alone ends as all accepted. A
+/// list with more rows than a `u64` counts ends as one whose rest can't be read.
 ///
 /// `Io::Write` if a line can't be printed; the row of the line is done.
 pub fn import<S: Shelves, L: Read + Drop, F: Sources, O: Tell>(
@@ -221,8 +221,8 @@ fn time_of(time: &str) -> Option<&str>
     Some(time)
 }
 
-/// Returns the files of a row. If its path or its version is invalid, they are not read, because the row is answered 404 anyway.
-/// `NoFile` if a file can't be read, and `Memory` if memory runs out.
+/// Returns the files of a row. If its path or its version is invalid, they are not read, because the row is answered
+/// 404 anyway. `NoFile` if a file can't be read, and `Memory` if memory runs out.
 fn body_of<F: Sources>(alloc: Global, row: &ImportRow, sources: &F) -> Result<Body, SourceFault>
     ensures { IsBodyOf (F.known sources.now) (line_of_row row.now) result }
 {
@@ -237,7 +237,8 @@ fn body_of<F: Sources>(alloc: Global, row: &ImportRow, sources: &F) -> Result<Bo
     Ok(Body { gomod, zip })
 }
 
-/// Prints the line that ends the import, if one does, and returns how it ended. `Io::Write` if the line can't be printed.
+/// Prints the line that ends the import, if one does, and returns how it ended. `Io::Write` if the line can't be
+/// printed.
 fn close<O: Tell>(
     number: u64,
     closing: Closing,

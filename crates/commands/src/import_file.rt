@@ -12,9 +12,9 @@ use std::fs::File;
 use std::rt::HostRuntime;
 use world::shelves::Shelves;
 
-/// Publishes each row of the list in a file, with files of the system, and returns whether the whole list was read and every row
-/// accepted. `BadRow` if the header or a row is bad. `Io` if the list can't be opened, and then nothing is done, or if a line can't be
-/// printed: then a beginning of it is printed, or all of it.
+/// Publishes each row of the list in a file, with files of the system, and returns whether the whole list was read and
+/// every row accepted. `BadRow` if the header or a row is bad. `Io` if the list can't be opened, and then nothing is
+/// done, or if a line can't be printed: then a beginning of it is printed, or all of it.
 pub fn import_file<S: Shelves, O: Tell>(
     rt: &HostRuntime,
     shelves: &mut S,
@@ -24,7 +24,8 @@ pub fn import_file<S: Shelves, O: Tell>(
 ) -> Result<bool, CommandRefusal>
     ensures imports { spec.ImportsFile S.shown shelves.old shelves.new key.now
         (O.contents output.old) (O.contents output.new) result }
-    // It ends with `Io` only if a call of the output failed, or before it did anything, because the list can't be opened.
+    // It ends with `Io` only if a call of the output failed, or before it did anything, because the list can't be
+    // opened.
     ensures cause { FailsEarlyOrByOutput shelves.old shelves.new (O.contents output.old) (O.contents output.new)
         (O.writes output.old) (O.writes output.new) result }
 {

@@ -65,7 +65,8 @@ pub fn print_bad_row<O: Tell>(number: u64, output: &mut O) -> Result<(), Io>
     print_numbered(number, b"bad row", output)
 }
 
-/// Prints a line: a number, a space and a text. `Io::Write` if the output fails: then a beginning of it is printed, or all.
+/// Prints a line: a number, a space and a text. `Io::Write` if the output fails: then a beginning of it is printed, or
+/// all.
 fn print_numbered<O: Tell>(number: u64, text: &[u8], output: &mut O) -> Result<(), Io>
     ensures prints { PrintsText (O.contents output.old) (O.contents output.new) (spec.numbered number text.now) result }
     ensures fails { FailsWith (O.writes output.old).failed (O.writes output.new).failed result }

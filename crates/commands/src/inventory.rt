@@ -42,8 +42,8 @@ pub enum InventoryFault {
     Memory,
 }
 
-/// Returns the inventory of a key: CSV with exactly one row for each version that its shelf sees, the paths by their bytes, the
-/// versions of each by precedence, pseudo-versions among the others. (RFC 4180; SemVer 2.0.0, section 11.)
+/// Returns the inventory of a key: CSV with exactly one row for each version that its shelf sees, the paths by their
+/// bytes, the versions of each by precedence, pseudo-versions among the others. (RFC 4180; SemVer 2.0.0, section 11.)
 ///
 /// Fails with `NoKey` if there is no such key, `Device` if a disk failed, and `Memory` if memory ran out.
 pub fn inventory<S: Outlines>(
@@ -77,8 +77,8 @@ fn inventory_of<S: Outlines>(
     Ok(Some(inventory_on(alloc, shelves, holder.shelf.as_str())?))
 }
 
-/// Returns the inventory of a shelf, in one walk over the paths. Only the text and the list of paths are held in memory. Fails if
-/// the store meets a fault or memory runs out, as do the functions below.
+/// Returns the inventory of a shelf, in one walk over the paths. Only the text and the list of paths are held in
+/// memory. Fails if the store meets a fault or memory runs out, as do the functions below.
 fn inventory_on<S: Outlines>(
     alloc: Global,
     shelves: &mut S,

@@ -20,9 +20,9 @@ pub fn rows_are_whole()
     ensures { RowsAreWhole }
 {}
 
-/// A command with `--control`, whose line a `serve` carried out and whose outcome came, ends as the same command does on
-/// the store of a file: by the machine's reply to its order in the world that the store stood for, and the store stands for
-/// the world after it; or by a fault of the store, which changes nothing.
+/// A command with `--control`, whose line a `serve` carried out and whose outcome came, ends as the same command does
+/// on the store of a file: by the machine's reply to its order in the world that the store stood for, and the store
+/// stands for the world after it; or by a fault of the store, which changes nothing.
 pub fn orders_end_as_on_the_store<S: Shelves, K: Copies<S>>()
     ensures { (old new : S) (tally : Tally) → EndsAsOnTheStore (K.copied old new)
         (IsPinged tally (S.shown old).failures (S.shown new).failures (K.counted old new)) (S.shown old) (S.shown new) }

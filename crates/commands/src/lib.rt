@@ -11,12 +11,12 @@
 //! | the registry commands with `--control`, `copy`, `stop` | send an order to a running `serve`, and end by its outcome | [`order`] |
 //! | `ping` | asks a running `serve` for its health, and prints the line | [`ping`] |
 //!
-//! If the output of a command fails, because a call to write or to flush failed, a beginning of its text is printed, or all of it, and it
-//! ends with `Io`.
+//! If the output of a command fails, because a call to write or to flush failed, a beginning of its text is printed, or
+//! all of it, and it ends with `Io`.
 //!
-//! [`laws`] has what holds of every inventory, every import and every order that is sent. [`action`] does the action of a command on a
-//! store; [`refusal`] has the words that say why a command was refused, and [`exit`] how a run ends: its exit status, and the line of
-//! that word. Nothing here opens a store or reads the words of a command line.
+//! [`laws`] has what holds of every inventory, every import and every order that is sent. [`action`] does the action of
+//! a command on a store; [`refusal`] has the words that say why a command was refused, and [`exit`] how a run ends: its
+//! exit status, and the line of that word. Nothing here opens a store or reads the words of a command line.
 #![tactic(auto)]
 
 pub mod action;

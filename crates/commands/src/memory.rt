@@ -39,8 +39,8 @@ fn add_first_key(shelves: &mut MapShelves, team: &str, key: &str) -> Result<(), 
     }
 }
 
-/// Returns shelves in memory that have `common`, the team and its publishing key. `Name` if the team or the key breaks its
-/// rule, and otherwise `Memory` if memory runs out.
+/// Returns shelves in memory that have `common`, the team and its publishing key. `Name` if the team or the key breaks
+/// its rule, and otherwise `Memory` if memory runs out.
 pub fn shelves_with(alloc: Global, team: &str, key: &str) -> Result<MapShelves, CommandRefusal>
     ensures ok { IfOk result (λ shelves. (shelves ≡ opening team.now key.now) × AreNames team.now key.now) }
     ensures err { IfErr result (λ e. ((e ≡ CommandRefusal.Memory) × AreNames team.now key.now)
@@ -57,9 +57,9 @@ pub fn shelves_with(alloc: Global, team: &str, key: &str) -> Result<MapShelves, 
     Ok(shelves)
 }
 
-/// Answers the requests of the input from shelves in memory that begin with `common`, the team and its
-/// publishing key. `Name` if the team or the key breaks its rule, and `Memory` if memory runs out before the first read:
-/// then nothing is read. `Io` if the input or the output fails.
+/// Answers the requests of the input from shelves in memory that begin with `common`, the team and its publishing key.
+/// `Name` if the team or the key breaks its rule, and `Memory` if memory runs out before the first read: then nothing
+/// is read. `Io` if the input or the output fails.
 pub fn answer_in_memory<I: Hear, O: Tell>(
     alloc: Global,
     team: &str,

@@ -3,8 +3,8 @@ use jiff::Timestamp;
 use modver::{TimeText, read_time};
 use std::rt::HostRuntime;
 
-/// Returns the system clock's time in UTC, to the second. None if the clock can't be read, its year does not have four digits, or
-/// memory runs out.
+/// Returns the system clock's time in UTC, to the second. None if the clock can't be read, its year does not have four
+/// digits, or memory runs out.
 pub(crate) fn time_now(rt: &HostRuntime) -> Option<TimeText> {
     let Ok(now) = Timestamp::now(rt) else {
         return None;

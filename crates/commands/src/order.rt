@@ -11,10 +11,10 @@ use std::os::unix::net::UnixStream;
 use std::rt::HostRuntime;
 use world::names::{COMMON, is_key, is_team_name};
 
-/// Sends an order to the `serve` that listens at a socket, and ends as the same command does on the store of a file. Fails with the
-/// refusals of that command; with `Device` also if nobody listens there or the system refuses the connection; with `Memory` also if
-/// memory runs out for the line, and then nothing is sent; and with `Io` if no outcome of a registry command came. Then the order may
-/// have been carried out.
+/// Sends an order to the `serve` that listens at a socket, and ends as the same command does on the store of a file.
+/// Fails with the refusals of that command; with `Device` also if nobody listens there or the system refuses the
+/// connection; with `Memory` also if memory runs out for the line, and then nothing is sent; and with `Io` if no
+/// outcome of a registry command came. Then the order may have been carried out.
 pub fn order_at(rt: &HostRuntime, path: &str, order: &Order) -> Result<(), CommandRefusal>
     ensures { spec.OrdersThere order.now result }
 {
@@ -29,8 +29,9 @@ pub fn order_at(rt: &HostRuntime, path: &str, order: &Order) -> Result<(), Comma
     }
 }
 
-/// Writes the line of an order, reads the line of its outcome, and ends by it as the same command does on the store of a file.
-/// An order that no line can carry ends, without being sent, as it would in any world. Fails as `order_at` does once it is connected.
+/// Writes the line of an order, reads the line of its outcome, and ends by it as the same command does on the store of
+/// a file. An order that no line can carry ends, without being sent, as it would in any world. Fails as `order_at` does
+/// once it is connected.
 pub fn order_over<R: Hear, W: Tell>(
     alloc: Global,
     reader: &mut R,
@@ -82,8 +83,8 @@ fn told_ending(told: Result<Outcome, Untold>, order: &Order) -> Result<(), Comma
     }
 }
 
-/// Why an order is refused that no line can carry: a name or the key in it breaks its rule, so no shelf has that name, and none the key.
-/// A team's group is never the reason, since the one that is sent can stand in a line.
+/// Why an order is refused that no line can carry: a name or the key in it breaks its rule, so no shelf has that name,
+/// and none the key. A team's group is never the reason, since the one that is sent can stand in a line.
 fn unsayable(order: &Order) -> CommandRefusal
     ensures { result ≡ spec.unsayable order.now }
 {
@@ -101,11 +102,11 @@ fn refusal_by(keeps: bool, refusal: CommandRefusal) -> CommandRefusal
     if keeps { refusal } else { CommandRefusal::Name }
 }
 
-/// Has the `serve` that listens at a socket copy its store into the file of a path, as that server sees it, and waits for that as long
-/// as it takes. `NotEmpty` if the file has more than an empty store or is that of the served store. `Device` if nobody listens there,
-/// the system refuses the connection, the file can't be opened, SQLite has a use for it beside a database, or a disk failed. `Memory`
-/// if memory ran out there, or here for the line. `Name` if no line can carry the path: nothing was sent. `Io` if no outcome of a copy
-/// came.
+/// Has the `serve` that listens at a socket copy its store into the file of a path, as that server sees it, and waits
+/// for that as long as it takes. `NotEmpty` if the file has more than an empty store or is that of the served store.
+/// `Device` if nobody listens there, the system refuses the connection, the file can't be opened, SQLite has a use for
+/// it beside a database, or a disk failed. `Memory` if memory ran out there, or here for the line. `Name` if no line
+/// can carry the path: nothing was sent. `Io` if no outcome of a copy came.
 pub fn copy_at(rt: &HostRuntime, control: &str, path: &str) -> Result<(), CommandRefusal>
     ensures { spec.CopiesThere path.now result }
 {
@@ -155,8 +156,8 @@ fn copy_ending(told: Result<Outcome, Untold>) -> Result<(), CommandRefusal>
     }
 }
 
-/// Ends the `serve` that listens at a socket, after the current request. `Device` if nobody listens there or the system refuses the
-/// connection; otherwise it ends as `stop_over` does.
+/// Ends the `serve` that listens at a socket, after the current request. `Device` if nobody listens there or the system
+/// refuses the connection; otherwise it ends as `stop_over` does.
 pub fn stop_at(rt: &HostRuntime, path: &str) -> Result<(), CommandRefusal>
     ensures { spec.StopsThere result }
 {
@@ -170,8 +171,8 @@ pub fn stop_at(rt: &HostRuntime, path: &str) -> Result<(), CommandRefusal>
     }
 }
 
-/// Writes the line that ends a server, and reads the line of its outcome. `Device` or `Memory` if the server reports that failure,
-/// and `Io` after any other reply but its end, or none.
+/// Writes the line that ends a server, and reads the line of its outcome. `Device` or `Memory` if the server reports
+/// that failure, and `Io` after any other reply but its end, or none.
 pub fn stop_over<R: Hear, W: Tell>(
     alloc: Global,
     reader: &mut R,

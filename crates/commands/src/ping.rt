@@ -13,9 +13,10 @@ use std::rt::HostRuntime;
 use text::Text;
 use world::registry::StoreFault;
 
-/// Asks the `serve` that listens at a socket for its health, prints the line and returns true. `Device` if nobody listens there, the
-/// system refuses the connection, or the store of that server met a fault; `Memory` if the server had no memory for the line. `Io` if
-/// no such line came, or the output failed: then a beginning of the line is printed, or all of it.
+/// Asks the `serve` that listens at a socket for its health, prints the line and returns true. `Device` if nobody
+/// listens there, the system refuses the connection, or the store of that server met a fault; `Memory` if the server
+/// had no memory for the line. `Io` if no such line came, or the output failed: then a beginning of the line is
+/// printed, or all of it.
 pub fn ping_at<O: Tell>(
     rt: &HostRuntime,
     path: &str,
@@ -34,8 +35,8 @@ pub fn ping_at<O: Tell>(
     }
 }
 
-/// Writes the line of a ping, reads the line of the health, prints it and returns true. What is no line of a health is not printed.
-/// Fails as `ping_at` does once it is connected.
+/// Writes the line of a ping, reads the line of the health, prints it and returns true. What is no line of a health is
+/// not printed. Fails as `ping_at` does once it is connected.
 pub fn ping_over<R: Hear, W: Tell, O: Tell>(
     alloc: Global,
     reader: &mut R,

@@ -42,9 +42,10 @@ pub struct Files<'a> {
     pub zip: &'a str,
 }
 
-/// Reads two files, publishes them and prints the outcome. It returns whether the version now has these files. If memory runs
-/// out while it reads, it does nothing on the store and the outcome is the 503. `Io` if a file can't be read, and then it does
-/// nothing, or if the output fails: then a beginning of the outcome's line is printed, or all of it.
+/// Reads two files, publishes them and prints the outcome. It returns whether the version now has these files. If
+/// memory runs out while it reads, it does nothing on the store and the outcome is the 503. `Io` if a file can't be
+/// read, and then it does nothing, or if the output fails: then a beginning of the outcome's line is printed, or all of
+/// it.
 pub fn publish<S: Shelves, O: Tell>(
     rt: &HostRuntime,
     shelves: &mut S,
@@ -64,8 +65,8 @@ pub fn publish<S: Shelves, O: Tell>(
     publish_read(rt.alloc(), shelves, words, read, output)
 }
 
-/// Publishes the files that were read, and prints the outcome. If they were not read, it does nothing on the store: it prints the
-/// 503 if memory ran out, and otherwise fails with `Io`.
+/// Publishes the files that were read, and prints the outcome. If they were not read, it does nothing on the store: it
+/// prints the 503 if memory ran out, and otherwise fails with `Io`.
 fn publish_read<S: Shelves, O: Tell>(
     alloc: Global,
     shelves: &mut S,
@@ -93,8 +94,8 @@ fn read_files(rt: &HostRuntime, files: &Files) -> Result<Body, FileFault> {
     Ok(Body { gomod, zip })
 }
 
-/// Publishes files as the machine does and prints the outcome. It returns whether the version now has these files. `Io` if the
-/// output fails: then a beginning of the outcome's line is printed, or all of it.
+/// Publishes files as the machine does and prints the outcome. It returns whether the version now has these files. `Io`
+/// if the output fails: then a beginning of the outcome's line is printed, or all of it.
 pub fn publish_files<S: Shelves, O: Tell>(
     alloc: Global,
     shelves: &mut S,
@@ -127,8 +128,8 @@ pub(crate) fn publish_by<S: Shelves>(
     step(alloc, shelves, &ask)
 }
 
-/// Returns what a publish of files asks of the machine: `Unreadable` if the path or the version is invalid. Fails only if memory
-/// runs out.
+/// Returns what a publish of files asks of the machine: `Unreadable` if the path or the version is invalid. Fails only
+/// if memory runs out.
 fn ask_of(alloc: Global, words: &Words, body: Body) -> Result<Ask, AllocError>
     ensures { IfOk result (λ ask. ask ≡ spec.asked_by words.now body) }
 {

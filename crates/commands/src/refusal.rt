@@ -10,7 +10,8 @@ use world::registry::{Registered, StoreFault};
 /// Why a command was refused, with exit status 1.
 #[derive(Clone, Copy, Debug, Drop, PartialEq, Eq)]
 pub enum CommandRefusal {
-    /// The name of a team or a group, or a key, breaks its rule; for `copy`, no line can carry the path (`control::ask_to_copy`).
+    /// The name of a team or a group, or a key, breaks its rule; for `copy`, no line can carry the path
+    /// (`control::ask_to_copy`).
     Name,
     /// A shelf of that name, or the key, exists already.
     Taken,
@@ -20,21 +21,22 @@ pub enum CommandRefusal {
     NoKey,
     /// There is no group of that name.
     NoGroup,
-    /// A disk failed, a file can't be opened as a store, SQLite has a use for that of a new store beside a database, or no `serve` can be
-    /// reached at the socket of `--control`.
+    /// A disk failed, a file can't be opened as a store, SQLite has a use for that of a new store beside a database, or
+    /// no `serve` can be reached at the socket of `--control`.
     Device,
     /// Memory ran out.
     Memory,
     /// The file has other tables than a store's (for `migrate`, than an older store's), or is no database.
     BadSchema,
-    /// For `init`, the file has bytes already; for `extract`, `migrate` and `copy`, the new store has more than `common`, or its file
-    /// is that of the other store.
+    /// For `init`, the file has bytes already; for `extract`, `migrate` and `copy`, the new store has more than
+    /// `common`, or its file is that of the other store.
     NotEmpty,
     /// The path or the version is invalid, there is no such key, or its shelf does not see the version.
     NotFound,
     /// A list has another header, or a row that is not UTF-8 or does not have five fields.
     BadRow,
-    /// The input, the output or a file failed; `serve` did not get its port or its socket; or no outcome came from a `serve`.
+    /// The input, the output or a file failed; `serve` did not get its port or its socket; or no outcome came from a
+    /// `serve`.
     Io,
 }
 

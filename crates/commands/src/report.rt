@@ -14,8 +14,9 @@ use world::bytes::Bytes;
 use world::registry::StoreFault;
 use world::shelves::Shelves;
 
-/// Prints the inventory of a key, and returns true. `NoKey` if there is no such key, `Device` or `Memory` if the store meets a
-/// fault: then nothing is printed. `Io` if the output fails: then a beginning of the inventory is printed, or all of it.
+/// Prints the inventory of a key, and returns true. `NoKey` if there is no such key, `Device` or `Memory` if the store
+/// meets a fault: then nothing is printed. `Io` if the output fails: then a beginning of the inventory is printed, or
+/// all of it.
 pub fn print_inventory<S: Outlines, O: Tell>(
     alloc: Global,
     shelves: &mut S,
@@ -33,9 +34,9 @@ pub fn print_inventory<S: Outlines, O: Tell>(
     print(inventory_ending(told), output)
 }
 
-/// Prints what the go.mod of a version requires, and returns true. `NotFound` if the path or the version is invalid, there is no
-/// such key or its shelf does not see the version, `Device` or `Memory` if the store meets a fault: then nothing is printed. `Io`
-/// if the output fails: then a beginning of the lines is printed, or all of them.
+/// Prints what the go.mod of a version requires, and returns true. `NotFound` if the path or the version is invalid,
+/// there is no such key or its shelf does not see the version, `Device` or `Memory` if the store meets a fault: then
+/// nothing is printed. `Io` if the output fails: then a beginning of the lines is printed, or all of them.
 pub fn print_requirements<S: Shelves, O: Tell>(
     alloc: Global,
     shelves: &mut S,

@@ -17,8 +17,9 @@ use world::reading::Reading;
 use world::registry::StoreFault;
 use world::shelves::Shelves;
 
-/// Returns what the go.mod of a version requires, a line `path version` each, in its order; or None if the path or the version
-/// is invalid, there is no such key, or its shelf does not see the version. Fails if the store meets a fault or memory runs out.
+/// Returns what the go.mod of a version requires, a line `path version` each, in its order; or None if the path or the
+/// version is invalid, there is no such key, or its shelf does not see the version. Fails if the store meets a fault or
+/// memory runs out.
 pub fn requirements<S: Shelves>(
     alloc: Global,
     shelves: &mut S,
@@ -41,8 +42,8 @@ pub fn requirements<S: Shelves>(
     required_on(alloc, shelves, holder.shelf.as_str(), &path, &version)
 }
 
-/// Returns what the go.mod of a version requires, or None if the shelf does not see the version. Fails if the store meets a fault or
-/// memory runs out.
+/// Returns what the go.mod of a version requires, or None if the shelf does not see the version. Fails if the store
+/// meets a fault or memory runs out.
 fn required_on<S: Shelves>(
     alloc: Global,
     shelves: &mut S,

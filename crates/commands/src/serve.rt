@@ -32,11 +32,12 @@ pub enum Entrance {
     Input,
 }
 
-/// Prints the line of the entrance, and serves the connections that come in: the store goes through at most as many requests as there
-/// are connections. If a socket `control` is named, the orders of operators who connect to it are carried out between them, copies by
-/// `copies`, and do not count; a ping is told the versions that `copies` counts. `Io` if the entrance or the socket can't be opened, the
-/// clock can't be read for the start time, the output fails, or memory runs out before it serves: then nothing of the line is printed, a
-/// beginning or all of it, and the store stays as it was. A connection that fails only counts.
+/// Prints the line of the entrance, and serves the connections that come in: the store goes through at most as many
+/// requests as there are connections. If a socket `control` is named, the orders of operators who connect to it are
+/// carried out between them, copies by `copies`, and do not count; a ping is told the versions that `copies` counts.
+/// `Io` if the entrance or the socket can't be opened, the clock can't be read for the start time, the output fails, or
+/// memory runs out before it serves: then nothing of the line is printed, a beginning or all of it, and the store stays
+/// as it was. A connection that fails only counts.
 pub fn serve<S: Shelves, K: Copies<S>, O: Tell>(
     rt: &HostRuntime,
     shelves: &mut S,

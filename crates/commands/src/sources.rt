@@ -35,8 +35,8 @@ pub trait Sources {
     /// The file of a name, or that there is no such file, if that is known.
     ghost known: { Self → List ℕ → Option (Option (List ℕ)) };
 
-    /// Returns the bytes of a file, at most `most` and one more, so that the caller sees that a text is too long. `NoFile` if there
-    /// is no such file or it can't be read, and `Memory` if memory runs out.
+    /// Returns the bytes of a file, at most `most` and one more, so that the caller sees that a text is too long.
+    /// `NoFile` if there is no such file or it can't be read, and `Memory` if memory runs out.
     fn bytes(&self, name: &str, most: u64) -> Result<Bytes, SourceFault>
         requires { most < 2 ^ 63 }
         ensures { IsRead most (known self.now name.now) result };

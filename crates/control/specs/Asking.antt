@@ -42,8 +42,8 @@ Sends unread unread_new written written_new line (Ok told) =
 Sends unread unread_new written written_new line (Err why) =
     (why ≡ Io) × (WritesBeginning written written_new line ⊎ Appends written written_new line)
 
--- Such a line was sent, and the line of the outcome came. Or nothing was sent, because no bytes are such a line or memory ran out. Or
--- the line was sent, or a beginning of it, and no outcome came.
+-- Such a line was sent, and the line of the outcome came. Or nothing was sent, because no bytes are such a line or
+-- memory ran out. Or the line was sent, or a beginning of it, and no outcome came.
 abbrev pub AsksBy :
     (List ℕ → Type 0) → Option (List ℕ) → Option (List ℕ) → Option (List ℕ) → Option (List ℕ) → Result Outcome Untold → Type 0
 AsksBy is_line unread unread_new written written_new (Ok told) =
@@ -80,7 +80,8 @@ abbrev pub TellsHealth : Option (List ℕ) → Option (List ℕ) → Result Told
 TellsHealth unread unread_new (Ok told) = IsTold told × Consumes unread unread_new (line_told told)
 TellsHealth unread unread_new (Err e) = e ≡ Io
 
--- The line that asks for the health was sent, and a line came as `TellsHealth` says. Or it was sent, or a beginning of it, and none came.
+-- The line that asks for the health was sent, and a line came as `TellsHealth` says. Or it was sent, or a beginning of
+-- it, and none came.
 abbrev pub AsksForHealth :
     Option (List ℕ) → Option (List ℕ) → Option (List ℕ) → Option (List ℕ) → Result Told Untold → Type 0
 AsksForHealth unread unread_new written written_new (Ok told) =

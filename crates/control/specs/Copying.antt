@@ -7,7 +7,8 @@ use Rattle.control.specs.Turns.{Turn, GoesThroughTurns, messages, world_at}
 use Rattle.control.specs.declared.copies.CopyRefusal.{CopyRefusal}
 use Rattle.control.specs.declared.health.Health.{Health}
 
--- A store was only read: it stands for the worlds that it stood for, and a crash leaves nothing that it did not leave before.
+-- A store was only read: it stands for the worlds that it stood for, and a crash leaves nothing that it did not leave
+-- before.
 pub record IsOnlyRead (old new : Shown) : Type 0 where
   pub honest : new.is_honest → old.is_honest
   pub stays : new.is_honest → (w : World) → old.stands w → new.stands w

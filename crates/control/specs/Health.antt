@@ -83,8 +83,8 @@ line_of h = line_behind (counts_text h.tally) h
 abbrev pub IsHealthLine : List ℕ → Type 0
 IsHealthLine line = (h : Health) × (line ≡ line_of h)
 
--- What a ping comes to: these counts, the failures of the store up to now, and versions that were counted. Or the store met a fault, or
--- there was no memory.
+-- What a ping comes to: these counts, the failures of the store up to now, and versions that were counted. Or the store
+-- met a fault, or there was no memory.
 abbrev pub IsPinged : Tally → ℕ → ℕ → (ℕ → Type 0) → Result Health StoreFault → Type 0
 IsPinged tally before now counted (Ok h) = (h.tally ≡ tally) × (h.store_failures ≡ now) × counted h.versions
 IsPinged tally before now counted (Err fault) = fault ≡ Device → GrewOrFull before now

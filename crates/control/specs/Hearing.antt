@@ -106,8 +106,8 @@ module _ (copied : List ℕ → Result (Unit {0}) CopyRefusal → Type 0) (pinge
   HearsOrFails old new came came_new (Ok told) = Hears old new came came_new told
   HearsOrFails old new came came_new (Err e) = (e ≡ io.Read) × GoesThroughSteps old new []
 
-  -- A line was read, what it orders was done, and what came of it was written, or a beginning of that where a write failed. Or a read
-  -- failed, and nothing was done, and nothing written.
+  -- A line was read, what it orders was done, and what came of it was written, or a beginning of that where a write
+  -- failed. Or a read failed, and nothing was done, and nothing written.
   abbrev pub Obeys :
       Shown → Shown → Account → Account → Option (List ℕ) → Option (List ℕ) → Result Told Io → Type 0
   Obeys old new came came_new written written_new (Ok told) =

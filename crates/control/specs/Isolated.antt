@@ -29,13 +29,13 @@ abbrev pub faultless : List Turn → List Turn
 faultless [] = []
 faultless (t ∷ ts) = if_faultless t (turn_answer t) (faultless ts)
 
--- which of these remain for a shelf: all but the messages whose key belongs, at that moment, to a shelf that it does not see at
--- the end
+-- which of these remain for a shelf: all but the messages whose key belongs, at that moment, to a shelf that it does
+-- not see at the end
 abbrev pub remaining_for : World → List ℕ → List Turn → List Bool
 remaining_for w s turns = remaining w (chain (world_at w turns) s) (map turn_event (faultless turns))
 
--- Two stores, each on an honest disk, went through turns, from worlds that agreed on what the shelf sees at the end of the first. Each was
--- read in between, for a copy or a ping, or not.
+-- Two stores, each on an honest disk, went through turns, from worlds that agreed on what the shelf sees at the end of
+-- the first. Each was read in between, for a copy or a ping, or not.
 pub record AreTwoRuns (old new old_too new_too : Shown) (w x : World) (s : List ℕ) (full purged : List Turn) : Type 0 where
   pub stands : old.stands w
   pub stands_too : old_too.stands x

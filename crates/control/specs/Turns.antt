@@ -78,7 +78,8 @@ StandsIf true shown = (w : World) × shown.stands w
 pub record GoesThroughTurns (old new : Shown) (turns : List Turn) (read : Bool) : Type 0 where
   -- in one run of the machine the messages were answered and the orders carried out
   pub runs : Runs old new (map turn_event turns) (map turn_answer turns)
-  -- if a crash before the turns could leave only the first world, a crash now leaves one of two worlds, as `LeavesTwo` says
+  -- if a crash before the turns could leave only the first world, a crash now leaves one of two worlds, as `LeavesTwo`
+  -- says
   pub left : new.is_honest → (w : World) → old.stands w → old.leaves w w → LeavesTwo new w turns
   -- if also all turns were calm, a crash now leaves only the last world
   pub settled : new.is_honest → (w : World) → old.stands w → AllCalm w turns → old.leaves w w

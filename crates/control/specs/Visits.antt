@@ -26,8 +26,8 @@ use Rattle.control.specs.declared.tally.Tally.{Tally}
 use Rattle.control.specs.declared.told.Told.{Told}
 use Rattle.control.specs.declared.told.Told.TheVariants as spoken
 
--- An operator before and after it was obeyed, what its line ordered, unless a read failed before that was whole, and the result: what
--- was told to it.
+-- An operator before and after it was obeyed, what its line ordered, unless a read failed before that was whole, and
+-- the result: what was told to it.
 pub record Audience (O : Type 0) : Type 0 where
   pub before : O
   pub after : O
@@ -102,8 +102,8 @@ abbrev pub IsNoStop : {P O : Type 0} → Call P O → Type 0
 IsNoStop call = ¬ IsStop call
 
 module _ {P O : Type 0} where
-  -- The last was an operator who was told that the server ends, and nobody before was. Or nobody was, and this many count as
-  -- connections, or 2^64 - 1 came.
+  -- The last was an operator who was told that the server ends, and nobody before was. Or nobody was, and this many
+  -- count as connections, or 2^64 - 1 came.
   abbrev pub IsEnd : ℕ → List (Call P O) → Type 0
   IsEnd connections calls =
       ((first : List (Call P O)) × (last : Call P O) × (calls ≡ first ++ last ∷ []) × All IsNoStop first × IsStop last)
@@ -121,7 +121,8 @@ abbrev pub CameIf : (List ℕ → Result (Unit {0}) CopyRefusal → Type 0) → 
 CameIf copied pinged None = Unit {0}
 CameIf copied pinged (Some heard) = CameOf copied pinged heard
 
--- The connection counts as what became of it: by the status that was written for what came first, or as one that failed.
+-- The connection counts as what became of it: by the status that was written for what came first, or as one that
+-- failed.
 abbrev pub CountsAs : Option First → Answered → Type 0
 CountsAs None (Ok status) = ⊥
 CountsAs None (Err e) = e ≡ io.Read
@@ -151,8 +152,8 @@ pub record AnswersOne {P : Type 0} (heard : P → Account) (written : P → Opti
   pub counts : CountsAs answers.visit.first answered
 
 module _ {O : Type 0} (heeded : O → Account) (told : O → Option (List ℕ)) where
-  -- What was read came from this operator, and what came of it went to this operator: the whole line, or a beginning where a write
-  -- failed. Where a read failed, nothing was written.
+  -- What was read came from this operator, and what came of it went to this operator: the whole line, or a beginning
+  -- where a write failed. Where a read failed, nothing was written.
   abbrev pub IsToldThere : O → O → Option Heard → Result Told Io → Type 0
   IsToldThere before after None result = (result ≡ Err io.Read) × Keeps (told before) (told after)
   IsToldThere before after (Some heard) (Ok said) =
@@ -162,7 +163,8 @@ module _ {O : Type 0} (heeded : O → Account) (told : O → Option (List ℕ)) 
       (e ≡ io.Write) × IsHeard (heeded before) (heeded after) heard
       × WritesBeginning (told before) (told after) (line_told (told_heard heard))
 
-  -- This operator was obeyed, and the store went through its order. The flag says whether it was told that the server ends.
+  -- This operator was obeyed, and the store went through its order. The flag says whether it was told that the server
+  -- ends.
   pub record ObeysOne (copied : List ℕ → Result (Unit {0}) CopyRefusal → Type 0) (pinged : Result Health StoreFault → Type 0)
       (operator : O) (stops : Bool) (old new : Shown) : Type 0 where
     pub audience : Audience O
@@ -186,8 +188,9 @@ module _ {O : Type 0} (heeded : O → Account) (told : O → Option (List ℕ)) 
     IsCallThere (OfOperator audience) = IsToldThere audience.before audience.after audience.heard audience.told
     IsCallThere Untaken = Unit {0}
 
-    -- The callers were served one after another, each once, and at most as many peers as there are connections. Each was new. What a
-    -- peer sent was answered to that peer, and the outcome of an operator's order went to that operator.
+    -- The callers were served one after another, each once, and at most as many peers as there are connections. Each
+    -- was new. What a peer sent was answered to that peer, and the outcome of an operator's order went to that
+    -- operator.
     pub record ServesEach (is_new : Caller P O → Type 0) (waiting left : Option (List (Option (Caller P O)))) (old new : Shown)
         (connections : ℕ) : Type 0 where
       pub calls : List (Call P O)
@@ -197,8 +200,8 @@ module _ {O : Type 0} (heeded : O → Account) (told : O → Option (List ℕ)) 
       pub there : All IsCallThere calls
       pub through : GoesThroughSteps old new (steps_with calls)
 
-    -- So it was. Each copy that was ordered was made of the machine's world at its moment, and each ping was told what was counted in it,
-    -- and how the connections before it were answered.
+    -- So it was. Each copy that was ordered was made of the machine's world at its moment, and each ping was told what
+    -- was counted in it, and how the connections before it were answered.
     pub record ReadsEach
         {S : Type 0} (shown : S → Shown) (copied : S → S → List ℕ → Result (Unit {0}) CopyRefusal → Type 0)
         (counted : S → S → ℕ → Type 0) (is_new : Caller P O → Type 0)

@@ -153,13 +153,15 @@ pub trait Callers<P, O> {
     ghost use Rattle.control.specs.Visits.{Takes};
     ghost use Rattle.control.specs.declared.callers.Caller.{Caller};
 
-    /// The callers who connect from here on, in their order, if they are known; `None` is a connection that can't be taken.
+    /// The callers who connect from here on, in their order, if they are known; `None` is a connection that can't be
+    /// taken.
     ghost waiting: { Self → Option (List (Option (Caller P O))) };
 
     /// What is known of a caller who was just taken.
     ghost is_new: { Caller P O → Type 0 };
 
-    /// Waits for the next connection, however long that takes, and returns its caller. Fails if the connection can't be taken.
+    /// Waits for the next connection, however long that takes, and returns its caller. Fails if the connection can't be
+    /// taken.
     fn next(&mut self) -> io::Result<Caller<P, O>>
         ensures takes { Takes (waiting self.old) (waiting self.new) result }
         ensures fresh { IfOk result (λ caller. is_new caller) };
@@ -207,7 +209,8 @@ impl Doors {
         })
     }
 
-    /// Notes which listeners somebody has connected to, and waits for that if nobody is known to wait at one. Fails if the system does.
+    /// Notes which listeners somebody has connected to, and waits for that if nobody is known to wait at one. Fails if
+    /// the system does.
     fn look(&mut self) -> io::Result<()> {
         let longest = if self.peer_waits || self.operator_waits {
             Some(Duration::ZERO)
@@ -225,10 +228,12 @@ impl Doors {
         Ok(())
     }
 
-    /// Returns a caller who has connected, an operator before a peer, or None if there is none. Fails if the system does.
+    /// Returns a caller who has connected, an operator before a peer, or None if there is none. Fails if the system
+    /// does.
     ///
-    /// The system names a listener when somebody connects, and once more when it is watched anew, if somebody still waits. So the
-    /// listener of a taken caller is watched anew: that takes a tenth of the time of an `accept` that finds nobody.
+    /// The system names a listener when somebody connects, and once more when it is watched anew, if somebody still
+    /// waits. So the listener of a taken caller is watched anew: that takes a tenth of the time of an `accept` that
+    /// finds nobody.
     fn accept(&mut self) -> io::Result<Option<SystemCaller>>
         ensures { IfOk result (λ found. IfSome found (λ caller. IsUnheard
             ⟦<Connection<TcpStream, TcpStream> as Peer>⟧.came ⟦<Connection<TcpStream, TcpStream> as Peer>⟧.written

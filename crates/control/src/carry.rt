@@ -7,8 +7,8 @@ use crate::order::Order;
 use world::registry::{Registered, StoreFault};
 use world::shelves::Shelves;
 
-/// Carries out an order and returns the machine's reply: exactly the order's event happens. Fails if the store meets a fault, and
-/// then no event happens.
+/// Carries out an order and returns the machine's reply: exactly the order's event happens. Fails if the store meets a
+/// fault, and then no event happens.
 pub fn carry_out<S: Shelves>(shelves: &mut S, order: &Order) -> Result<Registered, StoreFault>
     ensures does { Does (S.shown shelves.old) (S.shown shelves.new) result
         (λ w. outcome_in w order.now) (λ w. after w (event_of order.now)) }

@@ -27,13 +27,13 @@ const LONGEST_HEALTH: usize = 255;
 /// Why no outcome was read.
 #[derive(Clone, Copy, Debug, Drop, PartialEq, Eq)]
 pub enum Untold {
-    /// A name, the key or the path of a copy can't stand in a line: it has a space or the end of a line, or it makes the line too long.
-    /// Nothing was sent.
+    /// A name, the key or the path of a copy can't stand in a line: it has a space or the end of a line, or it makes
+    /// the line too long. Nothing was sent.
     Words,
     /// Memory ran out for the line. Nothing was sent.
     Memory,
-    /// The line was not sent whole, or no outcome was read: a read failed, the bytes are no outcome's line, or memory ran out. Whether
-    /// the order was carried out is not known.
+    /// The line was not sent whole, or no outcome was read: a read failed, the bytes are no outcome's line, or memory
+    /// ran out. Whether the order was carried out is not known.
     Io,
 }
 
@@ -49,8 +49,8 @@ impl From<AllocError> for Untold {
 
 /// Sends an order and returns its outcome.
 ///
-/// `Untold::Words`: no line can carry the order. `Untold::Memory`: memory ran out for the line. In both cases nothing was sent.
-/// `Untold::Io`: the line was not sent whole, or no outcome was read.
+/// `Untold::Words`: no line can carry the order. `Untold::Memory`: memory ran out for the line. In both cases nothing
+/// was sent. `Untold::Io`: the line was not sent whole, or no outcome was read.
 pub fn ask<R: Hear, W: Tell>(
     alloc: Global,
     reader: &mut R,
@@ -66,8 +66,8 @@ pub fn ask<R: Hear, W: Tell>(
 
 /// Orders a copy of the served store to a path, as the server sees it, and returns the outcome.
 ///
-/// `Untold::Words`: the path has a space or the end of a line, or more than 4,090 bytes. `Untold::Memory`: memory ran out for the
-/// line. In both cases nothing was sent. `Untold::Io`: the line was not sent whole, or no outcome was read.
+/// `Untold::Words`: the path has a space or the end of a line, or more than 4,090 bytes. `Untold::Memory`: memory ran
+/// out for the line. In both cases nothing was sent. `Untold::Io`: the line was not sent whole, or no outcome was read.
 pub fn ask_to_copy<R: Hear, W: Tell>(
     alloc: Global,
     reader: &mut R,
@@ -81,8 +81,8 @@ pub fn ask_to_copy<R: Hear, W: Tell>(
     send(alloc, reader, writer, &line)
 }
 
-/// Orders the server to end, and returns the outcome: `Outcome::Stopping` if it ends. Fails only with `Untold::Io`: the line was not
-/// sent whole, or no outcome was read.
+/// Orders the server to end, and returns the outcome: `Outcome::Stopping` if it ends. Fails only with `Untold::Io`: the
+/// line was not sent whole, or no outcome was read.
 pub fn ask_to_stop<R: Hear, W: Tell>(
     alloc: Global,
     reader: &mut R,
@@ -94,8 +94,8 @@ pub fn ask_to_stop<R: Hear, W: Tell>(
     send(alloc, reader, writer, STOP_LINE)
 }
 
-/// Asks for the health of the server, and returns its line, or an outcome if the server sends one instead. Fails only with
-/// `Untold::Io`: the line was not sent whole, or neither a health nor an outcome was read.
+/// Asks for the health of the server, and returns its line, or an outcome if the server sends one instead. Fails only
+/// with `Untold::Io`: the line was not sent whole, or neither a health nor an outcome was read.
 pub fn ask_for_health<R: Hear, W: Tell>(
     alloc: Global,
     reader: &mut R,
@@ -110,7 +110,8 @@ pub fn ask_for_health<R: Hear, W: Tell>(
     }
 }
 
-/// Sends a line and returns the outcome. Fails only with `Untold::Io`: the line was not sent whole, or no outcome was read.
+/// Sends a line and returns the outcome. Fails only with `Untold::Io`: the line was not sent whole, or no outcome was
+/// read.
 fn send<R: Hear, W: Tell>(
     alloc: Global,
     reader: &mut R,

@@ -26,16 +26,18 @@ pub trait Copies<S: Shelves> {
     /// What a count says, by the served store before and after it, and the number.
     ghost counted: { S → S → ℕ → Type 0 };
 
-    /// Makes the store of a file, with this path, one of the served store as it is at this moment. The served store is only read.
+    /// Makes the store of a file, with this path, one of the served store as it is at this moment. The served store is
+    /// only read.
     ///
-    /// Fails with `NotEmpty` if the file has more than an empty store, or is that of the served store; with `Device` if it can't be
-    /// opened, SQLite has a use for it beside a database, or a disk failed; and with `Memory` if memory ran out.
+    /// Fails with `NotEmpty` if the file has more than an empty store, or is that of the served store; with `Device` if
+    /// it can't be opened, SQLite has a use for it beside a database, or a disk failed; and with `Memory` if memory ran
+    /// out.
     fn copy(&mut self, shelves: &mut S, path: &str) -> Result<(), CopyRefusal>
         ensures reads { IsOnlyRead (S.shown shelves.old) (S.shown shelves.new) }
         ensures came { copied shelves.old shelves.new path.now result };
 
-    /// Returns how many versions the served store keeps at this moment. The served store is only read. Fails with `Device` if a disk
-    /// failed, and with `Memory` if memory ran out.
+    /// Returns how many versions the served store keeps at this moment. The served store is only read. Fails with
+    /// `Device` if a disk failed, and with `Memory` if memory ran out.
     fn versions(&mut self, shelves: &mut S) -> Result<u64, StoreFault>
         ensures reads { IsOnlyRead (S.shown shelves.old) (S.shown shelves.new) }
         ensures cause { HasCause (S.shown shelves.old) (S.shown shelves.new) result }

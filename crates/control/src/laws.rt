@@ -14,10 +14,11 @@ pub fn outcome_has_a_line_of_its_own()
     ensures { OneOutcomeALine }
 {}
 
-/// Isolation also holds between two calls of [`serve_both`](crate::serve_both), over any two stores whose worlds agree on the
-/// registry and on what a shelf sees, on honest disks: if the second goes through the turns of the first without the
-/// messages of other teams, it writes the same bytes for each remaining message, and the same line for each order. The messages
-/// that a call answered 503 and the orders that met a fault are left out of it. The worlds after both agree again.
+/// Isolation also holds between two calls of [`serve_both`](crate::serve_both), over any two stores whose worlds agree
+/// on the registry and on what a shelf sees, on honest disks: if the second goes through the turns of the first without
+/// the messages of other teams, it writes the same bytes for each remaining message, and the same line for each order.
+/// The messages that a call answered 503 and the orders that met a fault are left out of it. The worlds after both
+/// agree again.
 pub fn isolation_of_turns<S: Shelves, T: Shelves>()
     ensures { (old new : S) (old_too new_too : T)
         → TurnsAreAnsweredAlike (S.shown old) (S.shown new) (T.shown old_too) (T.shown new_too) }

@@ -1,4 +1,5 @@
-//! Changes to a store while it is served: an operator sends an order over a Unix socket, and gets the line of its outcome.
+//! Changes to a store while it is served: an operator sends an order over a Unix socket, and gets the line of its
+//! outcome.
 //!
 //! | what | where |
 //! |---|---|

@@ -37,17 +37,17 @@ impl From<AllocError> for Unread {
     }
 }
 
-/// Reads a line of at most `LONGEST_COPY` bytes, with what comes after its end in the same read, and returns the bytes. They may
-/// have no end of a line if the stream ends, or if the line is longer. Fails with `Io` if a read fails or `TRIES` reads do not end
-/// the line, and with `Memory` if memory runs out.
+/// Reads a line of at most `LONGEST_COPY` bytes, with what comes after its end in the same read, and returns the bytes.
+/// They may have no end of a line if the stream ends, or if the line is longer. Fails with `Io` if a read fails or
+/// `TRIES` reads do not end the line, and with `Memory` if memory runs out.
 pub(crate) fn read_line<R: Hear>(alloc: Global, reader: &mut R) -> Result<Vec<u8>, Unread>
     ensures { IfOk result (λ got. spec.ReadsLine (R.account reader.old) (R.account reader.new) got.items) }
 {
     read_to(alloc, reader, LONGEST_COPY)
 }
 
-/// Reads until a line ends, more than `most` bytes came or the stream ends, and returns the bytes. Fails with `Io` if a read fails
-/// or `TRIES` reads are not enough, and with `Memory` if memory runs out.
+/// Reads until a line ends, more than `most` bytes came or the stream ends, and returns the bytes. Fails with `Io` if a
+/// read fails or `TRIES` reads are not enough, and with `Memory` if memory runs out.
 pub(crate) fn read_to<R: Hear>(
     alloc: Global,
     reader: &mut R,
@@ -64,7 +64,8 @@ pub(crate) fn read_to<R: Hear>(
     Err(Unread::Io)
 }
 
-/// Reads once, after what was read, and returns whether no more has to be read. A read that is interrupted reads nothing.
+/// Reads once, after what was read, and returns whether no more has to be read. A read that is interrupted reads
+/// nothing.
 fn read_on<R: Hear>(reader: &mut R, got: &mut Vec<u8>, most: usize) -> Result<bool, Unread>
     ensures { IfOk result (λ done.
         spec.ReadsOn most (R.account reader.old) (R.account reader.new) got.old.items got.new.items done) }

@@ -19,12 +19,12 @@ use world::shelves::Shelves;
 
 /// Reads an operator's line, does what it orders, and writes and returns what came of it; `copies` makes copies.
 ///
-/// `Outcome::Stopping`: the server is to end. `Told::Health`: the line is a ping, which gets the tally, the failures of the store and
-/// the versions that `copies` counts. `Outcome::Failed(StoreFault::Memory)` also means that memory ran out for the line, and that
-/// nothing was done.
+/// `Outcome::Stopping`: the server is to end. `Told::Health`: the line is a ping, which gets the tally, the failures of
+/// the store and the versions that `copies` counts. `Outcome::Failed(StoreFault::Memory)` also means that memory ran
+/// out for the line, and that nothing was done.
 ///
-/// `Io::Read`: nothing was done, and nothing written. `Io::Write`: a beginning of the line was written, and not all; the shelves are
-/// as after the order.
+/// `Io::Read`: nothing was done, and nothing written. `Io::Write`: a beginning of the line was written, and not all;
+/// the shelves are as after the order.
 pub fn obey<R: Hear, W: Tell, S: Shelves, K: Copies<S>>(
     alloc: Global,
     reader: &mut R,
@@ -45,8 +45,8 @@ pub fn obey<R: Hear, W: Tell, S: Shelves, K: Copies<S>>(
     }
 }
 
-/// Reads a line, does what it orders, and returns what the operator gets. Fails with `Io::Read` if the line can't be read, and then
-/// nothing was done.
+/// Reads a line, does what it orders, and returns what the operator gets. Fails with `Io::Read` if the line can't be
+/// read, and then nothing was done.
 fn hear<R: Hear, S: Shelves, K: Copies<S>>(
     alloc: Global,
     reader: &mut R,

@@ -30,8 +30,8 @@ pub enum Order<'a> {
     },
 }
 
-/// Returns the order of a line without its end, or None if it is no order's line. It does not check the rules of names and keys:
-/// the store does, when the order is carried out.
+/// Returns the order of a line without its end, or None if it is no order's line. It does not check the rules of names
+/// and keys: the store does, when the order is carried out.
 pub fn order_of<'a>(line: &'a str) -> Option<Order<'a>>
     ensures { MatchOption result (spec.OrdersNothing line.now) (λ order. spec.Orders line.now order) }
 {

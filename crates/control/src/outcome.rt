@@ -10,7 +10,8 @@ use world::registry::{Registered, StoreFault};
 pub enum Outcome {
     /// The machine's reply to the order; only `Done` changed anything. `Done` also means that a copy was made.
     Registered(Registered),
-    /// A disk failed, the file of a copy can't be opened, or memory ran out, for the order or already for its line. Nothing was changed.
+    /// A disk failed, the file of a copy can't be opened, or memory ran out, for the order or already for its line.
+    /// Nothing was changed.
     Failed(StoreFault),
     /// No copy was made: the file has more than an empty store, or is that of the served store.
     NotEmpty,

@@ -11,8 +11,8 @@ use std::alloc::Global;
 use world::registry::StoreFault;
 use world::shelves::Shelves;
 
-/// Counts the versions that the store keeps, and returns what a ping gets: the line of the health, with the tally and the failures of
-/// the store. Returns `Outcome::Failed` if the count fails or memory runs out for the line.
+/// Counts the versions that the store keeps, and returns what a ping gets: the line of the health, with the tally and
+/// the failures of the store. Returns `Outcome::Failed` if the count fails or memory runs out for the line.
 pub(crate) fn ping<S: Shelves, K: Copies<S>>(
     alloc: Global,
     tally: &Tally,

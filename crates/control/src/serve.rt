@@ -16,12 +16,13 @@ use std::time::Clock;
 use wire::RouteTable;
 use world::shelves::Shelves;
 
-/// Takes `connections` connections of peers, one after another, and answers the first message on each. Between them it carries out
-/// the orders of operators, who do not count; `copies` makes their copies. A ping gets the counts of the connections since the
-/// server began, which was at `since`. It waits for the next caller as long as that takes. It returns after the last peer, or once
-/// `Stopping` was written to an operator.
+/// Takes `connections` connections of peers, one after another, and answers the first message on each. Between them it
+/// carries out the orders of operators, who do not count; `copies` makes their copies. A ping gets the counts of the
+/// connections since the server began, which was at `since`. It waits for the next caller as long as that takes. It
+/// returns after the last peer, or once `Stopping` was written to an operator.
 ///
-/// A connection counts even if it fails. One that can't be taken counts too, even an operator's, so a server without descriptors ends.
+/// A connection counts even if it fails. One that can't be taken counts too, even an operator's, so a server without
+/// descriptors ends.
 pub fn serve_both<
     C: Clock,
     P: Peer + Drop,
@@ -43,8 +44,8 @@ pub fn serve_both<
     // Each message is answered on the connection that it came over, and the outcome of each order is told on its own.
     ensures each { ServesEach O.came O.written P.came P.written L.is_new (L.waiting callers.old) (L.waiting callers.new)
         (S.shown shelves.old) (S.shown shelves.new) connections }
-    // Each copy is made of the machine's world at its moment, between two of its events. Each ping is told the versions that were
-    // counted so, and the counts of the connections that were taken before it.
+    // Each copy is made of the machine's world at its moment, between two of its events. Each ping is told the versions
+    // that were counted so, and the counts of the connections that were taken before it.
     ensures reads { ReadsEach O.came O.written P.came P.written S.shown K.copied K.counted L.is_new
         (L.waiting callers.old) (L.waiting callers.new) shelves.old shelves.new since connections }
     // It ends once an operator was told so, and not before, unless its connections are used up.
@@ -73,7 +74,8 @@ pub fn serve_both<
     }
 }
 
-/// Answers the first message of a peer, ends the connection if that wrote a status, and returns the result of `Peer::answer`.
+/// Answers the first message of a peer, ends the connection if that wrote a status, and returns the result of
+/// `Peer::answer`.
 fn answer_on<C: Clock, P: Peer + Drop, S: Shelves>(
     alloc: Global,
     clock: &C,

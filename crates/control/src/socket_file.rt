@@ -9,9 +9,9 @@ use std::time::Duration;
 /// The seconds that an operator waits for an outcome. One connection of a peer holds the server at most half as long.
 const LONGEST_WAIT: u64 = 60;
 
-/// Makes a socket with this file name, which only its owner may connect to, and returns its listener. It first removes a socket
-/// that nobody listens at any more. Fails if somebody listens there, if the name is that of another file or has more than 107
-/// bytes, or if the system refuses the socket.
+/// Makes a socket with this file name, which only its owner may connect to, and returns its listener. It first removes
+/// a socket that nobody listens at any more. Fails if somebody listens there, if the name is that of another file or
+/// has more than 107 bytes, or if the system refuses the socket.
 ///
 /// Between making the socket and changing its mode, the umask decides who may connect.
 pub fn operators_at(rt: &HostRuntime, path: &str) -> io::Result<UnixListener> {
@@ -21,7 +21,8 @@ pub fn operators_at(rt: &HostRuntime, path: &str) -> io::Result<UnixListener> {
     Ok(operators)
 }
 
-/// Removes a socket that an earlier server left. Fails if the name is that of another file, or if somebody listens there.
+/// Removes a socket that an earlier server left. Fails if the name is that of another file, or if somebody listens
+/// there.
 fn make_way(rt: &HostRuntime, path: &str) -> io::Result<()> {
     match fs::symlink_metadata(rt, path) {
         Ok(found) if found.file_type().is_socket() => remove_left(rt, path),
@@ -50,8 +51,8 @@ pub fn remove_socket(rt: &HostRuntime, path: &str) {
     }
 }
 
-/// Connects to the server that listens at this socket, and returns the connection, over which `ask` sends an order. Each read from
-/// it waits at most a minute. Fails if nobody listens there, or if the system refuses the connection.
+/// Connects to the server that listens at this socket, and returns the connection, over which `ask` sends an order.
+/// Each read from it waits at most a minute. Fails if nobody listens there, or if the system refuses the connection.
 pub fn server_at(rt: &HostRuntime, path: &str) -> io::Result<UnixStream> {
     let server = UnixStream::connect(rt, path)?;
     server.set_read_timeout(Some(Duration::from_secs(LONGEST_WAIT)))?;

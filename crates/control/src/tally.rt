@@ -20,7 +20,8 @@ pub struct Tally {
     pub refused: u64,
     /// Those with a status from 500 to 599.
     pub failed: u64,
-    /// Those on which no status was written whole: the peer sent nothing, or no whole request, or did not take the reply.
+    /// Those on which no status was written whole: the peer sent nothing, or no whole request, or did not take the
+    /// reply.
     pub unanswered: u64,
 }
 

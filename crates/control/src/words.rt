@@ -12,8 +12,8 @@ pub(crate) struct Words<'a> {
     pub(crate) second: Option<&'a str>,
 }
 
-/// Returns the words of a line with one space between each two, or None if there are fewer than two or more than three, or if it
-/// has an end of a line in it.
+/// Returns the words of a line with one space between each two, or None if there are fewer than two or more than three,
+/// or if it has an end of a line in it.
 pub(crate) fn words_of(line: &str) -> Option<Words<'_>>
     ensures { MatchOption result (spec.HasNoWords line.now) (λ words. spec.IsTextOf line.now (spec.said words)) }
 {

@@ -22,7 +22,8 @@ use Rattle.engine.specs.declared.fault.Io.{Io}
 abbrev pub NoneUnavailable : List (List ℕ) → Type 0
 NoneUnavailable texts = AllByRecursion (λ text. text ≢ unavailable) texts
 
--- which messages of a stream remain for these shelves: all but those whose key belongs, at that moment, to another shelf
+-- which messages of a stream remain for these shelves: all but those whose key belongs, at that moment, to another
+-- shelf
 abbrev pub remaining_for : World → List (List ℕ) → List Request → List Bool
 remaining_for w ss messages = remaining w ss (map event_of_message messages)
 
@@ -32,9 +33,9 @@ end_bytes clean = []
 end_bytes too_large = fixed_bytes TooLarge
 end_bytes bad = fixed_bytes BadRequest
 
--- Two calls of `answer_all` over stores whose worlds agreed on these shelves, each on an honest disk. The stream is these
--- messages, the bytes of each a piece, and then a rest with this end. One call read all of it, and the other all but the pieces
--- of others' messages.
+-- Two calls of `answer_all` over stores whose worlds agreed on these shelves, each on an honest disk. The stream is
+-- these messages, the bytes of each a piece, and then a rest with this end. One call read all of it, and the other all
+-- but the pieces of others' messages.
 pub record AreTwoCalls
     (old new old_too new_too : Shown) (w x : World) (ss : List (List ℕ)) (messages : List Request) (end : End)
     (result result_too : Result (Unit {0}) Io) : Type 0 where
@@ -58,8 +59,8 @@ pub record AreTwoCalls
       Serves old_too new_too (Some (concat (marked (remaining_for w ss messages) pieces) ++ rest)) unread_too
       written_too written_too_new result_too
 
--- Two calls, one for these messages and one for the marked ones, wrote an equal text for each message and equal bytes for the
--- end. The stores stand for worlds that agree again on these shelves.
+-- Two calls, one for these messages and one for the marked ones, wrote an equal text for each message and equal bytes
+-- for the end. The stores stand for worlds that agree again on these shelves.
 pub record WriteAlike
     (new new_too : Shown) (ss : List (List ℕ)) (messages : List Request) (marks : List Bool)
     (end : End) (one two : List Exchange) (out out_too : List ℕ) : Type 0 where
@@ -74,9 +75,9 @@ pub record WriteAlike
   pub stands_too : new_too.stands world_too
   pub agree : Agree world world_too ss
 
--- If two calls both ended well, and neither wrote the 503 in place of what was left or for a remaining message, they wrote alike.
--- The shelves are those that s sees now or after any events to come, which may add it to a group, so that calls with registry
--- commands between them may follow each other.
+-- If two calls both ended well, and neither wrote the 503 in place of what was left or for a remaining message, they
+-- wrote alike. The shelves are those that s sees now or after any events to come, which may add it to a group, so that
+-- calls with registry commands between them may follow each other.
 abbrev pub CallsTellAlike : Shown → Shown → Shown → Shown → Type 0
 CallsTellAlike old new old_too new_too =
     (w x later : World) (s : List ℕ) (events : List Event) (answers : List Answer) (messages : List Request) (end : End)
@@ -91,8 +92,8 @@ CallsTellAlike old new old_too new_too =
 abbrev pub AgreeAsFar : List (List ℕ) → List (List ℕ) → Type 0
 AgreeAsFar one two = (more : List (List ℕ)) × ((one ≡ two ++ more) ⊎ (two ≡ one ++ more))
 
--- However two calls ended, by a failed read or write or by the 503 in place of what was left: if none of the texts written for
--- the remaining messages is the 503, those of one call begin with those of the other.
+-- However two calls ended, by a failed read or write or by the 503 in place of what was left: if none of the texts
+-- written for the remaining messages is the 503, those of one call begin with those of the other.
 abbrev pub CallsTellAlikeAsFar : Shown → Shown → Shown → Shown → Type 0
 CallsTellAlikeAsFar old new old_too new_too =
     (w x later : World) (s : List ℕ) (events : List Event) (answers : List Answer)

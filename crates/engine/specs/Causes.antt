@@ -14,7 +14,8 @@ FailsWith failed failed_new result = MatchResult result (λ _. failed ≤ failed
 abbrev pub GivesNone : Reads → Reads → Type 0
 GivesNone old new = BeginsNone old new ⊎ (new.last ≡ [])
 
--- No read began once the bytes held and those heard say what comes next: the last that began did so while they were unfinished.
+-- No read began once the bytes held and those heard say what comes next: the last that began did so while they were
+-- unfinished.
 abbrev pub AsksWhileUnfinished : List ℕ → Account → Account → Reads → Reads → Type 0
 AsksWhileUnfinished held came came_new reads reads_new =
     (BeginsNone reads reads_new × Gives came came_new [])
@@ -28,7 +29,8 @@ Spends left left_new reads reads_new = left + reads.begun ≤ left_new + reads_n
 abbrev pub IsUnreadable : ℕ → Reads → Reads → Type 0
 IsUnreadable left reads reads_new = (reads.failed < reads_new.failed) ⊎ (left + reads.begun ≤ reads_new.begun)
 
--- why a turn failed that had so many reads left: a call of the reader failed or all of them began, or a call of the writer failed
+-- why a turn failed that had so many reads left: a call of the reader failed or all of them began, or a call of the
+-- writer failed
 abbrev pub IsCausedIn : ℕ → Reads → Reads → Writes → Writes → Io → Type 0
 IsCausedIn left reads reads_new writes writes_new io.Read = IsUnreadable left reads reads_new
 IsCausedIn left reads reads_new writes writes_new io.Write = writes.failed < writes_new.failed

@@ -38,8 +38,8 @@ abbrev pub first_exchanges : First → List Exchange
 first_exchanges (Answers x) = x ∷ []
 first_exchanges (Closes closing) = []
 
--- It comes first in what the reader holds, and little more was read than was needed: the bytes that were read, without at most
--- the last `read_limit`, begin with no whole message, and the stream could go on from them.
+-- It comes first in what the reader holds, and little more was read than was needed: the bytes that were read, without
+-- at most the last `read_limit`, begin with no whole message, and the stream could go on from them.
 pub record TakesFirst (unread unread_new : Option (List ℕ)) (first : First) : Type 0 where
   pub input : List ℕ
   pub tells : Tells unread input
@@ -50,9 +50,9 @@ pub record TakesFirst (unread unread_new : Option (List ℕ)) (first : First) : 
   pub few : length last ≤ read_limit
   pub unfinished : IsUnfinished early
 
--- The first message was answered as the machine answers it, or the stream was closed without one, and the result is the status
--- that was written. Or a read failed before, and nothing was done. Or a write failed, and a beginning was written, or the flush
--- alone failed.
+-- The first message was answered as the machine answers it, or the stream was closed without one, and the result is the
+-- status that was written. Or a read failed before, and nothing was done. Or a write failed, and a beginning was
+-- written, or the flush alone failed.
 abbrev pub ServesFirst :
     Shown → Shown → Option (List ℕ) → Option (List ℕ) → Option (List ℕ) → Option (List ℕ) → Result (Option ℕ) Io → Type 0
 ServesFirst old new unread unread_new written written_new (Ok status) =

@@ -27,9 +27,9 @@ unavailable = fixed_bytes Unavailable
 
 -- ---- nothing about others
 
--- Two runs begin in worlds that agree on what s sees: one with all that came, the other with what remains of it, without the
--- messages of others. They write the same texts for what remains, and the worlds after both agree again. A message that a run
--- answered 503 is left out of that run, and so is a command that met a fault.
+-- Two runs begin in worlds that agree on what s sees: one with all that came, the other with what remains of it,
+-- without the messages of others. They write the same texts for what remains, and the worlds after both agree again. A
+-- message that a run answered 503 is left out of that run, and so is a command that met a fault.
 abbrev pub CallersAreAnsweredAlike : Type 0
 CallersAreAnsweredAlike =
     (old old_too new new_too : World) (s : List ℕ) (full purged : List Happening) → IsWorld old → Agree old old_too (chain new s)
@@ -40,8 +40,8 @@ CallersAreAnsweredAlike =
 
 -- ---- what was served before
 
--- Once a GET of the time, the go.mod, the zip or the go.sum line of a version by a key of s is answered 200, then after any
--- events a GET of the same by any key that then belongs to s gets the same text or the 503.
+-- Once a GET of the time, the go.mod, the zip or the go.sum line of a version by a key of s is answered 200, then after
+-- any events a GET of the same by any key that then belongs to s gets the same text or the 503.
 abbrev pub BytesStayServed : Type 0
 BytesStayServed =
     (old mid new : World) (s k later : List ℕ) (q : Resource) (first last : Exchange) (events : List Event) (answers : List Answer)
@@ -52,8 +52,8 @@ BytesStayServed =
 
 -- ---- the latest version
 
--- The text is the reply for the latest version of a path: the name and the time of the highest version that the shelf sees and
--- that the go.mod of the highest does not retract; or the 404 if there is none.
+-- The text is the reply for the latest version of a path: the name and the time of the highest version that the shelf
+-- sees and that the go.mod of the highest does not retract; or the 404 if there is none.
 abbrev pub TellsLatest : World → List ℕ → List ℕ → List ℕ → Type 0
 TellsLatest w s path text =
     ((v : SemanticVersion) × (time : Option (List ℕ)) × IsTop (unretracted_versions w s path) v × HasTime w s path v time

@@ -12,15 +12,16 @@ use Rattle.engine.specs.Ask.{ask_of}
 use Rattle.engine.specs.Reply.{bytes_of}
 use Rattle.engine.specs.declared.fault.Io.{Io}
 
--- The bytes written are those of the machine's reply in the world x, and the worlds after the message are the same to s.
+-- The bytes written are those of the machine's reply in the world x, and the worlds after the message are the same to
+-- s.
 pub record IsAnsweredAlike
     (new : Shown) (written written_new : Option (List ℕ)) (m : Request) (w x : World) (s : List ℕ) : Type 0 where
   pub bytes : Appends written written_new (bytes_of m (Replied (ask_reply x (ask_of m))))
   pub stands : new.stands (after_ask w (ask_of m))
   pub low : Low (after_ask w (ask_of m)) (after_ask x (ask_of m)) s
 
--- If the key of the message belongs to a shelf that s sees, the message is answered alike from each world that the store may
--- stand for and each world x that is the same to s.
+-- If the key of the message belongs to a shelf that s sees, the message is answered alike from each world that the
+-- store may stand for and each world x that is the same to s.
 abbrev pub IsAnsweredByItsShelf : Shown → Shown → Option (List ℕ) → Option (List ℕ) → Request → Type 0
 IsAnsweredByItsShelf old new written written_new m =
     new.is_honest → (w x : World) (s t k : List ℕ) → old.stands w → IsWorld x → Low w x s

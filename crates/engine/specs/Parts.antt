@@ -14,8 +14,8 @@ use Rattle.engine.specs.Happening.{Happening, coming_of, event_at, answer_at, te
 use Rattle.engine.specs.Headline.{unavailable}
 use Rattle.engine.specs.Reply.{text_of}
 
--- Two runs, one from a world and one from a team's part of it, write the same texts if they answered the same messages, each
--- with a key of a shelf that the team sees.
+-- Two runs, one from a world and one from a team's part of it, write the same texts if they answered the same messages,
+-- each with a key of a shelf that the team sees.
 abbrev pub PartWritesTheSame : Type 0
 PartWritesTheSame =
     (w new other : World) (s : List ℕ) (xs ys : List Happening) → IsWorld w
@@ -23,7 +23,8 @@ PartWritesTheSame =
     → map coming_of (faultless xs) ≡ map coming_of (faultless ys) → AllOwn w s (map event_at (faultless xs))
     → map text_at (faultless xs) ≡ map text_at (faultless ys)
 
--- From the part, after any messages, a message whose key belongs to no shelf that the team sees gets the 404 or the 503.
+-- From the part, after any messages, a message whose key belongs to no shelf that the team sees gets the 404 or the
+-- 503.
 abbrev pub OthersAreWrittenNotFound : Type 0
 OthersAreWrittenNotFound =
     (w mid new : World) (s k : List ℕ) (before : List Exchange) (x : Exchange)

@@ -48,8 +48,9 @@ abbrev pub gomod_body : Option (List ℕ × SemanticVersion) → List ℕ → Li
 gomod_body None text = text
 gomod_body (Some (path, version)) text = line_of path (version_text version) text ++ codes "\n"
 
--- What is written for a reply to a request for the go.sum line of this version, or of none. The outcome of a command, which no
--- request gets, is written as not found. A version is written as its info object, and versions and paths one a line.
+-- What is written for a reply to a request for the go.sum line of this version, or of none. The outcome of a command,
+-- which no request gets, is written as not found. A version is written as its info object, and versions and paths one a
+-- line.
 abbrev pub reply_page : Option (List ℕ × SemanticVersion) → Reply → Page
 reply_page sum reply.NotFound = page.Fixed fixed.NotFound
 reply_page sum (reply.Decided decision) = page.Fixed (fixed_of decision)
@@ -77,8 +78,8 @@ IsComposed sum (reply.Versions versions) = Unit {0}
 IsComposed sum (reply.Paths paths) = Unit {0}
 IsComposed sum other = ⊥
 
--- The outcome of a message for this answer of the machine: its reply, unless memory runs out for a body that is composed; or
--- the fault that the store met.
+-- The outcome of a message for this answer of the machine: its reply, unless memory runs out for a body that is
+-- composed; or the fault that the store met.
 abbrev pub IsOutcome : Option (List ℕ × SemanticVersion) → Result Reply StoreFault → Outcome → Type 0
 IsOutcome sum (Ok reply) (Served served) = served ≡ reply
 IsOutcome sum (Ok reply) Unserved = IsComposed sum reply

@@ -24,8 +24,8 @@ read_limit = 4096
 abbrev pub body_read_limit : ℕ
 body_read_limit = 65536
 
--- What closes a stream whose messages leave this rest: nothing at a good end, the 413 for a body that is too large, the 400 for
--- any other rest; or one 503 in place of what is left if memory runs out.
+-- What closes a stream whose messages leave this rest: nothing at a good end, the 413 for a body that is too large, the
+-- 400 for any other rest; or one 503 in place of what is left if memory runs out.
 abbrev pub IsClosing : List ℕ → Option Fixed → Type 0
 IsClosing rest None = Ends rest clean
 IsClosing rest (Some TooLarge) = Ends rest too_large
@@ -54,8 +54,8 @@ IsBrokenOff exchanges rest out =
     × IsBeginning front (closing_bytes closing) × (out ≡ texts_of exchanges ++ front))
     ⊎ ((closing : Option Fixed) × IsClosing rest closing × (out ≡ texts_of exchanges ++ closing_bytes closing))
 
--- How the call ended. A good end: all messages were answered, and the stream was closed. A failed read: each message that was
--- read was answered, and what was read after them is no whole message. A failed write: as `IsBrokenOff` says.
+-- How the call ended. A good end: all messages were answered, and the stream was closed. A failed read: each message
+-- that was read was answered, and what was read after them is no whole message. A failed write: as `IsBrokenOff` says.
 abbrev pub Ended : Option (List ℕ) → Option (List ℕ) → List Exchange → List ℕ → List ℕ → List ℕ → Result (Unit {0}) Io → Type 0
 Ended unread unread_new exchanges input rest out (Ok u) =
     Tells unread input × ((closing : Option Fixed) × IsClosing rest closing × (out ≡ texts_of exchanges ++ closing_bytes closing))
@@ -63,8 +63,8 @@ Ended unread unread_new exchanges input rest out (Err io.Read) =
     Consumes unread unread_new input × IsUnfinished rest × (out ≡ texts_of exchanges)
 Ended unread unread_new exchanges input rest out (Err io.Write) = Tells unread input × IsBrokenOff exchanges rest out
 
--- The messages at the front of the input were answered one after another, as the machine answers them, and then the call ended
--- as `Ended` says.
+-- The messages at the front of the input were answered one after another, as the machine answers them, and then the
+-- call ended as `Ended` says.
 pub record Serves
     (old new : Shown) (unread unread_new written written_new : Option (List ℕ))
     (result : Result (Unit {0}) Io) : Type 0 where

@@ -29,7 +29,8 @@ LeavesTwo shown w (x ∷ y ∷ more) = IsCalm w x → LeavesTwo shown (world_at 
 pub record GoesThrough (old new : Shown) (exchanges : List Exchange) : Type 0 where
   -- the messages were answered in a run of the machine
   pub runs : Runs old new (map event_of exchanges) (map answer_of exchanges)
-  -- if a crash before the messages could leave only the first world, a crash now leaves one of two worlds, as `LeavesTwo` says
+  -- if a crash before the messages could leave only the first world, a crash now leaves one of two worlds, as
+  -- `LeavesTwo` says
   pub left : new.is_honest → (w : World) → old.stands w → old.leaves w w → LeavesTwo new w exchanges
   -- if also all messages were calm, a crash now leaves only the last world
   pub settled : new.is_honest → (w : World) → old.stands w → AllCalm w exchanges → old.leaves w w

@@ -22,7 +22,8 @@ use Rattle.engine.specs.declared.read.Progress.TheVariants as progress
 use Rattle.engine.specs.declared.session.Turn.{Turn}
 use Rattle.engine.specs.declared.session.Turn.TheVariants as turn
 
--- what is taken from the front of the held bytes, or nothing if more are needed; memory runs out only for a whole message
+-- what is taken from the front of the held bytes, or nothing if more are needed; memory runs out only for a whole
+-- message
 abbrev pub Takes : Framing → Option Incoming → Framing → Type 0
 Takes old None new = IsUnfinished old.held × (new ≡ old)
 Takes old (Some (incoming.Message message)) new = ReadsMessage old.held (view message) new.held × (new.failure ≡ None)
@@ -48,8 +49,8 @@ ReadsOn old new unread unread_new (Ok (progress.Ends closing)) =
     × (closing ≡ Some fixed.Unavailable → bytes ≢ [])
 ReadsOn old new unread unread_new (Err e) = (e ≡ io.Read) × Gives unread unread_new []
 
--- What is left to do on a stream with these reads left and these bytes held. A read gives at most `body_read_limit` bytes, so each
--- read and each message that is taken lessens it.
+-- What is left to do on a stream with these reads left and these bytes held. A read gives at most `body_read_limit`
+-- bytes, so each read and each message that is taken lessens it.
 abbrev pub work : ℕ → List ℕ → ℕ
 work reads held = reads * (body_read_limit + 1) + length held
 
@@ -102,8 +103,8 @@ abbrev pub IsClosed : Turn → Type 0
 IsClosed (turn.Answered status) = ⊥
 IsClosed (turn.Closed closing) = Unit {0}
 
--- The next message was answered as the machine answers it, or the stream was closed without one. Or a read failed before, and
--- nothing was done; or a write failed, and a beginning was written.
+-- The next message was answered as the machine answers it, or the stream was closed without one. Or a read failed
+-- before, and nothing was done; or a write failed, and a beginning was written.
 abbrev pub Turns :
     Shown → Shown → Account → Account → Option (List ℕ) → Option (List ℕ) → Framing → Framing
     → Result Turn Io → Type 0
@@ -131,7 +132,8 @@ pub record Answered
   pub through : GoesThrough old new exchanges
   pub appended : Appends written written_new (texts_of exchanges)
 
--- the messages at the front of the input were answered, the last with only a beginning of its answer, and rest follows them
+-- the messages at the front of the input were answered, the last with only a beginning of its answer, and rest follows
+-- them
 pub record CutShort
     (old new : Shown) (written written_new : Option (List ℕ)) (input rest : List ℕ) : Type 0 where
   pub first : List Exchange

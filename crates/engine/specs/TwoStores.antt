@@ -9,9 +9,9 @@ use Rattle.shelf.specs.Isolation.{sees, belongs, key_of, Low}
 use Rattle.engine.specs.Ask.{ask_of}
 use Rattle.engine.specs.First.{ServesFirst}
 
--- Two calls of `answer_one`, one over a store that stood for w and one over a store that stood for x, each on an honest disk.
--- Both read this input, which begins with the message m. Its key belongs to a shelf that s sees, and w and x are the same to s.
--- Both returned these statuses.
+-- Two calls of `answer_one`, one over a store that stood for w and one over a store that stood for x, each on an honest
+-- disk. Both read this input, which begins with the message m. Its key belongs to a shelf that s sees, and w and x are
+-- the same to s. Both returned these statuses.
 pub record AreTwoAnswers
     (old new old_too new_too : Shown) (w x : World) (s : List ℕ) (m : Request)
     (written written_new written_too written_too_new : Option (List ℕ)) (status status_too : ℕ) : Type 0 where
@@ -33,8 +33,8 @@ pub record AreTwoAnswers
   pub serves : ServesFirst old new (Some input) unread written written_new (Ok (Some status))
   pub serves_too : ServesFirst old_too new_too (Some input) unread_too written_too written_too_new (Ok (Some status_too))
 
--- Both wrote the same text and returned the same status. The stores stand for the worlds after the request, and these are the
--- same to s again.
+-- Both wrote the same text and returned the same status. The stores stand for the worlds after the request, and these
+-- are the same to s again.
 pub record AnswerAlike
     (new new_too : Shown) (w x : World) (s : List ℕ) (m : Request)
     (written written_new written_too written_too_new : Option (List ℕ)) (status status_too : ℕ) : Type 0 where

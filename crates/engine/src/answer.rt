@@ -34,12 +34,12 @@ fn answer_each<R: Hear, W: Tell, S: Shelves>(
     }
 }
 
-/// Answers all messages of a stream, one after another, and closes it: with nothing at a good end, a 413 for a body that
-/// is too large, a 400 for any other rest, or one 503 in place of all that is left if memory runs out.
+/// Answers all messages of a stream, one after another, and closes it: with nothing at a good end, a 413 for a body
+/// that is too large, a 400 for any other rest, or one 503 in place of all that is left if memory runs out.
 ///
-/// `Io::Read`: a read failed, and each message that was read whole is answered. `Io::Write`: a write or the flush failed;
-/// all texts but the last are written, with a beginning of the last or all of it, and the shelves are as after the last
-/// message.
+/// `Io::Read`: a read failed, and each message that was read whole is answered. `Io::Write`: a write or the flush
+/// failed; all texts but the last are written, with a beginning of the last or all of it, and the shelves are as after
+/// the last message.
 pub fn answer_all<R: Hear, W: Tell, S: Shelves>(
     alloc: Global,
     reader: &mut R,
@@ -59,11 +59,11 @@ pub fn answer_all<R: Hear, W: Tell, S: Shelves>(
     answer_each(alloc, reader, writer, shelves)
 }
 
-/// Answers the first message of a stream and returns the status that it wrote, or None exactly for an empty input. It reads
-/// at most 4,096 bytes after the first message, or after the point at which the stream can't go on.
+/// Answers the first message of a stream and returns the status that it wrote, or None exactly for an empty input. It
+/// reads at most 4,096 bytes after the first message, or after the point at which the stream can't go on.
 ///
-/// `Io::Read`: a read failed, nothing was done, and nothing is written. `Io::Write`: a write or the flush failed; a beginning
-/// of the text is written or all of it, and the shelves are as after the message.
+/// `Io::Read`: a read failed, nothing was done, and nothing is written. `Io::Write`: a write or the flush failed; a
+/// beginning of the text is written or all of it, and the shelves are as after the message.
 pub fn answer_one<R: Hear, W: Tell, S: Shelves>(
     alloc: Global,
     reader: &mut R,

@@ -9,9 +9,8 @@ use std::alloc::AllocError;
 use wire::{Memory, Message, Resource, RouteTable, Target, length_value, target};
 use world::bytes::Bytes;
 
-/// What a message asks of the machine.
-/// For a go.sum line the machine is asked for the go.mod, so its replies and its laws know nothing of sums. The line takes
-/// its path and its version from the ask.
+/// What a message asks of the machine. For a go.sum line the machine is asked for the go.mod, so its replies and its
+/// laws know nothing of sums. The line takes its path and its version from the ask.
 #[derive(Drop)]
 pub(crate) struct Asking {
     pub(crate) ask: Ask,
@@ -19,8 +18,8 @@ pub(crate) struct Asking {
     pub(crate) is_summed: bool,
 }
 
-/// Returns what the message asks. The go.mod of a publish is the first bytes of its body, as many as `Mod-Length` says, and
-/// its time is that of its `Version-Time`. Fails only if memory runs out.
+/// Returns what the message asks. The go.mod of a publish is the first bytes of its body, as many as `Mod-Length` says,
+/// and its time is that of its `Version-Time`. Fails only if memory runs out.
 pub(crate) fn asking_of(routes: &mut RouteTable, message: Message) -> Result<Asking, Memory>
     ensures { IfOk result (λ asking. asking ≡ spec.asking_of (view message)) }
 {
@@ -117,7 +116,8 @@ fn time_in(text: &[u8]) -> GivenTime
     }
 }
 
-/// Returns the files of a publish, or None if `gomod_len` gives no length for the go.mod. Fails only if memory runs out.
+/// Returns the files of a publish, or None if `gomod_len` gives no length for the go.mod. Fails only if memory runs
+/// out.
 fn body_of(message: Message) -> Result<Option<Body>, AllocError>
     ensures { IfOk result (λ body. body ≡ spec.body_of (view message)) }
 {
@@ -131,8 +131,8 @@ fn body_of(message: Message) -> Result<Option<Body>, AllocError>
     }))
 }
 
-/// Returns the first `len` bytes of a text, and the others. It copies the shorter of the two and returns the other in the
-/// buffer of the text. Fails only if memory runs out.
+/// Returns the first `len` bytes of a text, and the others. It copies the shorter of the two and returns the other in
+/// the buffer of the text. Fails only if memory runs out.
 fn cut_in_two(mut text: Vec<u8>, len: usize) -> Result<(Vec<u8>, Vec<u8>), AllocError>
     requires { len ≤ vec_len text }
     ensures front { IfOk result (λ cut. cut.0.items ≡ take len text.items) }
@@ -148,8 +148,8 @@ fn cut_in_two(mut text: Vec<u8>, len: usize) -> Result<(Vec<u8>, Vec<u8>), Alloc
     Ok((front, text))
 }
 
-/// Returns the length of the go.mod, or None if `Mod-Length` does not have exactly one value, if that is no length value, or
-/// if it is more than `most`, the length of the body.
+/// Returns the length of the go.mod, or None if `Mod-Length` does not have exactly one value, if that is no length
+/// value, or if it is more than `most`, the length of the body.
 fn gomod_len(values: &[Vec<u8>], most: usize) -> Option<usize>
     ensures { result ≡ spec.gomod_len (texts values.now) most }
 {

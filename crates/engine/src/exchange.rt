@@ -11,8 +11,8 @@ use std::alloc::Global;
 use wire::reply::Fixed;
 use world::registry::StoreFault;
 
-/// Returns what is written for the machine's answer: its reply, or the 503 if the store met a fault or memory runs out for
-/// the body of the reply.
+/// Returns what is written for the machine's answer: its reply, or the 503 if the store met a fault or memory runs out
+/// for the body of the reply.
 pub(crate) fn page_of_answer(
     alloc: Global,
     asking: &Asking,

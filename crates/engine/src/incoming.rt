@@ -17,8 +17,8 @@ pub(crate) enum Incoming {
     End(Option<Fixed>),
 }
 
-/// Returns the next message if the framer holds a whole one, what closes the stream if it can't go on or memory runs out, and None
-/// if more bytes are needed. It does not ask an empty framer, because every stream begins with one.
+/// Returns the next message if the framer holds a whole one, what closes the stream if it can't go on or memory runs
+/// out, and None if more bytes are needed. It does not ask an empty framer, because every stream begins with one.
 fn take(framer: &mut Framer) -> Option<Incoming>
     requires { framer.old.failure ≡ None }
     ensures { Takes framer.old result framer.new }
@@ -35,8 +35,8 @@ fn take(framer: &mut Framer) -> Option<Incoming>
     }
 }
 
-/// Reads until the next message of a stream is whole and returns it, or returns what closes the stream. `Io::Read` if a read
-/// fails, or if no read is left.
+/// Reads until the next message of a stream is whole and returns it, or returns what closes the stream. `Io::Read` if a
+/// read fails, or if no read is left.
 pub(crate) fn next_message<R: Hear>(
     reader: &mut R,
     framer: &mut Framer,

@@ -70,8 +70,8 @@ fn sum_body(
     Ok(Bytes::new(line.into_bytes()))
 }
 
-/// Returns the body for a go.mod: the bytes that were received, or its go.sum line if the message asks for that. `Memory` only
-/// if there is no room for the line.
+/// Returns the body for a go.mod: the bytes that were received, or its go.sum line if the message asks for that.
+/// `Memory` only if there is no room for the line.
 fn gomod_body(alloc: Global, asking: &Asking, gomod: Bytes) -> Result<Bytes, Memory>
     ensures body { IfOk result (λ body. body ≡ spec.gomod_body (sum_by asking.now) gomod) }
     ensures memory { OnErr result (IsSummed (sum_by asking.now)) }
@@ -88,9 +88,9 @@ fn gomod_body(alloc: Global, asking: &Asking, gomod: Bytes) -> Result<Bytes, Mem
     }
 }
 
-/// Returns what is written for the machine's reply to what was asked. `Memory` only if there is no room for a body that is
-/// composed; the bytes of a file are moved into the page.
-/// A request whose reply has a composed body changed nothing, so a 503 in its place loses nothing.
+/// Returns what is written for the machine's reply to what was asked. `Memory` only if there is no room for a body that
+/// is composed; the bytes of a file are moved into the page. A request whose reply has a composed body changed nothing,
+/// so a 503 in its place loses nothing.
 pub(crate) fn page_of(alloc: Global, asking: &Asking, reply: Reply) -> Result<Page, Memory>
     ensures page { IfOk result (λ page. page ≡ spec.reply_page (sum_by asking.now) reply) }
     ensures memory { OnErr result (IsComposed (sum_by asking.now) reply) }

@@ -101,8 +101,8 @@ fn read_body<R: Hear>(reader: &mut R, framer: &mut Framer, missing: usize) -> Re
     feed_some(reader, framer, &mut chunk[..most])
 }
 
-/// Reads once and feeds the framer what came: at most 4,096 bytes, or 65,536 while more than 4,096 are known to be missing of a
-/// message. Returns and fails as `feed_some` does.
+/// Reads once and feeds the framer what came: at most 4,096 bytes, or 65,536 while more than 4,096 are known to be
+/// missing of a message. Returns and fails as `feed_some` does.
 pub(crate) fn read_more<R: Hear>(reader: &mut R, framer: &mut Framer) -> Result<Progress, Io>
     requires { IsUnfinished framer.old.held }
     ensures on { ReadsOn framer.old framer.new (R.account reader.old) (R.account reader.new) result }

@@ -64,8 +64,8 @@ fn close_by<W: Tell>(writer: &mut W, closing: Option<Fixed>) -> Result<Turn, Io>
     Ok(Turn::Closed(closing))
 }
 
-/// Flushes what a turn wrote and returns its status, or None if it wrote nothing. `Io::Write` if the flush fails. If the turn
-/// failed, it returns the turn's error and does not flush.
+/// Flushes what a turn wrote and returns its status, or None if it wrote nothing. `Io::Write` if the flush fails. If
+/// the turn failed, it returns the turn's error and does not flush.
 pub fn end_turn<W: Tell>(writer: &mut W, turned: Result<Turn, Io>) -> Result<Option<u16>, Io>
     ensures bytes { Keeps (W.contents writer.old) (W.contents writer.new) }
     ensures ends { EndsBy turned result }
@@ -101,12 +101,12 @@ impl Session {
         }
     }
 
-    /// Takes one turn: answers the next message of the stream, or closes the stream if none comes. It reads at most 4,096 bytes
-    /// after that message, or after the point at which the stream can't go on. It does not flush. The caller lends the router,
-    /// so that it makes one for many streams.
+    /// Takes one turn: answers the next message of the stream, or closes the stream if none comes. It reads at most
+    /// 4,096 bytes after that message, or after the point at which the stream can't go on. It does not flush. The
+    /// caller lends the router, so that it makes one for many streams.
     ///
-    /// `Io::Read`: a read failed, nothing was done, and nothing is written. `Io::Write`: a write failed; a beginning of the text
-    /// is written, and the shelves are as after the message.
+    /// `Io::Read`: a read failed, nothing was done, and nothing is written. `Io::Write`: a write failed; a beginning of
+    /// the text is written, and the shelves are as after the message.
     pub fn turn<R: Hear, W: Tell, S: Shelves>(
         &mut self,
         routes: &mut RouteTable,

@@ -19,8 +19,8 @@ use wire::{encode_head, fixed};
 /// One write keeps a socket from sending the head alone and waiting. Without memory to join them there are two.
 const JOINED_LIMIT: usize = 65_536;
 
-/// Writes some of the bytes and returns how many. `Io::Write` if the writer fails or takes nothing, or if it is interrupted at
-/// each of `TRIES` calls.
+/// Writes some of the bytes and returns how many. `Io::Write` if the writer fails or takes nothing, or if it is
+/// interrupted at each of `TRIES` calls.
 fn write_some<W: Tell>(writer: &mut W, bytes: &[u8]) -> Result<usize, Io>
     ensures some { IfOk result (λ n. 0 < n) }
     ensures within { IfOk result (λ n. n ≤ length bytes.now) }
@@ -72,8 +72,8 @@ fn joined(alloc: Global, first: &[u8], second: &[u8]) -> Result<Vec<u8>, AllocEr
     Ok(text)
 }
 
-/// Writes a head and then a body: in one write if the body is short and there is memory to join them. `Io::Write` if a write
-/// fails.
+/// Writes a head and then a body: in one write if the body is short and there is memory to join them. `Io::Write` if a
+/// write fails.
 fn write_joined<W: Tell>(alloc: Global, writer: &mut W, head: &[u8], body: &[u8]) -> Result<(), Io>
     ensures bytes { Writes (W.contents writer.old) (W.contents writer.new) (head.now ++ body.now) result }
     ensures fails { FailsWith (W.writes writer.old).failed (W.writes writer.new).failed result }
@@ -98,8 +98,8 @@ pub(crate) fn write_fixed<W: Tell>(writer: &mut W, answer: Fixed) -> Result<Stat
     Ok(answer.status())
 }
 
-/// Writes a 200 with a body, and returns its status. `Io::Write` if a write fails. If there is no memory to join a short body with
-/// its head, it writes them one after the other.
+/// Writes a 200 with a body, and returns its status. `Io::Write` if a write fails. If there is no memory to join a
+/// short body with its head, it writes them one after the other.
 fn write_body<W: Tell>(
     alloc: Global,
     writer: &mut W,

@@ -1,7 +1,7 @@
 //! Files whose stores are opened and closed, with a history of that.
 //!
-//! Code over [`files::StoreFiles`] that has no handle of the system does nothing to a file but what the history has, in its order.
-//! Only clauses read the history: it takes no memory and no time.
+//! Code over [`files::StoreFiles`] that has no handle of the system does nothing to a file but what the history has, in
+//! its order. Only clauses read the history: it takes no memory and no time.
 #![tactic(auto)]
 
 pub mod files;

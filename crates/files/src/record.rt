@@ -4,8 +4,8 @@ ghost use Rattle.std.specs.Borrow.{ftrue};
 
 use std::marker::{Model, PhantomData};
 
-/// What was done to files, each deed with the name of its file, the oldest first. It takes no memory, and its methods do nothing at
-/// run time.
+/// What was done to files, each deed with the name of its file, the oldest first. It takes no memory, and its methods
+/// do nothing at run time.
 #[derive(Drop)]
 pub struct Record<D> {
     marker: PhantomData<D>,

@@ -50,7 +50,8 @@ end_of TooLarge = too_large
 pub record IsBad (bytes : List ℕ) (failure : Bad) : Type 0 where
   pub ends : (more : List ℕ) → Ends (bytes ++ more) (end_of failure)
 
--- the bytes may begin a message, which more bytes complete; if none come, the stream ends badly, unless there are no bytes
+-- the bytes may begin a message, which more bytes complete; if none come, the stream ends badly, unless there are no
+-- bytes
 pub record IsUnfinished (bytes : List ℕ) : Type 0 where
   pub begun : IsOpen bytes
   pub ends : bytes ≢ [] → Ends bytes bad

@@ -1,4 +1,5 @@
--- Messages of an HTTP/1.1 byte stream: a head in the grammar of `httparse`, then a body of the length that it announces.
+-- Messages of an HTTP/1.1 byte stream: a head in the grammar of `httparse`, then a body of the length that it
+-- announces.
 use Rattle.std.specs.Prelude.{◌≡◌, ◌≢◌, ℕ, ◌≤◌, ◌<◌, List, [], ◌∷◌, ◌++◌, length, map, if◌then◌else◌, codes, Some}
 use Rattle.std.specs.Str.{str_eq_ignore_ascii_case}
 use Rattle.httparse.specs.Grammar.{RequestHead, ReadsRequest, print_request}
@@ -72,7 +73,8 @@ ReadsMessage bytes message rest =
 abbrev pub IsTooLarge : List ℕ → Type 0
 IsTooLarge bytes = (head : RequestHead) × (n : ℕ) × (rest : List ℕ) × BeginsWith bytes head n rest × (body_limit < n)
 
--- how a stream ends after its messages: with nothing, with a good head whose body would be too large, or with any other rest
+-- how a stream ends after its messages: with nothing, with a good head whose body would be too large, or with any other
+-- rest
 pub data End : Type 0 where
   clean too_large bad : End
 

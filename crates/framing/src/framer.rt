@@ -36,9 +36,9 @@ pub enum Next {
 const LARGE: usize = 4_096;
 
 /// Takes the bytes of a stream in any pieces, and returns its messages. How the bytes are cut does not matter, and the
-/// work is linear in them: it moves a bounded number of bytes for each byte that it returns, and it reads a head again only
-/// until the head is whole. Once the head is whole, the framer makes room for all of the message, and it returns a large
-/// body in the buffer in which it collected it.
+/// work is linear in them: it moves a bounded number of bytes for each byte that it returns, and it reads a head again
+/// only until the head is whole. Once the head is whole, the framer makes room for all of the message, and it returns a
+/// large body in the buffer in which it collected it.
 #[derive(Drop)]
 pub struct Framer {
     /// The bytes that were fed, without a front that was dropped.
@@ -89,7 +89,8 @@ impl Framer {
         }
     }
 
-    /// Adds the next bytes of the stream. It fails with `Memory` if there is no room for them, and then changes nothing.
+    /// Adds the next bytes of the stream. It fails with `Memory` if there is no room for them, and then changes
+    /// nothing.
     pub fn feed(&mut self, bytes: &[u8]) -> Result<(), Memory>
         ensures ok { OnOk result (self.new ≡ record self.old { held = self.old.held ++ bytes.now }) }
         ensures err { OnErr result (self.new ≡ self.old) }
@@ -110,16 +111,16 @@ impl Framer {
         Ok(())
     }
 
-    /// Returns how many bytes of the message that has begun are still to come, or 0 if no head is whole. Until that many
-    /// have come, the message is not whole.
+    /// Returns how many bytes of the message that has begun are still to come, or 0 if no head is whole. Until that
+    /// many have come, the message is not whole.
     pub fn missing(&self) -> usize
         ensures { (bytes : List ℕ) → length bytes < result → IsUnfinished (self.now.held ++ bytes) }
     {
         self.wanted.saturating_sub(self.bytes.len() - self.start)
     }
 
-    /// Drops the bytes that were returned once they are at least as many as the rest. So it rotates at most two bytes for each
-    /// byte that was returned.
+    /// Drops the bytes that were returned once they are at least as many as the rest. So it rotates at most two bytes
+    /// for each byte that was returned.
     fn drop_used(&mut self)
         ensures { self.new ≡ self.old }
     {
@@ -130,8 +131,8 @@ impl Framer {
     }
 
     /// Removes and returns the next message of the stream, or returns [`Next::NeedMore`] if it is not whole, or
-    /// [`Next::Bad`] if the stream cannot go on, and then again at every later call. It fails with `Memory` if there is no
-    /// room for a whole message, and then changes nothing.
+    /// [`Next::Bad`] if the stream cannot go on, and then again at every later call. It fails with `Memory` if there is
+    /// no room for a whole message, and then changes nothing.
     pub fn next(&mut self) -> Result<Next, Memory>
         ensures answer { IfOk result (λ next. Answers self.old next self.new) }
         ensures again { IfSome self.old.failure (λ bad. result ≡ Ok (Next.Bad bad)) }
@@ -186,9 +187,9 @@ impl Framer {
         true
     }
 
-    /// Removes a head and a body, and returns the body: in a copy, or in the buffer itself if the body is large and at least
-    /// half of what the buffer holds. It fails with `Memory` if there is no room for the copy, or for the bytes after the
-    /// body, and then changes nothing.
+    /// Removes a head and a body, and returns the body: in a copy, or in the buffer itself if the body is large and at
+    /// least half of what the buffer holds. It fails with `Memory` if there is no room for the copy, or for the bytes
+    /// after the body, and then changes nothing.
     fn take_body(&mut self, head: usize, body: usize) -> Result<Vec<u8>, Memory>
         requires whole { head + body ≤ length self.old.held }
         requires sound { self.old.failure ≡ None }
@@ -201,7 +202,8 @@ impl Framer {
         self.give_body(head, body)
     }
 
-    /// Removes a head and a body, and returns a copy of the body. It fails only if memory runs out, and then changes nothing.
+    /// Removes a head and a body, and returns a copy of the body. It fails only if memory runs out, and then changes
+    /// nothing.
     fn copy_body(&mut self, head: usize, body: usize) -> Result<Vec<u8>, Memory>
         requires whole { head + body ≤ length self.old.held }
         requires sound { self.old.failure ≡ None }
@@ -216,8 +218,8 @@ impl Framer {
         Ok(copy)
     }
 
-    /// Removes a head and a body, and returns the body in the buffer; the bytes after it are copied. It fails only if memory
-    /// runs out, and then changes nothing.
+    /// Removes a head and a body, and returns the body in the buffer; the bytes after it are copied. It fails only if
+    /// memory runs out, and then changes nothing.
     fn give_body(&mut self, head: usize, body: usize) -> Result<Vec<u8>, Memory>
         requires whole { head + body ≤ length self.old.held }
         requires sound { self.old.failure ≡ None }
@@ -245,8 +247,8 @@ impl Framer {
         Next::Bad(bad)
     }
 
-    /// Whether no byte is left after the messages that were returned. A lone CR LF at the end of a stream is a rest like
-    /// any other, and gets a 400.
+    /// Whether no byte is left after the messages that were returned. A lone CR LF at the end of a stream is a rest
+    /// like any other, and gets a 400.
     pub fn is_empty(&self) -> bool
         ensures { IsTrue result ↔ (self.now.held ≡ []) }
     {

@@ -17,9 +17,8 @@ pub const HEAD_LIMIT: usize = 16_384;
 /// A 65th header is refused at the end of its line, not before: `httparse` bounds no count in an unfinished head.
 pub const HEADER_LIMIT: usize = 64;
 
-/// The most bytes of a body, as `body_limit` in `specs/Message.antt`.
-/// `framing` knows nothing of a go.mod or a zip, so the number is written here; `engine::laws::body_has_room_for_both_files`
-/// says that it is the sum of their limits.
+/// The most bytes of a body, as `body_limit` in `specs/Message.antt`. `framing` knows nothing of a go.mod or a zip, so
+/// the number is written here; `engine::laws::body_has_room_for_both_files` says that it is the sum of their limits.
 pub const BODY_LIMIT: usize = 17_825_792;
 
 /// How often a header occurs in a head.
@@ -106,8 +105,8 @@ fn is_encoded(bytes: &[u8], headers: &[HeaderSpan]) -> bool
     }
 }
 
-/// Checks a whole head. Returns what the bytes begin with: the head, or its failure if it is malformed, or if it or its body is
-/// longer than the limits.
+/// Checks a whole head. Returns what the bytes begin with: the head, or its failure if it is malformed, or if it or its
+/// body is longer than the limits.
 fn check_limits(bytes: &[u8], headers: &[HeaderSpan], spans: RequestSpans) -> Front
     requires room { length headers.now ≡ header_limit }
     requires within { IsRequestWithin bytes.now headers.now spans }

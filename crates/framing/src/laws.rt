@@ -24,8 +24,8 @@ pub fn messages_make_a_stream()
         → IsStream (concat pieces ++ rest) messages end }
 {}
 
-/// Each stream is the bytes of its messages, one after another, and then a rest with its end, so the bytes of any message
-/// can be removed: the stream of the others is left, with the same end.
+/// Each stream is the bytes of its messages, one after another, and then a rest with its end, so the bytes of any
+/// message can be removed: the stream of the others is left, with the same end.
 pub fn a_stream_is_made_of_messages()
     ensures { (bytes : List ℕ) (messages : List Request) (end : End) → IsStream bytes messages end
         → (pieces : List (List ℕ)) × (rest : List ℕ) × (bytes ≡ concat pieces ++ rest)

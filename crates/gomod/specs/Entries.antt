@@ -79,7 +79,8 @@ new_file_demands f = file_path (value_of f) ∷ []
 abbrev pub new_version_demands : Symbol → Symbol → List Demand
 new_version_demands q w = module_path (value_of q) ∷ fitting_version (value_of q) (value_of w) ∷ []
 
--- an entry of a directive has one of the shapes of the grammar, which makes these demands on its words, from left to right
+-- an entry of a directive has one of the shapes of the grammar, which makes these demands on its words, from left to
+-- right
 pub data HasShape : Keyword → List Symbol → List Demand → Type 0 where
   module_shape : (w : Symbol) → IsWord w → HasShape Module (w ∷ []) (module_path (value_of w) ∷ [])
   go_shape : (w : Symbol) → IsWord w → HasShape Go (w ∷ []) (go_version (value_of w) ∷ [])

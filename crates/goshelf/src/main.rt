@@ -1,7 +1,7 @@
 //! `goshelf`: a private Go module proxy with team shelves.
 //!
-//! One run of the program is the call [`command::command`] of `cli`; `main` hands it the words, the streams and the runtime of
-//! the system.
+//! One run of the program is the call [`command::command`] of `cli`; `main` hands it the words, the streams and the
+//! runtime of the system.
 #![tactic(auto)]
 
 use cli::command::{command, words_refused};

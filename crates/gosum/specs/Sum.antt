@@ -5,7 +5,8 @@ use Rattle.base64.specs.GeneralPurpose.{encode_of}
 use Rattle.hex.specs.Hex.{encode_lower}
 use Rattle.sha2.specs.Sha256.{sha256}
 
--- the line that names the one file of the sum: its SHA-256 in lower-case hexadecimal, two spaces, its name and a newline
+-- the line that names the one file of the sum: its SHA-256 in lower-case hexadecimal, two spaces, its name and a
+-- newline
 abbrev pub file_line : List ℕ → List ℕ
 file_line gomod = encode_lower (sha256 gomod) ++ codes "  go.mod\n"
 

@@ -33,8 +33,8 @@ pub record Gives (old new : Account) (bytes : List ℕ) : Type 0 where
   pub over : IsTrue old.is_over → IsTrue new.is_over × (bytes ≡ [])
   pub sound : IsSound old → IsSound new
 
--- A read into these bytes: it gave the first n of them, and said that there are no more exactly if it gave none where there was room.
--- If it failed, it gave nothing.
+-- A read into these bytes: it gave the first n of them, and said that there are no more exactly if it gave none where
+-- there was room. If it failed, it gave nothing.
 abbrev pub GivesTo : {E : Type 0} → Account → Account → Result ℕ E → List ℕ → Type 0
 GivesTo old new (Ok n) buf =
     Gives old new (take n buf) × (n ≡ 0 → 0 < length buf → IsTrue new.is_over) × (0 < n → new.is_over ≡ old.is_over)

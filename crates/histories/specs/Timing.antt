@@ -38,8 +38,9 @@ abbrev pub IsLeft : (ℕ → ℕ) → List Call → Instant → ℕ → Type 0
 IsLeft allowed before now left =
     (0 < left) × ((instant_nanos now - first_shown (instant_nanos now) before) + left ≤ allowed (moved_in before))
 
--- A read or a write that begins after these calls, which came after the ones at the start, begins in time: the clock was read, some time
--- was left by it, and then the wait was bounded by no more than that, or waits were ruled out before.
+-- A read or a write that begins after these calls, which came after the ones at the start, begins in time: the clock
+-- was read, some time was left by it, and then the wait was bounded by no more than that, or waits were ruled out
+-- before.
 abbrev pub MayBegin : (ℕ → ℕ) → List Call → List Call → Type 0
 MayBegin allowed start (Bounds longest ∷ Shows now ∷ before) = IsLeft allowed before now (as_nanos longest)
 MayBegin allowed start (Shows now ∷ before) = IsLeft allowed before now 1 × IsStopped (before ++ start)
@@ -54,8 +55,8 @@ EachMayBegin allowed start (Stops ∷ before) = EachMayBegin allowed start befor
 EachMayBegin allowed start (Begins ∷ before) = MayBegin allowed start before × EachMayBegin allowed start before
 EachMayBegin allowed start (Moves bytes ∷ before) = EachMayBegin allowed start before
 
--- From old to new each read and each write began in time: the time that is allowed, in nanoseconds, for the bytes that were moved before,
--- from the first reading of the clock after old.
+-- From old to new each read and each write began in time: the time that is allowed, in nanoseconds, for the bytes that
+-- were moved before, from the first reading of the clock after old.
 abbrev pub KeepsTime : (ℕ → ℕ) → List Call → List Call → Type 0
 KeepsTime allowed old new = ∥ ((since : List Call) × (new ≡ since ++ old) × EachMayBegin allowed old since) ∥₁
 

@@ -28,7 +28,8 @@ impl<R: Read, W: Write> Connection<R, W> {
     }
 }
 
-/// Returns a connection over a socket, over which nothing has passed. Fails if the system gives no second handle of the socket.
+/// Returns a connection over a socket, over which nothing has passed. Fails if the system gives no second handle of the
+/// socket.
 pub fn over_tcp(stream: TcpStream) -> io::Result<Connection<TcpStream, TcpStream>>
     ensures { IfOk result (λ c. IsUnused
         (⟦<Hearing<TcpStream> as Hear>⟧.account c.reader) (⟦<Telling<TcpStream> as Write>⟧.contents c.writer)) }
@@ -37,7 +38,8 @@ pub fn over_tcp(stream: TcpStream) -> io::Result<Connection<TcpStream, TcpStream
     Ok(Connection::new(stream, writer))
 }
 
-/// Returns a connection over a Unix socket, over which nothing has passed. Fails if the system gives no second handle of the socket.
+/// Returns a connection over a Unix socket, over which nothing has passed. Fails if the system gives no second handle
+/// of the socket.
 pub fn over_unix(stream: UnixStream) -> io::Result<Connection<UnixStream, UnixStream>>
     ensures { IfOk result (λ c. IsUnused
         (⟦<Hearing<UnixStream> as Hear>⟧.account c.reader) (⟦<Telling<UnixStream> as Write>⟧.contents c.writer)) }

@@ -18,7 +18,8 @@ use std::time::{Clock, Duration, Instant};
 
 /// A reader that keeps account of what it gave.
 pub trait Hear: Read {
-    /// What it gave so far, whether it said that there are no more bytes, and those that it still has, if they are known.
+    /// What it gave so far, whether it said that there are no more bytes, and those that it still has, if they are
+    /// known.
     ghost account: { Self → Account };
 
     /// The calls to read from it so far.

@@ -11,8 +11,8 @@ use std::io::{self, Read};
 use std::marker::PhantomData;
 use std::time::Clock;
 
-/// A reader that has a limited time, which begins at the first read. A read that begins after it fails, and none waits longer than
-/// what is left.
+/// A reader that has a limited time, which begins at the first read. A read that begins after it fails, and none waits
+/// longer than what is left.
 #[derive(Drop)]
 pub struct HearingInTime<'a, C: Clock, P: Patience, K: Start, R: BoundRead> {
     inner: Hearing<R>,
@@ -56,8 +56,8 @@ impl<'a, C: Clock, P: Patience, K: Start, R: BoundRead + Drop> HearingInTime<'a,
         self.inner
     }
 
-    /// Bounds the next read by what is left of the time. Fails if none is left, or if the clock can't be read or the bound can't be
-    /// set.
+    /// Bounds the next read by what is left of the time. Fails if none is left, or if the clock can't be read or the
+    /// bound can't be set.
     fn bound(&mut self) -> io::Result<()>
         ensures account { ⟦<Hearing<R> as Hear>⟧.account self.new.inner ≡ ⟦<Hearing<R> as Hear>⟧.account self.old.inner }
         ensures reads { ⟦<Hearing<R> as Hear>⟧.reads self.new.inner ≡ ⟦<Hearing<R> as Hear>⟧.reads self.old.inner }

@@ -43,7 +43,8 @@ impl<P: Patience> Watch<P> {
         }
     }
 
-    /// Returns what is left by this reading of the clock, and begins the time if it has not begun. Fails if nothing is left.
+    /// Returns what is left by this reading of the clock, and begins the time if it has not begun. Fails if nothing is
+    /// left.
     pub(crate) fn left(&mut self, now: Instant) -> io::Result<Duration>
         ensures begins { MatchOption self.old.first (self.new.first ≡ Some now) (λ first. self.new.first ≡ Some first) }
         ensures moved { self.new.moved ≡ self.old.moved }

@@ -139,8 +139,8 @@ impl<W: BoundWrite> Telling<W> {
         Ok(now)
     }
 
-    /// Makes every later write that waits longer than this fail, or return what it wrote until then, and notes that. Fails if the
-    /// bound can't be set.
+    /// Makes every later write that waits longer than this fail, or return what it wrote until then, and notes that.
+    /// Fails if the bound can't be set.
     pub(crate) fn bound(&mut self, longest: Duration) -> io::Result<()>
         ensures same { self.new ≡ record self.old { calls = self.new.calls } }
         ensures noted { MatchResult result (λ _. self.new.calls.calls ≡ call.Bounds longest ∷ self.old.calls.calls)

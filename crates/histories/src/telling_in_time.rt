@@ -11,8 +11,8 @@ use std::io::{self, Write};
 use std::marker::PhantomData;
 use std::time::Clock;
 
-/// A writer that has a limited time, which begins at the first write. A write that begins after it fails, and none waits longer than
-/// what is left. A flush has no bound.
+/// A writer that has a limited time, which begins at the first write. A write that begins after it fails, and none
+/// waits longer than what is left. A flush has no bound.
 #[derive(Drop)]
 pub struct TellingInTime<'a, C: Clock, P: Patience, K: Start, W> {
     inner: Telling<W>,
@@ -47,8 +47,8 @@ impl<'a, C: Clock, P: Patience, K: Start, W: BoundWrite + Drop> TellingInTime<'a
         self.inner
     }
 
-    /// Bounds the next write by what is left of the time. Fails if none is left, or if the clock can't be read or the bound can't be
-    /// set.
+    /// Bounds the next write by what is left of the time. Fails if none is left, or if the clock can't be read or the
+    /// bound can't be set.
     fn bound(&mut self) -> io::Result<()>
         ensures contents { ⟦<Telling<W> as Write>⟧.contents self.new.inner ≡ ⟦<Telling<W> as Write>⟧.contents self.old.inner }
         ensures writes { ⟦<Telling<W> as Tell>⟧.writes self.new.inner ≡ ⟦<Telling<W> as Tell>⟧.writes self.old.inner }

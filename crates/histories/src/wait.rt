@@ -16,8 +16,8 @@ pub trait BoundRead: Read {
 
 /// A writer whose waits can be bounded, and that can be shut.
 pub trait BoundWrite: Write {
-    /// Makes every later write that waits longer than this fail, or return what it wrote until then. Fails if the bound can't be
-    /// set.
+    /// Makes every later write that waits longer than this fail, or return what it wrote until then. Fails if the bound
+    /// can't be set.
     fn bound_writes(&self, longest: Duration) -> io::Result<()>;
 
     /// Makes every later write fail, and the other side read an end. Fails if the system refuses that.

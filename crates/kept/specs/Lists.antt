@@ -10,7 +10,8 @@ use Rattle.kept.specs.Recent.{Holds}
 abbrev pub is_of : List ℕ → List ℕ → KeptList → Bool
 is_of s p list = bytes_eq list.shelf s && bytes_eq list.path p
 
--- a list has the versions of its path that its shelf sees, in ascending precedence, and the latest of them if it has one cached
+-- a list has the versions of its path that its shelf sees, in ascending precedence, and the latest of them if it has
+-- one cached
 abbrev pub IsListIn : World → KeptList → Type 0
 IsListIn w list = (list.versions ≡ versions_of w list.shelf list.path)
     × IfSome list.latest (λ latest. latest ≡ latest_of w list.shelf list.path)

@@ -18,8 +18,8 @@ use world::text_set::TextSet;
 /// The figure bounds the memory, not the answers: where one more has no room, all are forgotten and found again.
 const MOST_ABSENCES: usize = 16_384;
 
-/// Cached paths with the shelves that see no version of them, most of them paths of public modules. A publish forgets its path
-/// without going over the others. Contracts see a map from paths to sets of shelves.
+/// Cached paths with the shelves that see no version of them, most of them paths of public modules. A publish forgets
+/// its path without going over the others. Contracts see a map from paths to sets of shelves.
 #[derive(Drop)]
 pub struct Absences {
     paths: BTreeMap<String, TextSet>,
@@ -98,7 +98,8 @@ impl Absences {
         }
     }
 
-    /// Caches that a shelf sees no version of a path, if there is room. If memory runs out, it forgets all that is cached.
+    /// Caches that a shelf sees no version of a path, if there is room. If memory runs out, it forgets all that is
+    /// cached.
     fn add(&mut self, alloc: Global, shelf: &str, path: &str)
         ensures { (w : World) → AreAbsent w self.old → versions_of w shelf.now path.now ≡ [] → AreAbsent w self.new }
     {

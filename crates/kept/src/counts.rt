@@ -80,8 +80,8 @@ impl KeptCounts {
         self.counts.keep(alloc, shelf, path, number);
     }
 
-    /// Counts one more version of a path on a shelf if that count is cached. If memory runs out or the count cannot grow, it
-    /// forgets all counts instead.
+    /// Counts one more version of a path on a shelf if that count is cached. If memory runs out or the count cannot
+    /// grow, it forgets all counts instead.
     pub fn raise(&mut self, alloc: Global, shelf: &str, path: &str)
         ensures { (w : World) (v : _) (e : _) → map.get w.entries (place shelf.now path.now v) ≡ None
             → AreCounts w self.old → AreCounts (with_entry w (place shelf.now path.now v) e) self.new }

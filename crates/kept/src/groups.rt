@@ -17,8 +17,9 @@ use world::names::COMMON;
 /// The figure bounds the memory, not the answers: where one more has no room, all are forgotten and found again.
 const MOST_GROUPS: usize = 8_192;
 
-/// Cached groups of shelves, so that a store need not query the tables again. A shelf without a group is cached with None.
-/// A shelf's group never changes, so a cached one is never wrong. Contracts see a map from shelves to their groups.
+/// Cached groups of shelves, so that a store need not query the tables again. A shelf without a group is cached with
+/// None. A shelf's group never changes, so a cached one is never wrong. Contracts see a map from shelves to their
+/// groups.
 #[derive(Drop)]
 pub struct Groups {
     shelves: BTreeMap<String, Option<Text>>,

@@ -74,8 +74,8 @@ impl Weighed for KeptHeading {
     }
 }
 
-/// Cached headings. The cache makes room by dropping those that were asked for longest ago. A publish or a new team can change
-/// what a shelf sees of a version, so each empties the cache.
+/// Cached headings. The cache makes room by dropping those that were asked for longest ago. A publish or a new team can
+/// change what a shelf sees of a version, so each empties the cache.
 pub type Headings = Recent<KeptHeading>;
 
 impl Recent<KeptHeading> {

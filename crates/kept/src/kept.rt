@@ -66,7 +66,8 @@ impl Kept {
         self.lists.versions(alloc, shelf, path)
     }
 
-    /// Returns a copy of the latest version of a path that a shelf sees, or None if it is not cached or memory runs out.
+    /// Returns a copy of the latest version of a path that a shelf sees, or None if it is not cached or memory runs
+    /// out.
     pub fn latest(&mut self, alloc: Global, shelf: &str, path: &str) -> Option<Option<Version>>
         ensures others { (w : World) → AreKept w self.old → AreKept w self.new }
         ensures found { IfSome result (λ latest. (w : World) → AreKept w self.old
@@ -78,7 +79,8 @@ impl Kept {
         self.lists.latest(alloc, shelf, path)
     }
 
-    /// Caches a copy of the versions of a path that a shelf sees, or that it sees none. If memory runs out, less is cached.
+    /// Caches a copy of the versions of a path that a shelf sees, or that it sees none. If memory runs out, less is
+    /// cached.
     pub fn keep_versions(&mut self, alloc: Global, shelf: &str, path: &str, versions: &[Version])
         ensures { (w : World) → AreKept w self.old
             → versions.now ≡ versions_of w shelf.now path.now → AreKept w self.new }
@@ -102,15 +104,16 @@ impl Kept {
         self.lists.lacks(shelf, path, version)
     }
 
-    /// Reports whether a shelf looked for a version of a path in vain before, and the versions that it sees are not cached.
-    /// It says so once for each such look.
+    /// Reports whether a shelf looked for a version of a path in vain before, and the versions that it sees are not
+    /// cached. It says so once for each such look.
     pub fn wants_versions(&mut self, shelf: &str, path: &str) -> bool
         ensures { (w : World) → AreKept w self.old → AreKept w self.new }
     {
         self.missed.take(shelf, path) && !self.lists.has(shelf, path)
     }
 
-    /// Caches a copy of what a shelf sees of a version, or notes that it sees nothing. If memory runs out, it is not cached.
+    /// Caches a copy of what a shelf sees of a version, or notes that it sees nothing. If memory runs out, it is not
+    /// cached.
     pub fn keep_seen(
         &mut self,
         alloc: Global,

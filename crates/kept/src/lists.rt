@@ -92,8 +92,8 @@ impl Weighed for KeptList {
     }
 }
 
-/// Cached lists of the versions of paths that a shelf sees, in ascending precedence, and the latest of them. The cache makes room
-/// by dropping the lists that were asked for longest ago.
+/// Cached lists of the versions of paths that a shelf sees, in ascending precedence, and the latest of them. The cache
+/// makes room by dropping the lists that were asked for longest ago.
 pub type Lists = Recent<KeptList>;
 
 impl Recent<KeptList> {
@@ -136,7 +136,8 @@ impl Recent<KeptList> {
         }
     }
 
-    /// Returns a copy of the latest version of a path that a shelf sees, or None if it is not cached or memory runs out.
+    /// Returns a copy of the latest version of a path that a shelf sees, or None if it is not cached or memory runs
+    /// out.
     pub fn latest(&mut self, alloc: Global, shelf: &str, path: &str) -> Option<Option<Version>>
         ensures others { (list : _) → Holds self.new list → Holds self.old list }
         ensures found { IfSome result (λ latest. (w : World) → AreLists w self.old
@@ -150,7 +151,8 @@ impl Recent<KeptList> {
         }
     }
 
-    /// Takes the versions of a path that a shelf sees out of the cache, and returns them. Returns None if they are not cached.
+    /// Takes the versions of a path that a shelf sees out of the cache, and returns them. Returns None if they are not
+    /// cached.
     pub fn take_versions(&mut self, shelf: &str, path: &str) -> Option<Versions>
         ensures others { (list : _) → Holds self.new list → Holds self.old list }
         ensures taken { IfSome result (λ versions. (w : World) → AreLists w self.old
@@ -174,7 +176,8 @@ impl Recent<KeptList> {
         }
     }
 
-    /// Caches the versions of a path that a shelf sees, and a copy of the latest of them. If memory runs out, they are not cached.
+    /// Caches the versions of a path that a shelf sees, and a copy of the latest of them. If memory runs out, they are
+    /// not cached.
     pub fn keep_with_latest(
         &mut self,
         alloc: Global,
@@ -191,9 +194,8 @@ impl Recent<KeptList> {
         }
     }
 
-    /// Forgets the lists of a path, which gets one more version.
-    /// It forgets those of all shelves, because every shelf sees what is stored on `common`. If there is no memory to note which
-    /// they are, it forgets all lists.
+    /// Forgets the lists of a path, which gets one more version. It forgets those of all shelves, because every shelf
+    /// sees what is stored on `common`. If there is no memory to note which they are, it forgets all lists.
     pub fn forget(&mut self, alloc: Global, path: &str)
         ensures { (w : World) (s v : _) (e : _) → AreLists w self.old
             → AreLists (with_entry w (place s path.now v) e) self.new }

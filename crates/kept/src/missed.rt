@@ -7,8 +7,8 @@ use crate::recent::hash_of;
 /// How many notes there are, of eight bytes each.
 const NOTES: usize = 1_024;
 
-/// A note is the hash of a shelf and of a path at which it looked for a version in vain. A new note replaces one at its place.
-/// The notes only decide when the store looks up which versions a shelf sees, so no contract speaks of them.
+/// A note is the hash of a shelf and of a path at which it looked for a version in vain. A new note replaces one at its
+/// place. The notes only decide when the store looks up which versions a shelf sees, so no contract speaks of them.
 #[derive(Drop)]
 pub struct Missed {
     hashes: [u64; NOTES],

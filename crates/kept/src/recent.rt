@@ -18,8 +18,8 @@ pub trait Weighed {
 
     ghost MOST: { ℕ };
 
-    /// The most that all cached values of the kind weigh together. The figure bounds the memory, not the answers: what is not
-    /// cached is queried each time.
+    /// The most that all cached values of the kind weigh together. The figure bounds the memory, not the answers: what
+    /// is not cached is queried each time.
     const MOST: usize;
 
     /// Returns at least what a value weighs, or more than `MOST`.
@@ -30,8 +30,8 @@ pub trait Weighed {
 /// Values with their weights, the one that was asked for last first. It drops nothing by itself.
 type Cache<V> = LruCache<u64, (usize, V)>;
 
-/// Values under hashes, which together weigh at most the figure of their kind. To make room for a new value, it drops those that
-/// were asked for longest ago. Contracts see each value with its hash and its noted weight.
+/// Values under hashes, which together weigh at most the figure of their kind. To make room for a new value, it drops
+/// those that were asked for longest ago. Contracts see each value with its hash and its noted weight.
 #[derive(Drop)]
 pub struct Recent<V: Weighed> {
     pub(crate) cache: Option<Cache<V>>,
@@ -105,8 +105,8 @@ impl<V: Weighed> Recent<V> {
 }
 
 impl<V: Weighed + Drop> Recent<V> {
-    /// Caches a value under a hash, instead of the one that was there. If memory runs out, the value is not cached. A value that
-    /// alone weighs more than all may changes nothing.
+    /// Caches a value under a hash, instead of the one that was there. If memory runs out, the value is not cached. A
+    /// value that alone weighs more than all may changes nothing.
     pub(crate) fn keep(&mut self, alloc: Global, hash: u64, value: V)
         ensures { (v : _) → Holds self.new v → Holds self.old v ⊎ (v ≡ value) }
     {
@@ -189,8 +189,8 @@ fn cache_or_new<V>(alloc: Global, cache: Option<Cache<V>>) -> Result<Cache<V>, A
     }
 }
 
-/// Returns the hash under which a value with these names is cached. Values with the same hash replace each other, so each value
-/// holds its names, and a lookup compares them.
+/// Returns the hash under which a value with these names is cached. Values with the same hash replace each other, so
+/// each value holds its names, and a lookup compares them.
 pub(crate) fn hash_of(names: &[&str]) -> u64 {
     let mut hasher = FoldHasher::default();
     for name in names {

@@ -30,7 +30,8 @@ impl KeptZip {
             && self.place.version.as_str() == version
     }
 
-    /// Returns the zip of the entry at a place without copying it, or None if memory runs out or the zip cannot be shared.
+    /// Returns the zip of the entry at a place without copying it, or None if memory runs out or the zip cannot be
+    /// shared.
     fn of(alloc: Global, shelf: &str, path: &str, version: &str, zip: &Bytes) -> Option<KeptZip>
         ensures { IfSome result (λ it. it ≡ record { place = place shelf.now path.now version.now; zip = zip.now }) }
     {
@@ -57,8 +58,9 @@ impl Weighed for KeptZip {
     }
 }
 
-/// Cached zips of entries. An entry never changes, so a cached zip is never wrong. The cache makes room by dropping the zips that
-/// were asked for longest ago. It finds a zip by the place of its entry, so all shelves that see the entry share the zip.
+/// Cached zips of entries. An entry never changes, so a cached zip is never wrong. The cache makes room by dropping the
+/// zips that were asked for longest ago. It finds a zip by the place of its entry, so all shelves that see the entry
+/// share the zip.
 pub type Zips = Recent<KeptZip>;
 
 impl Recent<KeptZip> {
@@ -80,8 +82,8 @@ impl Recent<KeptZip> {
         kept.zip.again()
     }
 
-    /// Caches the zip of what is seen of a version, if anything is, and returns what is seen, whose zip then shares its memory
-    /// with the cache. If memory runs out, it is not cached.
+    /// Caches the zip of what is seen of a version, if anything is, and returns what is seen, whose zip then shares its
+    /// memory with the cache. If memory runs out, it is not cached.
     pub fn keep_seen(
         &mut self,
         alloc: Global,

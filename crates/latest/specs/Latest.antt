@@ -72,7 +72,8 @@ abbrev pub IsBest : List SemanticVersion → Option GoModule → ℕ → Option 
 IsBest vs m n None = (k : ℕ) (u : SemanticVersion) → k < n → slice_get vs k ≡ Some u → counts m u ≡ true → ⊥
 IsBest vs m n (Some p) = (v : SemanticVersion) × (slice_get vs p ≡ Some v) × (counts m v ≡ true) × IsHighest vs m n v
 
--- of versions that fit one path, at most one is the top, and at most one is the top of those that a go.mod does not retract
+-- of versions that fit one path, at most one is the top, and at most one is the top of those that a go.mod does not
+-- retract
 abbrev pub TopIsOne : Type 0
 TopIsOne = (path : List ℕ) (vs : List SemanticVersion)
     → ((x : SemanticVersion) → Contains vs x → IsVersionOf path x) → (u v : SemanticVersion)

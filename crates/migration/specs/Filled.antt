@@ -31,8 +31,9 @@ Fills format old db after = StandFor db only_common → IsSound store_schema aft
 abbrev pub IsOfTables : Format → Database → Bool → World → Type 0
 IsOfTables format db done w = StandsAs format db w ⊎ ((done ≡ false) × (w ≡ only_common))
 
--- The older store is only read. The fresh store, which stood for `common` alone, stands for the world of the old tables if
--- the call is done, and for `common` alone otherwise. A crash leaves one of the two, and that world alone once the call is done.
+-- The older store is only read. The fresh store, which stood for `common` alone, stands for the world of the old tables
+-- if the call is done, and for `common` alone otherwise. A crash leaves one of the two, and that world alone once the
+-- call is done.
 pub record Migrates (format : Format) (old old_new fresh fresh_new : State) (done : Bool) : Type 0 where
   pub clean : doubt old.is_clean ≤ doubt old_new.is_clean
   pub reads : IsReadyAs format old → IsReadBy old old_new done

@@ -16,8 +16,8 @@ use sqlite::{Alter, Connection, Transaction};
 use statements::extract_rows::CopyError;
 use std::alloc::Global;
 
-/// Fills a store that has only `common` with all that an older one has: its shelves, its keys, its versions and its zips.
-/// Returns false if the older tables stand for no world.
+/// Fills a store that has only `common` with all that an older one has: its shelves, its keys, its versions and its
+/// zips. Returns false if the older tables stand for no world.
 pub(crate) fn fill<S: Alter, F: Alter>(
     alloc: Global,
     source: &mut Connection<S>,

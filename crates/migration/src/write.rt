@@ -20,8 +20,8 @@ fn is_whole(filled: &Result<bool, CopyError>) -> bool
     matches!(filled, Ok(true))
 }
 
-/// Writes all that an older store has into a fresh one that has only `common`, in one transaction. Returns false, and writes
-/// nothing, if the older tables stand for no world. Fails with `Source` or `Fresh`, by the store that failed.
+/// Writes all that an older store has into a fresh one that has only `common`, in one transaction. Returns false, and
+/// writes nothing, if the older tables stand for no world. Fails with `Source` or `Fresh`, by the store that failed.
 pub fn write_world<S: Alter, F: Alter>(
     alloc: Global,
     source: &mut Connection<S>,

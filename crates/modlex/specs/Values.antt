@@ -14,7 +14,8 @@ Spells (b ∷ c ∷ bs) value =
     MatchBool (b == 92) ((rest : List ℕ) × Spells bs rest × (value ≡ c ∷ rest))
     ((rest : List ℕ) × Spells (c ∷ bs) rest × (value ≡ b ∷ rest))
 
--- a string has the value that the text between its marks spells, a raw string that text itself, and any other token its text
+-- a string has the value that the text between its marks spells, a raw string that text itself, and any other token its
+-- text
 abbrev pub HasValue : Kind → List ℕ → List ℕ → Type 0
 HasValue Quoted text value = (content : List ℕ) × (text ≡ 34 ∷ (content ++ 34 ∷ [])) × Spells content value
 HasValue Raw text value = text ≡ 96 ∷ (value ++ 96 ∷ [])

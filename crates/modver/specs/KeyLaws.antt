@@ -22,7 +22,8 @@ IsLowerKey = IsLexicallyLower (λ (a : ℕ) (b : ℕ). a < b)
 abbrev pub unmarked : SemanticVersion → SemanticVersion
 unmarked v = record { major = v.major; minor = v.minor; patch = v.patch; identifiers = v.identifiers; marked = false }
 
--- two keys of order compare as the versions do by precedence, and are equal exactly if the versions differ at most in the mark
+-- two keys of order compare as the versions do by precedence, and are equal exactly if the versions differ at most in
+-- the mark
 pub record KeysAreInPrecedence (u v : SemanticVersion) : Type 0 where
   pub compared : bytes_cmp (order_key_of u) (order_key_of v) ≡ precedence u v
   pub below : IsLowerKey (order_key_of u) (order_key_of v) ↔ IsBelow u v

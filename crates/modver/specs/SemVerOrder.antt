@@ -46,7 +46,8 @@ IsLowerPreRelease xs [] = xs ≢ []
 IsLowerPreRelease [] (y ∷ ys) = ⊥
 IsLowerPreRelease (x ∷ xs) (y ∷ ys) = IsLexicallyLower IsLowerIdentifier (x ∷ xs) (y ∷ ys)
 
--- one version has lower precedence than another: by the first of major, minor, patch and pre-release that differs (11.2)
+-- one version has lower precedence than another: by the first of major, minor, patch and pre-release that differs
+-- (11.2)
 abbrev pub HasLowerPrecedence : SemanticVersion → SemanticVersion → Type 0
 HasLowerPrecedence u v =
     (u.major < v.major)

@@ -169,8 +169,8 @@ impl Bound {
     }
 }
 
-/// Compares the keys of two bounds whose heads are equal. No key begins another, so the keys are equal if a head has one
-/// of them whole.
+/// Compares the keys of two bounds whose heads are equal. No key begins another, so the keys are equal if a head has
+/// one of them whole.
 fn compare_tails(left: &Option<Rc<Tail>>, right: &Option<Rc<Tail>>) -> Ordering
     ensures { result ≡ tails_cmp left.now right.now }
 {
@@ -180,7 +180,8 @@ fn compare_tails(left: &Option<Rc<Tail>>, right: &Option<Rc<Tail>>) -> Ordering
     }
 }
 
-/// Returns the tail of a version with this key and mark, or `None` if a head says as much. It fails only if memory runs out.
+/// Returns the tail of a version with this key and mark, or `None` if a head says as much. It fails only if memory runs
+/// out.
 fn tail_of(alloc: Global, key: Vec<u8>, marked: bool) -> Result<Option<Rc<Tail>>, AllocError>
     ensures key { IfOk result (λ tail. HasKey tail key.items) }
     ensures mark { IfOk result (λ tail. mark_in tail ≡ marked) }

@@ -1,4 +1,5 @@
--- Laws of the tables of the older schemas and of the worlds that they stand for, which follow from the definitions alone.
+-- Laws of the tables of the older schemas and of the worlds that they stand for, which follow from the definitions
+-- alone.
 use Rattle.std.specs.Prelude.{◌≡◌, List, map as map_list}
 use Rattle.sqlite.specs.Tree.{Trees}
 use Rattle.shelf.specs.Machine as machine
@@ -16,8 +17,8 @@ MeanOne = (format : Format) (db : Trees) (w x : World) → Means format db w →
 abbrev pub MeanNoGroup : Type 0
 MeanNoGroup = (format : Format) (db : Trees) (w : World) → Means format db w → HasNoGroup w
 
--- A world that such tables stand for has the keys, the shelves and the entries of a world of the machine that knows no groups.
--- It answers each list of requests, and of registry commands that name no group, as that machine does.
+-- A world that such tables stand for has the keys, the shelves and the entries of a world of the machine that knows no
+-- groups. It answers each list of requests, and of registry commands that name no group, as that machine does.
 abbrev pub AnswersAsBefore : Type 0
 AnswersAsBefore =
     (format : Format) (db : Trees) (w : World) → Means format db w → IsWorld w

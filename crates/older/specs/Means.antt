@@ -1,5 +1,5 @@
--- The world that the tables of an older schema stand for. The order of rows means nothing, and a row's number only ties a
--- version to its zip.
+-- The world that the tables of an older schema stand for. The order of rows means nothing, and a row's number only ties
+-- a version to its zip.
 use Rattle.std.specs.Prelude.{ℕ, Bool, true, if◌then◌else◌, List, Option, Some, None, codes, bytes_eq, ◌≡◌}
 use Rattle.std.specs.FinMap as map
 use Rattle.sqlite.specs.declared.types.Value.TheVariants.{Text, Blob}

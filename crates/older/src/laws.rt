@@ -8,8 +8,9 @@ pub fn meaning()
     ensures no_group { MeanNoGroup }
 {}
 
-/// The world of such tables answers each list of requests as the machine that knows no groups does, over the keys, shelves
-/// and entries of that world. A store that is made from the tables answers alike, because it stands for that world.
+/// The world of such tables answers each list of requests as the machine that knows no groups does, over the keys,
+/// shelves and entries of that world. A store that is made from the tables answers alike, because it stands for that
+/// world.
 pub fn answers()
     ensures { AnswersAsBefore }
 {}

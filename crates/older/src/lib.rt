@@ -1,7 +1,7 @@
 //! The tables of a store of an older schema, and the world that they stand for.
 //!
-//! Schemas 1 and 2 have no groups, so a row of `shelf` has only a name. Schema 1 keeps a zip as one row of `body`, and a
-//! version without its order keys:
+//! Schemas 1 and 2 have no groups, so a row of `shelf` has only a name. Schema 1 keeps a zip as one row of `body`, and
+//! a version without its order keys:
 //!
 //! | table | a row is | columns |
 //! |---|---|---|

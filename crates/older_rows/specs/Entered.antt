@@ -20,8 +20,8 @@ pub record AreAlike (read : Row → Row) (rows others : List Row) : Type 0 where
   pub there : (row : Row) → Has rows row → (other : Row) × Has others other × (read other ≡ read row)
   pub back : (other : Row) → Has others other → (row : Row) × Has rows row × (read other ≡ read row)
 
--- In schema 1 the old rows of `version` and of `body` are the entries of the world. In schema 2 the fresh rows of `version`
--- show what the old ones show, and no version has a piece yet.
+-- In schema 1 the old rows of `version` and of `body` are the entries of the world. In schema 2 the fresh rows of
+-- `version` show what the old ones show, and no version has a piece yet.
 abbrev pub AreEntered : Format → Trees → Trees → World → Type 0
 AreEntered One old after w = Tabulates (IsEntryIn One old) (old version_table.tree) (λ it. map.get w.entries it.0 ≡ Some it.1)
 AreEntered Two old after w = AreAlike version_read (old version_table.tree) (after version_table.tree) × (after piece_table.tree ≡ [])

@@ -18,7 +18,8 @@ Visits Puts so_far db [] end after = (end ≡ so_far) × (after ≡ db)
 Visits {X} Puts so_far db (row ∷ rows) end after =
     (next : X) × (mid : Trees) × Puts so_far row db next mid × Visits Puts next mid rows end after
 
--- Each row that a query showed of the old tables of a format was visited in turn, and the fresh store may be filled further.
+-- Each row that a query showed of the old tables of a format was visited in turn, and the fresh store may be filled
+-- further.
 abbrev pub IsFilledBy : {X : Type 0} → Format → List ℕ → (X → Row → Trees → X → Trees → Type 0)
     → State → X → State → X → State → Type 0
 IsFilledBy format sql Puts old so_far fresh end filled =
@@ -40,8 +41,8 @@ abbrev pub is_taken : {E : Type 0} → Result (Result Bool E) E → Bool
 is_taken (Ok visited) = is_ok visited
 is_taken (Err e) = false
 
--- Rows of an older store, which is only read, are put into a fresh one inside a transaction of it. If the call is done, `Makes`
--- relates the old tables, the fresh tables before, and the fresh tables after.
+-- Rows of an older store, which is only read, are put into a fresh one inside a transaction of it. If the call is done,
+-- `Makes` relates the old tables, the fresh tables before, and the fresh tables after.
 pub record Moves (format : Format) (Makes : Trees → Trees → Trees → Type 0)
     (old old_new fresh fresh_new : State) (done : Bool) : Type 0 where
   pub clean : doubt old.is_clean ≤ doubt old_new.is_clean

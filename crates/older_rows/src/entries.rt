@@ -69,8 +69,8 @@ fn entry_at<'r>(row: &'r Row, zip: &'r [u8]) -> Result<Option<EntryAt<'r>>, Erro
     }))
 }
 
-/// Returns the zip that a row shows, or None if the column is not a BLOB. In schema 2 zips are rows of their own, so the zip
-/// is empty here.
+/// Returns the zip that a row shows, or None if the column is not a BLOB. In schema 2 zips are rows of their own, so
+/// the zip is empty here.
 fn zip_at(format: Format, row: &Row) -> Result<Option<&[u8]>, Error>
     ensures { IfOk result (λ found. IfSome found (λ zip. ShowsZip format row.now zip.now)) }
 {
@@ -92,8 +92,8 @@ fn shows_keys(format: Format, row: &Row, version: &KeyedVersion) -> Result<bool,
     }
 }
 
-/// Returns the entry that a row shows, with its number and its version. Returns None if the row does not show them, or the
-/// entry may not stand at its place. The order keys are not tested yet.
+/// Returns the entry that a row shows, with its number and its version. Returns None if the row does not show them, or
+/// the entry may not stand at its place. The order keys are not tested yet.
 fn fit_row<'r>(alloc: Global, format: Format, row: &'r Row) -> Result<Option<FitEntry<'r>>, Error>
     ensures { IfOk result (λ found. IfSome found (λ f. (version_text f.version ≡ f.shown.version.now)
         × IsFitRow format row.now f.id (place f.shown.shelf.now f.shown.path.now f.shown.version.now) f.shown.entry)) }
@@ -113,8 +113,8 @@ fn fit_row<'r>(alloc: Global, format: Format, row: &'r Row) -> Result<Option<Fit
     Ok(Some(FitEntry { id, shown, version }))
 }
 
-/// Visits the rows of `version` in the order of their places. It refuses an entry that may not stand at its place, a place that
-/// comes twice, and a path with too many versions on a shelf.
+/// Visits the rows of `version` in the order of their places. It refuses an entry that may not stand at its place, a
+/// place that comes twice, and a path with too many versions on a shelf.
 #[derive(Drop)]
 struct EntryRows {
     alloc: Global,

@@ -54,8 +54,8 @@ fn shows_key(row: &Row) -> Result<bool, Error>
     Ok(is_key(key.0))
 }
 
-/// Visits the rows of `access` and refuses a key that is not well-formed. The fresh store refuses a key that comes twice or
-/// has no shelf.
+/// Visits the rows of `access` and refuses a key that is not well-formed. The fresh store refuses a key that comes
+/// twice or has no shelf.
 #[derive(Drop)]
 struct KeyRows;
 

@@ -1,7 +1,7 @@
 //! The rows of a store of an older schema, each tested and put into a fresh store of today's schema.
 //!
-//! A call reads a table once, `version` and `piece` in the order of their index. It tests each row and puts it into the fresh
-//! store at once, so only one entry is in memory. A row that no world has ends the call.
+//! A call reads a table once, `version` and `piece` in the order of their index. It tests each row and puts it into the
+//! fresh store at once, so only one entry is in memory. A row that no world has ends the call.
 //!
 //! | call | the rows |
 //! |---|---|

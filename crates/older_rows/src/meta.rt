@@ -13,8 +13,8 @@ use sqlite::{Alter, Connection, Error, Row, Transaction};
 use statements::extract_rows::CopyError;
 use tables::columns::{int_at, text_at};
 
-/// Visits the rows of `meta` and refuses one that does not name this schema. It puts none into the fresh store, which has a row
-/// of its own.
+/// Visits the rows of `meta` and refuses one that does not name this schema. It puts none into the fresh store, which
+/// has a row of its own.
 #[derive(Drop)]
 struct MetaRows {
     number: i64,

@@ -15,8 +15,8 @@ use sqlite::{Alter, Connection, Error, Row, Transaction};
 use statements::extract_rows::{CopyError, Pieces, RowSink};
 use tables::pieces::{LastPiece, may_go_on, piece_at};
 
-/// Visits the rows of `piece` in the order of their versions and numbers. The pieces of a version must be numbered from 0
-/// without gaps, and each but the last must be full. The fresh store refuses a piece that has no version.
+/// Visits the rows of `piece` in the order of their versions and numbers. The pieces of a version must be numbered from
+/// 0 without gaps, and each but the last must be full. The fresh store refuses a piece that has no version.
 #[derive(Drop)]
 struct ZipRows {
     last: Option<LastPiece>,
@@ -58,8 +58,8 @@ fn put_pieces<S: Alter, F: Alter>(
     )
 }
 
-/// Puts in the zips. Returns false if their pieces are not those of zips. In schema 1 the zips came with their versions.
-/// Fails with `Source` or `Fresh`, by the store that failed.
+/// Puts in the zips. Returns false if their pieces are not those of zips. In schema 1 the zips came with their
+/// versions. Fails with `Source` or `Fresh`, by the store that failed.
 pub fn put_zips<S: Alter, F: Alter>(
     source: &mut Connection<S>,
     format: Format,

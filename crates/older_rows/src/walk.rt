@@ -33,9 +33,9 @@ pub(crate) trait Visit {
             → Puts self.old row.now old.now.trees self.new new.now.trees × Filling new)) };
 }
 
-/// Visits each row that a query shows of the tables of a format, while the query is read, so only one row is in memory. It
-/// returns what the visitor did: true after the last row, false at the first row that it refuses, and its error at the first
-/// row that the fresh store does not take. Fails if the older store does.
+/// Visits each row that a query shows of the tables of a format, while the query is read, so only one row is in memory.
+/// It returns what the visitor did: true after the last row, false at the first row that it refuses, and its error at
+/// the first row that the fresh store does not take. Fails if the older store does.
 fn visit_each<S: Alter, F: Alter, V: Visit>(
     source: &mut Connection<S>,
     format: Format,
@@ -76,8 +76,9 @@ fn visit_each<S: Alter, F: Alter, V: Visit>(
     Err(Error::SqliteFailure(ErrorCode::TooBig))
 }
 
-/// Visits each row that a query shows of the tables of a format. Returns true after the last row, and false at the first row
-/// that the visitor refuses. Fails with `Source` if the older store does, and with `Fresh` if the fresh one does.
+/// Visits each row that a query shows of the tables of a format. Returns true after the last row, and false at the
+/// first row that the visitor refuses. Fails with `Source` if the older store does, and with `Fresh` if the fresh one
+/// does.
 pub(crate) fn visit_rows<S: Alter, F: Alter, V: Visit>(
     source: &mut Connection<S>,
     format: Format,

@@ -43,8 +43,8 @@ pub trait Outlines: Shelves {
     ghost use Rattle.world.specs.Store.{Reads};
     ghost use Rattle.outline.specs.Outline.{outline};
 
-    /// Returns the outline of what the shelf sees of the version, or None if it sees no entry. Fails with `Device` if a device
-    /// failed, and with `Memory` if memory ran out.
+    /// Returns the outline of what the shelf sees of the version, or None if it sees no entry. Fails with `Device` if a
+    /// device failed, and with `Memory` if memory ran out.
     fn outline(
         &mut self,
         shelf: &str,

@@ -72,12 +72,13 @@ module _ {C S F : Type 0} (state_of : C → State) (shown : S → Shown) (held :
   abbrev pub Alone : (Result (Unit {0}) CommandRefusal → Type 0) → Type 0
   Alone = EndsAlone came came_new written written_new result
 
-  -- what a copy does that is ordered while the store is served, into a file that held what the second file of the command holds
+  -- what a copy does that is ordered while the store is served, into a file that held what the second file of the
+  -- command holds
   abbrev pub copies : Copied S
   copies = CopiesFile shown shown_too held_too
 
-  -- What each kind of command does, if its first file and the log held this, and its second file that. The last four open no store:
-  -- they send a line to a running `serve`, or can't.
+  -- What each kind of command does, if its first file and the log held this, and its second file that. The last four
+  -- open no store: they send a line to a running `serve`, or can't.
   abbrev pub Runs : Command → Type 0
   Runs (command.Init db) = Inits shown copies held came came_new written written_new result
   Runs (command.AnswerInMemory team key) = AnswersInMemory came came_new written written_new result team.now key.now

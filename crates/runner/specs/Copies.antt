@@ -12,7 +12,8 @@ use Rattle.control.specs.declared.copies.CopyRefusal.{CopyRefusal}
 use Rattle.control.specs.declared.copies.CopyRefusal.TheVariants as copy
 use Rattle.runner.specs.Opened.{OnOpened}
 
--- why no copy was made, by why the store was not opened or copied; other tables than a store's are bytes too, and `NoTeam` never comes
+-- why no copy was made, by why the store was not opened or copied; other tables than a store's are bytes too, and
+-- `NoTeam` never comes
 abbrev pub uncopied : Unopened → CopyRefusal
 uncopied store.Device = copy.Device
 uncopied store.Memory = copy.Memory
@@ -39,13 +40,14 @@ module _ {S F : Type 0} (shown : S → Shown) (shown_too : F → Shown) where
     pub ends : result ≡ copied told
 
   module _ (held : Image) where
-    -- nothing was done with the served store: the new store's file is its own, or the new store was not opened, and the result says why
+    -- nothing was done with the served store: the new store's file is its own, or the new store was not opened, and the
+    -- result says why
     pub record CopiesNone (source source_new : S) (result : Result (Unit {0}) CopyRefusal) : Type 0 where
       pub same : source_new ≡ source
       pub tells : (result ≡ Err copy.NotEmpty) ⊎ ((why : Unopened) × (result ≡ Err (uncopied why)))
 
-    -- The store of files that held this was made a copy, or not; or the served store was left as it was. It may be either, whatever
-    -- the path is, because no clause ties a path to the bytes of a file.
+    -- The store of files that held this was made a copy, or not; or the served store was left as it was. It may be
+    -- either, whatever the path is, because no clause ties a path to the bytes of a file.
     abbrev pub CopiesFile : S → S → List ℕ → Result (Unit {0}) CopyRefusal → Type 0
     CopiesFile source source_new path result =
         OnOpened shown_too held (λ fresh fresh_new. CopiesInto source source_new fresh fresh_new result)

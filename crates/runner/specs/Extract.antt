@@ -24,8 +24,8 @@ module _ {S F : Type 0} (shown : S → Shown) (shown_too : F → Shown) (source 
       OnOpened shown_too held (λ fresh fresh_new. ExtractsPart fresh fresh_new teams result) ⊎ LeavesSource source source_new result
 
 module _ {S F : Type 0} (shown : S → Shown) (held : Image) (shown_too : F → Shown) (held_too : Image) (teams : List (List ℕ)) where
-  -- the store of the first file was opened, and some teams' part of it was put into that of the other, or was not; or both are one file
-  -- without bytes, or the first was not opened, and the result says why
+  -- the store of the first file was opened, and some teams' part of it was put into that of the other, or was not; or
+  -- both are one file without bytes, or the first was not opened, and the result says why
   abbrev pub ExtractsFile : Result (Unit {0}) CommandRefusal → Type 0
   ExtractsFile result =
       OnOpened shown held (λ source source_new. Fills shown shown_too source source_new held_too teams result)

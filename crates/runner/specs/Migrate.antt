@@ -22,7 +22,8 @@ module _ {C F : Type 0} (state_of : C → State) (shown : F → Shown) (old old_
     pub cause : HasCauseInOne (state_of old) (state_of old_new) (shown fresh).failures (shown fresh_new).failures told
     pub ends : result ≡ store_result told
 
-  -- what the older store has was put, or not, into the store of files that held this; or the older store was left as it was
+  -- what the older store has was put, or not, into the store of files that held this; or the older store was left as it
+  -- was
   abbrev pub MigratesTo : Image → Result (Unit {0}) CommandRefusal → Type 0
   MigratesTo held result =
       OnOpened shown held (λ fresh fresh_new. MigratesInto fresh fresh_new result) ⊎ LeavesSource old old_new result
@@ -47,7 +48,7 @@ module _ {C F : Type 0} (state_of : C → State) (held : Image) (shown : F → S
     pub found : FindsOlder held (state_of old)
     pub migrates : MigratesTo state_of shown old old_new held_too result
 
-  -- the older file was opened; or it has no bytes or was not opened, as `MigratesEmpty` says; or both are one file, and no copy can be
-  -- made beside it
+  -- the older file was opened; or it has no bytes or was not opened, as `MigratesEmpty` says; or both are one file, and
+  -- no copy can be made beside it
   abbrev pub MigratesFile : Result (Unit {0}) CommandRefusal → Type 0
   MigratesFile result = MigratesOpened result ⊎ (MigratesEmpty shown held_too result ⊎ (result ≡ Err NotEmpty))

@@ -28,8 +28,8 @@ abbrev pub unmade : CommandRefusal → CommandRefusal
 unmade refusal.BadSchema = refusal.NotEmpty
 unmade other = other
 
--- A store that was just opened over files that held this. If its disk was honest, it stands for a world that the files held, or for
--- `common` alone if they were blank, and a crash leaves only that world.
+-- A store that was just opened over files that held this. If its disk was honest, it stands for a world that the files
+-- held, or for `common` alone if they were blank, and a crash leaves only that world.
 pub record HasBegun {S : Type 0} (shown : S → Shown) (held : Image) (store : S) : Type 0 where
   pub world : (shown store).is_honest → (w : World) × BeginsAt (shown store) w × RecoversStore held w
   pub found : (shown store).is_honest → (w : World) → HoldsStore held w → BeginsAt (shown store) w
@@ -42,7 +42,8 @@ pub record OnOpened {S : Type 0} (shown : S → Shown) (held : Image) (Does : S 
   pub begins : HasBegun shown held begun
   pub does : Does begun ended
 
--- nothing was done with the source: the new store's file is the source's, or the new store was not opened, and the result says why
+-- nothing was done with the source: the new store's file is the source's, or the new store was not opened, and the
+-- result says why
 pub record LeavesSource {S : Type 0} (source source_new : S) (result : Result (Unit {0}) CommandRefusal) : Type 0 where
   pub same : source_new ≡ source
   pub tells : (result ≡ Err refusal.NotEmpty) ⊎ ((why : Unopened) × (result ≡ Err (unmade (unopened why))))

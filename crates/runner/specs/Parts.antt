@@ -12,16 +12,16 @@ use Rattle.shelf.specs.Isolation.{key_of, asking_key}
 use Rattle.shelf.specs.Parts.{IsNotFound, AllAsked}
 use Rattle.store.specs.Parts.{part_of, chains, AreTeams}
 
--- Each event is a request with a key that belongs to one of these shelves. No request changes where a key belongs, so it still does
--- when the request comes.
+-- Each event is a request with a key that belongs to one of these shelves. No request changes where a key belongs, so
+-- it still does when the request comes.
 abbrev pub AllOf : World → List (List ℕ) → List Event → Type 0
 AllOf w ss [] = Unit {0}
 AllOf w ss (e ∷ es) =
     ((k : List ℕ) × (h : Holder) × (asking_key e ≡ Some k) × (map.get w.keys k ≡ Some h) × (is_among ss h.shelf ≡ true))
     × AllOf w ss es
 
--- Two runs, one over the whole and one over the part of some teams, give the same replies if they answered the same requests, each
--- with a key of a shelf that one of the teams sees.
+-- Two runs, one over the whole and one over the part of some teams, give the same replies if they answered the same
+-- requests, each with a key of a shelf that one of the teams sees.
 abbrev pub TeamsAreToldTheSame : Type 0
 TeamsAreToldTheSame =
     (w new other : World) (ts : List (List ℕ)) (first second : List Event) (told heard : List Answer) → IsWorld w → AreTeams w ts

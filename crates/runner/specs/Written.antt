@@ -15,8 +15,8 @@ use Rattle.engine.specs.Reply.{text_of}
 use Rattle.store.specs.Parts.{part_of, chains, AreTeams}
 use Rattle.runner.specs.Parts.{AllOf}
 
--- Two runs, one from a world and one from the part of some teams, write the same texts if they answered the same messages, each with
--- a key of a shelf that one of the teams sees.
+-- Two runs, one from a world and one from the part of some teams, write the same texts if they answered the same
+-- messages, each with a key of a shelf that one of the teams sees.
 abbrev pub TeamsAreWrittenTheSame : Type 0
 TeamsAreWrittenTheSame =
     (w new other : World) (ts : List (List ℕ)) (xs ys : List Happening) → IsWorld w → AreTeams w ts
@@ -24,7 +24,8 @@ TeamsAreWrittenTheSame =
     → map coming_of (faultless xs) ≡ map coming_of (faultless ys) → AllOf w (chains w ts) (map event_at (faultless xs))
     → map text_at (faultless xs) ≡ map text_at (faultless ys)
 
--- From the part, after any messages, a message whose key belongs to no shelf that one of the teams sees gets the 404 or the 503.
+-- From the part, after any messages, a message whose key belongs to no shelf that one of the teams sees gets the 404 or
+-- the 503.
 abbrev pub OthersOfTeamsAreWrittenNotFound : Type 0
 OthersOfTeamsAreWrittenNotFound =
     (w mid new : World) (ts : List (List ℕ)) (k : List ℕ) (before : List Exchange) (x : Exchange)

@@ -1,5 +1,5 @@
-//! The names that SQLite gives the files beside a database: its journal, its log and its shared memory. A store of such a name makes
-//! the database unreadable, so none is made there.
+//! The names that SQLite gives the files beside a database: its journal, its log and its shared memory. A store of such
+//! a name makes the database unreadable, so none is made there.
 
 use commands::files::is_same_file;
 use std::fs;
@@ -7,8 +7,8 @@ use std::io::{self, ErrorKind};
 use std::rt::HostRuntime;
 use store::refusal::Refusal;
 
-/// Tests the name of a new store. Fails with `Device` if SQLite has a use for that file, by its name or by a link: for the database at
-/// `db`, or for another that stands there. Fails with `Memory` if memory runs out.
+/// Tests the name of a new store. Fails with `Device` if SQLite has a use for that file, by its name or by a link: for
+/// the database at `db`, or for another that stands there. Fails with `Memory` if memory runs out.
 pub(crate) fn check_name(rt: &HostRuntime, db: &str, to: &str) -> Result<(), Refusal> {
     match is_taken(rt, db, to) {
         Ok(false) => Ok(()),
@@ -25,7 +25,8 @@ fn is_taken(rt: &HostRuntime, db: &str, to: &str) -> io::Result<bool> {
     Ok(is_beside(rt, db.as_str(), to)? || is_beside(rt, db.as_str(), real.as_str())?)
 }
 
-/// Whether a file is the journal, the log or the shared memory of the database at `db` or of another. Fails only if memory runs out.
+/// Whether a file is the journal, the log or the shared memory of the database at `db` or of another. Fails only if
+/// memory runs out.
 fn is_beside(rt: &HostRuntime, db: &str, file: &str) -> io::Result<bool> {
     Ok(
         ends_so(rt, db, file, "-journal")?
@@ -54,8 +55,8 @@ fn is_file(rt: &HostRuntime, path: &str) -> bool {
     }
 }
 
-/// Returns the name of a file with no link in it. If there is no file, it has its folder's name without links, and if there is no
-/// folder, it is the name that was given. Fails only if memory runs out.
+/// Returns the name of a file with no link in it. If there is no file, it has its folder's name without links, and if
+/// there is no folder, it is the name that was given. Fails only if memory runs out.
 fn real_name(rt: &HostRuntime, path: &str) -> io::Result<String> {
     match fs::canonicalize(rt, path) {
         Ok(real) => Ok(String::from_str(rt.alloc(), real.as_str())?),

@@ -18,8 +18,8 @@ use store::store::SqlShelves;
 use world::registry::StoreFault;
 use world::shelves::Shelves;
 
-/// Copies the served store of a file into other files. `U` stands for what such a file holds before its copy. What is proved holds for
-/// all contents, so for each of several copies it holds with those of its own file.
+/// Copies the served store of a file into other files. `U` stands for what such a file holds before its copy. What is
+/// proved holds for all contents, so for each of several copies it holds with those of its own file.
 #[derive(Drop)]
 pub(crate) struct FileCopies<'a, U: Start + Copy> {
     pub rt: &'a HostRuntime,
@@ -46,9 +46,9 @@ impl<'a, S: Alter, U: Start + Copy> Copies<SqlShelves<S>> for FileCopies<'a, U> 
     }
 }
 
-/// Opens the store of a file and makes it a copy of a served store, whose file is at `db`. It does not open the served file again: for
-/// that, and for a link to it, it fails with `NotEmpty`. If SQLite has a use for the file, it fails with `Device`, and otherwise as
-/// `Copies::copy` does.
+/// Opens the store of a file and makes it a copy of a served store, whose file is at `db`. It does not open the served
+/// file again: for that, and for a link to it, it fails with `NotEmpty`. If SQLite has a use for the file, it fails
+/// with `Device`, and otherwise as `Copies::copy` does.
 fn copy_to<S: Alter, U: Start>(
     rt: &HostRuntime,
     db: &str,
@@ -76,8 +76,8 @@ fn copy_to<S: Alter, U: Start>(
     told
 }
 
-/// Makes an open store a copy of the served one. Fails with `NotEmpty` if it has more than an empty store, `Device` if a disk fails,
-/// and `Memory` if memory runs out.
+/// Makes an open store a copy of the served one. Fails with `NotEmpty` if it has more than an empty store, `Device` if
+/// a disk fails, and `Memory` if memory runs out.
 fn copy_into<S: Alter, F: Alter>(
     source: &mut SqlShelves<S>,
     fresh: &mut SqlShelves<F>,

@@ -14,12 +14,13 @@ use store::open::FileShelves;
 use store::store::SqlShelves;
 use world::shelves::Shelves;
 
-/// Puts some teams' part of the store of one file into the store of another. Fails with the refusals of the store; with `NotEmpty` if
-/// both paths lead to one file, which stays empty if it was; and with `Device` if SQLite has a use for the second file.
+/// Puts some teams' part of the store of one file into the store of another. Fails with the refusals of the store; with
+/// `NotEmpty` if both paths lead to one file, which stays empty if it was; and with `Device` if SQLite has a use for
+/// the second file.
 ///
-/// If the first file is empty, it compares the files before it opens either. Otherwise it compares them after it opened the first,
-/// because opening the second would meet the first one's lock and fail with `Device`. If a file with bytes has two names, it fails
-/// with `Device`, because sqlite refuses hard links.
+/// If the first file is empty, it compares the files before it opens either. Otherwise it compares them after it opened
+/// the first, because opening the second would meet the first one's lock and fail with `Device`. If a file with bytes
+/// has two names, it fails with `Device`, because sqlite refuses hard links.
 pub(crate) fn extract_file<T: Start, U: Start>(
     rt: &HostRuntime,
     db: &str,
@@ -47,9 +48,9 @@ pub(crate) fn extract_file<T: Start, U: Start>(
     told
 }
 
-/// Opens the store of a file and puts some teams' part of an open store into it. It does not open the file of the open store again,
-/// which is at `db`: it fails with `NotEmpty`.
-/// It is generic over the first store, because the checker runs out of steps with two file stores in one function.
+/// Opens the store of a file and puts some teams' part of an open store into it. It does not open the file of the open
+/// store again, which is at `db`: it fails with `NotEmpty`. It is generic over the first store, because the checker
+/// runs out of steps with two file stores in one function.
 fn extract_to<S: Alter, U: Start>(
     rt: &HostRuntime,
     db: &str,

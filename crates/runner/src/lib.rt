@@ -12,9 +12,9 @@
 //! | [`Command::Ping`] | opens no store, asks the `serve` that has one open for its health, and prints it |
 //! | [`Command::Stop`] | opens no store, and has the `serve` end that has one open |
 //!
-//! One function opens each store and closes it before it returns: `on_file` for an action, `extract_file` for the store that is
-//! extracted from, and `extract_to`, `migrate_to` and `copy_to` for a new store. `migrate_file` drops its connection to the copy of the
-//! older file when it returns. Nothing here reads the words of a command line.
+//! One function opens each store and closes it before it returns: `on_file` for an action, `extract_file` for the store
+//! that is extracted from, and `extract_to`, `migrate_to` and `copy_to` for a new store. `migrate_file` drops its
+//! connection to the copy of the older file when it returns. Nothing here reads the words of a command line.
 #![tactic(auto)]
 
 ghost use Rattle.std.specs.Prelude.{◌≡◌};
@@ -85,8 +85,8 @@ pub enum Command<'a> {
         control: &'a str,
         order: Order<'a>,
     },
-    /// `copy --control S --to G`: orders the `serve` that listens at the socket S to make the store of G, as that server sees the file,
-    /// a copy of its own.
+    /// `copy --control S --to G`: orders the `serve` that listens at the socket S to make the store of G, as that
+    /// server sees the file, a copy of its own.
     Copy {
         control: &'a str,
         to: &'a str,
@@ -101,12 +101,13 @@ pub enum Command<'a> {
     },
 }
 
-/// Runs a command and returns whether it was accepted; only a publish and an import can be done and not accepted. Fails with the
-/// refusal of the command.
+/// Runs a command and returns whether it was accepted; only a publish and an import can be done and not accepted. Fails
+/// with the refusal of the command.
 ///
-/// The type `T` says what the file of the command and its log hold, and `U` what the file holds that `extract` and `migrate` write, or
-/// that a served store is copied into. The clauses are proved for all contents: a command goes on from the world that the files hold.
-/// If a store is copied into several files, they hold for each with its own contents.
+/// The type `T` says what the file of the command and its log hold, and `U` what the file holds that `extract` and
+/// `migrate` write, or that a served store is copied into. The clauses are proved for all contents: a command goes on
+/// from the world that the files hold. If a store is copied into several files, they hold for each with its own
+/// contents.
 pub fn run<T: Start, U: Start + Copy, I: Hear, O: Tell>(
     rt: &HostRuntime,
     command: &Command,
@@ -138,9 +139,8 @@ pub fn run<T: Start, U: Start + Copy, I: Hear, O: Tell>(
     }
 }
 
-/// Makes a store with the shelf `common` alone, and returns true. Fails with `NotEmpty` if the file has bytes, and otherwise as
-/// `on_file` does.
-/// It reads one byte. If the file can't be read, opening the store says what is wrong.
+/// Makes a store with the shelf `common` alone, and returns true. Fails with `NotEmpty` if the file has bytes, and
+/// otherwise as `on_file` does. It reads one byte. If the file can't be read, opening the store says what is wrong.
 fn init<T: Start, U: Start + Copy, I: Hear, O: Tell>(
     rt: &HostRuntime,
     path: &str,
@@ -163,7 +163,8 @@ fn init<T: Start, U: Start + Copy, I: Hear, O: Tell>(
     }
 }
 
-/// Returns the refusal of a file that a new store is made in: `NotEmpty` in place of `BadSchema`, because other tables are bytes too.
+/// Returns the refusal of a file that a new store is made in: `NotEmpty` in place of `BadSchema`, because other tables
+/// are bytes too.
 fn unmade(refusal: CommandRefusal) -> CommandRefusal
     ensures { result ≡ spec.unmade refusal }
 {
@@ -186,9 +187,10 @@ fn command_refusal(unopened: Unopened) -> CommandRefusal
     }
 }
 
-/// Does an action on the store of a file, and returns whether it was accepted. Copies that are ordered while the store is served are
-/// made from it. If there is no file and the action only reads, none is left. If the store can't be opened, it fails with that refusal and reads and writes nothing; otherwise it fails as the
-/// function of the action does.
+/// Does an action on the store of a file, and returns whether it was accepted. Copies that are ordered while the store
+/// is served are made from it. If there is no file and the action only reads, none is left. If the store can't be
+/// opened, it fails with that refusal and reads and writes nothing; otherwise it fails as the function of the action
+/// does.
 fn on_file<T: Start, U: Start + Copy, I: Hear, O: Tell>(
     rt: &HostRuntime,
     path: &str,

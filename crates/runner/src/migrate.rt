@@ -22,11 +22,11 @@ use store::refusal::Refusal as Unopened;
 use store::store::SqlShelves;
 use world::shelves::Shelves;
 
-/// Copies the older store in one file into the store of another. The older file and its log are only read. Fails with the refusals of
-/// the store, and with `NotEmpty` if both names lead to one file, which stays as it was.
+/// Copies the older store in one file into the store of another. The older file and its log are only read. Fails with
+/// the refusals of the store, and with `NotEmpty` if both names lead to one file, which stays as it was.
 ///
-/// It opens the older store before the other, and judges its tables after it opened the other. What it opens is a copy. An older file
-/// that has no bytes, or is missing, has no tables: it is neither opened nor made.
+/// It opens the older store before the other, and judges its tables after it opened the other. What it opens is a copy.
+/// An older file that has no bytes, or is missing, has no tables: it is neither opened nor made.
 pub(crate) fn migrate_file<T: Start, U: Start>(
     rt: &HostRuntime,
     from: &str,
@@ -68,8 +68,8 @@ fn is_one_file(rt: &HostRuntime, path: &str, other: &str) -> bool {
     path == other || is_same_file(rt, path, other)
 }
 
-/// Opens the store of a file, and then fails: with `NotEmpty` if it has more than `common`, and otherwise because there are no older
-/// tables.
+/// Opens the store of a file, and then fails: with `NotEmpty` if it has more than `common`, and otherwise because there
+/// are no older tables.
 fn migrate_nothing<U: Start>(
     rt: &HostRuntime,
     from: &str,
@@ -84,9 +84,9 @@ fn migrate_nothing<U: Start>(
     migrate_to(rt, from, &mut none, to, target)
 }
 
-/// Opens the store of a file and puts what an open older store has, whose file is at `from`, into it. Fails with the refusals of the
-/// store, and with `NotEmpty` if both names lead to one file.
-/// It is generic over the older store, because the checker runs out of steps with two file stores in one function.
+/// Opens the store of a file and puts what an open older store has, whose file is at `from`, into it. Fails with the
+/// refusals of the store, and with `NotEmpty` if both names lead to one file. It is generic over the older store,
+/// because the checker runs out of steps with two file stores in one function.
 fn migrate_to<S: Alter, U: Start>(
     rt: &HostRuntime,
     from: &str,

@@ -1,7 +1,7 @@
 //! A copy of the file of an older store, so that a migration writes to neither that file nor its log.
 //!
-//! sqlite opens the files of a store to write: it makes the log if there is none, and writes behind the last commit of a log that
-//! another program wrote. So it opens a copy, which stands beside the new store.
+//! sqlite opens the files of a store to write: it makes the log if there is none, and writes behind the last commit of
+//! a log that another program wrote. So it opens a copy, which stands beside the new store.
 
 use crate::unnamed::Unnamed;
 use os::RangeLock;
@@ -28,10 +28,10 @@ struct LockedFile {
 
 /// Copies the file at a path, and its log if there is one, into files beside the new store, and returns their names.
 ///
-/// It locks both files before it reads their first byte and until it has read their last, so no other program writes meanwhile. Fails
-/// with `Device` if another program has one of them open, if one can't be read or has a second name, if SQLite left a journal, or if
-/// the copy can't be written; if there is no room for a copy of a file that is no database, with `BadSchema`; and with `Memory` if
-/// memory runs out. Then it leaves no copy.
+/// It locks both files before it reads their first byte and until it has read their last, so no other program writes
+/// meanwhile. Fails with `Device` if another program has one of them open, if one can't be read or has a second name,
+/// if SQLite left a journal, or if the copy can't be written; if there is no room for a copy of a file that is no
+/// database, with `BadSchema`; and with `Memory` if memory runs out. Then it leaves no copy.
 pub(crate) fn copy_of(rt: &HostRuntime, path: &str, to: &str) -> Result<Unnamed, Refusal> {
     match copy_locked(rt, path, to) {
         Ok(copy) => Ok(copy),
@@ -82,8 +82,9 @@ fn is_log_as_found(rt: &HostRuntime, name: &str, log: &Option<LockedFile>) -> bo
     }
 }
 
-/// Opens a file of the older store and locks it: until it is dropped, no other program can open it to write. A file that may only be
-/// read is locked as a reader does. Fails if another program has it open, or if it is no file with one name.
+/// Opens a file of the older store and locks it: until it is dropped, no other program can open it to write. A file
+/// that may only be read is locked as a reader does. Fails if another program has it open, or if it is no file with one
+/// name.
 fn locked(rt: &HostRuntime, path: &str) -> io::Result<LockedFile> {
     // opening a pipe would wait for whoever writes to it
     if !fs::symlink_metadata(rt, path)?.is_file() {
@@ -128,8 +129,8 @@ pub(crate) fn is_missing(rt: &HostRuntime, path: &str) -> bool {
     }
 }
 
-/// Whether SQLite left a rollback journal to play back, which only it can do. It has nothing to play back if its first byte is missing
-/// or zero. Fails if the system does not say.
+/// Whether SQLite left a rollback journal to play back, which only it can do. It has nothing to play back if its first
+/// byte is missing or zero. Fails if the system does not say.
 fn has_journal(rt: &HostRuntime, path: &str) -> io::Result<bool> {
     let journal = format!(in rt.alloc(); "{path}-journal")?;
     match fs::symlink_metadata(rt, journal.as_str()) {
@@ -165,15 +166,16 @@ fn copy_both(
     copied
 }
 
-/// Whether a file is no database, whatever its copy would hold: it has no log, and does not begin as one does. Fails if it can't be read.
+/// Whether a file is no database, whatever its copy would hold: it has no log, and does not begin as one does. Fails if
+/// it can't be read.
 fn is_foreign(db: &LockedFile, log: &Option<LockedFile>) -> io::Result<bool> {
     let mut begins = [0; 16];
     let read = db.file.read_at(&mut begins, 0)?;
     Ok(log.is_none() && (read < 16 || begins != *MAGIC))
 }
 
-/// Copies a file into a new one, which only its owner may read. Fails if there is such a file already, or if the system fails; then it
-/// leaves no copy.
+/// Copies a file into a new one, which only its owner may read. Fails if there is such a file already, or if the system
+/// fails; then it leaves no copy.
 fn copy_file(rt: &HostRuntime, from: &LockedFile, to: &str) -> io::Result<()> {
     let copy = OpenOptions::new()
         .write(true)

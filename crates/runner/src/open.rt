@@ -17,8 +17,9 @@ use world::shelves::Shelves;
 
 /// Opens the store of a file for an action. Fails as `FileShelves::open_from` does.
 ///
-/// If there is neither the file nor its log, and the action only reads, it opens a new store in files that have no name, so that a
-/// mistyped name leaves none behind. What the action answers is the same: a new store has no key, so each publish gets a 404 there.
+/// If there is neither the file nor its log, and the action only reads, it opens a new store in files that have no
+/// name, so that a mistyped name leaves none behind. What the action answers is the same: a new store has no key, so
+/// each publish gets a 404 there.
 pub(crate) fn open_for<T: Start>(
     rt: &HostRuntime,
     path: &str,
@@ -42,7 +43,8 @@ fn only_reads(action: &Action) -> bool {
     )
 }
 
-/// Whether there is neither a file of this name nor a log beside it, which may be all that is left of a store. False if memory runs out.
+/// Whether there is neither a file of this name nor a log beside it, which may be all that is left of a store. False if
+/// memory runs out.
 fn is_unmade(rt: &HostRuntime, path: &str) -> bool {
     match format!(in rt.alloc(); "{path}-wal") {
         Ok(log) => is_missing(rt, path) && is_missing(rt, log.as_str()),

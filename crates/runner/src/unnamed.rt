@@ -1,5 +1,5 @@
-//! Files of a store that this run makes for itself. They lose their names as soon as they are open, so the system frees them when the
-//! run ends, however it ends.
+//! Files of a store that this run makes for itself. They lose their names as soon as they are open, so the system frees
+//! them when the run ends, however it ends.
 
 use std::hash::{BuildHasher, RandomState};
 use std::rt::HostRuntime;
@@ -13,8 +13,8 @@ pub(crate) struct Unnamed {
 }
 
 impl Unnamed {
-    /// Returns names in the folder of a file. They are short, because the file's own name may be as long as the system takes. Fails if
-    /// the system has no random number, or if memory runs out.
+    /// Returns names in the folder of a file. They are short, because the file's own name may be as long as the system
+    /// takes. Fails if the system has no random number, or if memory runs out.
     pub(crate) fn beside(rt: &HostRuntime, file: &str) -> io::Result<Unnamed> {
         let number = RandomState::new(rt)?.hash_one(&0u8);
         let path = match file.rsplit_once('/') {

@@ -29,7 +29,8 @@ InEachTwo source source_new fresh fresh_new P =
 
 -- ---- the calls `extract`, `extract_teams` and `copy`
 
--- the store still stands for each world that it stood for, and if a crash left one of two worlds, it still leaves one of the two
+-- the store still stands for each world that it stood for, and if a crash left one of two worlds, it still leaves one
+-- of the two
 pub record IsRead (old new : Shown) : Type 0 where
   pub honest : new.is_honest → old.is_honest
   pub stays : new.is_honest → (w : World) → old.stands w → new.stands w
@@ -39,8 +40,8 @@ pub record IsRead (old new : Shown) : Type 0 where
 abbrev pub IsUnfit : Result (Unit {0}) Refusal → Type 0
 IsUnfit result = (result ≡ Err refusal.NoTeam) ⊎ (result ≡ Err refusal.NotEmpty)
 
--- What a crash leaves of a fresh store after a call that leads it from the world x to the next one, wherever an earlier fault had left
--- it. It covers a crash in the middle of the call too, as `AfterCrash` of a call on an open store does.
+-- What a crash leaves of a fresh store after a call that leads it from the world x to the next one, wherever an earlier
+-- fault had left it. It covers a crash in the middle of the call too, as `AfterCrash` of a call on an open store does.
 pub record AfterFill (old new : Shown) (x : World) (result : Result (Unit {0}) Refusal) (next : World) : Type 0 where
   -- if a crash before the call left only x, one after it leaves x or the next world
   pub either : old.leaves x x → new.leaves x next

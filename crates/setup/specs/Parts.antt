@@ -107,7 +107,8 @@ is_written (Err e) = false
 
 -- ---- the rows
 
--- Rows are put into a fresh store inside a transaction of it. If the call is done, `Makes` relates the tables before and after.
+-- Rows are put into a fresh store inside a transaction of it. If the call is done, `Makes` relates the tables before
+-- and after.
 pub record Puts (Makes : Trees → Trees → Type 0) (fresh fresh_new : State) (done : Bool) : Type 0 where
   pub goes_on : GoesOn fresh fresh_new done
   pub makes : HasCleanDisk fresh_new → Filling fresh → IsTrue done → Makes fresh.now.trees fresh_new.now.trees × Filling fresh_new
@@ -123,7 +124,8 @@ CopiesRows rows.Keys shelf = OfWorlds (CopiesKeys shelf)
 CopiesRows rows.Versions shelf = CopiesVersions shelf
 CopiesRows rows.Pieces shelf = CopiesPieces shelf
 
--- if the source means w, and the fresh tables stood for `common` alone, they come to mean w with only these shelves and `common`
+-- if the source means w, and the fresh tables stood for `common` alone, they come to mean w with only these shelves and
+-- `common`
 abbrev pub MakesPart : List Shelf → Trees → Trees → Trees → Type 0
 MakesPart shelves source db after =
     (w : World) → Means source w → IsWorld w → AreShelves w shelves
@@ -131,8 +133,8 @@ MakesPart shelves source db after =
 
 -- ---- the calls `extract`, `extract_teams` and `copy`
 
--- What the result of copying shelves into a store of x says: it is done, or why it is refused, or memory ran out or a device failed.
--- `NoTeam` comes before `NotEmpty`.
+-- What the result of copying shelves into a store of x says: it is done, or why it is refused, or memory ran out or a
+-- device failed. `NoTeam` comes before `NotEmpty`.
 abbrev pub Tells : Type 0 → World → Result (Unit {0}) Refusal → Type 0
 Tells There x (Ok u) = There × (x ≡ only_common)
 Tells There x (Err refusal.NoTeam) = ¬ There
@@ -141,15 +143,16 @@ Tells There x (Err refusal.BadSchema) = ⊥
 Tells There x (Err refusal.Device) = Unit {0}
 Tells There x (Err refusal.Memory) = Unit {0}
 
--- The fresh store stands for the next world if the call returns Ok, and for what it stood for otherwise, and a crash may follow.
+-- The fresh store stands for the next world if the call returns Ok, and for what it stood for otherwise, and a crash
+-- may follow.
 pub record FillsAt (old new : Shown) (There : Type 0) (next x : World) (result : Result (Unit {0}) Refusal) : Type 0 where
   pub tells : Tells There x result
   pub ok : OnOk result (new.stands next)
   pub err : OnErr result (new.stands x)
   pub crash : AfterFill old new x result next
 
--- For each world of the source and each of the fresh store, `FillsAt` holds, if the disks have returned what was written. The
--- source is only read, and so is the fresh store if `IsUnfit` holds of the result.
+-- For each world of the source and each of the fresh store, `FillsAt` holds, if the disks have returned what was
+-- written. The source is only read, and so is the fresh store if `IsUnfit` holds of the result.
 pub record FillsBy (There : World → Type 0) (next : World → World)
     (source source_new fresh fresh_new : Shown) (result : Result (Unit {0}) Refusal) : Type 0 where
   pub reads : IsRead source source_new

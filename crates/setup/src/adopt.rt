@@ -16,8 +16,8 @@ use tables::create::create;
 use tables::fit::stand_for_world;
 use tables::schema::is_no_schema;
 
-/// Tests the tables of a connection. Fails with `BadSchema` if they are not those of the schema or stand for no world, with
-/// `Memory` if memory ran out, and with `Device` otherwise.
+/// Tests the tables of a connection. Fails with `BadSchema` if they are not those of the schema or stand for no world,
+/// with `Memory` if memory ran out, and with `Device` otherwise.
 fn find_tables<S: Alter>(alloc: Global, conn: &mut Connection<S>) -> Result<(), Refusal>
     ensures clean { doubt (state S.Store conn.old).is_clean ≤ doubt (state S.Store conn.new).is_clean }
     ensures refused { IfErr result IsOfOpening }
@@ -65,9 +65,9 @@ fn make_tables<S: Alter>(conn: &mut Connection<S>) -> Result<(), Refusal>
     }
 }
 
-/// Finds the tables of a connection, or makes them if it has none. Fails with `BadSchema` if the tables are not those of the
-/// schema or stand for no world, with `Memory` if memory ran out, and with `Device` otherwise. A connection in a transaction is
-/// refused with `Device`.
+/// Finds the tables of a connection, or makes them if it has none. Fails with `BadSchema` if the tables are not those
+/// of the schema or stand for no world, with `Memory` if memory ran out, and with `Device` otherwise. A connection in a
+/// transaction is refused with `Device`.
 pub fn open_tables<S: Alter>(alloc: Global, conn: &mut Connection<S>) -> Result<(), Refusal>
     ensures clean { doubt (state S.Store conn.old).is_clean ≤ doubt (state S.Store conn.new).is_clean }
     ensures refused { IfErr result IsOfOpening }

@@ -85,7 +85,8 @@ fn list_teams<S: Alter>(
     Ok(Some(list))
 }
 
-/// Returns the shelves other than `common` to copy, or None if teams are wanted and none is named or a name is not a team's.
+/// Returns the shelves other than `common` to copy, or None if teams are wanted and none is named or a name is not a
+/// team's.
 pub(crate) fn choose<S: Alter>(
     alloc: Global,
     source: &mut Connection<S>,

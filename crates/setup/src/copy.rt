@@ -14,8 +14,8 @@ use sqlite::{Alter, Connection};
 use statements::extract_rows::CopyError;
 use std::alloc::Global;
 
-/// Copies the wanted shelves into a fresh store, if they exist and the store has only `common`, and returns the verdict. Fails
-/// with `Source` or `Fresh`, by the store that failed.
+/// Copies the wanted shelves into a fresh store, if they exist and the store has only `common`, and returns the
+/// verdict. Fails with `Source` or `Fresh`, by the store that failed.
 pub fn copy_shelves<S: Alter, F: Alter>(
     alloc: Global,
     source: &mut Connection<S>,

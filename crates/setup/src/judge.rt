@@ -1,4 +1,5 @@
-//! Judges whether shelves may be copied into a fresh store: the wanted teams exist, and the fresh store has only `common`.
+//! Judges whether shelves may be copied into a fresh store: the wanted teams exist, and the fresh store has only
+//! `common`.
 
 ghost use Rattle.std.specs.Prelude.{◌≡◌, Decides, IfOk, IsTrue};
 ghost use Rattle.sqlite.specs.Held.{state};

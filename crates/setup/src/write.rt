@@ -90,8 +90,8 @@ fn copy_along<S: Alter, F: Alter>(
     Ok(())
 }
 
-/// Fills a store that has only `common`: writes the rows of these shelves, each after its parent, and copies the keys, the
-/// versions and the zips of `common` and of these shelves.
+/// Fills a store that has only `common`: writes the rows of these shelves, each after its parent, and copies the keys,
+/// the versions and the zips of `common` and of these shelves.
 fn fill<S: Alter, F: Alter>(
     source: &mut Connection<S>,
     shelves: &ShelfList,
@@ -112,8 +112,8 @@ fn fill<S: Alter, F: Alter>(
     copy_along(source, Rows::Pieces, shelves, tx)
 }
 
-/// Writes these shelves and `common` into a store that has only `common`, all or nothing. Fails with `Source` or `Fresh`, by
-/// the store that failed.
+/// Writes these shelves and `common` into a store that has only `common`, all or nothing. Fails with `Source` or
+/// `Fresh`, by the store that failed.
 pub(crate) fn write_part<S: Alter, F: Alter>(
     source: &mut Connection<S>,
     shelves: &ShelfList,

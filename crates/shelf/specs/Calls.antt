@@ -7,7 +7,8 @@ use Rattle.shelf.specs.declared.asked.Method.{Method}
 use Rattle.shelf.specs.declared.asked.Method.TheVariants as method
 use Rattle.shelf.specs.declared.asked.Outcome.{Outcome}
 
--- What a call asks: with which key or of which shelf, at which path and of which version. A text is empty where the method takes none.
+-- What a call asks: with which key or of which shelf, at which path and of which version. A text is empty where the
+-- method takes none.
 pub record Question : Type 0 where
   pub method : Method
   pub of : List ℕ

@@ -30,8 +30,8 @@ abbrev pub UnknownNeedsNothing : Type 0
 UnknownNeedsNothing =
     (w : World) (k : List ℕ) (a : Ask) → key_of a ≡ Some k → map.get w.keys k ≡ None → needs w a ≡ Told (of_key k) ∷ []
 
--- In worlds that are the same to s, a request with a key of a shelf that s sees needs the same: what is asked, of which shelf, at
--- which path and version, and in which order.
+-- In worlds that are the same to s, a request with a key of a shelf that s sees needs the same: what is asked, of which
+-- shelf, at which path and version, and in which order.
 abbrev pub NeedsAreAlike : Type 0
 NeedsAreAlike =
     (w x : World) (s t k : List ℕ) (a : Ask) → IsWorld w → IsWorld x → Low w x s → sees w s t ≡ true → belongs w k t → key_of a ≡ Some k
@@ -42,8 +42,8 @@ abbrev pub AreRefusedBy : (Question → Option StoreFault) → List Call → Typ
 AreRefusedBy refuses [] = Unit {0}
 AreRefusedBy refuses (c ∷ calls) = (c.fault ≡ refuses c.question) × AreRefusedBy refuses calls
 
--- From worlds that are the same to s, over two stores that refuse the same questions, a request with a key of a shelf that s sees
--- meets the same fault, or none in both, unless memory of its own ran out in one.
+-- From worlds that are the same to s, over two stores that refuse the same questions, a request with a key of a shelf
+-- that s sees meets the same fault, or none in both, unless memory of its own ran out in one.
 abbrev pub FaultsAreAlike : Type 0
 FaultsAreAlike =
     (w x : World) (s t k : List ℕ) (a : Ask) (refuses : Question → Option StoreFault) (old new old_too new_too : History)

@@ -38,8 +38,9 @@ IsFound (reply.Zip b) = Unit {0}
 IsFound (reply.Info v time) = Unit {0}
 IsFound r = ⊥
 
--- Once a query of one version with a key of s has found it, then after any events the query with any key that then belongs to s
--- gets an equal reply, or meets a fault. A run may be cut at any event, so this holds from each event of a run on.
+-- Once a query of one version with a key of s has found it, then after any events the query with any key that then
+-- belongs to s gets an equal reply, or meets a fault. A run may be cut at any event, so this holds from each event of a
+-- run on.
 abbrev pub StaysServed : Type 0
 StaysServed =
     (old mid new : World) (s k later : List ℕ) (q : Query) (r : Reply) (events : List Event) (answers : List Answer) (a : Answer)
@@ -61,8 +62,8 @@ asks_back p b (query.Zip path version) r = (path ≡ p.path) × (version ≡ p.v
 asks_back p b (query.Info path version) r = (path ≡ p.path) × (version ≡ p.version) × (r ≡ reply.Info version (entry_of p b).time)
 asks_back p b q r = ⊥
 
--- Once a publish with a key of s was accepted, then after any events each key that belongs to s gets its go.mod, its zip and
--- its time, or meets a fault.
+-- Once a publish with a key of s was accepted, then after any events each key that belongs to s gets its go.mod, its
+-- zip and its time, or meets a fault.
 abbrev pub AcceptedIsServed : Type 0
 AcceptedIsServed =
     (old mid new : World) (s k later : List ℕ) (p : Publish) (b : Body) (d : Decision)
@@ -94,8 +95,9 @@ abbrev pub AllSameOrFailed : List Answer → Type 0
 AllSameOrFailed [] = Unit {0}
 AllSameOrFailed (a ∷ answers) = ((a ≡ Replied (reply.Decided Same)) ⊎ IsFailed a) × AllSameOrFailed answers
 
--- Once each publish of a list with a key of s was accepted, then after any events the list with a key that may then publish to s
--- changes nothing, and each of its publishes gets the answer that an equal entry is there already, or meets a fault.
+-- Once each publish of a list with a key of s was accepted, then after any events the list with a key that may then
+-- publish to s changes nothing, and each of its publishes gets the answer that an equal entry is there already, or
+-- meets a fault.
 abbrev pub RepeatedListChangesNothing : Type 0
 RepeatedListChangesNothing =
     (old mid later new : World) (s k again : List ℕ) (ps : List Publish) (events : List Event) (accepted told repeated : List Answer)

@@ -66,9 +66,9 @@ pub record Agree (w x : World) (ss : List (List ℕ)) : Type 0 where
   pub shelves : w.shelves ≡ x.shelves
   pub seen : (t : List ℕ) → is_among ss t ≡ true → (p v : List ℕ) → map.get w.entries (place t p v) ≡ map.get x.entries (place t p v)
 
--- A shelf gets the replies that it would get without the requests made with keys of shelves that it does not see: in each run,
--- the replies to the remaining events are those of the machine over the purged list, from this world or from one that agrees with it
--- on what the shelf sees. The worlds after them agree again.
+-- A shelf gets the replies that it would get without the requests made with keys of shelves that it does not see: in
+-- each run, the replies to the remaining events are those of the machine over the purged list, from this world or from
+-- one that agrees with it on what the shelf sees. The worlds after them agree again.
 abbrev pub IsIsolated : Type 0
 IsIsolated =
     (old old_too new : World) (s : List ℕ) (events : List Event) (answers : List Answer) → IsWorld old → Agree old old_too (chain new s)
@@ -105,8 +105,9 @@ PurgeIsTheSame =
     → RemainingAnswered old (chain new s) events answers
     → purge old (chain new s) events ≡ purge old (chain new s) (answered events answers)
 
--- From worlds that agree on what the shelf sees, a run over a list and a run without faults over the purged list answer the remaining
--- events alike, if none of these met a fault, and end in worlds that agree. Faults of the other events do not matter.
+-- From worlds that agree on what the shelf sees, a run over a list and a run without faults over the purged list answer
+-- the remaining events alike, if none of these met a fault, and end in worlds that agree. Faults of the other events do
+-- not matter.
 abbrev pub PurgedRunsAgree : Type 0
 PurgedRunsAgree =
     (old old_too new new_too : World) (s : List ℕ) (events : List Event) (answers purged : List Answer) → IsWorld old
@@ -114,8 +115,8 @@ PurgedRunsAgree =
     → Run old_too (purge old (chain new s) events) purged new_too → AllReplied purged
     → (marked (remaining old (chain new s) events) answers ≡ purged) × Agree new new_too (chain new s)
 
--- Two runs from one world, after which a shelf sees the same shelves and whose answered events are equal once purged, give the
--- remaining events equal replies.
+-- Two runs from one world, after which a shelf sees the same shelves and whose answered events are equal once purged,
+-- give the remaining events equal replies.
 abbrev pub FaultyRunsAgree : Type 0
 FaultyRunsAgree =
     (old one two : World) (s : List ℕ) (first second : List Event) (told heard : List Answer) → IsWorld old
@@ -159,8 +160,8 @@ AgreeIsLow =
     (w x : World) (s : List ℕ) → chain w s ≡ chain x s
     → Agree w x (chain w s) ↔ (Low w x s × (w.keys ≡ x.keys) × (w.shelves ≡ x.shelves))
 
--- In worlds that are the same to s, a request with a key of a shelf that s sees gets equal replies, and leads to worlds that are
--- again the same to s.
+-- In worlds that are the same to s, a request with a key of a shelf that s sees gets equal replies, and leads to worlds
+-- that are again the same to s.
 abbrev pub IsBlind : Type 0
 IsBlind =
     (w x : World) (s t k : List ℕ) (a : Ask) → IsWorld w → IsWorld x → Low w x s → sees w s t ≡ true → belongs w k t → key_of a ≡ Some k

@@ -159,8 +159,8 @@ abbrev pub is_other : Standing → Bool
 is_other standing.Other = true
 is_other there = false
 
--- the checks against what stands, each with its answer: how the entry compares with what the shelf sees, and how many versions
--- of the path stand on the shelf
+-- the checks against what stands, each with its answer: how the entry compares with what the shelf sees, and how many
+-- versions of the path stand on the shelf
 abbrev pub shelf_checks : Standing → ℕ → List (Bool × Decision)
 shelf_checks there n =
     (is_same there, Same)
@@ -312,8 +312,8 @@ abbrev pub after_all : World → List Event → World
 after_all w [] = w
 after_all w (e ∷ es) = after_all (after w e) es
 
--- From old, these events may get these answers and lead to new: an event that met a store fault changes nothing, and each other
--- event is answered as the machine answers it.
+-- From old, these events may get these answers and lead to new: an event that met a store fault changes nothing, and
+-- each other event is answered as the machine answers it.
 abbrev pub Run : World → List Event → List Answer → World → Type 0
 Run old [] [] new = new ≡ old
 Run old (e ∷ es) (Replied r ∷ answers) new = (r ≡ reply_to old e) × Run (after old e) es answers new

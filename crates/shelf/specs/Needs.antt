@@ -62,7 +62,8 @@ abbrev pub unless_refused : Option Decision → List Need → List Need
 unless_refused None ns = ns
 unless_refused (Some d) ns = []
 
--- what the checks of a publish by a holder need: none looks at the store before the publish and its go.mod pass by themselves
+-- what the checks of a publish by a holder need: none looks at the store before the publish and its go.mod pass by
+-- themselves
 abbrev pub check_needs : Holder → Publish → List Need
 check_needs h p =
     unless_refused (first_failing (request_checks p (Some h.right)))
@@ -80,14 +81,15 @@ publish_needs w (Some h) p = check_needs h p ++ store_needs h p (decision w (Som
 
 -- ---- a request
 
--- What a request needs in this world, in order: first the answer to its key, then only answers of the shelf that holds the key.
+-- What a request needs in this world, in order: first the answer to its key, then only answers of the shelf that holds
+-- the key.
 abbrev pub needs : World → Ask → List Need
 needs w Unreadable = []
 needs w (Get k q) = Told (of_key k) ∷ keyed_needs w (map.get w.keys k) q
 needs w (Put k p) = Told (of_key k) ∷ publish_needs w (map.get w.keys k) p
 
--- From the old history to the new one these needs were met in order, up to one that was refused, if one was. A fault is that of the
--- need which was refused, and nothing was asked after it.
+-- From the old history to the new one these needs were met in order, up to one that was refused, if one was. A fault is
+-- that of the need which was refused, and nothing was asked after it.
 abbrev pub Meets : History → History → List Need → Option StoreFault → Type 0
 Meets old new [] met = (new ≡ old) × (met ≡ None)
 Meets old new (Room ∷ ns) met = Meets old new ns met ⊎ ((new ≡ old) × (met ≡ Some Memory))

@@ -24,19 +24,21 @@ PartIsLow = (w : World) (s : List ℕ) → IsWorld w → Low w (part w s) s
 abbrev pub IsOwn : World → List ℕ → Event → Type 0
 IsOwn w s e = (k : List ℕ) × (h : Holder) × (asking_key e ≡ Some k) × (map.get w.keys k ≡ Some h) × (sees w s h.shelf ≡ true)
 
--- Each event is a request with a key of a shelf that s sees. No request changes what a key holds, so this holds at its moment too.
+-- Each event is a request with a key of a shelf that s sees. No request changes what a key holds, so this holds at its
+-- moment too.
 abbrev pub AllOwn : World → List ℕ → List Event → Type 0
 AllOwn w s [] = Unit {0}
 AllOwn w s (e ∷ es) = IsOwn w s e × AllOwn w s es
 
--- In worlds that are the same to s, a list of such requests gets equal replies, and leads to worlds that are again the same to s.
+-- In worlds that are the same to s, a list of such requests gets equal replies, and leads to worlds that are again the
+-- same to s.
 abbrev pub IsBlindThroughout : Type 0
 IsBlindThroughout =
     (w x : World) (s : List ℕ) (es : List Event) → IsWorld w → IsWorld x → Low w x s → AllOwn w s es
     → (replies w es ≡ replies x es) × Low (after_all w es) (after_all x es) s
 
--- A run over the world and a run over what s sees of it give equal replies, if their answered events are equal and are requests
--- with keys of shelves that s sees.
+-- A run over the world and a run over what s sees of it give equal replies, if their answered events are equal and are
+-- requests with keys of shelves that s sees.
 abbrev pub PartTellsTheSame : Type 0
 PartTellsTheSame =
     (w new other : World) (s : List ℕ) (first second : List Event) (told heard : List Answer) → IsWorld w

@@ -102,7 +102,7 @@ pub record IsUnread (known : Keywords) (w : World) (e : Event) : Type 0 where
   pub line : ℕ
   pub refused : reply_by known w e ≡ reply.Decided (Refused (refusal.BadGoMod line))
 
--- In a world of the first profile, the second answers each event as the first does, except a publish whose go.mod the first does
--- not read.
+-- In a world of the first profile, the second answers each event as the first does, except a publish whose go.mod the
+-- first does not read.
 abbrev pub Profile2KeepsAnswers : Type 0
 Profile2KeepsAnswers = (w : World) (e : Event) → IsWorldBy profile_1 w → AnswersAlike profile_1 profile_2 w e ⊎ IsUnread profile_1 w e

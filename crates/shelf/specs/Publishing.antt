@@ -18,7 +18,8 @@ AnswersPut old new result k p = Does old new result (λ w. put_decision w k p) (
 abbrev pub HasShelf : Holder → World → Type 0
 HasShelf h w = map.contains_key w.shelves h.shelf ≡ true
 
--- If the shelf of the key exists, the call returns the decision on a publish by its holder, and stores what is published.
+-- If the shelf of the key exists, the call returns the decision on a publish by its holder, and stores what is
+-- published.
 abbrev pub PublishesTo : Shown → Shown → Result Decision StoreFault → Holder → Publish → Type 0
 PublishesTo old new result h p = DoesWhere (HasShelf h) old new result (λ w. decision w (Some h) p) (λ w. after_publish w (Some h) p)
 

@@ -25,8 +25,8 @@ IsPending w (e ∷ es) (Replied r ∷ answers) x = IsPending (after w e) es answ
 IsPending w (e ∷ es) (Failed fault ∷ answers) x = ((x ≡ after w e) × AllKeep w es answers) ⊎ IsPending w es answers x
 IsPending w es answers x = ⊥
 
--- If a crash before the events left the first world or x, a crash after them leaves the world at the end or y: y may be that
--- world itself, a pending one, or x if no answered event changed the world.
+-- If a crash before the events left the first world or x, a crash after them leaves the world at the end or y: y may be
+-- that world itself, a pending one, or x if no answered event changed the world.
 abbrev pub MayLeave : World → List Event → List Answer → World → World → Type 0
 MayLeave w events answers x y =
     (y ≡ world_after w events answers) ⊎ (IsPending w events answers y ⊎ ((y ≡ x) × AllKeep w events answers))
@@ -35,10 +35,11 @@ MayLeave w events answers x y =
 pub record RunsAt (old new : Shown) (w : World) (events : List Event) (answers : List Answer) : Type 0 where
   pub run : Run w events answers (world_after w events answers)
   pub ends : new.stands (world_after w events answers)
-  -- if a crash left only this world before, and no event that would have changed the world met a fault, it leaves only the one at
-  -- the end
+  -- if a crash left only this world before, and no event that would have changed the world met a fault, it leaves only
+  -- the one at the end
   pub left : AnsweredOrIdle w events answers → old.leaves w w → new.leaves (world_after w events answers) (world_after w events answers)
-  -- after an answered change, if no later change met a fault, a crash leaves only the world at the end, whatever it left before
+  -- after an answered change, if no later change met a fault, a crash leaves only the world at the end, whatever it
+  -- left before
   pub settled : Settles w events answers → new.leaves (world_after w events answers) (world_after w events answers)
   -- whatever events met a fault, a crash leaves the world at the end or one other
   pub beside : (x : World) → old.leaves w x → (y : World) × new.leaves (world_after w events answers) y × MayLeave w events answers x y

@@ -1,5 +1,6 @@
--- The machine that knows no groups: of each version a shelf sees its own entry if there is one, otherwise that of common.
--- Each definition has the name of the one for worlds with groups, in Machine or in the crate `world`, and its meaning.
+-- The machine that knows no groups: of each version a shelf sees its own entry if there is one, otherwise that of
+-- common. Each definition has the name of the one for worlds with groups, in Machine or in the crate `world`, and its
+-- meaning.
 use Rattle.std.specs.Prelude.{ℕ, ◌≡◌, List, [], ◌∷◌, ◌&&◌, not, if◌then◌else◌, Option, Some, None, bytes_eq, option_map, map as map_list}
 use Rattle.std.specs.Option.{option_or}
 use Rattle.std.specs.FinMap as map
@@ -188,15 +189,15 @@ pub record IsOf (u : Ungrouped) (w : World) : Type 0 where
 abbrev pub EachIsOfOne : Type 0
 EachIsOfOne = (w : World) → HasNoGroup w → (u : Ungrouped) × IsOf u w
 
--- In a world without groups, the machine replies to each of these events as this one does, and leads to the same keys, shelf
--- names and entries, again without groups.
+-- In a world without groups, the machine replies to each of these events as this one does, and leads to the same keys,
+-- shelf names and entries, again without groups.
 abbrev pub RepliesWithoutGroups : Type 0
 RepliesWithoutGroups =
     (u : Ungrouped) (w : World) (e : Event) → IsWorld w → IsOf u w
     → (machine.reply_to w (event_in e) ≡ reply_to u e) × IsOf (after u e) (machine.after w (event_in e))
 
--- In a world without groups, the machine replies to each list of these events as this one does, and leads to the same keys,
--- shelf names and entries, again without groups.
+-- In a world without groups, the machine replies to each list of these events as this one does, and leads to the same
+-- keys, shelf names and entries, again without groups.
 abbrev pub ListsWithoutGroups : Type 0
 ListsWithoutGroups =
     (u : Ungrouped) (w : World) (es : List Event) → IsWorld w → IsOf u w

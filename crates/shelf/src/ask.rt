@@ -9,8 +9,8 @@ use text::Text;
 use world::bytes::Bytes;
 use world::entry::{EntryRef, Right};
 
-/// What a GET asks of the machine (Go Modules Reference, "GOPROXY protocol"). `wire::Resource` is what a target names: it also
-/// has the go.sum line, which `engine` makes from the go.mod.
+/// What a GET asks of the machine (Go Modules Reference, "GOPROXY protocol"). `wire::Resource` is what a target names:
+/// it also has the go.sum line, which `engine` makes from the go.mod.
 #[derive(Drop)]
 pub enum Query {
     /// The go.mod of a version.

@@ -57,7 +57,8 @@ pub trait Asked {
         ensures reads { Reads (shown self.old) (shown self.new) result (λ w. map.get w.keys key.now) }
         ensures asks { asked self.new ≡ noted (asked self.old) (of_key key.now) (fault_of result) };
 
-    /// Returns the entry of the version that the shelf sees, with the shelf that it stands on, or None if the shelf sees none.
+    /// Returns the entry of the version that the shelf sees, with the shelf that it stands on, or None if the shelf
+    /// sees none.
     fn entry(
         &mut self,
         shelf: &str,
@@ -94,7 +95,8 @@ pub trait Asked {
         ensures asks { asked self.new
             ≡ noted (asked self.old) (comparison shelf.now path.now version.now) (fault_of result) };
 
-    /// Returns the versions of the path that the shelf sees, each once, in ascending precedence. (SemVer 2.0.0, section 11.)
+    /// Returns the versions of the path that the shelf sees, each once, in ascending precedence. (SemVer 2.0.0, section
+    /// 11.)
     fn versions(&mut self, shelf: &str, path: &ModulePath) -> Result<Versions, StoreFault>
         ensures reads { Reads (shown self.old) (shown self.new) result (λ w. versions_of w shelf.now path.now) }
         ensures asks { asked self.new ≡ noted (asked self.old) (versions_at shelf.now path.now) (fault_of result) };

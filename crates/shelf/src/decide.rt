@@ -9,9 +9,10 @@ use world::entry_test::{Misfit, module_misfit, own_misfit};
 use world::reading::Reading;
 use world::standing::Standing;
 
-/// Returns the outcome of the checks of a publish, in their order. The checks take the right of the key (None for an unknown key),
-/// the go.mod as it was read, how the entry compares with what the shelf sees, and how many versions of the path stand on the
-/// shelf. It needs a go.mod that was read; [`request_refusal`] has the checks that come before that. Allocates nothing.
+/// Returns the outcome of the checks of a publish, in their order. The checks take the right of the key (None for an
+/// unknown key), the go.mod as it was read, how the entry compares with what the shelf sees, and how many versions of
+/// the path stand on the shelf. It needs a go.mod that was read; [`request_refusal`] has the checks that come before
+/// that. Allocates nothing.
 pub fn decide(
     publish: &Publish,
     right: Option<Right>,
@@ -52,8 +53,8 @@ fn decision_of(misfit: Misfit) -> Decision
     }
 }
 
-/// Returns the answer of the first check that fails among those of the publish alone, or None if all pass. Allocates nothing.
-/// None of these checks looks at a store, so a publish by a reader reads no entry and no count.
+/// Returns the answer of the first check that fails among those of the publish alone, or None if all pass. Allocates
+/// nothing. None of these checks looks at a store, so a publish by a reader reads no entry and no count.
 pub fn request_refusal(publish: &Publish, right: Option<Right>) -> Option<Decision>
     ensures { result ≡ spec.first_failing (spec.request_checks publish.now right) }
 {
@@ -92,8 +93,8 @@ fn entry_refusal(publish: &Publish) -> Option<Decision>
     None
 }
 
-/// Whether something is given that is no single well-formed time. A `TimeText` is always well formed; the definition checks it
-/// anyway, so that the laws over raw events need no premise.
+/// Whether something is given that is no single well-formed time. A `TimeText` is always well formed; the definition
+/// checks it anyway, so that the laws over raw events need no premise.
 fn is_bad_time(given: GivenTime) -> bool
     ensures exact { result ≡ spec.is_bad_time given }
     ensures malformed { result ≡ true → given ≡ GivenTime.Malformed }
@@ -108,8 +109,8 @@ fn is_bad_time(given: GivenTime) -> bool
     }
 }
 
-/// Proves that the path and the version are well formed, as their types promise. The definition checks them anyway, so that
-/// the laws over raw events need no premise.
+/// Proves that the path and the version are well formed, as their types promise. The definition checks them anyway, so
+/// that the laws over raw events need no premise.
 #[tactic(auto, unfolding(modver::specs::SemanticVersion::has_text))]
 fn well_formed(publish: &Publish)
     ensures { spec.is_readable publish.now ≡ true }
@@ -118,8 +119,8 @@ fn well_formed(publish: &Publish)
     let _version = publish.version.as_str();
 }
 
-/// Returns the outcome of the checks against what stands, from how the entry compares with what the shelf sees and how many
-/// versions of the path stand on the shelf. Allocates nothing.
+/// Returns the outcome of the checks against what stands, from how the entry compares with what the shelf sees and how
+/// many versions of the path stand on the shelf. Allocates nothing.
 pub(crate) fn decide_by_shelf(standing: Standing, count: u64) -> Decision
     ensures { result ≡ spec.decided_by_shelf standing count }
 {

@@ -16,9 +16,9 @@ use world::reading::Reading;
 use world::registry::StoreFault;
 use world::standing::Standing;
 
-/// Returns the outcome of the checks of a publish by the holder of a key. Reads no entry if the publish or its go.mod is
-/// refused by itself. Fails with `Device` if a device failed, and with `Memory` if memory ran out.
-/// `own_refusal` and `judge_by_shelf` are two functions, so that the prover can refuse a wrong body of either.
+/// Returns the outcome of the checks of a publish by the holder of a key. Reads no entry if the publish or its go.mod
+/// is refused by itself. Fails with `Device` if a device failed, and with `Memory` if memory ran out. `own_refusal` and
+/// `judge_by_shelf` are two functions, so that the prover can refuse a wrong body of either.
 pub fn judge<S: Asked>(
     alloc: Global,
     shelves: &mut S,
@@ -56,7 +56,8 @@ fn own_refusal(
     }
 }
 
-/// Returns the result of reading the go.mod of a publish, or None if the publish has none. Fails only if memory runs out.
+/// Returns the result of reading the go.mod of a publish, or None if the publish has none. Fails only if memory runs
+/// out.
 fn read_gomod(alloc: Global, publish: &Publish) -> Result<Option<Reading>, AllocError>
     ensures { IfOk result (λ r. r ≡ spec.gomod_of publish.now) }
 {

@@ -22,21 +22,23 @@ pub fn chains()
     ensures { ChainsStay }
 {}
 
-/// A shelf gets the replies that it would get without the requests made with keys of shelves that it does not see, from this
-/// world or from one that agrees with it on the registry and on what the shelf sees. The worlds after both agree again, so the
-/// law also holds of what follows.
+/// A shelf gets the replies that it would get without the requests made with keys of shelves that it does not see, from
+/// this world or from one that agrees with it on the registry and on what the shelf sees. The worlds after both agree
+/// again, so the law also holds of what follows.
 pub fn isolation()
     ensures { IsIsolated }
 {}
 
-/// A run over all events and a run over the purged list answer the remaining events alike, unless one of these met a fault, and
-/// end in worlds that agree. Two runs whose answered events are equal after the purge give the remaining ones equal replies.
+/// A run over all events and a run over the purged list answer the remaining events alike, unless one of these met a
+/// fault, and end in worlds that agree. Two runs whose answered events are equal after the purge give the remaining
+/// ones equal replies.
 pub fn runs_agree()
     ensures purged { PurgedRunsAgree }
     ensures faulty { FaultyRunsAgree }
 {}
 
-/// A purge removes exactly the requests whose key belongs, at their moment, to a shelf that the caller's shelf does not see.
+/// A purge removes exactly the requests whose key belongs, at their moment, to a shelf that the caller's shelf does not
+/// see.
 pub fn purge()
     ensures length { MarksAreAsLong }
     ensures moment { MarksAreAtTheirMoment }
@@ -44,15 +46,15 @@ pub fn purge()
     ensures same { PurgeIsTheSame }
 {}
 
-/// A key of a shelf that another shelf sees gets equal replies in all worlds that are the same to that other shelf. Two such
-/// worlds agree exactly if they have one registry.
+/// A key of a shelf that another shelf sees gets equal replies in all worlds that are the same to that other shelf. Two
+/// such worlds agree exactly if they have one registry.
 pub fn blindness()
     ensures alike { IsBlind }
     ensures agree { AgreeIsLow }
 {}
 
-/// Keys of the shelves that a shelf sees get equal replies from a world and from the part of it that this shelf sees, through
-/// whole runs. Any other key gets a not-found reply from the part.
+/// Keys of the shelves that a shelf sees get equal replies from a world and from the part of it that this shelf sees,
+/// through whole runs. Any other key gets a not-found reply from the part.
 pub fn parts()
     ensures low { PartIsLow }
     ensures throughout { IsBlindThroughout }
@@ -60,8 +62,8 @@ pub fn parts()
     ensures others { OthersAreNotFound }
 {}
 
-/// Once a GET of one version has found it, each later GET of it with a key that then belongs to the shelf gets an equal reply,
-/// or meets a fault.
+/// Once a GET of one version has found it, each later GET of it with a key that then belongs to the shelf gets an equal
+/// reply, or meets a fault.
 pub fn immutability()
     ensures { StaysServed }
 {}
@@ -111,24 +113,25 @@ pub fn latest_version()
 {}
 
 /// In a world whose go.mods the first profile reads, the second answers each event as the first does and leads to the
-/// same world, except that it may give another answer to a publish whose go.mod the first does not read. The machine that
-/// reads by the profile in force is the machine of this crate.
+/// same world, except that it may give another answer to a publish whose go.mod the first does not read. The machine
+/// that reads by the profile in force is the machine of this crate.
 pub fn profile_2_keeps_answers()
     ensures in_force { ProfileInForceIsTheMachine }
     ensures answers { Profile2KeepsAnswers }
 {}
 
-/// In a world without groups, the machine replies to an event that names no group, and to a list of such events, as a machine
-/// that knows no groups. There a shelf sees of each version its own entry if there is one, otherwise that of `common`.
+/// In a world without groups, the machine replies to an event that names no group, and to a list of such events, as a
+/// machine that knows no groups. There a shelf sees of each version its own entry if there is one, otherwise that of
+/// `common`.
 pub fn without_groups()
     ensures worlds { EachIsOfOne }
     ensures event { RepliesWithoutGroups }
     ensures list { ListsWithoutGroups }
 {}
 
-/// After its key, a request asks only the shelf that holds it. In all worlds that are the same to a shelf, a request with a key of
-/// a shelf that it sees asks the same, in one order; and over stores that refuse the same questions it meets the same fault, unless
-/// memory for its own text ran out. So a 503 tells nothing of what others keep.
+/// After its key, a request asks only the shelf that holds it. In all worlds that are the same to a shelf, a request
+/// with a key of a shelf that it sees asks the same, in one order; and over stores that refuse the same questions it
+/// meets the same fault, unless memory for its own text ran out. So a 503 tells nothing of what others keep.
 pub fn faults()
     ensures own { NeedsAreOwn }
     ensures unknown { UnknownNeedsNothing }

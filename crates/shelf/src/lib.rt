@@ -1,7 +1,7 @@
 //! The machine that answers requests for module versions over any store of shelves.
 //!
-//! The crate `world` says what shelves, entries and keys are, and what a shelf sees. An entry is never changed and never
-//! removed. Each key may read; one that may also publish does so to its own shelf.
+//! The crate `world` says what shelves, entries and keys are, and what a shelf sees. An entry is never changed and
+//! never removed. Each key may read; one that may also publish does so to its own shelf.
 //!
 //! A publish passes these tests in order. The first that fails decides the answer:
 //!
@@ -26,7 +26,8 @@
 //! none. The list of a path has its releases and pre-releases by precedence. Its latest version is the highest by rank
 //! that the go.mod of the highest does not retract.
 //!
-//! An example with keys of the teams alpha and beta and of `common`, all of which may publish; the requests come in this order:
+//! An example with keys of the teams alpha and beta and of `common`, all of which may publish; the requests come in
+//! this order:
 //!
 //! | request | answer |
 //! |---|---|
@@ -37,9 +38,9 @@
 //! | alpha asks for its zip; beta does | `a`; `c` |
 //! | beta publishes it with the zip `a` | Conflict |
 //!
-//! The trait `Shelves` of the crate `world` says what a store must do. [`step::step`] answers one request over any store, and
-//! [`run::run`] a list of requests and registry commands. [`laws`] says what holds of every list: for instance, that a shelf
-//! learns nothing of the requests of others, and that what was served once is served for good.
+//! The trait `Shelves` of the crate `world` says what a store must do. [`step::step`] answers one request over any
+//! store, and [`run::run`] a list of requests and registry commands. [`laws`] says what holds of every list: for
+//! instance, that a shelf learns nothing of the requests of others, and that what was served once is served for good.
 #![tactic(auto)]
 
 pub mod ask;

@@ -112,7 +112,8 @@ fn zip_reply(seen: Option<Seen>) -> Reply
     }
 }
 
-/// Returns the reply with the releases and pre-releases among the versions of a path, or `NotFound` if it has no version.
+/// Returns the reply with the releases and pre-releases among the versions of a path, or `NotFound` if it has no
+/// version.
 fn list_reply(versions: Versions) -> Reply
     ensures { result ≡ spec.list_reply versions }
 {

@@ -15,7 +15,8 @@ use world::map_shelves::MapShelves;
 use world::registry::StoreFault;
 use world::shelves::Shelves;
 
-/// Carries out one event and returns the reply. Fails with `Device` if a device failed, and with `Memory` if memory ran out.
+/// Carries out one event and returns the reply. Fails with `Device` if a device failed, and with `Memory` if memory ran
+/// out.
 pub fn apply<S: Shelves>(alloc: Global, shelves: &mut S, event: &Event) -> Result<Reply, StoreFault>
     ensures does { Does (S.shown shelves.old) (S.shown shelves.new) result
         (λ w. reply_to w event.now) (λ w. after w event.now) }
@@ -59,8 +60,8 @@ fn answer<S: Shelves>(alloc: Global, shelves: &mut S, event: &Event) -> Answer
     }
 }
 
-/// Carries out the events one after the other and returns their answers. Fails only if there is no memory for the answers, and
-/// then does nothing.
+/// Carries out the events one after the other and returns their answers. Fails only if there is no memory for the
+/// answers, and then does nothing.
 pub fn run<S: Shelves>(
     alloc: Global,
     shelves: &mut S,
@@ -82,8 +83,8 @@ pub fn run<S: Shelves>(
     Ok(answers)
 }
 
-/// Carries out a list of events on shelves in memory that begin with `common` alone, and returns the shelves and the answers.
-/// Fails only if there is no memory for the shelves or the answers.
+/// Carries out a list of events on shelves in memory that begin with `common` alone, and returns the shelves and the
+/// answers. Fails only if there is no memory for the shelves or the answers.
 pub fn run_in_memory(
     alloc: Global,
     events: &[Event],

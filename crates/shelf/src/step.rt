@@ -18,7 +18,8 @@ use world::entry::Holder;
 use world::registry::StoreFault;
 use world::shelves::Shelves;
 
-/// Answers a request and returns the reply. Fails with `Device` if a device failed, and with `Memory` if memory ran out.
+/// Answers a request and returns the reply. Fails with `Device` if a device failed, and with `Memory` if memory ran
+/// out.
 pub fn step<S: Shelves>(alloc: Global, shelves: &mut S, ask: &Ask) -> Result<Reply, StoreFault>
     ensures does { Does (S.shown shelves.old) (S.shown shelves.new) result
         (λ w. ask_reply w ask.now) (λ w. after_ask w ask.now) }
@@ -66,8 +67,8 @@ fn answer_publish<S: Asked>(
     publish_to(alloc, shelves, &holder, publish)
 }
 
-/// Decides a PUT by the holder of a key, stores what it publishes, and returns the decision. Fails only if the store fails or
-/// memory runs out.
+/// Decides a PUT by the holder of a key, stores what it publishes, and returns the decision. Fails only if the store
+/// fails or memory runs out.
 fn publish_to<S: Asked>(
     alloc: Global,
     shelves: &mut S,

@@ -25,7 +25,8 @@ abbrev pub Accepts : {P E : Type 0} → Option (List P) → Option (List P) → 
 Accepts waiting left (Ok peer) = Come waiting left (peer ∷ [])
 Accepts waiting left (Err e) = Come waiting left []
 
--- A peer before and after it was answered, and what came first on its connection, unless a read failed before that was whole.
+-- A peer before and after it was answered, and what came first on its connection, unless a read failed before that was
+-- whole.
 pub record Visit (P : Type 0) : Type 0 where
   pub before : P
   pub after : P
@@ -45,8 +46,8 @@ exchanges_with [] = []
 exchanges_with (visit ∷ visits) = exchanges_of visit.first ++ exchanges_with visits
 
 module _ {P : Type 0} (heard : P → Account) (written : P → Option (List ℕ)) where
-  -- What came first came from this peer, and its reply went to this peer: all of it, or a beginning if a write failed. If nothing
-  -- came whole, nothing was written.
+  -- What came first came from this peer, and its reply went to this peer: all of it, or a beginning if a write failed.
+  -- If nothing came whole, nothing was written.
   abbrev pub IsBetween : P → P → Option First → Type 0
   IsBetween before after None = Keeps (written before) (written after)
   IsBetween before after (Some first) =
@@ -65,8 +66,8 @@ module _ {P : Type 0} (heard : P → Account) (written : P → Option (List ℕ)
     pub there : IsAnsweredThere visit
     pub through : GoesThrough old new (exchanges_of visit.first)
 
-  -- The peers that came were answered one after another, each once, and at most as many as there are connections. Each was new, and
-  -- what it sent was answered to it.
+  -- The peers that came were answered one after another, each once, and at most as many as there are connections. Each
+  -- was new, and what it sent was answered to it.
   pub record AnswersEach (is_new : P → Type 0) (waiting left : Option (List P)) (old new : Shown) (connections : ℕ) : Type 0 where
     pub visits : List (Visit P)
     pub few : length visits ≤ connections

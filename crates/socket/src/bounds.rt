@@ -1,4 +1,5 @@
-//! How much time and how many bytes a peer gets. It holds up all others, because connections are served one after another.
+//! How much time and how many bytes a peer gets. It holds up all others, because connections are served one after
+//! another.
 //!
 //! A bound on each wait is not enough, because a peer can send a byte just before each wait ends. A bound on the number
 //! of reads is not enough either, because a large body needs thousands. A fixed end would cut off a large publish. So a

@@ -28,19 +28,19 @@ pub struct Answered<R, W> {
     pub reader: R,
     /// What the reply was written to.
     pub writer: W,
-    /// The status that was written, or `None` if the peer sent nothing; `Io::Read` or `Io::Write` if a read or a write failed or
-    /// its time was over.
+    /// The status that was written, or `None` if the peer sent nothing; `Io::Read` or `Io::Write` if a read or a write
+    /// failed or its time was over.
     pub status: Result<Option<u16>, Io>,
 }
 
-/// Answers the first request of a peer (RFC 9112, in the profile of the crate `wire`) as `engine::answer_one` does, and returns
-/// both ends with the result. All reads together have 5 seconds and one more for each 1,048,576 bytes read, and so have all
-/// writes for the bytes written; the time of each begins at the first of them. Each wait is bounded by what is left. A read or a
-/// write fails if no time is left, the clock can't be read, or its wait can't be bounded. The caller lends the router, so that
-/// one serves all connections.
+/// Answers the first request of a peer (RFC 9112, in the profile of the crate `wire`) as `engine::answer_one` does, and
+/// returns both ends with the result. All reads together have 5 seconds and one more for each 1,048,576 bytes read, and
+/// so have all writes for the bytes written; the time of each begins at the first of them. Each wait is bounded by what
+/// is left. A read or a write fails if no time is left, the clock can't be read, or its wait can't be bounded. The
+/// caller lends the router, so that one serves all connections.
 ///
-/// `Io::Read`: a read failed, nothing was done, and nothing is written. `Io::Write`: a write or the flush failed; a beginning
-/// of the reply is written or all of it, and the shelves are as after the request.
+/// `Io::Read`: a read failed, nothing was done, and nothing is written. `Io::Write`: a write or the flush failed; a
+/// beginning of the reply is written or all of it, and the shelves are as after the request.
 pub fn answer_in_time<C: Clock, R: BoundRead + Drop, W: BoundWrite + Drop, S: Shelves>(
     alloc: Global,
     clock: &C,
@@ -221,7 +221,8 @@ impl<R: BoundRead + Drop, W: BoundWrite + Drop> Peer for Connection<R, W> {
         }
     }
 
-    /// Shuts the writing side, and drops what the peer sent after its message. Errors are ignored: the reply is written.
+    /// Shuts the writing side, and drops what the peer sent after its message. Errors are ignored: the reply is
+    /// written.
     fn end<C: Clock>(self, clock: &C, status: u16) -> Connection<R, W> {
         let Connection { reader, writer } = self;
         if writer.shut().is_err() {
@@ -245,7 +246,8 @@ pub trait Listener<P> {
     /// What is known of a peer that was just taken.
     ghost is_new: { P → Type 0 };
 
-    /// Waits for the next connection, however long that takes, and returns its peer. Fails if the connection can't be taken.
+    /// Waits for the next connection, however long that takes, and returns its peer. Fails if the connection can't be
+    /// taken.
     fn accept(&mut self) -> io::Result<P>
         ensures takes { Accepts (waiting self.old) (waiting self.new) result }
         ensures fresh { IfOk result (λ peer. is_new peer) };

@@ -23,8 +23,8 @@ fn leaves_a_rest(status: u16) -> bool
     status == 400 || status == 413 || status == 503
 }
 
-/// Drops what the peer sent after the message that was answered with this status; also what it still sends if its request may be
-/// only partly read. Ends early if a call of the system fails, or if a read would wait that may not.
+/// Drops what the peer sent after the message that was answered with this status; also what it still sends if its
+/// request may be only partly read. Ends early if a call of the system fails, or if a read would wait that may not.
 pub(crate) fn drop_rest<C: Clock, R: BoundRead + Drop>(
     clock: &C,
     reader: Hearing<R>,

@@ -27,8 +27,8 @@ version_row id p e = Int id ∷ Null ∷ version_values p e
 abbrev pub piece_values : ℤ → List ℕ → ℕ → Row
 piece_values id zip n = Int id ∷ Int (pos n) ∷ Blob (piece zip n) ∷ []
 
--- A row of `piece` is put in for each piece of the zip of a version, and no other table changes. If no row was of that version
--- and each piece had one row, each piece has one row after.
+-- A row of `piece` is put in for each piece of the zip of a version, and no other table changes. If no row was of that
+-- version and each piece had one row, each piece has one row after.
 pub record AddsZip (id : ℤ) (zip : List ℕ) (db after : Trees) : Type 0 where
   pub pieces : AddsRows piece_read
       (λ values. (n : ℕ) × HasPiece zip n × (values ≡ piece_values id zip n)) (db piece_table.tree) (after piece_table.tree)

@@ -39,9 +39,9 @@ LeavesOnly s P = (db : Trees) → s.may_leave db → (x : World) × StandFor db 
 abbrev pub LeavesNoMore : State → State → Type 0
 LeavesNoMore old new = (db : Trees) → new.may_leave db → old.may_leave db
 
--- A call turns `w` into `next` if it is done, and keeps `w` otherwise. If a crash before it left only `w`, a crash after it leaves `w` or
--- `next`. If it is done, a crash leaves only `next`. If it is not done, a crash leaves `w` or `next`, or nothing that it did not leave
--- before, whatever that was.
+-- A call turns `w` into `next` if it is done, and keeps `w` otherwise. If a crash before it left only `w`, a crash
+-- after it leaves `w` or `next`. If it is done, a crash leaves only `next`. If it is not done, a crash leaves `w` or
+-- `next`, or nothing that it did not leave before, whatever that was.
 pub record ChangesAt (old new : State) (done : Bool) (w next : World) : Type 0 where
   pub world : Stands old w → Stands new (if done then next else w)
   pub left : HasCleanDisk new → Stands old w → LeavesOnly old (λ x. x ≡ w) → LeavesOnly new (λ x. (x ≡ w) ⊎ (x ≡ next))

@@ -24,15 +24,15 @@ use Rattle.statements.specs.Rows.{Filling, GoesOn, Adds, IsRead, PutsRows, versi
 abbrev pub IsReady : State → Type 0
 IsReady s = HasCleanDisk s → IsTrue s.is_open × (s.now.schema ≡ store_schema)
 
--- The store is only read: it is unchanged or rolled back, unchanged if the call is done, and a crash leaves nothing that it
--- did not leave before.
+-- The store is only read: it is unchanged or rolled back, unchanged if the call is done, and a crash leaves nothing
+-- that it did not leave before.
 pub record IsReadBy (old new : State) (done : Bool) : Type 0 where
   pub left : HasCleanDisk new → (db : Trees) → new.may_leave db → old.may_leave db
   pub outcome : HasCleanDisk new → IsUnchanged old new ⊎ IsRolledBack old new
   pub same : HasCleanDisk new → IsTrue done → IsUnchanged old new
 
--- Rows of a source are put into a fresh store inside a transaction of it. If the call is done, `Makes` relates the tables of
--- the source, the fresh tables before, and the fresh tables after.
+-- Rows of a source are put into a fresh store inside a transaction of it. If the call is done, `Makes` relates the
+-- tables of the source, the fresh tables before, and the fresh tables after.
 pub record Copies (Makes : Trees → Trees → Trees → Type 0) (source source_new fresh fresh_new : State) (done : Bool) : Type 0 where
   pub clean : doubt source.is_clean ≤ doubt source_new.is_clean
   pub reads : IsReady source → IsReadBy source source_new done
@@ -42,7 +42,8 @@ pub record Copies (Makes : Trees → Trees → Trees → Type 0) (source source_
       → (w : World) → Means source.now.trees w → Filling fresh → IsTrue done
       → Makes source.now.trees fresh.now.trees fresh_new.now.trees × Filling fresh_new
 
--- if the source means `w` and the fresh tables stood for `x`, they stand after for a world that `Makes` relates to these two
+-- if the source means `w` and the fresh tables stood for `x`, they stand after for a world that `Makes` relates to
+-- these two
 abbrev pub OfWorlds : (World → World → World → Type 0) → Trees → Trees → Trees → Type 0
 OfWorlds Makes source db after = (w x : World) → Means source w → StandFor db x → (y : World) × Makes w x y × StandFor after y
 

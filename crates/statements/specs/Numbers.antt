@@ -26,8 +26,8 @@ IsBelowEach rows n = (row : Row) → Has rows row → (m : ℤ) → rowid row �
 abbrev pub LacksOrHasFirst : List Row → Type 0
 LacksOrHasFirst rows = (n : ℤ) → HasNumber rows n → HasNumber rows first
 
--- A number is chosen only if a row has the last number, and it is less than the number of each row. None is chosen only if no row has the
--- last number, or one has the first.
+-- A number is chosen only if a row has the last number, and it is less than the number of each row. None is chosen only
+-- if no row has the last number, or one has the first.
 abbrev pub IsChosen : List Row → Option ℤ → Type 0
 IsChosen rows (Some n) = HasNumber rows last × IsBelowEach rows n
 IsChosen rows None = HasNumber rows last → HasNumber rows first

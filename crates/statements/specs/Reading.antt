@@ -19,7 +19,8 @@ use Rattle.tables.specs.Schema.{piece_table}
 abbrev pub IsZip : Trees → ℤ → List ℕ → Type 0
 IsZip db id zip = ArePieces (filter (λ row. equal Binary (column row 1) (Int id)) (db piece_table.tree)) zip
 
--- A row of `version` is that of the entry that is seen: it names the shelf, shows the heading, and has the number of the zip's pieces.
+-- A row of `version` is that of the entry that is seen: it names the shelf, shows the heading, and has the number of
+-- the zip's pieces.
 pub record IsRowOf (db : Trees) (seen : Option Seen) (row : VersionRow) : Type 0 where
   pub entry : Entry
   pub is : seen ≡ Some (record { shelf = row.shelf; entry = entry })

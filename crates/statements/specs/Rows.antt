@@ -98,8 +98,8 @@ pub record AreApart (Once : List Row → Type 0) (rows : List Row) : Type 0 wher
   pub numbers : (row : Row) → Has rows row → (n : ℤ) × (rowid row ≡ Int n)
   pub once : Once rows
 
--- Rows are put into one table: what is read from it is exactly what was read before or satisfies `IsSo`. Rows that were apart
--- still are, and each other table is as it was.
+-- Rows are put into one table: what is read from it is exactly what was read before or satisfies `IsSo`. Rows that were
+-- apart still are, and each other table is as it was.
 pub record PutsRows (table : Table) (read : Row → Row) (Once : List Row → Type 0) (IsSo : Row → Type 0) (db after : Trees) : Type 0 where
   pub rows : AddsRows read IsSo (db table.tree) (after table.tree)
   pub apart : AreApart Once (db table.tree) → AreApart Once (after table.tree)

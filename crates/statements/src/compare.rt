@@ -1,4 +1,5 @@
-//! Compares the bytes of a given entry with those in the tables. The stored zip is compared piece by piece and never joined in memory.
+//! Compares the bytes of a given entry with those in the tables. The stored zip is compared piece by piece and never
+//! joined in memory.
 
 ghost use Rattle.std.specs.Prelude.{◌≡◌, map as each, option_map, IfOk};
 ghost use Rattle.sqlite.specs.Held.{state};
@@ -20,8 +21,8 @@ fn is_same_heading(heading: &Heading, entry: &EntryRef) -> bool
     heading.gomod.as_slice() == entry.gomod && is_same_time(heading.time, entry.time)
 }
 
-/// Returns how an entry compares with that of the version on the first of these shelves that has it: `Same` or `Other`, or
-/// `Absent` if none has it.
+/// Returns how an entry compares with that of the version on the first of these shelves that has it: `Same` or `Other`,
+/// or `Absent` if none has it.
 pub fn find_standing<S: Alter>(
     conn: &mut Connection<S>,
     shelves: &[&str],

@@ -123,7 +123,8 @@ pub(crate) fn row_seen<S: Alter>(
     Ok(None)
 }
 
-/// Returns the entry of a version on the first of these shelves that has it, with the name of that shelf, or None if none has.
+/// Returns the entry of a version on the first of these shelves that has it, with the name of that shelf, or None if
+/// none has.
 pub fn find_entry<S: Alter>(
     alloc: Global,
     conn: &mut Connection<S>,
@@ -238,8 +239,8 @@ fn insert_entry<S: Alter>(
     written
 }
 
-/// Stores an entry at a place that has none. Fails with `TransactionState` inside a transaction.
-/// It makes the order keys of the version before its first statement, so if memory for them runs out, nothing has begun.
+/// Stores an entry at a place that has none. Fails with `TransactionState` inside a transaction. It makes the order
+/// keys of the version before its first statement, so if memory for them runs out, nothing has begun.
 pub fn add_entry<S: Alter>(
     alloc: Global,
     conn: &mut Connection<S>,

@@ -46,8 +46,8 @@ pub trait RowSink {
     /// How a row changes the tables: the row, the tables before, and the tables after.
     ghost Puts: { Shown → Trees → Trees → Type 0 };
 
-    /// Writes a row with the values of this one into a transaction. Fails with the error of the connection, or if a value of the
-    /// row is missing or not of the type that the table needs.
+    /// Writes a row with the values of this one into a transaction. Fails with the error of the connection, or if a
+    /// value of the row is missing or not of the type that the table needs.
     fn put<F: Alter>(&self, tx: &mut Transaction<'_, F>, row: &Row) -> Result<(), Error>
         ensures same_reference { tx.new.conn.ghost_name ≡ tx.old.conn.ghost_name }
         ensures goes_on { GoesOn (state F.Store tx.old.conn.now) (state F.Store tx.new.conn.now) (is_ok result) }
@@ -55,10 +55,9 @@ pub trait RowSink {
             Fits row.now → Filling old → OnOk result (Puts row.now old.now.trees new.now.trees × Filling new)) };
 }
 
-/// Gives each row that a query shows to the sink, while the query is read, so only one row is in memory. Fails with `Source` if
-/// the query fails or shows 2^128 - 1 rows, and with `Fresh` if the sink fails.
-/// The rows come in no order, because sorting would gather them all. A second row for a key or a place fails in the
-/// fresh tables.
+/// Gives each row that a query shows to the sink, while the query is read, so only one row is in memory. Fails with
+/// `Source` if the query fails or shows 2^128 - 1 rows, and with `Fresh` if the sink fails. The rows come in no order,
+/// because sorting would gather them all. A second row for a key or a place fails in the fresh tables.
 pub(crate) fn hand_on<S: Alter, F: Alter, T: RowSink>(
     source: &mut Connection<S>,
     sql: &str,
@@ -114,8 +113,8 @@ impl RowSink for Keys {
     }
 }
 
-/// Copies the keys of one shelf into another store, inside a transaction of that store. Fails with `Source` or `Fresh`, by the
-/// store that failed.
+/// Copies the keys of one shelf into another store, inside a transaction of that store. Fails with `Source` or `Fresh`,
+/// by the store that failed.
 pub fn copy_keys<S: Alter, F: Alter>(
     source: &mut Connection<S>,
     tx: &mut Transaction<'_, F>,
@@ -162,8 +161,8 @@ impl RowSink for Versions {
     }
 }
 
-/// Copies the rows of the versions on one shelf into another store, inside a transaction of that store. Fails with `Source` or
-/// `Fresh`, by the store that failed.
+/// Copies the rows of the versions on one shelf into another store, inside a transaction of that store. Fails with
+/// `Source` or `Fresh`, by the store that failed.
 pub fn copy_versions<S: Alter, F: Alter>(
     source: &mut Connection<S>,
     tx: &mut Transaction<'_, F>,
@@ -197,9 +196,9 @@ impl RowSink for Pieces {
     }
 }
 
-/// Copies the rows of the zips on one shelf into another store, inside a transaction of that store. Fails with `Source` or
-/// `Fresh`, by the store that failed.
-/// The query joins `version`, whose index finds the shelf, with `piece`, whose index finds the pieces of a version.
+/// Copies the rows of the zips on one shelf into another store, inside a transaction of that store. Fails with `Source`
+/// or `Fresh`, by the store that failed. The query joins `version`, whose index finds the shelf, with `piece`, whose
+/// index finds the pieces of a version.
 pub fn copy_pieces<S: Alter, F: Alter>(
     source: &mut Connection<S>,
     tx: &mut Transaction<'_, F>,

@@ -1,8 +1,8 @@
 //! The SQL statements that read and change the tables of a store.
 //!
-//! The crate `tables` defines the tables and the world that they stand for; the crate `store` builds a store on the calls here.
-//! Each call uses a `Connection`, or a `Transaction` of one, and nothing else. Its contract says what becomes of the world
-//! that the tables stand for, and what a crash may leave.
+//! The crate `tables` defines the tables and the world that they stand for; the crate `store` builds a store on the
+//! calls here. Each call uses a `Connection`, or a `Transaction` of one, and nothing else. Its contract says what
+//! becomes of the world that the tables stand for, and what a crash may leave.
 //!
 //! Each change of a store is one transaction. So a crash leaves the world before it or the world after it, and once the
 //! change has returned Ok, only the world after it.
@@ -31,12 +31,12 @@
 //! | `extract_rows::copy_keys`, `copy_versions`, `copy_pieces` | read the rows of one shelf, and write each into another store |
 //! | `extract_rows::RowSink::put` | write a row with the values of a row of another store |
 //!
-//! The rows of an entry are a row of `version`, with the order keys of the version, and a row of `piece` for each piece of
-//! the zip.
+//! The rows of an entry are a row of `version`, with the order keys of the version, and a row of `piece` for each piece
+//! of the zip.
 //!
-//! What contracts say of values holds if the disk has returned what was written. A call fails with the error of `sqlite` if
-//! the disk fails, memory runs out, the connection is closed or limited in its steps, or a row holds a value that no store
-//! writes, and with `TooBig` if there are as many rows or pieces as its loop counts.
+//! What contracts say of values holds if the disk has returned what was written. A call fails with the error of
+//! `sqlite` if the disk fails, memory runs out, the connection is closed or limited in its steps, or a row holds a
+//! value that no store writes, and with `TooBig` if there are as many rows or pieces as its loop counts.
 #![tactic(auto)]
 
 pub mod compare;

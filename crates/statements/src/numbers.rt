@@ -1,7 +1,7 @@
 //! Chooses the number of a new row of `version`.
 //!
-//! sqlite chooses one past the highest. If a row has the last number there is none past it, so this module chooses one below
-//! the lowest. The numbers mean nothing, and any number that sqlite takes is lawful.
+//! sqlite chooses one past the highest. If a row has the last number there is none past it, so this module chooses one
+//! below the lowest. The numbers mean nothing, and any number that sqlite takes is lawful.
 
 ghost use Rattle.std.specs.Prelude.{◌≡◌, false, Decides, IfOk, OnOk, IsTrue, MatchOption};
 ghost use Rattle.sqlite.specs.Held.{state};

@@ -39,8 +39,8 @@ fn read_piece(row: &Row) -> Result<Piece, Error>
     Ok(Piece { number, size })
 }
 
-/// Returns the last piece of the zip of version `id`, or None if the zip is empty.
-/// The contract says only that it is a piece of the zip. `ends_with` shows that it is the last, not the order of the statement.
+/// Returns the last piece of the zip of version `id`, or None if the zip is empty. The contract says only that it is a
+/// piece of the zip. `ends_with` shows that it is the last, not the order of the statement.
 fn find_last<S: Alter>(conn: &mut Connection<S>, id: i64) -> Result<Option<Piece>, Error>
     ensures spares { Spares (state S.Store conn.old) (state S.Store conn.new) }
     ensures same { InEachWorld (state S.Store conn.old) (state S.Store conn.new) (λ old new _.
@@ -59,8 +59,8 @@ fn find_last<S: Alter>(conn: &mut Connection<S>, id: i64) -> Result<Option<Piece
     }
 }
 
-/// Reports whether a piece is the last of the zip of version `id`. A piece that is not full is the last. After a full one it
-/// looks for another.
+/// Reports whether a piece is the last of the zip of version `id`. A piece that is not full is the last. After a full
+/// one it looks for another.
 fn ends_with<S: Alter>(conn: &mut Connection<S>, id: i64, last: Piece) -> Result<bool, Error>
     ensures spares { Spares (state S.Store conn.old) (state S.Store conn.new) }
     ensures answer { InEachWorld (state S.Store conn.old) (state S.Store conn.new) (λ old new _.
@@ -75,8 +75,8 @@ fn ends_with<S: Alter>(conn: &mut Connection<S>, id: i64, last: Piece) -> Result
     }
 }
 
-/// Returns how many bytes the zip of version `id` has. It reads the last piece only, and fails with `DatabaseCorrupt` if another
-/// piece follows it.
+/// Returns how many bytes the zip of version `id` has. It reads the last piece only, and fails with `DatabaseCorrupt`
+/// if another piece follows it.
 fn find_zip_length<S: Alter>(conn: &mut Connection<S>, id: i64) -> Result<usize, Error>
     ensures spares { Spares (state S.Store conn.old) (state S.Store conn.new) }
     ensures answer { InEachWorld (state S.Store conn.old) (state S.Store conn.new) (λ old new _.

@@ -1,5 +1,5 @@
-//! The zip of a version in pieces, a row of `piece` for each, which are written, read, and compared with other bytes. All pieces have
-//! one size, but the last may be shorter.
+//! The zip of a version in pieces, a row of `piece` for each, which are written, read, and compared with other bytes.
+//! All pieces have one size, but the last may be shorter.
 
 ghost use Rattle.std.specs.Prelude.{◌≡◌, ◌≤◌, [], ◌∷◌, pos, bytes_eq, IfOk, OnOk, is_ok, IsTrue};
 ghost use Rattle.sqlite.specs.declared.types.Value.TheVariants.{Int, Blob};
@@ -68,7 +68,8 @@ fn find_room<S: Alter>(conn: &mut Connection<S>, id: i64) -> Result<usize, Error
     }
 }
 
-/// Returns the bytes that a row shows as the piece of this number. Fails with `DatabaseCorrupt` if it has another number.
+/// Returns the bytes that a row shows as the piece of this number. Fails with `DatabaseCorrupt` if it has another
+/// number.
 fn piece_in(row: &Row, number: u32) -> Result<&[u8], Error>
     ensures { IfOk result (λ bytes. (column row.now 0 ≡ Int (pos number)) × (column row.now 1 ≡ Blob bytes.now)) }
 {
@@ -79,8 +80,8 @@ fn piece_in(row: &Row, number: u32) -> Result<&[u8], Error>
     lent_bytes(row, 1)
 }
 
-/// Returns the zip of version `id`: its pieces one after another, read in one walk over their rows.
-/// It checks the number of each row and does not rely on the statement for the order: a row out of order fails the call with
+/// Returns the zip of version `id`: its pieces one after another, read in one walk over their rows. It checks the
+/// number of each row and does not rely on the statement for the order: a row out of order fails the call with
 /// `DatabaseCorrupt`. The index has this order, so the database sorts nothing.
 pub(crate) fn find_zip<S: Alter>(
     alloc: Global,
@@ -151,8 +152,8 @@ pub(crate) fn insert_piece<S: Alter>(
     Ok(())
 }
 
-/// Writes the rows of a zip, a row for each piece. Fails with the error of the connection, or with `TooBig` if the zip has
-/// 2^32 - 1 pieces or more.
+/// Writes the rows of a zip, a row for each piece. Fails with the error of the connection, or with `TooBig` if the zip
+/// has 2^32 - 1 pieces or more.
 pub fn insert_zip<S: Alter>(tx: &mut Transaction<'_, S>, id: i64, zip: &[u8]) -> Result<(), Error>
     ensures same_reference { tx.new.conn.ghost_name ≡ tx.old.conn.ghost_name }
     ensures goes_on { GoesOn (state S.Store tx.old.conn.now) (state S.Store tx.new.conn.now) (is_ok result) }

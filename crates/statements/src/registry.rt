@@ -131,8 +131,8 @@ fn insert_key<S: Alter>(
     }
 }
 
-/// Returns the outcome of adding a well-formed key: `NoTeam` if there is no such shelf, `Taken` if the key exists, otherwise
-/// `Done`.
+/// Returns the outcome of adding a well-formed key: `NoTeam` if there is no such shelf, `Taken` if the key exists,
+/// otherwise `Done`.
 fn judge_key<S: Alter>(
     conn: &mut Connection<S>,
     shelf: &str,
@@ -152,8 +152,8 @@ fn judge_key<S: Alter>(
     Ok(Registered::Done)
 }
 
-/// Adds a well-formed key to a shelf and returns `Done`, or returns `NoTeam` if there is no such shelf, or `Taken` if the key
-/// exists.
+/// Adds a well-formed key to a shelf and returns `Done`, or returns `NoTeam` if there is no such shelf, or `Taken` if
+/// the key exists.
 pub fn add_key<S: Alter>(
     conn: &mut Connection<S>,
     shelf: &str,
@@ -194,8 +194,8 @@ fn insert_shelf<S: Alter>(
     }
 }
 
-/// Returns the outcome of adding a team with a valid name: `Taken` if the name is taken, `NoGroup` if a group is named and there
-/// is no such group, otherwise `Done`.
+/// Returns the outcome of adding a team with a valid name: `Taken` if the name is taken, `NoGroup` if a group is named
+/// and there is no such group, otherwise `Done`.
 fn judge_team<S: Alter>(
     conn: &mut Connection<S>,
     name: &str,
@@ -218,8 +218,8 @@ fn judge_team<S: Alter>(
     Ok(Registered::Done)
 }
 
-/// Adds a team with a valid name, as a member of a group or of none, and returns `Done`, or returns `Taken` if the name is
-/// taken, or `NoGroup` if there is no such group.
+/// Adds a team with a valid name, as a member of a group or of none, and returns `Done`, or returns `Taken` if the name
+/// is taken, or `NoGroup` if there is no such group.
 pub fn add_team<S: Alter>(
     conn: &mut Connection<S>,
     name: &str,

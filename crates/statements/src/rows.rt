@@ -79,9 +79,9 @@ fn put_version<'p, S: Alter>(
     Ok(tx.last_insert_rowid())
 }
 
-/// Writes the rows of an entry: the row of its version, then the rows of its zip.
-/// The contracts say which rows were added, not what the tables mean before the commit. The foreign key and the free number
-/// show that no row of `piece` had this version before.
+/// Writes the rows of an entry: the row of its version, then the rows of its zip. The contracts say which rows were
+/// added, not what the tables mean before the commit. The foreign key and the free number show that no row of `piece`
+/// had this version before.
 pub fn put_entry<'p, S: Alter>(
     tx: &mut Transaction<'_, S>,
     number: Option<i64>,

@@ -56,8 +56,8 @@ impl ShelfList {
         })
     }
 
-    /// Returns the list with a shelf added at its end, or as it is if the name is `common` or already in the list. Fails if memory
-    /// runs out.
+    /// Returns the list with a shelf added at its end, or as it is if the name is `common` or already in the list.
+    /// Fails if memory runs out.
     pub fn with(mut self, alloc: Global, shelf: Shelf) -> Result<ShelfList, AllocError>
         ensures { IfOk result (λ list. list ≡ added self shelf) }
     {

@@ -7,8 +7,8 @@ ghost use Rattle.sqlite.specs.Steps.{FailsToCommit};
 
 use sqlite::{Alter, Error, Transaction};
 
-/// Commits a transaction if all its rows were written, and rolls it back otherwise. Fails if the commit fails, which also undoes
-/// the transaction. A crash meanwhile leaves what it could leave before, or all that was written.
+/// Commits a transaction if all its rows were written, and rolls it back otherwise. Fails if the commit fails, which
+/// also undoes the transaction. A crash meanwhile leaves what it could leave before, or all that was written.
 pub fn commit_if<S: Alter>(tx: Transaction<'_, S>, is_whole: bool) -> Result<(), Error>
     ensures committed { HasCleanDisk (state S.Store tx.exit.0.now) → IsTrue is_whole
         → OnOk result (Shows (state S.Store tx.entry.conn.now) (state S.Store tx.exit.0.now)

@@ -58,8 +58,8 @@ abbrev pub HasOlderReason : State → State → CopyError → Type 0
 HasOlderReason old old_new (Source e) = IsExcused old old_new e ⊎ IsVastOlder old.now
 HasOlderReason old old_new (Fresh e) = Unit {0}
 
--- The older store is only read. The fresh store stands for what the old tables mean if all is written, and for what it stood for
--- otherwise.
+-- The older store is only read. The fresh store stands for what the old tables mean if all is written, and for what it
+-- stood for otherwise.
 pub record MigratesRows (old old_new fresh fresh_new : State) (result : Result Migrated CopyError) : Type 0 where
   pub clean : doubt old.is_clean ≤ doubt old_new.is_clean
   pub reads : IsOpenIfHonest old → IsReadBy old old_new (is_whole result)
@@ -73,8 +73,8 @@ pub record MigratesRows (old old_new fresh fresh_new : State) (result : Result M
 
 -- ---- the call `migrate`
 
--- What the result of migrating into a store of x says: it is done, or why it is refused, or memory ran out or a device failed.
--- `NotEmpty` comes before `BadSchema`.
+-- What the result of migrating into a store of x says: it is done, or why it is refused, or memory ran out or a device
+-- failed. `NotEmpty` comes before `BadSchema`.
 abbrev pub Tells : World → Result (Unit {0}) Refusal → Type 0
 Tells x (Ok u) = x ≡ only_common
 Tells x (Err refusal.NotEmpty) = x ≢ only_common
@@ -83,8 +83,8 @@ Tells x (Err refusal.NoTeam) = ⊥
 Tells x (Err refusal.Device) = Unit {0}
 Tells x (Err refusal.Memory) = Unit {0}
 
--- The fresh store stands for what the old tables mean if the call returns Ok, and for what it stood for otherwise, and a crash may
--- follow.
+-- The fresh store stands for what the old tables mean if the call returns Ok, and for what it stood for otherwise, and
+-- a crash may follow.
 pub record MigratesAt (db : Database) (old new : Shown) (x : World) (result : Result (Unit {0}) Refusal) : Type 0 where
   pub tells : Tells x result
   pub world : World
@@ -93,8 +93,9 @@ pub record MigratesAt (db : Database) (old new : Shown) (x : World) (result : Re
   pub err : OnErr result (new.stands x)
   pub crash : AfterFill old new x result world
 
--- The older store is only read, and so is a fresh store that has more than `common`, or if the older tables are those of no older
--- schema. For each world of the fresh store `MigratesAt` holds, if the disks have returned what was written.
+-- The older store is only read, and so is a fresh store that has more than `common`, or if the older tables are those
+-- of no older schema. For each world of the fresh store `MigratesAt` holds, if the disks have returned what was
+-- written.
 pub record Migrates (old old_new : State) (fresh fresh_new : Shown) (result : Result (Unit {0}) Refusal) : Type 0 where
   pub clean : doubt old.is_clean ≤ doubt old_new.is_clean
   pub reads : IsOpenIfHonest old → IsReadBy old old_new (is_ok result)
@@ -104,8 +105,8 @@ pub record Migrates (old old_new : State) (fresh fresh_new : Shown) (result : Re
   pub at : HasCleanDisk old_new → fresh_new.is_honest → IsOpenIfHonest old
       → (x : World) → fresh.stands x → MigratesAt old.now fresh fresh_new x result
 
--- The call returns `Device` only if the older connection was closed or limited in its steps, or its disk failed in the call, or a
--- table of it is vast, or if a device of the fresh store failed or its count of failures cannot grow.
+-- The call returns `Device` only if the older connection was closed or limited in its steps, or its disk failed in the
+-- call, or a table of it is vast, or if a device of the fresh store failed or its count of failures cannot grow.
 pub record HasCauseInOne (old old_new : State) (before now : ℕ) (result : Result (Unit {0}) Refusal) : Type 0 where
   pub no_fewer : before ≤ now
   pub device : HasCleanDisk old_new → result ≡ Err refusal.Device → (IsHindered old old_new ⊎ IsVastOlder old.now) ⊎ GrewOrFull before now

@@ -14,6 +14,7 @@ pub record HoldsOlder (image : Image) (w : World) : Type 0 where
   pub sound : IsSound db.schema db.trees
   pub was : WasOf db w
 
--- the tables of the connection stand for each older world that the files hold, if the disk has returned what was written
+-- the tables of the connection stand for each older world that the files hold, if the disk has returned what was
+-- written
 abbrev pub FindsOlder : Image → State → Type 0
 FindsOlder image s = HasCleanDisk s → (w : World) → HoldsOlder image w → WasOf s.now w

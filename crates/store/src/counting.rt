@@ -15,8 +15,9 @@ use world::registry::StoreFault;
 const MOST_COUNTED: u64 = 9_223_372_036_854_775_807;
 
 impl<S: Alter> SqlShelves<S> {
-    /// Returns how many versions all shelves have, or 2^63 - 1 if there are more. Returns the cached number if there is one, and
-    /// otherwise reads each row of `version`, without its zip. Fails with `Memory` if memory ran out, and otherwise with `Device`.
+    /// Returns how many versions all shelves have, or 2^63 - 1 if there are more. Returns the cached number if there is
+    /// one, and otherwise reads each row of `version`, without its zip. Fails with `Memory` if memory ran out, and
+    /// otherwise with `Device`.
     pub fn versions_kept(&mut self) -> Result<u64, StoreFault>
         ensures reads { Reads (shown_with (state S.Store self.old.conn) self.old.kept self.old.failures)
             (shown_with (state S.Store self.new.conn) self.new.kept self.new.failures) result versions_in }

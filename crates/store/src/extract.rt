@@ -29,14 +29,14 @@ pub(crate) fn refusal_of(fault: StoreFault) -> Refusal
 }
 
 impl<S: Alter> SqlShelves<S> {
-    /// Copies a team's part into the fresh store: the shelves that the team sees, all their entries, and their keys with their
-    /// rights. The rows are read one at a time, and all are written in one transaction.
+    /// Copies a team's part into the fresh store: the shelves that the team sees, all their entries, and their keys
+    /// with their rights. The rows are read one at a time, and all are written in one transaction.
     ///
-    /// Fails with `NoTeam` if no team has the name (`common` and groups are no teams), otherwise with `NotEmpty` if
-    /// the fresh store has another shelf, a key or an entry; with `Device` if a disk failed and with
-    /// `Memory` if memory ran out. Then both stores are as they were; the source always is. After Ok, a crash leaves only the part
-    /// in the fresh store, wherever an earlier fault had left that; after `NoTeam` and `NotEmpty`, nothing that it did not leave
-    /// before; after another failure, as `AfterFill` says, it may leave the part too.
+    /// Fails with `NoTeam` if no team has the name (`common` and groups are no teams), otherwise with `NotEmpty` if the
+    /// fresh store has another shelf, a key or an entry; with `Device` if a disk failed and with `Memory` if memory ran
+    /// out. Then both stores are as they were; the source always is. After Ok, a crash leaves only the part in the
+    /// fresh store, wherever an earlier fault had left that; after `NoTeam` and `NotEmpty`, nothing that it did not
+    /// leave before; after another failure, as `AfterFill` says, it may leave the part too.
     pub fn extract<F: Alter>(
         &mut self,
         team: &str,
@@ -52,15 +52,15 @@ impl<S: Alter> SqlShelves<S> {
         self.extract_teams(&[team], fresh)
     }
 
-    /// Copies the part of some teams into the fresh store: the shelves that any of them sees, all their
-    /// entries, and their keys with their rights. The names of the shelves are read first, then the rows one at a time, and
-    /// all are written in one transaction. Naming a team twice changes nothing.
+    /// Copies the part of some teams into the fresh store: the shelves that any of them sees, all their entries, and
+    /// their keys with their rights. The names of the shelves are read first, then the rows one at a time, and all are
+    /// written in one transaction. Naming a team twice changes nothing.
     ///
-    /// Fails with `NoTeam` if no team is named or a name is not a team's (`common` and groups are no teams), otherwise with
-    /// `NotEmpty` if the fresh store has another shelf, a key or an entry; with `Device` if a disk failed and with
-    /// `Memory` if memory ran out. Then both stores are as they were; the source always is. After Ok, a crash leaves only the part
-    /// in the fresh store, wherever an earlier fault had left that; after `NoTeam` and `NotEmpty`, nothing that it did not leave
-    /// before; after another failure, as `AfterFill` says, it may leave the part too.
+    /// Fails with `NoTeam` if no team is named or a name is not a team's (`common` and groups are no teams), otherwise
+    /// with `NotEmpty` if the fresh store has another shelf, a key or an entry; with `Device` if a disk failed and with
+    /// `Memory` if memory ran out. Then both stores are as they were; the source always is. After Ok, a crash leaves
+    /// only the part in the fresh store, wherever an earlier fault had left that; after `NoTeam` and `NotEmpty`,
+    /// nothing that it did not leave before; after another failure, as `AfterFill` says, it may leave the part too.
     pub fn extract_teams<F: Alter>(
         &mut self,
         teams: &[&str],
@@ -77,13 +77,13 @@ impl<S: Alter> SqlShelves<S> {
         self.fill(Wanted::Teams(teams), fresh)
     }
 
-    /// Copies all shelves, entries and keys into the fresh store. The names of the shelves are read first, then the rows one at
-    /// a time, and all are written in one transaction.
+    /// Copies all shelves, entries and keys into the fresh store. The names of the shelves are read first, then the
+    /// rows one at a time, and all are written in one transaction.
     ///
-    /// Fails with `NotEmpty` if the fresh store has another shelf than `common`, a key or an entry; with `Device` if a disk
-    /// failed and with `Memory` if memory ran out. Then both stores are as they were; the source always is. After Ok, a crash leaves
-    /// only the copy in the fresh store, wherever an earlier fault had left that; after `NotEmpty`, nothing that it did not leave
-    /// before; after another failure, as `AfterFill` says, it may leave the copy too.
+    /// Fails with `NotEmpty` if the fresh store has another shelf than `common`, a key or an entry; with `Device` if a
+    /// disk failed and with `Memory` if memory ran out. Then both stores are as they were; the source always is. After
+    /// Ok, a crash leaves only the copy in the fresh store, wherever an earlier fault had left that; after `NotEmpty`,
+    /// nothing that it did not leave before; after another failure, as `AfterFill` says, it may leave the copy too.
     pub fn copy<F: Alter>(&mut self, fresh: &mut SqlShelves<F>) -> Result<(), Refusal>
         ensures copies { CopiesAll (shown_with (state S.Store self.old.conn) self.old.kept self.old.failures)
             (shown_with (state S.Store self.new.conn) self.new.kept self.new.failures)
@@ -95,7 +95,8 @@ impl<S: Alter> SqlShelves<S> {
         self.fill(Wanted::All, fresh)
     }
 
-    /// Copies the wanted shelves into the fresh store, which first forgets what it cached. Fails as the public calls do.
+    /// Copies the wanted shelves into the fresh store, which first forgets what it cached. Fails as the public calls
+    /// do.
     fn fill<F: Alter>(
         &mut self,
         wanted: Wanted<'_>,
@@ -112,8 +113,8 @@ impl<S: Alter> SqlShelves<S> {
         self.fill_rows(wanted, fresh)
     }
 
-    /// Copies the wanted shelves into the tables of the fresh store, and leaves what both stores cache as it is. Fails as `fill`
-    /// does.
+    /// Copies the wanted shelves into the tables of the fresh store, and leaves what both stores cache as it is. Fails
+    /// as `fill` does.
     fn fill_rows<F: Alter>(
         &mut self,
         wanted: Wanted<'_>,

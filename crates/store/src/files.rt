@@ -22,12 +22,13 @@ use std::fs;
 use std::hash::{BuildHasher, RandomState};
 use std::io::{self, ErrorKind};
 
-/// How many pages of 4,096 bytes stay in memory once they are read. The largest zip has 4,100 pages, so a zip that is asked for
-/// again is not read again, nor are the pages that lead to it.
-/// The kit keeps 2,000, with which each `.zip` reads all its pages from the system and digests them again.
+/// How many pages of 4,096 bytes stay in memory once they are read. The largest zip has 4,100 pages, so a zip that is
+/// asked for again is not read again, nor are the pages that lead to it. The kit keeps 2,000, with which each `.zip`
+/// reads all its pages from the system and digests them again.
 ///
-/// The kit's other figure stays: the log grows to 1,000 frames of a page each before it is copied into the file. With 16 times
-/// as many, a publish of 1 or 16 MiB takes up to a tenth less time, but each opening reads and digests a log of 64 MiB.
+/// The kit's other figure stays: the log grows to 1,000 frames of a page each before it is copied into the file. With
+/// 16 times as many, a publish of 1 or 16 MiB takes up to a tenth less time, but each opening reads and digests a log
+/// of 64 MiB.
 const KEPT_PAGES: usize = 8_192;
 
 /// The page size of a new file.
@@ -93,8 +94,8 @@ fn is_log_alone(rt: &HostRuntime, path: &str) -> io::Result<bool> {
     }
 }
 
-/// Reports whether a store that is opened at this path is a new one: there is no file or an empty one, and no log that may
-/// be what is left of another store. False if the system does not say.
+/// Reports whether a store that is opened at this path is a new one: there is no file or an empty one, and no log that
+/// may be what is left of another store. False if the system does not say.
 pub fn is_new_store(rt: &HostRuntime, path: &str) -> bool {
     let room = match fs::metadata(rt, path) {
         Ok(found) if found.is_file() && found.len() == 0 => SHORTEST_LOG as u64,
@@ -245,8 +246,8 @@ fn tally_of<D: Disk>(left: &Leftover<D>) -> Tally
     }
 }
 
-/// Returns the refusal for a file that cannot be opened: `Memory` if memory ran out, and otherwise `Device`, for example if
-/// there is no permission or no such folder.
+/// Returns the refusal for a file that cannot be opened: `Memory` if memory ran out, and otherwise `Device`, for
+/// example if there is no permission or no such folder.
 fn path_refusal(error: OpenError) -> Refusal
     ensures unopened { (result ≡ Refusal.Memory) ⊎ (result ≡ Refusal.Device) }
     ensures memory { error ≡ OpenError.OutOfMemory → result ≡ Refusal.Memory }
@@ -259,8 +260,8 @@ fn path_refusal(error: OpenError) -> Refusal
     }
 }
 
-/// Returns the refusal for opened files that cannot be read: `BadSchema` if they hold no database or a damaged one and each read
-/// passed the test of its digest, `Memory` if memory ran out, and otherwise `Device`.
+/// Returns the refusal for opened files that cannot be read: `BadSchema` if they hold no database or a damaged one and
+/// each read passed the test of its digest, `Memory` if memory ran out, and otherwise `Device`.
 fn file_refusal(error: Error, is_caught: bool) -> Refusal
     ensures bad { result ≡ Refusal.BadSchema
         ↔ ((is_caught ≡ false) × ((error ≡ Error.SqliteFailure ErrorCode.NotADatabase)

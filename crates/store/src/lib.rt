@@ -6,8 +6,8 @@
 //! connection that then stays open shows what it showed, and files that come back hold the database that they held, or
 //! the tables of a new store where they had none.
 //!
-//! A change is one transaction. So a crash leaves the world before it or the world after it, and once the change has returned
-//! Ok, only the world after it.
+//! A change is one transaction. So a crash leaves the world before it or the world after it, and once the change has
+//! returned Ok, only the world after it.
 //!
 //! | call | what it calls |
 //! |---|---|
@@ -28,11 +28,11 @@
 //! | `extract`, `extract_teams`, `copy` | `setup::copy::copy_shelves`, which writes in one transaction |
 //! | `migrate` | `older::schema::format_of`, and `migration::write::write_world`, into a fresh store in one transaction |
 //!
-//! The chain of a shelf is its own shelf, its group if it has one, and `common`. `statements::registry::find_shelf` finds the
-//! group once, and the store caches it, because it never changes.
+//! The chain of a shelf is its own shelf, its group if it has one, and `common`. `statements::registry::find_shelf`
+//! finds the group once, and the store caches it, because it never changes.
 //!
-//! What contracts say of values holds if the disk has returned what was written. A fault is `Memory` if memory ran out, and
-//! otherwise `Device`, which is counted.
+//! What contracts say of values holds if the disk has returned what was written. A fault is `Memory` if memory ran out,
+//! and otherwise `Device`, which is counted.
 #![tactic(auto)]
 
 mod chain;

@@ -28,8 +28,8 @@ pub(crate) enum Migrated {
     BadSchema,
 }
 
-/// Returns the outcome of a migration by what `write_world` returned: rows that the fresh store refuses as a broken constraint
-/// are `BadSchema`, and any other error stays an error.
+/// Returns the outcome of a migration by what `write_world` returned: rows that the fresh store refuses as a broken
+/// constraint are `BadSchema`, and any other error stays an error.
 fn outcome_of(written: Result<bool, CopyError>) -> Result<Migrated, CopyError>
     ensures whole { is_whole result ≡ is_done written }
     ensures named { result ≢ Ok Migrated.NotEmpty }
@@ -46,8 +46,8 @@ fn outcome_of(written: Result<bool, CopyError>) -> Result<Migrated, CopyError>
     }
 }
 
-/// Writes the world of an older store into a fresh one. Returns `NotEmpty` if the fresh store has more than `common`, and then
-/// `BadSchema` if the older tables are those of no older schema or stand for no world.
+/// Writes the world of an older store into a fresh one. Returns `NotEmpty` if the fresh store has more than `common`,
+/// and then `BadSchema` if the older tables are those of no older schema or stand for no world.
 fn migrate_rows<S: Alter, F: Alter>(
     alloc: Global,
     old: &mut Connection<S>,
@@ -67,14 +67,14 @@ fn migrate_rows<S: Alter, F: Alter>(
     outcome_of(write_world(alloc, old, format, fresh))
 }
 
-/// Copies all that a store of schema 1 or 2 has into the fresh store: each shelf but `common` becomes a team without a group.
-/// The older store is only read, a row at a time, and all rows are written in one transaction.
+/// Copies all that a store of schema 1 or 2 has into the fresh store: each shelf but `common` becomes a team without a
+/// group. The older store is only read, a row at a time, and all rows are written in one transaction.
 ///
-/// Fails with `NotEmpty` if the fresh store has another shelf, a key or an entry, otherwise with `BadSchema` if the tables of
-/// the older store are those of no older schema or stand for no world; with `Device` if a disk failed and with `Memory` if
-/// memory ran out. Then both stores are as they were. After Ok, a crash leaves only the older world in the fresh store, wherever
-/// an earlier fault had left that; after `NotEmpty`, nothing that it did not leave before; after another failure, as `AfterFill`
-/// says, it may leave the older world too.
+/// Fails with `NotEmpty` if the fresh store has another shelf, a key or an entry, otherwise with `BadSchema` if the
+/// tables of the older store are those of no older schema or stand for no world; with `Device` if a disk failed and
+/// with `Memory` if memory ran out. Then both stores are as they were. After Ok, a crash leaves only the older world in
+/// the fresh store, wherever an earlier fault had left that; after `NotEmpty`, nothing that it did not leave before;
+/// after another failure, as `AfterFill` says, it may leave the older world too.
 pub fn migrate<S: Alter, F: Alter>(
     old: &mut Connection<S>,
     fresh: &mut SqlShelves<F>,

@@ -45,8 +45,9 @@ impl SqlShelves<MemStore> {
 }
 
 impl<S: Alter> SqlShelves<S> {
-    /// Closes a store and returns its connection, on which it makes no call: what was acknowledged is in the files already.
-    /// A crate that drops a store has to prove the dropping of all its fields, so callers drop the connection instead.
+    /// Closes a store and returns its connection, on which it makes no call: what was acknowledged is in the files
+    /// already. A crate that drops a store has to prove the dropping of all its fields, so callers drop the connection
+    /// instead.
     pub fn close(self) -> Connection<S>
         ensures untouched { result ≡ self.conn }
     {
@@ -100,7 +101,8 @@ impl<T: Start> SqlShelves<FileStore<FileFrom<T>>> {
     /// they were opened, and hold what they held; only where there were no tables may those of a new store stand, if
     /// the disk failed or memory ran out. A log may be left beside them.
     ///
-    /// No clause of `sqlite` ties a path to the bytes of a file, so no contract says that this path was opened: tests do.
+    /// No clause of `sqlite` ties a path to the bytes of a file, so no contract says that this path was opened: tests
+    /// do.
     pub fn open_from(
         rt: &HostRuntime,
         path: &str,

@@ -49,9 +49,9 @@ use world::text_set::TextSet;
 use world::version_list::Versions;
 use world::versions::{highest, latest_left};
 
-/// Shelves whose entries and keys are rows of SQL tables.
-/// Once a fault has closed the connection, a call still returns what is cached, and fails with `Device` if it needs the tables.
-/// The store then stands for every world that agrees with its cache.
+/// Shelves whose entries and keys are rows of SQL tables. Once a fault has closed the connection, a call still returns
+/// what is cached, and fails with `Device` if it needs the tables. The store then stands for every world that agrees
+/// with its cache.
 #[derive(Drop)]
 pub struct SqlShelves<S: Alter> {
     pub(crate) conn: Connection<S>,
@@ -273,13 +273,14 @@ impl<S: Alter> Outlines for SqlShelves<S> {
 }
 
 impl<S: Alter> SqlShelves<S> {
-    /// Returns a store over a connection. The store begins at the world that the tables stand for; if there are no tables, it
-    /// makes them, with only the shelf `common`.
+    /// Returns a store over a connection. The store begins at the world that the tables stand for; if there are no
+    /// tables, it makes them, with only the shelf `common`.
     ///
-    /// Fails with `BadSchema` if the tables are not those of the schema or stand for no world, with `Memory` if memory ran out,
-    /// and with `Device` if the disk failed, the connection is closed, in a transaction or limited in its steps, or a table has
-    /// 2^64 rows, one for each rowid. The connection then comes back. If it is still open, it shows the tables that it showed
-    /// before. A crash leaves what it left before or, if there were no tables, tables with only `common`.
+    /// Fails with `BadSchema` if the tables are not those of the schema or stand for no world, with `Memory` if memory
+    /// ran out, and with `Device` if the disk failed, the connection is closed, in a transaction or limited in its
+    /// steps, or a table has 2^64 rows, one for each rowid. The connection then comes back. If it is still open, it
+    /// shows the tables that it showed before. A crash leaves what it left before or, if there were no tables, tables
+    /// with only `common`.
     pub fn adopt(
         alloc: Global,
         mut conn: Connection<S>,
@@ -291,7 +292,8 @@ impl<S: Alter> SqlShelves<S> {
         ensures none_kept { IfOk result (λ s. IsNothing s.kept) }
         ensures refused { IfErr result (λ e. IsOfOpening e.0) }
         ensures none_failed { IfOk result (λ s. s.failures ≡ 0) }
-        // A refused connection that is still open shows what it showed, and a crash leaves what it left before or the new tables.
+        // A refused connection that is still open shows what it showed, and a crash leaves what it left before or the
+        // new tables.
         ensures same { IfErr result (λ e. Honestly (state S.Store conn) (state S.Store e.1) (λ old new.
             IsTrue new.is_open → new.now ≡ old.now)) }
         ensures crash { IfErr result (λ e. Honestly (state S.Store conn) (state S.Store e.1) LeavesFirst) }
@@ -325,8 +327,8 @@ impl<S: Alter> SqlShelves<S> {
         self.kept.bounds();
     }
 
-    /// Returns the group of a shelf, or None if it has none or does not exist. Copies the cached name if there is one, and
-    /// queries the tables otherwise. Fails with `Memory` if memory ran out, and otherwise with `Device`.
+    /// Returns the group of a shelf, or None if it has none or does not exist. Copies the cached name if there is one,
+    /// and queries the tables otherwise. Fails with `Memory` if memory ran out, and otherwise with `Device`.
     fn group_of(&mut self, shelf: &str) -> Result<Option<Text>, StoreFault>
         ensures reads { Reads (shown_with (state S.Store self.old.conn) self.old.kept self.old.failures)
             (shown_with (state S.Store self.new.conn) self.new.kept self.new.failures) result
@@ -344,9 +346,9 @@ impl<S: Alter> SqlShelves<S> {
         Ok(group)
     }
 
-    /// Returns what a shelf sees of a version without its zip, with the shelf that its entry stands on, or None. Copies the
-    /// cached heading if there is one, returns None if what is cached of the path lacks the version, and queries the tables
-    /// otherwise. Fails as `group_of` does.
+    /// Returns what a shelf sees of a version without its zip, with the shelf that its entry stands on, or None. Copies
+    /// the cached heading if there is one, returns None if what is cached of the path lacks the version, and queries
+    /// the tables otherwise. Fails as `group_of` does.
     fn seen(
         &mut self,
         shelf: &str,
@@ -367,8 +369,8 @@ impl<S: Alter> SqlShelves<S> {
         self.find_heading(shelf, path, version)
     }
 
-    /// Caches which versions of a path a shelf sees, if it looked for one in vain before. The first such look does not do it, so
-    /// a path that is asked for once costs one look along the chain. Fails as `group_of` does.
+    /// Caches which versions of a path a shelf sees, if it looked for one in vain before. The first such look does not
+    /// do it, so a path that is asked for once costs one look along the chain. Fails as `group_of` does.
     fn keep_if_missed(&mut self, shelf: &str, path: &str) -> Result<(), StoreFault>
         ensures reads { Reads (shown_with (state S.Store self.old.conn) self.old.kept self.old.failures)
             (shown_with (state S.Store self.new.conn) self.new.kept self.new.failures) result (λ _. tt) }
@@ -382,8 +384,8 @@ impl<S: Alter> SqlShelves<S> {
         Ok(())
     }
 
-    /// Returns what a shelf sees of a version without its zip, with the shelf that its entry stands on, or None. Caches what it
-    /// sees, or notes that it looked in vain. Always queries the tables. Fails as `group_of` does.
+    /// Returns what a shelf sees of a version without its zip, with the shelf that its entry stands on, or None. Caches
+    /// what it sees, or notes that it looked in vain. Always queries the tables. Fails as `group_of` does.
     fn find_heading(
         &mut self,
         shelf: &str,
@@ -415,8 +417,8 @@ impl<S: Alter> SqlShelves<S> {
         counted(&mut self.failures, found)
     }
 
-    /// Returns the versions of a path that a shelf sees, in ascending precedence. Takes the list out of the cache if it is there,
-    /// so the caller caches it again, and queries the tables otherwise. Fails as `group_of` does.
+    /// Returns the versions of a path that a shelf sees, in ascending precedence. Takes the list out of the cache if it
+    /// is there, so the caller caches it again, and queries the tables otherwise. Fails as `group_of` does.
     fn take_versions(&mut self, shelf: &str, path: &str) -> Result<Versions, StoreFault>
         ensures reads { Reads (shown_with (state S.Store self.old.conn) self.old.kept self.old.failures)
             (shown_with (state S.Store self.new.conn) self.new.kept self.new.failures) result

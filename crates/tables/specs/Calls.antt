@@ -10,7 +10,8 @@ use Rattle.tables.specs.Schema.{store_schema}
 abbrev pub Honestly : State → State → (State → State → Type 0) → Type 0
 Honestly old new P = HasCleanDisk new → P old new
 
--- this holds of the states before and after, if no answer of the disk was wrong and the connection had the tables of this schema
+-- this holds of the states before and after, if no answer of the disk was wrong and the connection had the tables of
+-- this schema
 abbrev pub HonestlyOver : Schema → State → State → (State → State → Type 0) → Type 0
 HonestlyOver schema old new P = Honestly old new (λ old new. old.now.schema ≡ schema → P old new)
 

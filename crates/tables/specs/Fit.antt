@@ -182,7 +182,8 @@ place_in row = record { shelf = text_in (column row 0); path = text_in (column r
 abbrev pub is_on : List ℕ → List ℕ → Place → Bool
 is_on s p q = bytes_eq q.shelf s && bytes_eq q.path p
 
--- the row shows a piece: the number of its version, its own number, and its bytes, at least one and no more than a piece may have
+-- the row shows a piece: the number of its version, its own number, and its bytes, at least one and no more than a
+-- piece may have
 pub record IsPieceRow (row : Row) : Type 0 where
   pub version : ℤ
   pub number : ℕ

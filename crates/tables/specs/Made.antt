@@ -6,7 +6,8 @@ use Rattle.tables.specs.Schema.{store_schema}
 use Rattle.world.specs.World.{only_common}
 use Rattle.tables.specs.Means.{Means}
 
--- within a transaction that is still open, the tables of the schema were made and stand for `common` alone; nothing was committed
+-- within a transaction that is still open, the tables of the schema were made and stand for `common` alone; nothing was
+-- committed
 pub record IsMade (old new : State) : Type 0 where
   pub schema : new.now.schema ≡ store_schema
   pub sound : IsDatabase new.now

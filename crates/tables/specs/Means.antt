@@ -1,5 +1,5 @@
--- The world that the tables stand for. It does not depend on the order of rows, and the number of a row only ties a version to its
--- pieces.
+-- The world that the tables stand for. It does not depend on the order of rows, and the number of a row only ties a
+-- version to its pieces.
 use Rattle.std.specs.Prelude.{ℕ, ℤ, Bool, true, false, pos, if◌then◌else◌, List, Option, Some, IsTrue, codes, filter, ◌≡◌}
 use Rattle.sqlite.specs.declared.types.Value.TheVariants.{Int, Text, Blob}
 use Rattle.sqlite.specs.Order.{Row, column}
@@ -138,15 +138,16 @@ pub record IsSettled (s : State) : Type 0 where
   pub autocommit : s.in_transaction ≡ false
   pub committed : IsTrue s.is_open → s.now ≡ s.committed
 
--- The connection shows the tables of the schema, which stand for the world; all of it is committed, and it is in no transaction.
+-- The connection shows the tables of the schema, which stand for the world; all of it is committed, and it is in no
+-- transaction.
 pub record Holds (s : State) (w : World) : Type 0 where
   pub schema : s.now.schema ≡ store_schema
   pub settled : s.now ≡ s.committed
   pub autocommit : s.in_transaction ≡ false
   pub trees : StandFor s.now.trees w
 
--- If no answer of the disk was wrong and the connection is open, it shows tables that stand for the world. This says nothing
--- once a file was written by others, or the disk has failed for good.
+-- If no answer of the disk was wrong and the connection is open, it shows tables that stand for the world. This says
+-- nothing once a file was written by others, or the disk has failed for good.
 abbrev pub Stands : State → World → Type 0
 Stands s w = HasCleanDisk s → IsTrue s.is_open → Holds s w
 

@@ -18,9 +18,9 @@ use Rattle.tables.specs.declared.pieces.LastPiece.{LastPiece}
 use Rattle.tables.specs.Schema.{store_schema}
 use Rattle.tables.specs.Fit.{is_on}
 
--- A disk in doubt stays in doubt. If no answer of the disk was wrong and the connection had the tables of the schema, the call
--- leaves the state as it was or rolls the transaction back, keeps the step limit, forgets no fault, and a crash leaves nothing
--- that it did not leave before.
+-- A disk in doubt stays in doubt. If no answer of the disk was wrong and the connection had the tables of the schema,
+-- the call leaves the state as it was or rolls the transaction back, keeps the step limit, forgets no fault, and a
+-- crash leaves nothing that it did not leave before.
 pub record Looks (old new : State) : Type 0 where
   pub clean : doubt old.is_clean ≤ doubt new.is_clean
   pub left : HasCleanDisk new → old.now.schema ≡ store_schema → (db : Trees) → new.may_leave db → old.may_leave db
@@ -76,7 +76,8 @@ ShowsTooMany = ShowsTooManyOver store_schema
 
 -- ---- one place after another, in order
 
--- a place may follow the last one, if there is one, given how many versions of the last one's path on its shelf have come
+-- a place may follow the last one, if there is one, given how many versions of the last one's path on its shelf have
+-- come
 abbrev pub MayFollow : Option Place → ℕ → Place → Type 0
 MayFollow None many q = Unit {0}
 MayFollow (Some p) many q = (p ≡ q → ⊥) × (is_on p.shelf p.path q ≡ true → many < version_limit)

@@ -13,8 +13,8 @@ ghost use Rattle.world.specs.World.{only_common};
 
 use sqlite::{Alter, Connection, Error, ErrorCode, Transaction};
 
-/// Makes the tables, with the shelf `common`, within a transaction. In a transaction on an empty connection it fails only if
-/// memory runs out, the connection is closed or limited in its steps, or the disk fails.
+/// Makes the tables, with the shelf `common`, within a transaction. In a transaction on an empty connection it fails
+/// only if memory runs out, the connection is closed or limited in its steps, or the disk fails.
 fn create_tables<S: Alter>(tx: &mut Transaction<'_, S>) -> Result<(), Error>
     ensures same_reference { tx.new.conn.ghost_name ≡ tx.old.conn.ghost_name }
     ensures survives { Survives (state S.Store tx.old.conn.now) (state S.Store tx.new.conn.now) (λ _. ⊥) }
@@ -45,8 +45,8 @@ fn create_tables<S: Alter>(tx: &mut Transaction<'_, S>) -> Result<(), Error>
 /// Makes the tables, with the shelf `common` and nothing else, in one transaction, on a connection that has no table.
 /// Refuses a connection that is in a transaction.
 ///
-/// If it fails, the connection, while it is open, shows what it showed before. Outside a transaction it fails only if memory
-/// runs out, the connection is closed or limited in its steps, or the disk fails.
+/// If it fails, the connection, while it is open, shows what it showed before. Outside a transaction it fails only if
+/// memory runs out, the connection is closed or limited in its steps, or the disk fails.
 pub fn create<S: Alter>(conn: &mut Connection<S>) -> Result<(), Error>
     requires empty { (state S.Store conn.old).now.schema ≡ no_schema }
     ensures clean { doubt (state S.Store conn.old).is_clean ≤ doubt (state S.Store conn.new).is_clean }

@@ -261,8 +261,8 @@ impl RowTest for NumberRows {
     }
 }
 
-/// A walk over the rows of `version` by place: each entry may stand at its place and has the `order_key` and the `rank_key` of its
-/// version, no place comes twice, and no shelf has too many versions of a path.
+/// A walk over the rows of `version` by place: each entry may stand at its place and has the `order_key` and the
+/// `rank_key` of its version, no place comes twice, and no shelf has too many versions of a path.
 #[derive(Drop)]
 struct EntryRows {
     alloc: Global,
@@ -291,8 +291,8 @@ impl RowTest for EntryRows {
     }
 }
 
-/// Returns the place of the entry in a row, or None if the entry may not stand there or does not have the `order_key` and the
-/// `rank_key` of its version. For a row of full width it fails only if memory runs out.
+/// Returns the place of the entry in a row, or None if the entry may not stand there or does not have the `order_key`
+/// and the `rank_key` of its version. For a row of full width it fails only if memory runs out.
 fn entry_place(alloc: Global, row: &Row) -> Result<Option<Place>, Error>
     ensures found { IfOk result (λ found. MatchOption found
         (IsEntryRow row.now → ⊥)
@@ -314,8 +314,8 @@ fn entry_place(alloc: Global, row: &Row) -> Result<Option<Place>, Error>
     Ok(Some(Place::new(alloc, shelf, path, version)?))
 }
 
-/// Whether the last columns of a row are the `order_key` and the `rank_key` of a version. It makes both again and compares them,
-/// so opening a store changes no row. For a row of full width it fails only if memory runs out.
+/// Whether the last columns of a row are the `order_key` and the `rank_key` of a version. It makes both again and
+/// compares them, so opening a store changes no row. For a row of full width it fails only if memory runs out.
 fn shows_keys(alloc: Global, row: &Row, version: &Version) -> Result<bool, Error>
     ensures verdict { IfOk result (λ shows. Decides shows
         ((column row.now 5 ≡ Blob (order_key_of version.now)) × (column row.now 6 ≡ Blob (rank_key_of version.now)))) }
@@ -326,8 +326,8 @@ fn shows_keys(alloc: Global, row: &Row, version: &Version) -> Result<bool, Error
     Ok(is_blob_at(row, 5, &order)? && is_blob_at(row, 6, &rank)?)
 }
 
-/// Whether the other columns of a row show an entry that may stand at a path and a version, and the `order_key` and `rank_key` of
-/// the version. They show no byte of the zip. For a row of full width it fails only if memory runs out.
+/// Whether the other columns of a row show an entry that may stand at a path and a version, and the `order_key` and
+/// `rank_key` of the version. They show no byte of the zip. For a row of full width it fails only if memory runs out.
 fn shows_entry(alloc: Global, row: &Row, path: &str, version: &str) -> Result<bool, Error>
     ensures verdict { IfOk result (λ may. Decides may (ShowsAt row.now path.now version.now)) }
     ensures memory { entry_width ≤ length row.now → IfErr result (λ e. e ≡ Error.SqliteFailure ErrorCode.OutOfMemory) }
@@ -349,7 +349,8 @@ fn shows_entry(alloc: Global, row: &Row, path: &str, version: &str) -> Result<bo
     }
 }
 
-/// Returns how many versions of the path on its shelf have come with this place, or None if the place may not follow the last.
+/// Returns how many versions of the path on its shelf have come with this place, or None if the place may not follow
+/// the last.
 pub fn run_up_to(last: &Option<Place>, many: u64, place: &Place) -> Option<u64>
     ensures { MatchOption result
         (MayFollow last.now many place.now → ⊥)
@@ -427,8 +428,8 @@ fn are_numbers_fit<S: Alter>(conn: &mut Connection<S>) -> Result<bool, Error>
     rows_pass(conn, "SELECT rowid FROM access ORDER BY rowid", &mut rows)
 }
 
-/// Whether each version is an entry that may stand at its place, with the `order_key` and the `rank_key` of its version, each
-/// place comes once, and no shelf has too many versions of a path. Fails as [`stand_for_world`] does.
+/// Whether each version is an entry that may stand at its place, with the `order_key` and the `rank_key` of its
+/// version, each place comes once, and no shelf has too many versions of a path. Fails as [`stand_for_world`] does.
 fn are_entries_fit<S: Alter>(alloc: Global, conn: &mut Connection<S>) -> Result<bool, Error>
     ensures tests { Tests (state S.Store conn.old) (state S.Store conn.new) result
         (λ db. AreEntriesFit (map entry_shown (db 6))) }
@@ -471,8 +472,8 @@ fn are_fit<S: Alter>(alloc: Global, conn: &mut Connection<S>) -> Result<bool, Er
 
 /// Whether the tables are those of the schema and stand for a world. Writes nothing.
 ///
-/// It fails only if memory runs out, the connection is closed or limited in its steps, the disk fails, or a table has 2^64 rows,
-/// one for each rowid.
+/// It fails only if memory runs out, the connection is closed or limited in its steps, the disk fails, or a table has
+/// 2^64 rows, one for each rowid.
 pub fn stand_for_world<S: Alter>(alloc: Global, conn: &mut Connection<S>) -> Result<bool, Error>
     ensures clean { doubt (state S.Store conn.old).is_clean ≤ doubt (state S.Store conn.new).is_clean }
     ensures found { Honestly (state S.Store conn.old) (state S.Store conn.new) (λ old new.

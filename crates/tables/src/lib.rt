@@ -11,9 +11,9 @@
 //! | `piece` | a piece of the zip of the version whose `id` it names: 65,536 bytes, or fewer in the last | `version`, `number`, `bytes` |
 //!
 //! Tables stand for at most one world: each row of `shelf` is a shelf, each row of `access` a key, and each row of
-//! `version` an entry, whose zip is the bytes of its rows of `piece`, joined in the order of their numbers 0, 1, 2 and so on.
-//! Each shelf, key, entry and piece has one row. The numbers of the rows of `version`, and the order of rows, mean nothing.
-//! The order of the bytes in `order_key` is precedence, and of those in `rank_key` it is rank.
+//! `version` an entry, whose zip is the bytes of its rows of `piece`, joined in the order of their numbers 0, 1, 2 and
+//! so on. Each shelf, key, entry and piece has one row. The numbers of the rows of `version`, and the order of rows,
+//! mean nothing. The order of the bytes in `order_key` is precedence, and of those in `rank_key` it is rank.
 //!
 //! | call | what it does |
 //! |---|---|

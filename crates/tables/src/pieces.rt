@@ -28,9 +28,9 @@ pub struct LastPiece {
     is_full: bool,
 }
 
-/// A walk over the rows of `piece` by version and number: the pieces of a version are numbered from 0 without gaps, and each
-/// but the last is full. The walk keeps no bytes, so opening a store puts no zip together. The foreign key says that each piece
-/// has a version.
+/// A walk over the rows of `piece` by version and number: the pieces of a version are numbered from 0 without gaps, and
+/// each but the last is full. The walk keeps no bytes, so opening a store puts no zip together. The foreign key says
+/// that each piece has a version.
 #[derive(Drop)]
 struct PieceRows {
     last: Option<LastPiece>,
@@ -72,7 +72,8 @@ fn number_at(row: &Row, at: usize) -> Result<Option<u64>, Error>
     }
 }
 
-/// Returns what a walk keeps of the piece in a row, or None if the row holds no piece. Fails only if the row is too short.
+/// Returns what a walk keeps of the piece in a row, or None if the row holds no piece. Fails only if the row is too
+/// short.
 pub fn piece_at(row: &Row) -> Result<Option<LastPiece>, Error>
     ensures found { IfOk result (λ found. MatchOption found
         (IsPieceRow row.now → ⊥)
@@ -111,8 +112,8 @@ pub fn may_go_on(last: Option<LastPiece>, piece: LastPiece) -> bool
     last.is_full && piece.number > 0 && last.number == piece.number - 1
 }
 
-/// Whether the rows of `piece` are the pieces of zips. Fails only if memory runs out, the connection is closed or limited in its
-/// steps, the disk fails, or a table has a row for each rowid.
+/// Whether the rows of `piece` are the pieces of zips. Fails only if memory runs out, the connection is closed or
+/// limited in its steps, the disk fails, or a table has a row for each rowid.
 pub(crate) fn are_pieces_fit<S: Alter>(conn: &mut Connection<S>) -> Result<bool, Error>
     ensures tests { Tests (state S.Store conn.old) (state S.Store conn.new) result
         (λ db. ArePiecesFit (map piece_shown (db 8))) }

@@ -103,7 +103,8 @@ fn is_shelf_table(table: &Table) -> bool
         && is_reference(table.references.as_slice(), 2, "shelf", "name")
 }
 
-/// Whether there is one reference, from the column at this position to this column of this table, with no action and not deferred.
+/// Whether there is one reference, from the column at this position to this column of this table, with no action and
+/// not deferred.
 pub fn is_reference(references: &[Reference], position: usize, parent: &str, column: &str) -> bool
     ensures { Decides result (references.now ≡ refers position parent.now column.now ∷ []) }
 {

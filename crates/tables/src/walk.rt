@@ -32,10 +32,10 @@ pub(crate) trait RowTest {
         ensures memory { length row.now ≡ width → IfErr result (λ e. e ≡ Error.SqliteFailure ErrorCode.OutOfMemory) };
 }
 
-/// Whether each row of a query passes. Fails only if memory runs out, the connection is closed or limited in its steps, the disk
-/// fails, or the query shows 2^128 - 1 rows or more, which a query of one table does only if the table has a row for each rowid.
-/// Each table is read in one walk, ordered by what must not repeat, so nothing is quadratic. No clause of `sqlite` bounds the
-/// rows of a table, so the walk has a bound of its own.
+/// Whether each row of a query passes. Fails only if memory runs out, the connection is closed or limited in its steps,
+/// the disk fails, or the query shows 2^128 - 1 rows or more, which a query of one table does only if the table has a
+/// row for each rowid. Each table is read in one walk, ordered by what must not repeat, so nothing is quadratic. No
+/// clause of `sqlite` bounds the rows of a table, so the walk has a bound of its own.
 pub(crate) fn rows_pass<S: Alter, T: RowTest>(
     conn: &mut Connection<S>,
     sql: &str,

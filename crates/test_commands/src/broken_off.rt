@@ -62,7 +62,8 @@ fn left_by<S: Outlines + Drop, L: Read + Drop, F: Sources>(
     Ok(format!(in alloc; "{}\n{}", ended.as_str(), seen.as_str())?)
 }
 
-/// Imports a list to shelves that have no entry, and returns what is printed, how it ends, and what the shelf sees afterwards.
+/// Imports a list to shelves that have no entry, and returns what is printed, how it ends, and what the shelf sees
+/// afterwards.
 fn left<L: Read + Drop, F: Sources>(
     alloc: Global,
     list: L,
@@ -116,7 +117,8 @@ const BAD: &[u8] =
 
 const BAD_LINES: &str = "1 201 published\n2 201 published\n3 bad row\n";
 
-/// Reports whether, with room for this much only, the beginning of the lines is printed, and the row is done whose line breaks off.
+/// Reports whether, with room for this much only, the beginning of the lines is printed, and the row is done whose line
+/// breaks off.
 fn breaks_off<F: Sources>(alloc: Global, files: &F, room: usize) -> Result<bool, Fail> {
     let left = left(alloc, BAD, files, Sink::new(alloc, room))?;
     let printed = BAD_LINES.get(..room).ok_or("no such place")?;

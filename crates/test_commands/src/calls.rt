@@ -18,9 +18,9 @@ use test_support::rows::{cell, with_lines};
 use world::entry::Right;
 use world::shelves::Shelves;
 
-/// Returns the first row of a script that is answered otherwise, or the empty text if each row has its own answer. A row is a
-/// command, a key, what it asks for, and the answer, in which `;` is a newline. `member-add` has the group in place of a key.
-/// Then drops the store.
+/// Returns the first row of a script that is answered otherwise, or the empty text if each row has its own answer. A
+/// row is a command, a key, what it asks for, and the answer, in which `;` is a newline. `member-add` has the group in
+/// place of a key. Then drops the store.
 pub fn wrong_row<'a, S: Outlines + Drop, F: Sources>(
     alloc: Global,
     mut shelves: S,

@@ -38,7 +38,8 @@ fn is_read<F: Sources>(alloc: Global, files: &F, row: &str) -> Result<bool, Fail
     Ok(read(alloc, files, cell(row, 0), most)?.as_str() == wanted.as_str())
 }
 
-/// Puts the file of a row with two columns and returns true. For a row with three, reports whether its name has what it says.
+/// Puts the file of a row with two columns and returns true. For a row with three, reports whether its name has what it
+/// says.
 fn holds(alloc: Global, files: &mut FilesInMemory, row: &str) -> Result<bool, Fail> {
     if row.split('|').count() == 3 {
         return is_read(alloc, files, row);
@@ -57,7 +58,8 @@ fn wrong_row<'a>(alloc: Global, files: &mut FilesInMemory, rows: &'a str) -> Res
     Ok("")
 }
 
-/// Files that are put, with 21 bytes, none, or one; and what a name has if the most bytes are the figure in the second column.
+/// Files that are put, with 21 bytes, none, or one; and what a name has if the most bytes are the figure in the second
+/// column.
 const ROWS: &str = "\
 a.mod | 100 | NoFile
 a.mod | module example.com/a;

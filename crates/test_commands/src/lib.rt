@@ -1,5 +1,5 @@
-//! The worked rows of the commands, over shelves and files in memory: imports, inventories and what a version requires; and
-//! imports whose list cannot be read on, or whose lines cannot be printed.
+//! The worked rows of the commands, over shelves and files in memory: imports, inventories and what a version requires;
+//! and imports whose list cannot be read on, or whose lines cannot be printed.
 //!
 //! Each table is a text whose lines are rows.
 #![tactic(auto)]

@@ -32,7 +32,8 @@ of-common | path,version,time,mod,zip;example.com/x,v1.0.0,,x.mod,one;example.co
 of-alpha | path,version,time,mod,zip;example.com/y,v1.0.0,,y.mod,empty;example.com/y,v1.10.0,2024-01-31T23:59:59Z,y.mod,empty;example.com/y,v1.9.0,,requires.mod,empty;example.com/y,v1.10.0-rc.1,,y.mod,empty;example.com/y,v1.9.1-0.20240102030405-aaaaaaaaaaaa,,y.mod,empty;
 ";
 
-/// A list that is imported twice and keeps its files, because others conflict with them. Then it is imported with other keys.
+/// A list that is imported twice and keeps its files, because others conflict with them. Then it is imported with other
+/// keys.
 const TWICE: &str = "\
 team-add | | beta | done
 reader-add | alphareader00001 | alpha | done

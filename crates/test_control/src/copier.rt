@@ -3,8 +3,8 @@ use control::{Copies, CopyRefusal};
 use world::registry::StoreFault;
 use world::shelves::Shelves;
 
-/// Makes no copy, and fails for three paths: for `full` with `NotEmpty`, for `small` with `Memory`, for the empty one with `Device`.
-/// Counts nothing, and returns this number.
+/// Makes no copy, and fails for three paths: for `full` with `NotEmpty`, for `small` with `Memory`, for the empty one
+/// with `Device`. Counts nothing, and returns this number.
 #[derive(Drop)]
 pub(crate) struct Copier {
     pub(crate) versions: u64,

@@ -1,5 +1,5 @@
-//! The worked rows of stops and faults: stores over files in memory whose calls fail, what the stores answer meanwhile, and
-//! what the files hold afterwards.
+//! The worked rows of stops and faults: stores over files in memory whose calls fail, what the stores answer meanwhile,
+//! and what the files hold afterwards.
 //!
 //! | module | what it holds |
 //! |---|---|
@@ -9,7 +9,8 @@
 //! | `open`, `files` | the store in two files that stop at some call: opened and closed at one spot |
 //! | `steps`, `import`, `requests`, `worlds` | what a job does, over any shelves |
 //!
-//! One spot and one type of file keep the check short: each further one would be proved again, in a minute and with 2 GiB.
+//! One spot and one type of file keep the check short: each further one would be proved again, in a minute and with 2
+//! GiB.
 #![tactic(auto)]
 
 #[cfg(test)]

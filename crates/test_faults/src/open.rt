@@ -1,7 +1,7 @@
 //! Stores over two files in memory, for which the machine stops at some call.
 //!
-//! Every store is opened and closed at one spot, [`on_files`], and is closed rather than dropped: a function that drops a store has
-//! to prove the dropping of all its fields, at each of its exits.
+//! Every store is opened and closed at one spot, [`on_files`], and is closed rather than dropped: a function that drops
+//! a store has to prove the dropping of all its fields, at each of its exits.
 use crate::files::{Calls, Counted};
 use crate::jobs::{Job, do_job};
 use sqlite::{Alter, Connection, Files, Leftover, Options};
@@ -11,8 +11,8 @@ use std::test::Fail;
 use store::refusal::Refusal;
 use store::store::SqlShelves;
 
-/// Opens the tables of a connection, does a job with their store, and closes it. Returns the connection, and the bits that were
-/// acknowledged: none if the device keeps the store from opening.
+/// Opens the tables of a connection, does a job with their store, and closes it. Returns the connection, and the bits
+/// that were acknowledged: none if the device keeps the store from opening.
 fn on_tables<S: Alter>(
     alloc: Global,
     conn: Connection<S>,
@@ -29,8 +29,9 @@ fn on_tables<S: Alter>(
     }
 }
 
-/// Opens the store in two files, does a job with it, and closes it. Returns the files, and the bits that were acknowledged: none if
-/// the device keeps the store from opening. The log is copied into the database once it has a few pages, so both files are written.
+/// Opens the store in two files, does a job with it, and closes it. Returns the files, and the bits that were
+/// acknowledged: none if the device keeps the store from opening. The log is copied into the database once it has a few
+/// pages, so both files are written.
 fn on_files<D: Disk + Drop>(
     alloc: Global,
     files: Files<D>,

@@ -52,8 +52,8 @@ fn answer_to<S: Shelves, M: Shelves>(
     Ok(if is_same { Answer::Same } else { Answer::Wrong })
 }
 
-/// Has a store answer the requests of rows, and returns how many got the reply of shelves in maps. Each row that was answered
-/// wrong is added to `wrong`. The maps do the steps of `SETUP` first, and are dropped at the end.
+/// Has a store answer the requests of rows, and returns how many got the reply of shelves in maps. Each row that was
+/// answered wrong is added to `wrong`. The maps do the steps of `SETUP` first, and are dropped at the end.
 pub fn answered<S: Shelves, M: Shelves + Drop>(
     alloc: Global,
     shelves: &mut S,

@@ -60,8 +60,8 @@ fn loses_nothing(file: &Halted, is_lost: bool) -> bool {
     is_lost && file.written.bytes() == file.synced.bytes()
 }
 
-/// Reports whether the files that a job leaves hold a world that they may hold, whether the log has lost what was not synced, or the
-/// database file, or both, or none.
+/// Reports whether the files that a job leaves hold a world that they may hold, whether the log has lost what was not
+/// synced, or the database file, or both, or none.
 fn is_right(alloc: Global, left: &Left, worlds: &[String]) -> Result<bool, Fail> {
     for losses in 0..4u8 {
         let (log_lost, db_lost) = (losses & 1 != 0, losses & 2 != 0);
@@ -88,8 +88,8 @@ fn are_apart(worlds: &[String]) -> bool {
     }
 }
 
-/// Stops a job at each of these calls of the log, or of the database file. Returns the empty text if each stop left a world that
-/// it may leave, and otherwise what was wrong.
+/// Stops a job at each of these calls of the log, or of the database file. Returns the empty text if each stop left a
+/// world that it may leave, and otherwise what was wrong.
 fn wrong_stop(
     alloc: Global,
     found: Found,
@@ -108,9 +108,9 @@ fn wrong_stop(
     Ok("")
 }
 
-/// Stops a job at each call that changes or syncs the log, and at each of the database file; a stop at a call that reads leaves
-/// what a stop at the next of these leaves. Returns the empty text if each stop left a world that it may leave, and the run
-/// without a stop did all and changed the world; otherwise what was wrong.
+/// Stops a job at each call that changes or syncs the log, and at each of the database file; a stop at a call that
+/// reads leaves what a stop at the next of these leaves. Returns the empty text if each stop left a world that it may
+/// leave, and the run without a stop did all and changed the world; otherwise what was wrong.
 fn wrong_stops(alloc: Global, found: Found, job: &mut Job, all: u8) -> Result<&'static str, Fail> {
     let worlds = worlds_of(alloc, found, job, all)?;
     if !are_apart(worlds.as_slice()) {

@@ -1,5 +1,5 @@
-//! Requests that a store answers while calls of its files fail. Each gets the 503, or the reply of shelves in maps that took only
-//! the requests that the store did not answer with the 503.
+//! Requests that a store answers while calls of its files fail. Each gets the 503, or the reply of shelves in maps that
+//! took only the requests that the store did not answer with the 503.
 use crate::jobs::{Job, Kind};
 use crate::open::{Left, NO_STOP, left_by, stop_at};
 use crate::requests::wrong_reply;
@@ -26,8 +26,8 @@ const MOST: u64 = 2000;
 /// How many requests there are.
 const COUNT: u8 = 8;
 
-/// Lets a file fail from one call on, for each call after the opening until none fails. Returns the empty text if each request
-/// was answered right and the last run answered all, and otherwise what was wrong.
+/// Lets a file fail from one call on, for each call after the opening until none fails. Returns the empty text if each
+/// request was answered right and the last run answered all, and otherwise what was wrong.
 fn wrong_of(alloc: Global, of_log: bool) -> Result<String, Fail> {
     let before = prepared(alloc)?;
     let mut sweep = Job::new(alloc, Kind::Sweep, REQUESTS);

@@ -4,8 +4,9 @@ use std::test::Fail;
 use test_support::calls::answered;
 use world::shelves::Shelves;
 
-/// Calls whose answers tell the world, as far as the names of the rows go: the keys, what each shelf sees, and for each shelf whether it
-/// exists and may be a team's group. The last calls add the shelves that do not exist, and a member of each group.
+/// Calls whose answers tell the world, as far as the names of the rows go: the keys, what each shelf sees, and for each
+/// shelf whether it exists and may be a team's group. The last calls add the shelves that do not exist, and a member of
+/// each group.
 const CALLS: &str = "\
 key|alphakey00000001
 key|alphareader00001

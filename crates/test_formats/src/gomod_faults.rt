@@ -4,7 +4,8 @@ use gomod::{GoMod, GoModFault};
 use std::alloc::{AllocError, Global};
 use std::test::Fail;
 
-/// - `read`: a text, and its first fault as a go.mod; if it has none, `bare` if module is its only directive, and otherwise `more`.
+/// - `read`: a text, and its first fault as a go.mod; if it has none, `bare` if module is its only directive, and
+///   otherwise `more`.
 /// - `line`: a text, and the line of its fault.
 /// - `parentheses`: the text after 100,000 opening parentheses, and the fault of the whole.
 pub const ROWS: &str = "\

@@ -12,8 +12,8 @@ module example.com/many
 retract (
 ";
 
-/// Files, with `====` between them. The first line has what the file below it says: the path of the module; what it requires; some
-/// versions that it retracts; and some that it does not.
+/// Files, with `====` between them. The first line has what the file below it says: the path of the module; what it
+/// requires; some versions that it retracts; and some that it does not.
 const FILES: &str = "\
 example.com/a||v1.0.5 v1.1.0-rc.1 v1.1.0|v1.0.5-rc.1 v1.1.1
 module example.com/a

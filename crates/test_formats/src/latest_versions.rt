@@ -6,8 +6,8 @@ use std::alloc::Global;
 use std::test::Fail;
 
 /// - `top`: versions, and the index of the highest, or `-` if there is none.
-/// - `latest`: versions, a go.mod, and the index of the highest that it does not retract, or `-` if there is none. `latest` and
-///   `latest_of` return the same one.
+/// - `latest`: versions, a go.mod, and the index of the highest that it does not retract, or `-` if there is none.
+///   `latest` and `latest_of` return the same one.
 pub const ROWS: &str = "\
 top||-
 top|v1.0.0-rc.10 v1.0.0 v1.0.0-rc.2|1

@@ -1,8 +1,9 @@
-//! Worked rows for the formats below the shelves: module paths, versions, go.mod files, the latest version, go.sum lines, and the
-//! messages and replies of HTTP/1.1.
+//! Worked rows for the formats below the shelves: module paths, versions, go.mod files, the latest version, go.sum
+//! lines, and the messages and replies of HTTP/1.1.
 //!
-//! Each table is one text whose lines are rows, and one test of `rows` reads them all. At least one row calls each public function of
-//! the crates below. Expected values are those of the public standards, worked out by hand or made by another program.
+//! Each table is one text whose lines are rows, and one test of `rows` reads them all. At least one row calls each
+//! public function of the crates below. Expected values are those of the public standards, worked out by hand or made
+//! by another program.
 //!
 //! | module | calls of | its rows show |
 //! |---|---|---|

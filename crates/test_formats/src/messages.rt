@@ -5,11 +5,12 @@ use std::test::Fail;
 use wire::{Bad, Framer, Memory, Message, Next, length_value};
 
 /// - `length`: the text of a header, and the number that it writes, or `-` if it writes none.
-/// - `stream`: a stream, its messages however it is cut, each with its body after `+`, and how it ends: `empty`, 400, 413, or `more`
-///   and how many bytes of a body are missing.
-/// - `last`: a stream, its messages and end without its last byte, and then those with it. The stream repeats the second column as
-///   often as the third says, and the fourth follows; the result shows the repeated piece as `*`. A head has at most 64 headers and
-///   16,384 bytes.
+/// - `stream`: a stream, its messages however it is cut, each with its body after `+`, and how it ends: `empty`, 400,
+///   413, or `more` and how many bytes of a body are missing.
+/// - `last`: a stream, its messages and end without its last byte, and then those with it. The stream repeats the
+///   second column as
+/// often as the third says, and the fourth follows; the result shows the repeated piece as `*`. A head has at most 64
+/// headers and 16,384 bytes.
 pub const ROWS: &str = "\
 length|0|0
 length|1|1
@@ -128,7 +129,8 @@ fn take(framer: &mut Framer, text: &mut Vec<u8>) -> Result<&'static str, Memory>
     Ok("more than 8 messages")
 }
 
-/// Returns the messages of a stream and how it ends. The front comes in one piece, and the back in pieces of `step` bytes.
+/// Returns the messages of a stream and how it ends. The front comes in one piece, and the back in pieces of `step`
+/// bytes.
 fn handed_out(alloc: Global, front: &[u8], back: &[u8], step: usize) -> Result<Vec<u8>, Memory> {
     let mut framer = Framer::new(alloc);
     let mut text = Vec::new(alloc);
@@ -147,8 +149,8 @@ fn handed_out(alloc: Global, front: &[u8], back: &[u8], step: usize) -> Result<V
     Ok(text)
 }
 
-/// Returns the messages and the end of a stream in one piece. They must not change if the stream is cut in two at any of the first
-/// `limit` bytes, nor if the bytes after the cut come one by one; otherwise it returns `the cut matters`.
+/// Returns the messages and the end of a stream in one piece. They must not change if the stream is cut in two at any
+/// of the first `limit` bytes, nor if the bytes after the cut come one by one; otherwise it returns `the cut matters`.
 fn however_cut(alloc: Global, stream: &[u8], limit: usize) -> Result<Vec<u8>, Memory> {
     let whole = handed_out(alloc, stream, b"", 1)?;
     for cut in 0..limit.min(stream.len()) {

@@ -1,5 +1,5 @@
-//! Module paths, loose paths and their escaped form. (Go Modules Reference, "Module paths", "Major version suffixes" and "GOPROXY
-//! protocol".)
+//! Module paths, loose paths and their escaped form. (Go Modules Reference, "Module paths", "Major version suffixes"
+//! and "GOPROXY protocol".)
 use crate::rows::{column, named};
 use modpath::{
     LoosePath, ModulePath, PathError, check, check_loose, escape, loose_suffix, suffix, unescape,
@@ -7,7 +7,8 @@ use modpath::{
 use std::alloc::{AllocError, Global};
 use std::test::Fail;
 
-/// - `path` and `loose`: a text, and the major version suffix of the path that it writes, or its fault. A path has at most 255 bytes.
+/// - `path` and `loose`: a text, and the major version suffix of the path that it writes, or its fault. A path has at
+///   most 255 bytes.
 /// - `escape` and `unescape`: a text, and its other form or its fault.
 pub const ROWS: &str = "\
 path|gopkg.in/yaml.v2|Dot(2)
@@ -109,7 +110,8 @@ fn path(alloc: Global, text: &str) -> Result<String, AllocError> {
     }
 }
 
-/// Returns the suffix of a loose path, or the fault of its text, or `-` if `check_loose` and `LoosePath::parse` disagree.
+/// Returns the suffix of a loose path, or the fault of its text, or `-` if `check_loose` and `LoosePath::parse`
+/// disagree.
 fn loose(alloc: Global, text: &str) -> Result<String, AllocError> {
     let checked = check_loose(text).err();
     match LoosePath::parse(alloc, text) {

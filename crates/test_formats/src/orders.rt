@@ -10,9 +10,10 @@ use std::test::Fail;
 /// - `equal`: versions of one precedence.
 /// - `keys`: a version; the front of its rank key, before the order key; and its order key. Bytes are in hexadecimal.
 ///
-/// Each version is compared with each, and so are their keys. The first list is the standard's. The next two show numbers of any
-/// length, and each field of an order key: the numbers byte by byte, the kind of an identifier, its digits, its letters, where it
-/// ends, whether more follow, and whether there is one. The list of `rank` shows each class, and then stamps or precedence.
+/// Each version is compared with each, and so are their keys. The first list is the standard's. The next two show
+/// numbers of any length, and each field of an order key: the numbers byte by byte, the kind of an identifier, its
+/// digits, its letters, where it ends, whether more follow, and whether there is one. The list of `rank` shows each
+/// class, and then stamps or precedence.
 pub const ROWS: &str = "\
 precedence|v1.0.0-alpha v1.0.0-alpha.1 v1.0.0-alpha.beta v1.0.0-beta v1.0.0-beta.2 v1.0.0-beta.11 v1.0.0-rc.1 v1.0.0 v2.0.0 v2.1.0 v2.1.1|true
 precedence|v1.0.0-999999999999999999999999999999999999999999999999999999999999999999999999999999999999999999999999999 v1.0.0-1000000000000000000000000000000000000000000000000000000000000000000000000000000000000000000000000000 v1.0.0-9999999999999999999999999999999999999999999999999999999999999999999999999999999999999999999999999999 v1.0.0-rc.2 v1.0.0-rc.10 v1.0.0|true

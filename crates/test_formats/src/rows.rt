@@ -1,5 +1,5 @@
-//! Reads the tables of all modules. A row is a line of a table, with `|` between its columns: the call, its arguments, and last what it
-//! returns. In a row, `;` is a newline and `ÿ` the byte 255.
+//! Reads the tables of all modules. A row is a line of a table, with `|` between its columns: the call, its arguments,
+//! and last what it returns. In a row, `;` is a newline and `ÿ` the byte 255.
 use crate::{
     gomod_faults, hashes, latest_versions, messages, module_paths, orders, replies, targets,
     tokens, versions,
@@ -69,8 +69,8 @@ fn given(alloc: Global, subject: Subject, row: &str) -> Result<String, Fail> {
     }
 }
 
-/// Returns the first row of a table whose call does not return its last column, and what the call returns. It returns an empty text if
-/// there is no such row, and fails with the first call that fails.
+/// Returns the first row of a table whose call does not return its last column, and what the call returns. It returns
+/// an empty text if there is no such row, and fails with the first call that fails.
 fn wrong_row(alloc: Global, subject: Subject) -> Result<String, Fail> {
     for row in table(subject).lines() {
         let (call, wanted) = row.rsplit_once('|').ok_or("a row of one column")?;

@@ -4,7 +4,8 @@ use std::alloc::{AllocError, Global};
 use std::test::Fail;
 use wire::{Memory, Resource, RouteTable, Target, target};
 
-/// A method and a target, and what they ask for: the word, the key, the path and the version; `-` for an unreadable target.
+/// A method and a target, and what they ask for: the word, the key, the path and the version; `-` for an unreadable
+/// target.
 pub const ROWS: &str = "\
 GET /k/key/example.com/lib/@v/v1.0.0.info|info key example.com/lib v1.0.0
 GET /k/key/example.com/lib/@v/v1.0.0.mod|mod key example.com/lib v1.0.0
@@ -128,7 +129,8 @@ fn version(resource: &Resource) -> &str {
     }
 }
 
-/// Returns the word, the key, the path and the version of a target, with spaces between them, or `-` if it is unreadable.
+/// Returns the word, the key, the path and the version of a target, with spaces between them, or `-` if it is
+/// unreadable.
 fn shown(alloc: Global, target: &Target) -> Result<String, AllocError> {
     match target {
         Target::Unreadable => String::from_str(alloc, "-"),

@@ -6,9 +6,11 @@ use std::borrow::CowStr;
 use std::test::Fail;
 
 /// - `tokens`: a text, and the kind, line, span and slice of each token, or the fault.
-/// - `line_tokens` and `first_tokens`: line 7 of a text, which begins at byte 20, and its tokens or the first two of them, or the fault.
+/// - `line_tokens` and `first_tokens`: line 7 of a text, which begins at byte 20, and its tokens or the first two of
+///   them, or the fault.
 /// - `cut_line`: a text, and its first line and what follows, or `-` for a text of one line.
-/// - `word`: a text of one token; whether it is a word, a name, the arrow; whether its value is borrowed from the text; and the value.
+/// - `word`: a text of one token; whether it is a word, a name, the arrow; whether its value is borrowed from the text;
+///   and the value.
 pub const ROWS: &str = "\
 tokens|go 1.21rc1;a => // x;[\"b\\\"\",`c`];( =>x)|Name 1 0-2 go, Name 1 3-10 1.21rc1, Name 2 11-12 a, Arrow 2 13-15 =>, BracketLeft 3 21-22 [, Quoted 3 22-27 \"b\\\"\", Comma 3 27-28 ,, Raw 3 28-31 `c`, BracketRight 3 31-32 ], ParenLeft 4 33-34 (, Name 4 35-38 =>x, ParenRight 4 38-39 )
 tokens|a;b {|Lex(2)

@@ -1,4 +1,5 @@
-//! Versions, their classes, times, and the paths that they fit. (Go Modules Reference, "Versions" and "Pseudo-versions".)
+//! Versions, their classes, times, and the paths that they fit. (Go Modules Reference, "Versions" and
+//! "Pseudo-versions".)
 use crate::rows::column;
 use modpath::{LoosePath, ModulePath, suffix};
 use modver::{
@@ -7,7 +8,8 @@ use modver::{
 use std::alloc::{AllocError, Global};
 use std::test::Fail;
 
-/// - `version`: a text, and the class of the version that it writes, or the time of a pseudo-version, or the fault of the text.
+/// - `version`: a text, and the class of the version that it writes, or the time of a pseudo-version, or the fault of
+///   the text.
 /// - `time`: a text, and the time that it writes or its fault.
 /// - `copy`: a version, its copy, and whether the copy is marked `+incompatible`.
 /// - `bounds`: two versions, and how a copy of the bound of the first compares with the bound of the second.

@@ -12,9 +12,9 @@ use world::entry::{Entry, Right};
 use world::reading::Reading;
 use world::standing::{Standing, standing_to};
 
-/// Publishes of `example.com/lib` and their decisions. A row has the right of the key; the version; the time; the go.mod and the
-/// zip, with `-` for a body that does not split; the go.mod as it is read; the zip and the time of the entry that the shelf sees;
-/// and the number of versions. `;` stands for a newline.
+/// Publishes of `example.com/lib` and their decisions. A row has the right of the key; the version; the time; the
+/// go.mod and the zip, with `-` for a body that does not split; the go.mod as it is read; the zip and the time of the
+/// entry that the shelf sees; and the number of versions. `;` stands for a newline.
 const DECISIONS: &str = "\
 none|v1.0.0||module example.com/lib;|a|-|a||0 = NotFound
 Reads|v2.0.0|malformed|-||-|||0 = Forbidden

@@ -9,7 +9,8 @@ use world::entry::EntryRef;
 use world::entry_test::{Misfit, fitting_version, module_misfit, own_misfit};
 use world::reading::Reading;
 
-/// Rows of a path, a version, a go.mod in which `;` stands for a newline, a time, and whether the entry may stand there.
+/// Rows of a path, a version, a go.mod in which `;` stands for a newline, a time, and whether the entry may stand
+/// there.
 const ENTRIES: &str = "\
 example.com/lib|v1.0.0|module example.com/lib;| = true
 example.com/lib|v1.0.0|module example.com/lib;|2019-11-09T02:19:32Z = true

@@ -1,8 +1,8 @@
-//! The worked examples of shelves: calls of shelves in memory, decisions on publishes, runs of the machine, and the bytes that
-//! answer requests.
+//! The worked examples of shelves: calls of shelves in memory, decisions on publishes, runs of the machine, and the
+//! bytes that answer requests.
 //!
-//! Each table is a text whose lines are rows. Each public function of the crates below runs on at least one row. The scripts
-//! are those of `test_support`, which `test_stores` also runs on tables.
+//! Each table is a text whose lines are rows. Each public function of the crates below runs on at least one row. The
+//! scripts are those of `test_support`, which `test_stores` also runs on tables.
 #![tactic(auto)]
 
 #[cfg(test)]

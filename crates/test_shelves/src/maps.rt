@@ -20,8 +20,8 @@ fn maps_answer(rt: HostRuntime) -> Result<(), Fail> {
     Ok(())
 }
 
-/// Returns the bytes that shelves answer to a stream, once they have the teams, the groups and the keys of a script. Then drops the
-/// shelves.
+/// Returns the bytes that shelves answer to a stream, once they have the teams, the groups and the keys of a script.
+/// Then drops the shelves.
 fn streamed<S: Shelves + Drop>(
     alloc: Global,
     mut shelves: S,

@@ -13,8 +13,8 @@ use text::Text;
 use world::bytes::Bytes;
 use world::entry::Right;
 
-/// Runs, with `====` between them: events and their answers. What stands before `----` runs first, and the rest then runs on the
-/// shelves that it left. Every request is for `v1.0.0`; `;` stands for a newline.
+/// Runs, with `====` between them: events and their answers. What stands before `----` runs first, and the rest then
+/// runs on the shelves that it left. Every request is for `v1.0.0`; `;` stands for a newline.
 const RUNS: &str = "\
 team-add|alpha = Done
 team-add|beta = Done

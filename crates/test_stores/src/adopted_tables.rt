@@ -24,14 +24,14 @@ INSERT INTO version VALUES (7, 'common', 'example.com/lib', 'v1.0.0', NULL, X'6d
 INSERT INTO piece VALUES (7, 0, X'5A');
 ";
 
-/// Tables that are adopted, in sections with `====` between them. The first line of a section has the tables that are there, the
-/// outcome of adopting them, and the script that the store then answers. Each other line has the statements that change the tables
-/// before. `FULL` is the 65,536 bytes of a full piece.
+/// Tables that are adopted, in sections with `====` between them. The first line of a section has the tables that are
+/// there, the outcome of adopting them, and the script that the store then answers. Each other line has the statements
+/// that change the tables before. `FULL` is the 65,536 bytes of a full piece.
 ///
-/// - Tables outside the schema, a transaction that is open, and tables of a schema that is changed: columns of `shelf`, columns, keys
-///   and checks of others, the order and the text of tables.
-/// - Rows that stand for no world; then rows that do: other shelves and parents, a key of a group, another version, an empty zip, zips
-///   of one full piece and of a byte more, and the last table made again as it was.
+/// - Tables outside the schema, a transaction that is open, and tables of a schema that is changed: columns of `shelf`,
+///   columns, keys and checks of others, the order and the text of tables.
+/// - Rows that stand for no world; then rows that do: other shelves and parents, a key of a group, another version, an
+///   empty zip, zips of one full piece and of a byte more, and the last table made again as it was.
 /// - Tables with a row at the last rowid, and with one at the first too; and a limit of one step.
 pub const CASES: &str = "\
 empty|BadSchema None
@@ -229,8 +229,8 @@ fn answered<S: Alter>(
     Ok(String::from_str(alloc, if row == "" { "answers" } else { row })?)
 }
 
-/// Adopts a connection, and runs a script on the store. If the connection is refused, returns why, and how many versions it has after
-/// that, if it says so.
+/// Adopts a connection, and runs a script on the store. If the connection is refused, returns why, and how many
+/// versions it has after that, if it says so.
 fn adopted<S: Alter + Drop>(
     alloc: Global,
     conn: Connection<S>,

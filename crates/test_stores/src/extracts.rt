@@ -149,8 +149,8 @@ versions|alpha|example.com/lib = v1.0.0;
 failures = 0
 ";
 
-/// Two teams of a group and one of no group, each with a key, and keys of the group and of `common`; a version that several shelves
-/// have, one of the group, and one of the other member.
+/// Two teams of a group and one of no group, each with a key, and keys of the group and of `common`; a version that
+/// several shelves have, one of the group, and one of the other member.
 const GROUPED: &str = "\
 group-add|platform = Done
 team-add|delta|platform = Done

@@ -53,8 +53,8 @@ fn wrong_call<'a, S: Alter>(
     }
 }
 
-/// Runs a script on two empty stores, one row a line, and returns the first row that is answered otherwise, or the empty text. The
-/// first store is the whole, the other takes a part or a copy of it.
+/// Runs a script on two empty stores, one row a line, and returns the first row that is answered otherwise, or the
+/// empty text. The first store is the whole, the other takes a part or a copy of it.
 ///
 /// - `copy`, `extract` and a team, `extract-teams` and teams: makes the copy or the part.
 /// - `on-whole` and `on-part`: runs the script of this name on the store.
@@ -94,8 +94,8 @@ fn wrong_row_in_memory<'a>(alloc: Global, script: &'a str) -> Result<&'a str, Fa
     wrong
 }
 
-/// Runs scripts, with `====` between them, each on two new stores in memory, and returns the first row that is answered otherwise, or
-/// the empty text.
+/// Runs scripts, with `====` between them, each on two new stores in memory, and returns the first row that is answered
+/// otherwise, or the empty text.
 pub fn wrong_row_of_all<'a>(alloc: Global, scripts: &'a str) -> Result<&'a str, Fail> {
     for script in scripts.split("====\n") {
         let wrong = wrong_row_in_memory(alloc, script)?;

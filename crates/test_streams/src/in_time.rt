@@ -99,8 +99,8 @@ fn no_waits() -> Waits {
     }
 }
 
-/// Answers the message in these bytes, which are given in two reads or more, measured by a clock with this step, and returns the
-/// status.
+/// Answers the message in these bytes, which are given in two reads or more, measured by a clock with this step, and
+/// returns the status.
 fn answer_timed<W: Write + Drop>(
     alloc: Global,
     waits: &Waits,
@@ -156,7 +156,8 @@ fn a_read_that_begins_too_late_fails(rt: HostRuntime) -> Result<(), Fail> {
 
 #[test]
 fn a_write_that_begins_too_late_fails(rt: HostRuntime) -> Result<(), Fail> {
-    // The reply has 114 bytes, and the sink takes 7 of them at each second call: the last of 34 calls begins after 33 steps.
+    // The reply has 114 bytes, and the sink takes 7 of them at each second call: the last of 34 calls begins after 33
+    // steps.
     let mut sink = Sink::new(rt.alloc(), usize::MAX);
     let waits = no_waits();
     let status = answer_timed(rt.alloc(), &waits, 151, PUT, b"", &mut sink)?;
@@ -176,8 +177,8 @@ const LARGE: &[u8] =
 #[test]
 fn bytes_that_are_moved_give_more_time(rt: HostRuntime) -> Result<(), Fail> {
     let zip = vec![in rt.alloc(); b'z'; 1_114_112]?;
-    // There is one read for the head and the go.mod, and there are 17 of 65,536 bytes. The last begins after 17 steps, when more
-    // than 1,048,576 bytes have come, so 6 s are allowed. For the one before it, 5 s are allowed.
+    // There is one read for the head and the go.mod, and there are 17 of 65,536 bytes. The last begins after 17 steps,
+    // when more than 1,048,576 bytes have come, so 6 s are allowed. For the one before it, 5 s are allowed.
     let waits = no_waits();
     let status = answer_timed(rt.alloc(), &waits, 312, LARGE, &zip, Vec::new(rt.alloc()))?;
     assert!(rt; status == Ok(Some(201)));

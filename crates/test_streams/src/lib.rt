@@ -1,5 +1,5 @@
-//! The worked rows of streams and connections: answers to a stream however it is cut, readers and writers that fail at each of
-//! their calls, connections of this process to itself and in memory, and a peer's time.
+//! The worked rows of streams and connections: answers to a stream however it is cut, readers and writers that fail at
+//! each of their calls, connections of this process to itself and in memory, and a peer's time.
 #![tactic(auto)]
 
 #[cfg(test)]

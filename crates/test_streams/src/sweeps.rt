@@ -1,4 +1,5 @@
-//! Readers and writers that fail at each of their calls in turn: what was written, and what the shelves have afterwards.
+//! Readers and writers that fail at each of their calls in turn: what was written, and what the shelves have
+//! afterwards.
 //!
 //! This is shown over shelves in maps only, because none of it depends on where the shelves are kept.
 use crate::shelves::shelves;
@@ -10,7 +11,8 @@ use std::test::Fail;
 use test_support::doubles::{Sink, Source};
 use world::shelves::Shelves;
 
-/// A run, one step a line: a message, its reply, and how the reply to `LIST` ends after the step. `^` is CR LF, and `$` is LF.
+/// A run, one step a line: a message, its reply, and how the reply to `LIST` ends after the step. `^` is CR LF, and `$`
+/// is LF.
 const STEPS: &str = "\
 PUT /k/alphakey00000001/example.com/s/@v/v1.0.0 HTTP/1.1^Mod-Length: 21^Content-Length: 21^^module example.com/s$ | HTTP/1.1 201 Created^Content-Type: text/plain; charset=utf-8^Content-Length: 10^Connection: close^^published$ | ^^v1.0.0$
 PUT /k/alphakey00000001/example.com/s/@v/v1.0.0 HTTP/1.1^Mod-Length: 21^Content-Length: 22^^module example.com/s$Z | HTTP/1.1 409 Conflict^Content-Type: text/plain; charset=utf-8^Content-Length: 9^Connection: close^^conflict$ | ^^v1.0.0$
@@ -63,7 +65,8 @@ fn answer_and_list<S: Shelves + Drop>(
     told
 }
 
-/// Reports whether a reader that fails ends the run with `Io::Read`, after these bytes were written, and the list then ends so.
+/// Reports whether a reader that fails ends the run with `Io::Read`, after these bytes were written, and the list then
+/// ends so.
 fn fails_with(alloc: Global, reader: Source, written: &str, list: &str) -> Result<bool, Fail> {
     let mut writer = Sink::new(alloc, usize::MAX);
     let mut listed = Sink::new(alloc, usize::MAX);
@@ -86,7 +89,8 @@ fn failing<'a>(stream: &'a [u8], piece: usize, reads: usize, left: &'a Cell<usiz
     }
 }
 
-/// Reports whether, with a reader that fails after this many reads of such pieces, just the whole messages are answered.
+/// Reports whether, with a reader that fails after this many reads of such pieces, just the whole messages are
+/// answered.
 fn is_read_up_to(alloc: Global, stream: &[u8], piece: usize, reads: usize) -> Result<bool, Fail> {
     let given = reads.saturating_mul(piece).min(stream.len());
     let mut end: usize = 0;
@@ -105,7 +109,8 @@ fn is_read_up_to(alloc: Global, stream: &[u8], piece: usize, reads: usize) -> Re
     Ok(is_so && left.get() == stream.len().saturating_sub(given))
 }
 
-/// Returns the first number of reads in such pieces after which a failure leaves other than the whole messages answered.
+/// Returns the first number of reads in such pieces after which a failure leaves other than the whole messages
+/// answered.
 fn wrong_read(alloc: Global, piece: usize) -> Result<Option<usize>, Fail> {
     let stream = whole(alloc, 0)?;
     for reads in 0..stream.len().saturating_add(1) {
@@ -128,8 +133,8 @@ fn a_read_that_fails_leaves_whole_messages_answered(rt: HostRuntime) -> Result<(
     Ok(())
 }
 
-/// Reports whether a writer that takes such pieces and fails once it has `room` bytes ends the stream with `Io::Write`, with the
-/// first of these answers written, and the list then ends so.
+/// Reports whether a writer that takes such pieces and fails once it has `room` bytes ends the stream with `Io::Write`,
+/// with the first of these answers written, and the list then ends so.
 fn is_written_up_to(
     alloc: Global,
     piece: usize,
@@ -151,8 +156,8 @@ fn is_written_up_to(
     )
 }
 
-/// Returns the first position at which a write that fails does not leave a beginning of the replies and the message done whose
-/// reply it cut.
+/// Returns the first position at which a write that fails does not leave a beginning of the replies and the message
+/// done whose reply it cut.
 fn wrong_write(alloc: Global, piece: usize) -> Result<Option<usize>, Fail> {
     let answers = whole(alloc, 1)?;
     let mut room: usize = 0;

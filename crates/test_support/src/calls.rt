@@ -281,9 +281,9 @@ fn holds<S: Shelves>(alloc: Global, shelves: &mut S, row: &str) -> Result<bool, 
     Ok(true)
 }
 
-/// Runs a script on a store, one row a line, and returns the first row that the store answers otherwise, or the empty text if there is
-/// none. A row is a request of `requests`, or a call: its name and its arguments. `key-add` adds a key that publishes, `reader-add`
-/// one that reads. `;` stands for a newline in a go.mod.
+/// Runs a script on a store, one row a line, and returns the first row that the store answers otherwise, or the empty
+/// text if there is none. A row is a request of `requests`, or a call: its name and its arguments. `key-add` adds a key
+/// that publishes, `reader-add` one that reads. `;` stands for a newline in a go.mod.
 pub fn wrong_row<'a, S: Shelves>(
     alloc: Global,
     shelves: &mut S,

@@ -43,8 +43,8 @@ impl<'a> Read for Source<'a> {
     }
 }
 
-/// Takes bytes in pieces, counts the writes, and interrupts every other one. It fails once it has no room, and on a flush unless
-/// `flushes`.
+/// Takes bytes in pieces, counts the writes, and interrupts every other one. It fails once it has no room, and on a
+/// flush unless `flushes`.
 #[derive(Drop)]
 pub struct Sink {
     pub taken: Vec<u8>,

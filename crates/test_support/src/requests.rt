@@ -6,10 +6,11 @@ use std::alloc::{AllocError, Global};
 use std::test::Fail;
 use world::shelves::Shelves;
 
-/// Scripts, with `====` between them, which begin with the teams and the keys. A request is a row: its method, key and target; the
-/// status, kind and body of the reply; and for a PUT also the go.mod, the zip and further header lines. A stream is a row too: its bytes;
-/// and the status, kind and body of each reply, with `&` before the second. `;` stands for the end of a line. A line without
-/// columns describes those below it. The hashes were computed with Python's hashlib and base64.
+/// Scripts, with `====` between them, which begin with the teams and the keys. A request is a row: its method, key and
+/// target; the status, kind and body of the reply; and for a PUT also the go.mod, the zip and further header lines. A
+/// stream is a row too: its bytes; and the status, kind and body of each reply, with `&` before the second. `;` stands
+/// for the end of a line. A line without columns describes those below it. The hashes were computed with Python's
+/// hashlib and base64.
 pub const REQUESTS: &str = "\
 team-add|alpha = Done
 team-add|beta = Done
@@ -253,8 +254,8 @@ fn put_rest(alloc: Global, gomod: &str, zip: &str, lines: &str) -> Result<String
     )
 }
 
-/// Returns the bytes of a request. `words` are its method, the letter of its key and its target; a PUT also has a go.mod, a zip and
-/// further header lines, in which `;` stands for the end of a line.
+/// Returns the bytes of a request. `words` are its method, the letter of its key and its target; a PUT also has a
+/// go.mod, a zip and further header lines, in which `;` stands for the end of a line.
 fn request(
     alloc: Global,
     words: &str,

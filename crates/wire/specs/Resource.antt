@@ -19,8 +19,8 @@ pub record IsOwn (rest text : List ℕ) : Type 0 where
   pub whole : rest ≡ codes "-/" ++ behind
   pub decodes : percent_decode behind ≡ text
 
--- the rest begins with a plain `-/`, and what follows it decodes to `gosum/` and then a path, `/@v/` and a version, the path
--- and the version in their escaped forms
+-- the rest begins with a plain `-/`, and what follows it decodes to `gosum/` and then a path, `/@v/` and a version, the
+-- path and the version in their escaped forms
 pub record IsSummed (rest path : List ℕ) (version : SemanticVersion) : Type 0 where
   pub text : List ℕ
   pub own : IsOwn rest (codes "gosum/" ++ text)

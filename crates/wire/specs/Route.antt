@@ -41,8 +41,8 @@ split_of text = option_and_then with_key (option_and_then (around 47) (without_s
 abbrev pub is_own : List ℕ → Bool
 is_own rest = starts_with nat_eq rest (codes "-/") && nat_lt 2 (length rest)
 
--- the area about which the rest after a key asks, and the rest there: the shelf itself, without the `-/`, or a module path;
--- an empty rest has no area
+-- the area about which the rest after a key asks, and the rest there: the shelf itself, without the `-/`, or a module
+-- path; an empty rest has no area
 abbrev pub area_of : List ℕ → Option (Area × List ℕ)
 area_of rest =
     if is_own rest then Some (area.Shelf, drop 2 rest)

@@ -1,4 +1,5 @@
--- What a request asks for, by its method and its target. (Go Modules Reference, "GOPROXY protocol"; PUT is this server's own.)
+-- What a request asks for, by its method and its target. (Go Modules Reference, "GOPROXY protocol"; PUT is this
+-- server's own.)
 use Rattle.std.specs.Prelude.{◌≡◌, ◌==◌, ℕ, ◌<◌, false, List, [], ◌∷◌, ◌++◌, length, bytes_eq, codes, Option, Some, None, if◌then◌else◌}
 use Rattle.std.specs.List.{list_any}
 use Rattle.std.specs.Str.{IsUtf8, is_utf8}

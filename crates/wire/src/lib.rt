@@ -1,9 +1,9 @@
-//! The server's side of HTTP/1.1 on bytes: reads what a request asks for, and writes the bytes of replies. The messages of
-//! a stream come from `framing`, which this crate re-exports.
+//! The server's side of HTTP/1.1 on bytes: reads what a request asks for, and writes the bytes of replies. The messages
+//! of a stream come from `framing`, which this crate re-exports.
 //!
-//! A target is `/k/`, a key, `/` and a rest, which is percent-decoded once (RFC 3986, section 2.1) and contains a module
-//! path and a version in the escaped form of the Go Modules Reference ("GOPROXY protocol"). In a GET below `/@v/`, one
-//! `.info`, `.mod` or `.zip` at the end is removed, and the version is left. Anything else is unreadable.
+//! A target is `/k/`, a key, `/` and a rest, which is percent-decoded once (RFC 3986, section 2.1) and contains a
+//! module path and a version in the escaped form of the Go Modules Reference ("GOPROXY protocol"). In a GET below
+//! `/@v/`, one `.info`, `.mod` or `.zip` at the end is removed, and the version is left. Anything else is unreadable.
 //!
 //! | request | asks for |
 //! |---|---|

@@ -86,7 +86,8 @@ fn read_asked(alloc: Global, text: &[u8]) -> Result<Option<Resource>, Memory>
     }
 }
 
-/// Returns what is asked of a version of the path, or `None` if `asked` is unreadable. It fails only if memory runs out.
+/// Returns what is asked of a version of the path, or `None` if `asked` is unreadable. It fails only if memory runs
+/// out.
 fn read_of_version(
     alloc: Global,
     path: ModulePath,

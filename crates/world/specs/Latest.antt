@@ -43,7 +43,8 @@ abbrev pub highest_left : Option GoModule → List SemanticVersion → Option Se
 highest_left None vs = None
 highest_left (Some m) vs = highest (unretracted m vs)
 
--- the highest version of a path that a shelf sees and that the go.mod of this version does not retract, if the version exists
+-- the highest version of a path that a shelf sees and that the go.mod of this version does not retract, if the version
+-- exists
 abbrev pub latest_by : World → List ℕ → List ℕ → Option SemanticVersion → Option SemanticVersion
 latest_by w s p None = None
 latest_by w s p (Some top) = highest_left (module_of (heading w s p (version_text top))) (versions_of w s p)

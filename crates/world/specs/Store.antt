@@ -31,35 +31,38 @@ pub record HasCause {T : Type 0} (old new : Shown) (result : Result T StoreFault
   pub no_fewer : old.failures ≤ new.failures
   pub device : IsErrOf result Device → GrewOrFull old.failures new.failures
 
--- What a crash leaves after a call that leads from the world w to the next one. It covers a crash in the middle of a call too: to
--- the call that is a disk which fails from there on, so it ends with a fault, and `failed` says what is left.
+-- What a crash leaves after a call that leads from the world w to the next one. It covers a crash in the middle of a
+-- call too: to the call that is a disk which fails from there on, so it ends with a fault, and `failed` says what is
+-- left.
 pub record AfterCrash {T : Type 0} (old new : Shown) (w : World) (result : Result T StoreFault) (next : World) : Type 0 where
   -- if a crash before the call left only w, one after it leaves w or the next world
   pub either : old.leaves w w → new.leaves w next
   -- and after Ok only the next world
   pub alone : old.leaves w w → OnOk result (new.leaves next next)
-  -- whatever a crash left before, after Ok it leaves only the next world, or the call changed nothing and added nothing to it
+  -- whatever a crash left before, after Ok it leaves only the next world, or the call changed nothing and added nothing
+  -- to it
   pub settled : OnOk result (new.leaves next next ⊎ ((next ≡ w) × AddsNothing old new))
   -- whatever a crash left before, after a failure it leaves w or the next world, or the call added nothing to it
   pub failed : OnErr result (new.leaves w next ⊎ AddsNothing old new)
 
--- in this world, a call returns the value and leads to the next world, or fails and changes nothing, and a crash may follow
+-- in this world, a call returns the value and leads to the next world, or fails and changes nothing, and a crash may
+-- follow
 pub record DoesAt {T : Type 0} (old new : Shown) (w : World) (result : Result T StoreFault) (value : T) (next : World) : Type 0 where
   pub answer : IfOk result (λ x. x ≡ value)
   pub ok : OnOk result (new.stands next)
   pub err : OnErr result (new.stands w)
   pub crash : AfterCrash old new w result next
 
--- If the disks are honest up to the end of the call, they were honest before it, and the call does this in each world that
--- the store stood for and that fits. Honest or not, a fault has a cause.
+-- If the disks are honest up to the end of the call, they were honest before it, and the call does this in each world
+-- that the store stood for and that fits. Honest or not, a fault has a cause.
 pub record DoesWhere {T : Type 0} (fits : World → Type 0) (old new : Shown)
     (result : Result T StoreFault) (value : World → T) (next : World → World) : Type 0 where
   pub honest : new.is_honest → old.is_honest
   pub at : new.is_honest → (w : World) → old.stands w → fits w → DoesAt old new w result (value w) (next w)
   pub cause : HasCause old new result
 
--- If the disks are honest, then in each world that the store stood for the call returns this value and makes this next world,
--- or fails and leaves the world. A fault has a cause.
+-- If the disks are honest, then in each world that the store stood for the call returns this value and makes this next
+-- world, or fails and leaves the world. A fault has a cause.
 abbrev pub Does : {T : Type 0} → Shown → Shown → Result T StoreFault → (World → T) → (World → World) → Type 0
 Does old new result value next = DoesWhere (λ _. Unit {0}) old new result value next
 
@@ -69,15 +72,15 @@ pub record ReadsAt {T : Type 0} (old new : Shown) (w : World) (result : Result T
   pub stays : new.stands w
   pub left : AddsNothing old new
 
--- If the disks are honest, then in each world that the store stood for the call returns this value or fails, and changes
--- nothing. Honest or not, a fault has a cause.
+-- If the disks are honest, then in each world that the store stood for the call returns this value or fails, and
+-- changes nothing. Honest or not, a fault has a cause.
 pub record Reads {T : Type 0} (old new : Shown) (result : Result T StoreFault) (value : World → T) : Type 0 where
   pub honest : new.is_honest → old.is_honest
   pub at : new.is_honest → (w : World) → old.stands w → ReadsAt old new w result (value w)
   pub cause : HasCause old new result
 
--- the entry may be put there: its shelf exists, the place is free, the shelf has fewer versions of the path than the limit,
--- and the entry may stand at the place
+-- the entry may be put there: its shelf exists, the place is free, the shelf has fewer versions of the path than the
+-- limit, and the entry may stand at the place
 pub record IsRoomFor (w : World) (q : Place) (e : Entry) : Type 0 where
   pub stands : map.contains_key w.shelves q.shelf ≡ true
   pub free : map.get w.entries q ≡ None

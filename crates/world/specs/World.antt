@@ -33,8 +33,8 @@ place_cmp a b = ordering_then (text_cmp a.shelf b.shelf) (ordering_then (text_cm
 abbrev pub place : List ℕ → List ℕ → List ℕ → Place
 place s p v = record { shelf = s; path = p; version = v }
 
--- A world has keys, each with its shelf and right; shelves by name, each with its parent if it has one; and entries by place.
--- Common and groups have no parent; the parent of a team is its group, or common.
+-- A world has keys, each with its shelf and right; shelves by name, each with its parent if it has one; and entries by
+-- place. Common and groups have no parent; the parent of a team is its group, or common.
 pub record World : Type 0 where
   pub keys : map.FinMap text_cmp Holder
   pub shelves : map.FinMap text_cmp (Option (List ℕ))
@@ -147,15 +147,15 @@ zip_limit = 16777216
 abbrev pub version_limit : ℕ
 version_limit = 4096
 
--- this may be the time of an entry with a version of this class: for a pseudo-version it is that of its stamp, for any other
--- version it is absent or well formed
+-- this may be the time of an entry with a version of this class: for a pseudo-version it is that of its stamp, for any
+-- other version it is absent or well formed
 abbrev pub IsTimeOf : Class → Option (List ℕ) → Type 0
 IsTimeOf (class.Pseudo stamp) time = time ≡ Some stamp
 IsTimeOf c None = Unit {0}
 IsTimeOf c (Some time) = IsTime time
 
--- By these keywords an entry may stand at a place: path and version are well formed and fit each other, the files are within
--- the limits, the time may be that of the version, and the go.mod is that of the path and the version.
+-- By these keywords an entry may stand at a place: path and version are well formed and fit each other, the files are
+-- within the limits, the time may be that of the version, and the go.mod is that of the path and the version.
 pub record IsEntryBy (known : Keywords) (q : Place) (e : Entry) : Type 0 where
   pub path : IsPath q.path
   pub version : IsVersionText q.version

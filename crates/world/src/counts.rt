@@ -9,8 +9,8 @@ use crate::maps::text_map::TextMap;
 use std::alloc::Global;
 use std::marker::Model;
 
-/// How many versions of some paths stand on some shelves, so that a store need not count them again: with a kept count a
-/// publish costs as much however many versions its path has. Contracts see a map by shelf and path.
+/// How many versions of some paths stand on some shelves, so that a store need not count them again: with a kept count
+/// a publish costs as much however many versions its path has. Contracts see a map by shelf and path.
 #[derive(Drop)]
 pub struct Counts {
     shelves: TextMap<TextMap<u64>>,
@@ -61,8 +61,8 @@ impl Counts {
         }
     }
 
-    /// Counts one more version of a path on a shelf if that count is kept. If memory runs out or the count cannot grow, it
-    /// forgets all counts instead.
+    /// Counts one more version of a path on a shelf if that count is kept. If memory runs out or the count cannot grow,
+    /// it forgets all counts instead.
     pub fn raise(&mut self, alloc: Global, shelf: &str, path: &str)
         ensures { (w : World) (v : _) (e : _) → map.get w.entries (place shelf.now path.now v) ≡ None
             → AreCounts w self.old → AreCounts (with_entry w (place shelf.now path.now v) e) self.new }

@@ -1,5 +1,5 @@
-//! What an entry must pass to stand at a path and a version: one table of checks, which a publish and a store that takes
-//! over tables share.
+//! What an entry must pass to stand at a path and a version: one table of checks, which a publish and a store that
+//! takes over tables share.
 ghost use Rattle.std.specs.Prelude.{◌≡◌, IfOk};
 ghost use Rattle.world.specs.EntryTest as spec;
 
@@ -28,7 +28,8 @@ pub enum Misfit {
     NotBare,
 }
 
-/// Returns the first check of an entry that fails, apart from those of its go.mod, or None if all pass. Allocates nothing.
+/// Returns the first check of an entry that fails, apart from those of its go.mod, or None if all pass. Allocates
+/// nothing.
 pub fn own_misfit(path: &ModulePath, version: &Version, entry: &EntryRef) -> Option<Misfit>
     ensures { result ≡ spec.own_misfit path.now version.now entry.now }
 {
@@ -100,8 +101,8 @@ fn is_small(entry: &EntryRef) -> bool
     entry.gomod.len() <= MAX_GOMOD && entry.zip.len() <= MAX_ZIP
 }
 
-/// Whether this may be the time of an entry whose version has this class. A `TimeText` holds only well-formed times, so only
-/// a pseudo-version needs a comparison.
+/// Whether this may be the time of an entry whose version has this class. A `TimeText` holds only well-formed times, so
+/// only a pseudo-version needs a comparison.
 fn is_time_of(class: Class, time: Option<TimeText>) -> bool
     ensures { result ≡ spec.is_time_of class time }
 {

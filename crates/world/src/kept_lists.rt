@@ -77,9 +77,9 @@ impl KeptLists {
         Some(list.versions)
     }
 
-    /// Keeps the versions of a path that a shelf sees. If they have no room beside the other lists, it forgets those first; if
-    /// memory runs out, it forgets all lists. It does not keep a list that is too long for any room, nor an empty one, which is
-    /// found quickly.
+    /// Keeps the versions of a path that a shelf sees. If they have no room beside the other lists, it forgets those
+    /// first; if memory runs out, it forgets all lists. It does not keep a list that is too long for any room, nor an
+    /// empty one, which is found quickly.
     pub fn keep(&mut self, alloc: Global, shelf: &str, path: &str, versions: Versions)
         ensures { (w : World) → AreLists w self.old
             → versions ≡ versions_of w shelf.now path.now → AreLists w self.new }
@@ -107,8 +107,8 @@ impl KeptLists {
         }
     }
 
-    /// Forgets the lists of a path that gets one more version. It forgets them for every shelf, because every shelf sees what is
-    /// stored on `common`.
+    /// Forgets the lists of a path that gets one more version. It forgets them for every shelf, because every shelf
+    /// sees what is stored on `common`.
     pub fn forget(&mut self, path: &str)
         ensures { (w : World) (s v : _) (e : _) → AreLists w self.old
             → AreLists (with_entry w (place s path.now v) e) self.new }

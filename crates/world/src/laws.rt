@@ -11,8 +11,8 @@ pub fn entry_tests()
     ensures { EntryTestIsExact }
 {}
 
-/// A shelf is `common`, a group or a team, and sees itself, `common`, and the group that it is a member of. In a world without
-/// groups it sees itself and `common`.
+/// A shelf is `common`, a group or a team, and sees itself, `common`, and the group that it is a member of. In a world
+/// without groups it sees itself and `common`.
 pub fn groups()
     ensures kinds { EachHasAKind }
     ensures sight { SeesItsGroup }
@@ -25,7 +25,8 @@ pub fn parts()
     ensures chain { PartHasTheChain }
 {}
 
-/// The versions of a path that a shelf sees stand in their list once each, each below the next. (SemVer 2.0.0, section 11.)
+/// The versions of a path that a shelf sees stand in their list once each, each below the next. (SemVer 2.0.0, section
+/// 11.)
 pub fn versions_ascend()
     ensures { VersionsAscend }
 {}

@@ -1,10 +1,10 @@
 //! The shelves, their entries and their keys; the trait of a store that keeps them; and a store in memory.
 //!
-//! There is the shelf `common`, and one shelf for each group and for each team. A team may be a member of one group, and
-//! stays in it. An entry stands at a shelf, a module path and a version. It holds the go.mod and the zip as they were
-//! received, and a time if it has one. A key belongs to one shelf, and may read, or read and publish. Of each version a
-//! shelf sees its own entry if there is one, otherwise that of its group if the shelf has a group and the group has an
-//! entry, otherwise that of `common`.
+//! There is the shelf `common`, and one shelf for each group and for each team. A team may be a member of one group,
+//! and stays in it. An entry stands at a shelf, a module path and a version. It holds the go.mod and the zip as they
+//! were received, and a time if it has one. A key belongs to one shelf, and may read, or read and publish. Of each
+//! version a shelf sees its own entry if there is one, otherwise that of its group if the shelf has a group and the
+//! group has an entry, otherwise that of `common`.
 //!
 //! | on the shelves | `gamma`, of the group `platform`, sees | `platform` sees | `alpha`, of no group, sees |
 //! |---|---|---|---|

@@ -97,7 +97,8 @@ impl MapShelves {
         Some(SeenRef { shelf, entry })
     }
 
-    /// Returns the entry of a version that a shelf of this group, or of no group, sees above itself, or None if there is none.
+    /// Returns the entry of a version that a shelf of this group, or of no group, sees above itself, or None if there
+    /// is none.
     fn seen_above<'a>(
         &'a self,
         group: Option<&'a str>,
@@ -152,8 +153,8 @@ impl MapShelves {
             .add_versions(self.alloc, COMMON, path, versions)
     }
 
-    /// Returns the versions of a path that a shelf sees, in no particular order; a version that stands on several of the shelves
-    /// that it sees occurs as often. Fails only if memory runs out.
+    /// Returns the versions of a path that a shelf sees, in no particular order; a version that stands on several of
+    /// the shelves that it sees occurs as often. Fails only if memory runs out.
     fn versions_seen(&self, shelf: &str, path: &str) -> Result<Vec<Version>, AllocError>
         ensures { IfOk result (λ vs. in_order (by_precedence vs.items) ≡ versions_of self.now shelf.now path.now) }
     {
@@ -164,7 +165,8 @@ impl MapShelves {
         Ok(versions)
     }
 
-    /// Puts the paths on the shelves above a shelf of this group, or of no group, into a set. Fails only if memory runs out.
+    /// Puts the paths on the shelves above a shelf of this group, or of no group, into a set. Fails only if memory runs
+    /// out.
     fn add_paths_above(&self, group: Option<&str>, paths: &mut TextSet) -> Result<(), AllocError>
         ensures { OnOk result
             (paths.new ≡ set.union paths.old (paths_on self.now (above (option_copied group.entry)))) }
@@ -176,8 +178,8 @@ impl MapShelves {
         self.entries.add_paths(self.alloc, COMMON, paths)
     }
 
-    /// Returns the versions of a path that a shelf sees, in ascending precedence. Takes the kept list out if there is one, and
-    /// looks the versions up otherwise. Fails only if memory runs out.
+    /// Returns the versions of a path that a shelf sees, in ascending precedence. Takes the kept list out if there is
+    /// one, and looks the versions up otherwise. Fails only if memory runs out.
     fn take_versions(&mut self, shelf: &str, path: &str) -> Result<Versions, AllocError>
         ensures stays { self.new ≡ self.old }
         ensures found { IfOk result (λ vs. vs ≡ versions_of self.old shelf.now path.now) }
@@ -188,7 +190,8 @@ impl MapShelves {
         sorted(self.alloc, self.versions_seen(shelf, path)?)
     }
 
-    /// Returns a copy of what a shelf sees of a version without its zip, or None if it sees no entry. Fails only if memory runs out.
+    /// Returns a copy of what a shelf sees of a version without its zip, or None if it sees no entry. Fails only if
+    /// memory runs out.
     fn heading_seen(
         &self,
         shelf: &str,
@@ -244,8 +247,8 @@ impl MapShelves {
         }
     }
 
-    /// Adds a shelf that does not exist yet. It forgets all kept lists, because one that was kept under this name lacks what the
-    /// shelf's group has. Fails only if memory runs out, and then adds nothing.
+    /// Adds a shelf that does not exist yet. It forgets all kept lists, because one that was kept under this name lacks
+    /// what the shelf's group has. Fails only if memory runs out, and then adds nothing.
     fn add_shelf(&mut self, name: &str, parent: Option<Text>) -> Result<(), AllocError>
         ensures ok { OnOk result (self.new ≡ with_shelf self.old name.now parent) }
         ensures err { OnErr result (self.new ≡ self.old) }
@@ -310,7 +313,8 @@ impl Shelves for MapShelves {
         Ok(self.heading_seen(shelf, path, version)?)
     }
 
-    /// Returns how an entry that is handed in compares with what the shelf sees of the version. Never fails, and allocates nothing.
+    /// Returns how an entry that is handed in compares with what the shelf sees of the version. Never fails, and
+    /// allocates nothing.
     fn compare(
         &mut self,
         shelf: &str,

@@ -7,10 +7,10 @@ use crate::version_list::Versions;
 use modpath::ModulePath;
 use modver::Version;
 
-/// A store. The contract of a call says what it does in each world that the store stands for before it, as long as no disk
-/// gave a wrong answer. A call fails with `Device` if a device failed, and with `Memory` if memory ran out. After a call that
-/// fails, the store stands for the world that it stood for before. A crash may leave the change, but only whole:
-/// `AfterCrash` in `specs/Store.antt` says what it leaves.
+/// A store. The contract of a call says what it does in each world that the store stands for before it, as long as no
+/// disk gave a wrong answer. A call fails with `Device` if a device failed, and with `Memory` if memory ran out. After
+/// a call that fails, the store stands for the world that it stood for before. A crash may leave the change, but only
+/// whole: `AfterCrash` in `specs/Store.antt` says what it leaves.
 pub trait Shelves {
     ghost use Rattle.std.specs.Prelude.{◌≡◌, option_copied};
     ghost use Rattle.std.specs.FinMap as map;
@@ -35,7 +35,8 @@ pub trait Shelves {
     fn key(&mut self, key: &str) -> Result<Option<Holder>, StoreFault>
         ensures reads { Reads (shown self.old) (shown self.new) result (λ w. map.get w.keys key.now) };
 
-    /// Returns the entry of the version that the shelf sees, with the shelf that it stands on, or None if the shelf sees none.
+    /// Returns the entry of the version that the shelf sees, with the shelf that it stands on, or None if the shelf
+    /// sees none.
     fn entry(
         &mut self,
         shelf: &str,
@@ -66,12 +67,14 @@ pub trait Shelves {
         ensures reads { Reads (shown self.old) (shown self.new) result
             (λ w. standing w shelf.now path.now (version_text version.now) entry.now) };
 
-    /// Returns the versions of the path that the shelf sees, each once, in ascending precedence. (SemVer 2.0.0, section 11.)
+    /// Returns the versions of the path that the shelf sees, each once, in ascending precedence. (SemVer 2.0.0, section
+    /// 11.)
     fn versions(&mut self, shelf: &str, path: &ModulePath) -> Result<Versions, StoreFault>
         ensures reads { Reads (shown self.old) (shown self.new) result (λ w. versions_of w shelf.now path.now) };
 
-    /// Returns the latest version of the path, or None if there is none: among the versions that the shelf sees, the highest by
-    /// rank that the go.mod of the highest does not retract. (Go Modules Reference, "GOPROXY protocol", on `@latest`.)
+    /// Returns the latest version of the path, or None if there is none: among the versions that the shelf sees, the
+    /// highest by rank that the go.mod of the highest does not retract. (Go Modules Reference, "GOPROXY protocol", on
+    /// `@latest`.)
     fn latest(&mut self, shelf: &str, path: &ModulePath) -> Result<Option<Version>, StoreFault>
         ensures reads { Reads (shown self.old) (shown self.new) result (λ w. latest_of w shelf.now path.now) };
 
@@ -83,8 +86,8 @@ pub trait Shelves {
     fn count(&mut self, shelf: &str, path: &ModulePath) -> Result<u64, StoreFault>
         ensures reads { Reads (shown self.old) (shown self.new) result (λ w. count w shelf.now path.now) };
 
-    /// Stores an entry at its place. The contract speaks only of worlds with room for it (`IsRoomFor`), so the caller checks that
-    /// first. `AfterCrash` says what a crash leaves.
+    /// Stores an entry at its place. The contract speaks only of worlds with room for it (`IsRoomFor`), so the caller
+    /// checks that first. `AfterCrash` says what a crash leaves.
     fn insert(
         &mut self,
         shelf: &str,
@@ -96,22 +99,22 @@ pub trait Shelves {
             (shown self.old) (shown self.new) result (λ _. tt)
             (λ w. with_entry w (place shelf.now path.now (version_text version.now)) entry.now) };
 
-    /// Adds a team, as a member of a group if one is named. Returns `Done`, or why the team was not added: `Name` if the name is
-    /// malformed, otherwise `Taken` if a shelf has it, otherwise `NoGroup` if the group does not exist.
+    /// Adds a team, as a member of a group if one is named. Returns `Done`, or why the team was not added: `Name` if
+    /// the name is malformed, otherwise `Taken` if a shelf has it, otherwise `NoGroup` if the group does not exist.
     fn team_add(&mut self, name: &str, group: Option<&str>) -> Result<Registered, StoreFault>
         ensures does { Does (shown self.old) (shown self.new) result
             (λ w. team_added w name.now (option_copied group.entry))
             (λ w. after_team_add w name.now (option_copied group.entry)
             (team_added w name.now (option_copied group.entry))) };
 
-    /// Adds a group. Returns `Done`, or why the group was not added: `Name` if the name is malformed, otherwise `Taken` if a shelf
-    /// has it.
+    /// Adds a group. Returns `Done`, or why the group was not added: `Name` if the name is malformed, otherwise `Taken`
+    /// if a shelf has it.
     fn group_add(&mut self, name: &str) -> Result<Registered, StoreFault>
         ensures does { Does (shown self.old) (shown self.new) result (λ w. group_added w name.now)
             (λ w. after_group_add w name.now (group_added w name.now)) };
 
-    /// Adds a key to a shelf. Returns `Done`, or why the key was not added: `Name` if the key is malformed, otherwise `NoTeam` if
-    /// there is no such shelf, otherwise `Taken` if the key exists.
+    /// Adds a key to a shelf. Returns `Done`, or why the key was not added: `Name` if the key is malformed, otherwise
+    /// `NoTeam` if there is no such shelf, otherwise `Taken` if the key exists.
     fn key_add(&mut self, shelf: &str, key: &str, right: Right) -> Result<Registered, StoreFault>
         ensures does { Does (shown self.old) (shown self.new) result (λ w. key_added w shelf.now key.now)
             (λ w. after_key_add w shelf.now key.now right (key_added w shelf.now key.now)) };

@@ -29,7 +29,8 @@ fn named(alloc: Global, texts: &TextSet) -> Result<Vec<Version>, AllocError>
     Ok(versions)
 }
 
-/// Appends the versions that the texts of a map name to `versions`, in the order of the texts. Fails only if memory runs out.
+/// Appends the versions that the texts of a map name to `versions`, in the order of the texts. Fails only if memory
+/// runs out.
 pub fn add_named<V>(
     alloc: Global,
     texts: &TextMap<V>,
@@ -56,7 +57,8 @@ fn by_precedence(alloc: Global, mut versions: Vec<Version>) -> Result<VersionSet
     Ok(set)
 }
 
-/// Returns the versions of a list in ascending precedence, each once. Fails only if memory runs out. (SemVer 2.0.0, section 11.)
+/// Returns the versions of a list in ascending precedence, each once. Fails only if memory runs out. (SemVer 2.0.0,
+/// section 11.)
 pub fn sorted(alloc: Global, versions: Vec<Version>) -> Result<Versions, AllocError>
     ensures { IfOk result (λ vs. vs ≡ in_order (by_precedence versions.items)) }
 {
@@ -79,8 +81,8 @@ pub fn highest(versions: &[Version]) -> Option<&Version>
     versions.get(index)
 }
 
-/// Returns the highest by rank of those versions of one path that the go.mod does not retract, or None if there are none.
-/// Fails only if memory runs out.
+/// Returns the highest by rank of those versions of one path that the go.mod does not retract, or None if there are
+/// none. Fails only if memory runs out.
 fn highest_left<'a>(
     alloc: Global,
     versions: &'a [Version],
@@ -95,8 +97,8 @@ fn highest_left<'a>(
     }
 }
 
-/// Returns the highest by rank of those versions of one path that the go.mod does not retract, or None if there are none
-/// or there is no go.mod. Fails only if memory runs out.
+/// Returns the highest by rank of those versions of one path that the go.mod does not retract, or None if there are
+/// none or there is no go.mod. Fails only if memory runs out.
 pub fn latest_left(
     alloc: Global,
     versions: &[Version],

@@ -43,7 +43,7 @@ AreRefusedBy refuses [] = Unit {0}
 AreRefusedBy refuses (c ∷ calls) = (c.fault ≡ refuses c.question) × AreRefusedBy refuses calls
 
 -- From worlds that are the same to s, over two stores that refuse the same questions, a request with a key of a shelf
--- that s sees meets the same fault, or none in both, unless memory of its own ran out in one.
+-- that s sees meets the same fault, or none in both, unless memory ran out in one: the store's or the request's own.
 abbrev pub FaultsAreAlike : Type 0
 FaultsAreAlike =
     (w x : World) (s t k : List ℕ) (a : Ask) (refuses : Question → Option StoreFault) (old new old_too new_too : History)

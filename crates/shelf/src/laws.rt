@@ -131,7 +131,8 @@ pub fn without_groups()
 
 /// After its key, a request asks only the shelf that holds it. In all worlds that are the same to a shelf, a request
 /// with a key of a shelf that it sees asks the same, in one order; and over stores that refuse the same questions it
-/// meets the same fault, unless memory for its own text ran out. So a 503 tells nothing of what others keep.
+/// meets the same fault, unless one of the two met a lack of memory. So a device fault tells nothing of what others
+/// keep.
 pub fn faults()
     ensures own { NeedsAreOwn }
     ensures unknown { UnknownNeedsNothing }

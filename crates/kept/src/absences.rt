@@ -86,6 +86,13 @@ impl Absences {
         ensures { (w : World) (s v : _) (e : _) → AreAbsent w self.old
             → AreAbsent (with_entry w (place s path.now v) e) self.new }
     {
+        self.remove(path);
+    }
+
+    /// Takes a path out, with all of its shelves.
+    fn remove(&mut self, path: &str)
+        ensures { self.new ≡ map.remove self.old path.now }
+    {
         drop(self.paths.remove(path));
     }
 

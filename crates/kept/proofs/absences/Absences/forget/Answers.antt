@@ -1,16 +1,5 @@
-use Rattle.std.proofs.Common.{◌∙◌, ap}
-use Rattle.std.specs.FinMap as map
-use Rattle.world.specs.FinMaps.{by_text}
-use Rattle.world.proofs.MapsTexts.{remove_text}
-use Rattle.kept.proofs.AbsenceLemmas.{pairs_left, absent_still}
+use Rattle.kept.proofs.AbsenceLemmas.{absent_still}
 use Rattle.kept.proofs.absences.Absences.forget.Goals as goal
 
-pub invariant_of-self : goal.invariant_of-self
-invariant_of-self c =
-    let rest = remove_text c.self.inside.paths c.remove.new.self _ c.remove.ensures.updates in
-    (pairs_left (by_text c.self.inside.paths.entries) (by_text c.remove.new.self.entries) _ c.self.inside.number rest c.self.invariant.0, c.self.invariant.1)
-
 pub returns : goal.returns
-returns c w s v e are =
-    let rest = remove_text c.self.inside.paths c.remove.new.self c.args.path.now c.remove.ensures.updates in
-    absent_still w s c.args.path.now v e c.args.self.now (by_text c.remove.new.self.entries) (rest ∙ ap (λ m. map.remove m c.args.path.now) c.self.view_is) are
+returns c w s v e are = absent_still w s c.args.path.now v e c.args.self.now c.remove.new.self c.remove.ensures are

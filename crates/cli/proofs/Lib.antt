@@ -1,2 +1,3 @@
+pub mod Afresh
 mod Needed
 mod Shown

@@ -1,2 +1,3 @@
+pub mod Afresh
 pub mod Asks
 pub mod Run

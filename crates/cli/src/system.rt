@@ -1,14 +1,15 @@
 //! What runs a command: the files of the system, or any other `Runner`.
 use commands::refusal::CommandRefusal;
+use files::files::StoreFiles;
 use histories::{Hear, Tell};
+use runner::found::{ClosedFile, OpenedStore};
+use runner::host::{Host, SystemHost};
+use runner::system::{SystemOlderFiles, SystemStoreFiles};
 use runner::{Command, run};
-use sqlite::{File, FileStore, Start, Unknown};
-use sqlite_trees::store::Store;
-use std::io::{IsTerminal, Write};
+use std::io::IsTerminal;
 use std::rt::HostRuntime;
 use store::files::is_new_store;
-use store::open::FileShelves;
-use world::shelves::Shelves;
+use store::refusal::Refusal;
 
 /// Runs commands. A run of the program reaches the files of stores only by it.
 pub trait Runner {
@@ -34,48 +35,23 @@ pub trait Runner {
             (O.contents output.old) (O.contents output.new) result command.now };
 }
 
-/// The store of files as they are found. Clauses say nothing about what they held.
-pub type Found = FileShelves<Unknown>;
-
-/// What the files held that a command writes anew. Clauses say no more about them than about `Unknown`. A `serve`
-/// writes such a file for each copy, so this type is `Copy`, which `Unknown` is not.
-#[derive(Clone, Copy, Drop)]
-pub struct UnknownTarget;
-
-impl Start for UnknownTarget {
-    ghost use Rattle.std.specs.Prelude.{true, []};
-
-    ghost log = { [] };
-
-    ghost db = { [] };
-
-    ghost is_mixing = { true };
-
-    fn mixes() -> bool {
-        true
-    }
-}
-
-/// The store of such a file.
-pub type Target = FileShelves<UnknownTarget>;
-
-/// The tables of files as they are found.
-pub type FoundFiles = FileStore<File>;
-
-/// The files of the system.
+/// The system with its files.
 #[derive(Clone, Copy, Drop)]
 pub struct SystemStores<'a> {
     pub rt: &'a HostRuntime,
 }
 
 impl<'a> Runner for SystemStores<'a> {
-    ghost use Rattle.sqlite.specs.Held.{state};
-    ghost use Rattle.sqlite_wal.specs.Files.{image_at};
-    ghost use Rattle.runner.specs.Command.{Runs};
+    ghost use Rattle.cli.specs.Afresh.{RunsAfresh};
 
     ghost ran = { λ _ _.
-        Runs (state ⟦<FoundFiles as Store>⟧) ⟦<Found as Shelves>⟧.shown (image_at ⟦<Unknown as Start>⟧)
-        ⟦<Target as Shelves>⟧.shown (image_at ⟦<UnknownTarget as Start>⟧) };
+        RunsAfresh ⟦<SystemHost<'a> as Host<OpenedStore, ClosedFile>>⟧.acts
+        ⟦<SystemHost<'a> as Host<OpenedStore, ClosedFile>>⟧.state_of
+        ⟦<SystemHost<'a> as Host<OpenedStore, ClosedFile>>⟧.shown
+        ⟦<SystemStoreFiles<'a> as StoreFiles<OpenedStore, ClosedFile, Refusal>>⟧.begins
+        ⟦<SystemStoreFiles<'a> as StoreFiles<OpenedStore, ClosedFile, Refusal>>⟧.left
+        ⟦<SystemOlderFiles<'a> as StoreFiles<ClosedFile, ClosedFile, Refusal>>⟧.begins
+        ⟦<SystemOlderFiles<'a> as StoreFiles<ClosedFile, ClosedFile, Refusal>>⟧.left };
 
     fn is_new(&self, db: &str) -> bool {
         is_new_store(self.rt, db)
@@ -91,6 +67,18 @@ impl<'a> Runner for SystemStores<'a> {
         input: &mut I,
         output: &mut O,
     ) -> Result<bool, CommandRefusal> {
-        run(self.rt, command, Unknown, UnknownTarget, input, output)
+        let mut host = SystemHost { rt: self.rt };
+        let mut files = SystemStoreFiles::new(self.rt);
+        let mut targets = SystemStoreFiles::new(self.rt);
+        let mut older = SystemOlderFiles::new(self.rt);
+        run(
+            &mut host,
+            &mut files,
+            &mut targets,
+            &mut older,
+            command,
+            input,
+            output,
+        )
     }
 }

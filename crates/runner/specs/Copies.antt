@@ -1,6 +1,6 @@
 -- What a copy of the store of a served file into that of another file does, and what a count of its versions tells.
 use Rattle.std.specs.Prelude.{ℕ, List, ◌≡◌, ◌⊎◌, Result, Ok, Err}
-use Rattle.sqlite_wal.specs.Recovery.{Image}
+use Rattle.files.specs.History.{Span, IsIdle, Refuses, Opens}
 use Rattle.world.specs.Store.{Shown}
 use Rattle.world.specs.World.{World}
 use Rattle.statements.specs.Counted.{versions_in}
@@ -39,16 +39,27 @@ module _ {S F : Type 0} (shown : S → Shown) (shown_too : F → Shown) where
         (shown_too fresh).failures (shown_too fresh_new).failures told
     pub ends : result ≡ copied told
 
-  module _ (held : Image) where
-    -- nothing was done with the served store: the new store's file is its own, or the new store was not opened, and the
-    -- result says why
-    pub record CopiesNone (source source_new : S) (result : Result (Unit {0}) CopyRefusal) : Type 0 where
-      pub same : source_new ≡ source
-      pub tells : (result ≡ Err copy.NotEmpty) ⊎ ((why : Unopened) × (result ≡ Err (uncopied why)))
+  -- nothing was done with the served store: the new store's file is its own, or the new store was not opened, and the
+  -- result says why
+  pub record CopiesNone (source source_new : S) (result : Result (Unit {0}) CopyRefusal) : Type 0 where
+    pub same : source_new ≡ source
+    pub tells : (result ≡ Err copy.NotEmpty) ⊎ ((why : Unopened) × (result ≡ Err (uncopied why)))
 
-    -- The store of files that held this was made a copy, or not; or the served store was left as it was. It may be
-    -- either, whatever the path is, because no clause ties a path to the bytes of a file.
-    abbrev pub CopiesFile : S → S → List ℕ → Result (Unit {0}) CopyRefusal → Type 0
-    CopiesFile source source_new path result =
-        OnOpened shown_too held (λ fresh fresh_new. CopiesInto source source_new fresh fresh_new result)
-        ⊎ CopiesNone source source_new result
+  -- The store of a file was opened and made a copy, or not; or the served store was left as it was. It may be either,
+  -- whatever the path is: `CopiesTo` says which file was opened.
+  abbrev pub CopiesFile : (F → Type 0) → S → S → List ℕ → Result (Unit {0}) CopyRefusal → Type 0
+  CopiesFile Begins source source_new path result =
+      OnOpened Begins (λ fresh fresh_new. CopiesInto source source_new fresh fresh_new result)
+      ⊎ CopiesNone source source_new result
+
+  module _ {D : Type 0} (targets : Span F D) (source source_new : S) (to : List ℕ) where
+    -- nothing was done with the served store, and no other was opened
+    pub record CopiesUnopened (result : Result (Unit {0}) CopyRefusal) : Type 0 where
+      pub none : CopiesNone source source_new result
+      pub done : IsIdle targets ⊎ Refuses targets to
+
+    -- the store of the file `to`, and no other, was opened once and made a copy, or not; or no store was opened
+    abbrev pub CopiesTo : Result (Unit {0}) CopyRefusal → Type 0
+    CopiesTo result =
+        Opens targets to (λ fresh fresh_new. CopiesInto source source_new fresh fresh_new result)
+        ⊎ CopiesUnopened result

@@ -1,13 +1,13 @@
 -- Extracting from the store of one file into that of another.
 use Rattle.std.specs.Prelude.{ℕ, List, ◌≡◌, ◌⊎◌, Result, Err}
-use Rattle.sqlite_wal.specs.Recovery.{Image}
+use Rattle.files.specs.History.{Span, IsIdle, Refuses, Opens}
 use Rattle.world.specs.Store.{Shown}
 use Rattle.store.specs.Extracted.{HasCauseInEither}
 use Rattle.store.specs.Parts.{ExtractsTeams}
 use Rattle.setup.specs.declared.refusal.Refusal.{Refusal as Unopened}
 use Rattle.commands.specs.declared.refusal.CommandRefusal.{CommandRefusal}
 use Rattle.commands.specs.declared.refusal.CommandRefusal.TheVariants.{NotEmpty}
-use Rattle.runner.specs.Opened.{unopened, store_result, OnOpened, LeavesSource}
+use Rattle.runner.specs.Opened.{unopened, store_result, LeavesSource}
 
 module _ {S F : Type 0} (shown : S → Shown) (shown_too : F → Shown) (source source_new : S) where
   -- the teams' part of the source was put into an open store, or it was not, and the result says why
@@ -18,15 +18,26 @@ module _ {S F : Type 0} (shown : S → Shown) (shown_too : F → Shown) (source 
         (shown_too fresh).failures (shown_too fresh_new).failures told
     pub ends : result ≡ store_result told
 
-  -- the teams' part was put, or not, into the store of files that held this; or the source was left as it was
-  abbrev pub Fills : Image → List (List ℕ) → Result (Unit {0}) CommandRefusal → Type 0
-  Fills held teams result =
-      OnOpened shown_too held (λ fresh fresh_new. ExtractsPart fresh fresh_new teams result) ⊎ LeavesSource source source_new result
+module _ {S F D : Type 0} (shown : S → Shown) (shown_too : F → Shown) (targets : Span F D)
+    (teams : List (List ℕ)) (to : List ℕ) where
+  -- the teams' part was put, or not, into the store of the file `to`, which was opened for that; or the source was left
+  -- as it was
+  abbrev pub Fills : S → S → Result (Unit {0}) CommandRefusal → Type 0
+  Fills source source_new result =
+      Opens targets to (λ fresh fresh_new. ExtractsPart shown shown_too source source_new fresh fresh_new teams result)
+      ⊎ LeavesSource targets to source source_new result
 
-module _ {S F : Type 0} (shown : S → Shown) (held : Image) (shown_too : F → Shown) (held_too : Image) (teams : List (List ℕ)) where
-  -- the store of the first file was opened, and some teams' part of it was put into that of the other, or was not; or
-  -- both are one file without bytes, or the first was not opened, and the result says why
+module _ {S F C D : Type 0} (shown : S → Shown) (shown_too : F → Shown) (files : Span S C) (targets : Span F D)
+    (db : List ℕ) (teams : List (List ℕ)) (to : List ℕ) where
+  -- no store was opened, and the result says why: both are one file without bytes, SQLite has a use for the second, or
+  -- the first was to be opened, and was not
+  pub record ExtractsNone (result : Result (Unit {0}) CommandRefusal) : Type 0 where
+    pub tells : ((result ≡ Err NotEmpty) × IsIdle files)
+        ⊎ ((why : Unopened) × (result ≡ Err (unopened why)) × (IsIdle files ⊎ Refuses files db))
+    pub idle : IsIdle targets
+
+  -- the store of the first file was opened, and some teams' part of it was put into that of the other, or was not
   abbrev pub ExtractsFile : Result (Unit {0}) CommandRefusal → Type 0
   ExtractsFile result =
-      OnOpened shown held (λ source source_new. Fills shown shown_too source source_new held_too teams result)
-      ⊎ ((result ≡ Err NotEmpty) ⊎ ((why : Unopened) × (result ≡ Err (unopened why))))
+      Opens files db (λ source source_new. Fills shown shown_too targets teams to source source_new result)
+      ⊎ ExtractsNone result

@@ -1,5 +1,7 @@
 -- Migrating the file of an older store into the store of another file.
-use Rattle.std.specs.Prelude.{◌≡◌, ◌⊎◌, Result, Err}
+use Rattle.std.specs.Prelude.{ℕ, ◌≡◌, ◌⊎◌, List, [], ◌∷◌, ◌++◌, Result, Err}
+use Rattle.files.specs.History.{Span, IsIdle, Refuses, Opens}
+use Rattle.files.specs.declared.files.Deed.TheVariants.{Copied, Made, Opened, Refused, Closed, Unlinked}
 use Rattle.sqlite.specs.Held.{Held, state}
 use Rattle.sqlite.specs.State.{State}
 use Rattle.sqlite.specs.Steps.{over_memory}
@@ -12,7 +14,7 @@ use Rattle.store.specs.Older.{FindsOlder}
 use Rattle.setup.specs.declared.refusal.Refusal.{Refusal as Unopened}
 use Rattle.commands.specs.declared.refusal.CommandRefusal.{CommandRefusal}
 use Rattle.commands.specs.declared.refusal.CommandRefusal.TheVariants.{NotEmpty}
-use Rattle.runner.specs.Opened.{unopened, store_result, OnOpened, LeavesSource}
+use Rattle.runner.specs.Opened.{unopened, store_result, LeavesSource}
 
 module _ {C F : Type 0} (state_of : C → State) (shown : F → Shown) (old old_new : C) where
   -- what the older store has was put into an open one, or it was not, and the result says why
@@ -22,33 +24,83 @@ module _ {C F : Type 0} (state_of : C → State) (shown : F → Shown) (old old_
     pub cause : HasCauseInOne (state_of old) (state_of old_new) (shown fresh).failures (shown fresh_new).failures told
     pub ends : result ≡ store_result told
 
-  -- what the older store has was put, or not, into the store of files that held this; or the older store was left as it
-  -- was
-  abbrev pub MigratesTo : Image → Result (Unit {0}) CommandRefusal → Type 0
-  MigratesTo held result =
-      OnOpened shown held (λ fresh fresh_new. MigratesInto fresh fresh_new result) ⊎ LeavesSource old old_new result
+module _ {C F D : Type 0} (state_of : C → State) (shown : F → Shown) (targets : Span F D) (to : List ℕ) where
+  -- what the older store has was put, or not, into the store of the file `to`, which was opened for that; or the older
+  -- store was left as it was
+  abbrev pub MigratesTo : C → C → Result (Unit {0}) CommandRefusal → Type 0
+  MigratesTo old old_new result =
+      Opens targets to (λ fresh fresh_new. MigratesInto state_of shown old old_new fresh fresh_new result)
+      ⊎ LeavesSource targets to old old_new result
 
-module _ {F : Type 0} (shown : F → Shown) (held_too : Image) where
+module _ {F D : Type 0} (shown : F → Shown) (targets : Span F D) (to : List ℕ) where
   -- there is no older file, or it has no bytes, so there are no older tables
   pub record MigratesNothing (result : Result (Unit {0}) CommandRefusal) : Type 0 where
     pub none : Held MemStore
     pub none_new : Held MemStore
     pub foreign : IsForeign (state over_memory none).now
-    pub migrates : MigratesTo (state over_memory) shown none none_new held_too result
+    pub migrates : MigratesTo (state over_memory) shown targets to none none_new result
+
+  -- the new store was not to be opened, and the result says why
+  pub record MigratesNone (result : Result (Unit {0}) CommandRefusal) : Type 0 where
+    pub tells : (result ≡ Err NotEmpty) ⊎ ((why : Unopened) × (result ≡ Err (unopened why)))
+    pub idle : IsIdle targets
 
   abbrev pub MigratesEmpty : Result (Unit {0}) CommandRefusal → Type 0
-  MigratesEmpty result = MigratesNothing result ⊎ ((why : Unopened) × (result ≡ Err (unopened why)))
+  MigratesEmpty result = MigratesNothing result ⊎ MigratesNone result
 
-module _ {C F : Type 0} (state_of : C → State) (held : Image) (shown : F → Shown) (held_too : Image) where
-  -- the file of an older store was opened, and what it has was put into the store of the other file, or was not
+-- a connection that was just opened to the files of an older store, which held this
+pub record IsOlder {C : Type 0} (state_of : C → State) (held : Image) (old : C) : Type 0 where
+  pub is_open : IsOpenIfHonest (state_of old)
+  pub found : FindsOlder held (state_of old)
+
+module _ {C Q F D : Type 0} (state_of : C → State) (shown : F → Shown) (older : Span C Q) (targets : Span F D)
+    (path log to : List ℕ) where
+  -- The copy at `path` was opened and lost its names, what it has was put into the store of the other file, or was
+  -- not, and it was closed.
   pub record MigratesOpened (result : Result (Unit {0}) CommandRefusal) : Type 0 where
     pub old : C
     pub old_new : C
-    pub is_open : IsOpenIfHonest (state_of old)
-    pub found : FindsOlder held (state_of old)
-    pub migrates : MigratesTo state_of shown old old_new held_too result
+    pub begins : older.begins old
+    pub migrates : MigratesTo state_of shown targets to old old_new result
+    pub done : older.after
+        ≡ older.before ++ (path, Opened) ∷ (path, Unlinked) ∷ (log, Unlinked) ∷ (path, Closed (older.left old_new)) ∷ []
 
-  -- the older file was opened; or it has no bytes or was not opened, as `MigratesEmpty` says; or both are one file, and
-  -- no copy can be made beside it
+  -- the copy at `path` was not opened and lost its names, and the result says why
+  pub record MigratesUnopened (result : Result (Unit {0}) CommandRefusal) : Type 0 where
+    pub none : MigratesNone shown targets to result
+    pub done : older.after ≡ older.before ++ (path, Refused) ∷ (path, Unlinked) ∷ (log, Unlinked) ∷ []
+
+  abbrev pub MigratesCopy : Result (Unit {0}) CommandRefusal → Type 0
+  MigratesCopy result = MigratesOpened result ⊎ MigratesUnopened result
+
+module _ {C Q F D : Type 0} (state_of : C → State) (shown : F → Shown) (older : Span C Q) (targets : Span F D)
+    (from to : List ℕ) where
+  -- the history from when the older file and its log were copied into files of these names, and nothing else was done
+  -- to either
+  abbrev pub copied : List ℕ → List ℕ → Span C Q
+  copied path log = record {
+    begins = older.begins;
+    left = older.left;
+    before = older.before ++ (from, Copied) ∷ (path, Made) ∷ (log, Made) ∷ [];
+    after = older.after;
+  }
+
+  -- the older file and its log were copied, and the copy was opened and migrated, or was not
+  pub record MigratesCopied (result : Result (Unit {0}) CommandRefusal) : Type 0 where
+    pub path : List ℕ
+    pub log : List ℕ
+    pub copy : MigratesCopy state_of shown (copied path log) targets path log to result
+
+  -- the older file was to be copied, and was not, and the result says why
+  pub record MigratesUncopied (result : Result (Unit {0}) CommandRefusal) : Type 0 where
+    pub none : MigratesNone shown targets to result
+    pub done : Refuses older from
+
+  -- the older file has no bytes, or a name was refused, as `MigratesEmpty` says; nothing was done to it
+  pub record MigratesUnread (result : Result (Unit {0}) CommandRefusal) : Type 0 where
+    pub empty : MigratesEmpty shown targets to result
+    pub idle : IsIdle older
+
+  -- the older file was only read, and a copy of it was migrated; or it was not copied, and the result says why
   abbrev pub MigratesFile : Result (Unit {0}) CommandRefusal → Type 0
-  MigratesFile result = MigratesOpened result ⊎ (MigratesEmpty shown held_too result ⊎ (result ≡ Err NotEmpty))
+  MigratesFile result = MigratesCopied result ⊎ (MigratesUncopied result ⊎ MigratesUnread result)

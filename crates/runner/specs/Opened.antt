@@ -1,6 +1,7 @@
 -- Opening a store, and why a command is refused whose store is not opened.
-use Rattle.std.specs.Prelude.{◌≡◌, ◌⊎◌, Result, Ok, Err}
+use Rattle.std.specs.Prelude.{ℕ, ◌≡◌, ◌⊎◌, List, Result, Ok, Err}
 use Rattle.sqlite_wal.specs.Recovery.{Image}
+use Rattle.files.specs.History.{Span, IsIdle, Refuses}
 use Rattle.world.specs.Store.{Shown}
 use Rattle.world.specs.World.{World}
 use Rattle.store.specs.Shown.{BeginsAt}
@@ -35,15 +36,17 @@ pub record HasBegun {S : Type 0} (shown : S → Shown) (held : Image) (store : S
   pub found : (shown store).is_honest → (w : World) → HoldsStore held w → BeginsAt (shown store) w
   pub none_failed : (shown store).failures ≡ 0
 
--- the store of files that held this was opened, and this was done with it
-pub record OnOpened {S : Type 0} (shown : S → Shown) (held : Image) (Does : S → S → Type 0) : Type 0 where
+-- a store was opened, and this was done with it
+pub record OnOpened {S : Type 0} (Begins : S → Type 0) (Does : S → S → Type 0) : Type 0 where
   pub begun : S
   pub ended : S
-  pub begins : HasBegun shown held begun
+  pub begins : Begins begun
   pub does : Does begun ended
 
--- nothing was done with the source: the new store's file is the source's, or the new store was not opened, and the
--- result says why
-pub record LeavesSource {S : Type 0} (source source_new : S) (result : Result (Unit {0}) CommandRefusal) : Type 0 where
+-- Nothing was done with the source, and the result says why: the new store's file is the source's, and was not opened,
+-- or the new store was to be opened, and was not.
+pub record LeavesSource {S F D : Type 0} (targets : Span F D) (to : List ℕ) (source source_new : S)
+    (result : Result (Unit {0}) CommandRefusal) : Type 0 where
   pub same : source_new ≡ source
-  pub tells : (result ≡ Err refusal.NotEmpty) ⊎ ((why : Unopened) × (result ≡ Err (unmade (unopened why))))
+  pub tells : ((result ≡ Err refusal.NotEmpty) × IsIdle targets)
+      ⊎ ((why : Unopened) × (result ≡ Err (unmade (unopened why))) × Refuses targets to)

@@ -4,41 +4,45 @@ ghost use Rattle.std.specs.Prelude.{◌≡◌, IfOk};
 ghost use Rattle.control.specs.Copying.{IsOnlyRead};
 ghost use Rattle.sqlite_wal.specs.Files.{image_at};
 ghost use Rattle.runner.specs.Copies as spec;
-ghost use Rattle.runner.specs.Copies.{CopiesFile, CopiesInto, CountsIn};
+ghost use Rattle.runner.specs.Copies.{CopiesFile, CopiesInto, CopiesTo, CountsIn};
+ghost use Rattle.runner.specs.Opened.{HasBegun};
 ghost use Rattle.world.specs.Store.{HasCause};
 
-use crate::beside::check_name;
-use commands::files::is_same_file;
+use crate::found::{AsFound, ClosedFile, Found, OpenedStore};
+use crate::host::SystemHost;
+use crate::looks::Looks;
+use crate::system::SystemStoreFiles;
 use control::{Copies, CopyRefusal};
+use files::files::{StoreFiles, Use};
 use sqlite::{Alter, Start};
-use std::rt::HostRuntime;
-use store::open::FileShelves;
 use store::refusal::Refusal as Unopened;
 use store::store::SqlShelves;
 use world::registry::StoreFault;
 use world::shelves::Shelves;
 
-/// Copies the served store of a file into other files. `U` stands for what such a file holds before its copy. What is
-/// proved holds for all contents, so for each of several copies it holds with those of its own file.
+/// Copies the served store of a file into other files.
 #[derive(Drop)]
-pub(crate) struct FileCopies<'a, U: Start + Copy> {
-    pub rt: &'a HostRuntime,
+pub(crate) struct FileCopies<'a> {
+    pub host: SystemHost<'a>,
     /// The file of the served store.
     pub db: &'a str,
-    pub target: U,
 }
 
-impl<'a, S: Alter, U: Start + Copy> Copies<SqlShelves<S>> for FileCopies<'a, U> {
+impl<'a, S: Alter> Copies<SqlShelves<S>> for FileCopies<'a> {
     ghost use Rattle.sqlite_wal.specs.Files.{image_at};
     ghost use Rattle.runner.specs.Copies.{CopiesFile, CountsIn};
+    ghost use Rattle.runner.specs.Opened.{HasBegun};
+    ghost use Rattle.runner.specs.declared.found.OpenedStore.{OpenedStore};
 
-    ghost copied = { CopiesFile ⟦<SqlShelves<S> as Shelves>⟧.shown ⟦<FileShelves<U> as Shelves>⟧.shown
-        (image_at U.Start) };
+    ghost copied = { CopiesFile ⟦<SqlShelves<S> as Shelves>⟧.shown
+        (λ (s : OpenedStore). ⟦<Found as Shelves>⟧.shown s.shelves)
+        (λ s. HasBegun ⟦<Found as Shelves>⟧.shown (image_at ⟦<AsFound as Start>⟧) s.shelves) };
 
     ghost counted = { CountsIn ⟦<SqlShelves<S> as Shelves>⟧.shown };
 
     fn copy(&mut self, shelves: &mut SqlShelves<S>, path: &str) -> Result<(), CopyRefusal> {
-        copy_to(self.rt, self.db, shelves, path, self.target)
+        let mut targets = SystemStoreFiles::new(self.host.rt);
+        copy_to(&self.host, &mut targets, self.db, shelves, path)
     }
 
     fn versions(&mut self, shelves: &mut SqlShelves<S>) -> Result<u64, StoreFault> {
@@ -49,43 +53,48 @@ impl<'a, S: Alter, U: Start + Copy> Copies<SqlShelves<S>> for FileCopies<'a, U> 
 /// Opens the store of a file and makes it a copy of a served store, whose file is at `db`. It does not open the served
 /// file again: for that, and for a link to it, it fails with `NotEmpty`. If SQLite has a use for the file, it fails
 /// with `Device`, and otherwise as `Copies::copy` does.
-fn copy_to<S: Alter, U: Start>(
-    rt: &HostRuntime,
+fn copy_to<L, S, G>(
+    looks: &L,
+    targets: &mut G,
     db: &str,
     source: &mut SqlShelves<S>,
     to: &str,
-    target: U,
 ) -> Result<(), CopyRefusal>
+where
+    L: Looks,
+    S: Alter,
+    G: StoreFiles<OpenedStore, ClosedFile, Unopened>,
     ensures reads { IsOnlyRead
         (⟦<SqlShelves<S> as Shelves>⟧.shown source.old) (⟦<SqlShelves<S> as Shelves>⟧.shown source.new) }
-    ensures came { CopiesFile ⟦<SqlShelves<S> as Shelves>⟧.shown ⟦<FileShelves<U> as Shelves>⟧.shown (image_at U.Start)
+    ensures came { CopiesTo ⟦<SqlShelves<S> as Shelves>⟧.shown (λ s. ⟦<Found as Shelves>⟧.shown s.shelves)
+        (record { begins = G.begins; left = G.left; before = G.history targets.old; after = G.history targets.new })
         source.old source.new to.now result }
 {
-    if let Err(refusal) = check_name(rt, db, to) {
+    if let Err(refusal) = looks.check_name(db, to) {
         return Err(uncopied(refusal));
     }
-    if is_same_file(rt, db, to) {
+    if looks.is_same(db, to) {
         return Err(CopyRefusal::NotEmpty);
     }
-    let mut fresh = match FileShelves::open_from(rt, to, target) {
-        Ok(shelves) => shelves,
-        Err((unopened, _)) => return Err(uncopied(unopened)),
+    let mut fresh = match targets.open(to, Use::Writing) {
+        Ok(file) => file,
+        Err(unopened) => return Err(uncopied(unopened)),
     };
-    let told = copy_into(source, &mut fresh);
-    drop(fresh.close());
+    let told = copy_into(source, &mut fresh.store);
+    targets.close(fresh);
     told
 }
 
 /// Makes an open store a copy of the served one. Fails with `NotEmpty` if it has more than an empty store, `Device` if
 /// a disk fails, and `Memory` if memory runs out.
-fn copy_into<S: Alter, F: Alter>(
+fn copy_into<S: Alter>(
     source: &mut SqlShelves<S>,
-    fresh: &mut SqlShelves<F>,
+    fresh: &mut OpenedStore,
 ) -> Result<(), CopyRefusal>
-    ensures { CopiesInto ⟦<SqlShelves<S> as Shelves>⟧.shown ⟦<SqlShelves<F> as Shelves>⟧.shown
+    ensures { CopiesInto ⟦<SqlShelves<S> as Shelves>⟧.shown (λ s. ⟦<Found as Shelves>⟧.shown s.shelves)
         source.old source.new fresh.old fresh.new result }
 {
-    match source.copy(fresh) {
+    match source.copy(&mut fresh.shelves) {
         Ok(()) => Ok(()),
         Err(refusal) => Err(uncopied(refusal)),
     }

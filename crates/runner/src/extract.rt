@@ -1,16 +1,17 @@
 //! Extracting the part of some teams from the store of one file into that of another.
 
-ghost use Rattle.std.specs.Prelude.{◌≡◌, map as each};
-ghost use Rattle.sqlite_wal.specs.Files.{image_at};
+ghost use Rattle.std.specs.Prelude.{map as each};
 ghost use Rattle.runner.specs.Extract.{ExtractsFile, ExtractsPart, Fills};
+ghost use Rattle.store.specs.Extracted.{HasCauseInEither};
+ghost use Rattle.store.specs.Parts.{ExtractsTeams};
 
-use crate::beside::check_name;
+use crate::found::{ClosedFile, Found, OpenedStore};
+use crate::looks::Looks;
 use crate::{command_refusal, unmade};
-use commands::files::{is_empty_file, is_same_file};
 use commands::refusal::CommandRefusal;
-use sqlite::{Alter, Start};
-use std::rt::HostRuntime;
-use store::open::FileShelves;
+use files::files::{StoreFiles, Use};
+use sqlite::Alter;
+use store::refusal::Refusal as Unopened;
 use store::store::SqlShelves;
 use world::shelves::Shelves;
 
@@ -21,70 +22,94 @@ use world::shelves::Shelves;
 /// If the first file is empty, it compares the files before it opens either. Otherwise it compares them after it opened
 /// the first, because opening the second would meet the first one's lock and fail with `Device`. If a file with bytes
 /// has two names, it fails with `Device`, because sqlite refuses hard links.
-pub(crate) fn extract_file<T: Start, U: Start>(
-    rt: &HostRuntime,
+pub(crate) fn extract_file<L, F, G>(
+    looks: &L,
+    files: &mut F,
+    targets: &mut G,
     db: &str,
-    start: T,
     teams: &[&str],
     to: &str,
-    target: U,
 ) -> Result<(), CommandRefusal>
-    ensures { ExtractsFile
-        ⟦<FileShelves<T> as Shelves>⟧.shown (image_at T.Start) ⟦<FileShelves<U> as Shelves>⟧.shown (image_at U.Start)
-        (each (λ team. team.now) teams.now) result }
+where
+    L: Looks,
+    F: StoreFiles<OpenedStore, ClosedFile, Unopened>,
+    G: StoreFiles<OpenedStore, ClosedFile, Unopened>,
+    ensures { ExtractsFile (λ s. ⟦<Found as Shelves>⟧.shown s.shelves) (λ s. ⟦<Found as Shelves>⟧.shown s.shelves)
+        (record { begins = F.begins; left = F.left; before = F.history files.old; after = F.history files.new })
+        (record { begins = G.begins; left = G.left; before = G.history targets.old; after = G.history targets.new })
+        db.now (each (λ team. team.now) teams.now) to.now result }
 {
-    if let Err(refusal) = check_name(rt, db, to) {
+    if let Err(refusal) = looks.check_name(db, to) {
         return Err(command_refusal(refusal));
     }
-    if is_empty_file(rt, db) && is_same_file(rt, db, to) {
+    if looks.is_empty(db) && looks.is_same(db, to) {
         return Err(CommandRefusal::NotEmpty);
     }
-    let mut source = match FileShelves::open_from(rt, db, start) {
-        Ok(shelves) => shelves,
-        Err((unopened, _)) => return Err(command_refusal(unopened)),
+    let mut source = match files.open(db, Use::Writing) {
+        Ok(file) => file,
+        Err(unopened) => return Err(command_refusal(unopened)),
     };
-    let told = extract_to(rt, db, &mut source, teams, to, target);
-    drop(source.close());
+    let told = extract_to(looks, targets, db, &mut source.store, teams, to);
+    files.close(source);
     told
 }
 
 /// Opens the store of a file and puts some teams' part of an open store into it. It does not open the file of the open
-/// store again, which is at `db`: it fails with `NotEmpty`. It is generic over the first store, because the checker
-/// runs out of steps with two file stores in one function.
-fn extract_to<S: Alter, U: Start>(
-    rt: &HostRuntime,
+/// store again, which is at `db`: it fails with `NotEmpty`.
+fn extract_to<L, G>(
+    looks: &L,
+    targets: &mut G,
     db: &str,
-    source: &mut SqlShelves<S>,
+    source: &mut OpenedStore,
     teams: &[&str],
     to: &str,
-    target: U,
 ) -> Result<(), CommandRefusal>
-    ensures { Fills ⟦<SqlShelves<S> as Shelves>⟧.shown ⟦<FileShelves<U> as Shelves>⟧.shown
-        source.old source.new (image_at U.Start) (each (λ team. team.now) teams.now) result }
+where
+    L: Looks,
+    G: StoreFiles<OpenedStore, ClosedFile, Unopened>,
+    ensures { Fills (λ s. ⟦<Found as Shelves>⟧.shown s.shelves) (λ s. ⟦<Found as Shelves>⟧.shown s.shelves)
+        (record { begins = G.begins; left = G.left; before = G.history targets.old; after = G.history targets.new })
+        (each (λ team. team.now) teams.now) to.now source.old source.new result }
 {
-    if is_same_file(rt, db, to) {
+    if looks.is_same(db, to) {
         return Err(CommandRefusal::NotEmpty);
     }
-    let mut fresh = match FileShelves::open_from(rt, to, target) {
-        Ok(shelves) => shelves,
-        Err((unopened, _)) => return Err(unmade(command_refusal(unopened))),
+    let mut fresh = match targets.open(to, Use::Writing) {
+        Ok(file) => file,
+        Err(unopened) => return Err(unmade(command_refusal(unopened))),
     };
-    let told = extract_part(source, teams, &mut fresh);
-    drop(fresh.close());
+    let told = extract_part(source, teams, &mut fresh.store);
+    targets.close(fresh);
     told
 }
 
 /// Puts some teams' part of one open store into another. Fails with the refusals of the store.
-fn extract_part<S: Alter, F: Alter>(
-    source: &mut SqlShelves<S>,
+fn extract_part(
+    source: &mut OpenedStore,
     teams: &[&str],
-    fresh: &mut SqlShelves<F>,
+    fresh: &mut OpenedStore,
 ) -> Result<(), CommandRefusal>
-    ensures { ExtractsPart ⟦<SqlShelves<S> as Shelves>⟧.shown ⟦<SqlShelves<F> as Shelves>⟧.shown
+    ensures { ExtractsPart (λ s. ⟦<Found as Shelves>⟧.shown s.shelves) (λ s. ⟦<Found as Shelves>⟧.shown s.shelves)
         source.old source.new fresh.old fresh.new (each (λ team. team.now) teams.now) result }
 {
-    match source.extract_teams(teams, fresh) {
+    match extract_teams(&mut source.shelves, teams, fresh) {
         Ok(()) => Ok(()),
         Err(refusal) => Err(command_refusal(refusal)),
     }
+}
+
+/// Puts some teams' part of an open store into that of a file. It is generic over the tables of the first, because a
+/// call at those of files for both takes the checker too many steps.
+fn extract_teams<S: Alter>(
+    source: &mut SqlShelves<S>,
+    teams: &[&str],
+    fresh: &mut OpenedStore,
+) -> Result<(), Unopened>
+    ensures extracts { ExtractsTeams (each (λ team. team.now) teams.now)
+        (⟦<SqlShelves<S> as Shelves>⟧.shown source.old) (⟦<SqlShelves<S> as Shelves>⟧.shown source.new)
+        (⟦<Found as Shelves>⟧.shown fresh.old.shelves) (⟦<Found as Shelves>⟧.shown fresh.new.shelves) result }
+    ensures cause { HasCauseInEither source.old.failures source.new.failures
+        fresh.old.shelves.failures fresh.new.shelves.failures result }
+{
+    source.extract_teams(teams, &mut fresh.shelves)
 }

@@ -13,44 +13,38 @@
 //! | [`Command::Stop`] | opens no store, and has the `serve` end that has one open |
 //!
 //! One function opens each store and closes it before it returns: `on_file` for an action, `extract_file` for the store
-//! that is extracted from, and `extract_to`, `migrate_to` and `copy_to` for a new store. `migrate_file` drops its
-//! connection to the copy of the older file when it returns. Nothing here reads the words of a command line.
+//! that is extracted from, `migrate_copy` for the copy of an older file, and `extract_to`, `migrate_to` and `copy_to`
+//! for a new store. These and [`run`] have no handle of the system: a history has each file that they opened, and the
+//! state in which they closed it. `host` and `system` have one. Nothing here reads the words of a command line.
 #![tactic(auto)]
 
 ghost use Rattle.std.specs.Prelude.{◌≡◌};
-ghost use Rattle.sqlite.specs.Held.{state};
-ghost use Rattle.sqlite_wal.specs.Files.{image_at};
-ghost use Rattle.runner.specs.Copies.{CopiesFile};
 ghost use Rattle.runner.specs.Opened as spec;
 ghost use Rattle.runner.specs.Command.{Runs, Inits, ActsOnFile};
 
 mod beside;
 mod copies;
 mod extract;
+pub mod found;
+pub mod host;
 pub mod laws;
+pub mod looks;
 mod migrate;
 mod old_file;
+pub mod older_files;
 mod open;
-mod unnamed;
+pub mod system;
+pub mod unnamed;
 
-use crate::copies::FileCopies;
-use crate::extract::extract_file;
-use crate::migrate::migrate_file;
-use crate::open::open_for;
-use commands::action::{Action, acceptance, act_on};
-use commands::files::holds_bytes;
+use crate::host::Host;
+use crate::older_files::OlderFiles;
+use commands::action::{Action, acceptance};
 use commands::memory::answer_in_memory;
-use commands::order::{copy_at, order_at, stop_at};
-use commands::ping::ping_at;
 use commands::refusal::CommandRefusal;
 use control::Order;
+use files::files::{StoreFiles, Use};
 use histories::{Hear, Tell};
-use sqlite::{FileFrom, FileStore, Start};
-use sqlite_trees::store::Store;
-use std::rt::HostRuntime;
-use store::open::FileShelves;
 use store::refusal::Refusal as Unopened;
-use world::shelves::Shelves;
 
 /// What the words after the name of the program ask for, with the files of its stores.
 #[derive(Clone, Copy, Drop)]
@@ -104,60 +98,74 @@ pub enum Command<'a> {
 /// Runs a command and returns whether it was accepted; only a publish and an import can be done and not accepted. Fails
 /// with the refusal of the command.
 ///
-/// The type `T` says what the file of the command and its log hold, and `U` what the file holds that `extract` and
-/// `migrate` write, or that a served store is copied into. The clauses are proved for all contents: a command goes on
-/// from the world that the files hold. If a store is copied into several files, they hold for each with its own
-/// contents.
-pub fn run<T: Start, U: Start + Copy, I: Hear, O: Tell>(
-    rt: &HostRuntime,
+/// By `files` it opens the store of a command, by `targets` the new store of an `extract` or a `migrate`, and by
+/// `older` a copy of an older store: each file of the command once, and it closes a store in the state that the command
+/// left it in. Neither this function nor `host` does anything else by them. An action is done by `host`, and so are
+/// looks and orders.
+pub fn run<S, C, H, F, G, Q, I, W>(
+    host: &mut H,
+    files: &mut F,
+    targets: &mut G,
+    older: &mut Q,
     command: &Command,
-    start: T,
-    target: U,
     input: &mut I,
-    output: &mut O,
+    output: &mut W,
 ) -> Result<bool, CommandRefusal>
-    ensures { Runs (state ⟦<FileStore<FileFrom<T>> as Store>⟧)
-        ⟦<FileShelves<T> as Shelves>⟧.shown (image_at T.Start) ⟦<FileShelves<U> as Shelves>⟧.shown (image_at U.Start)
-        (I.account input.old) (I.account input.new) (O.contents output.old) (O.contents output.new)
+where
+    H: Host<S, C>,
+    F: StoreFiles<S, C, Unopened>,
+    G: StoreFiles<S, C, Unopened>,
+    Q: OlderFiles<C>,
+    I: Hear,
+    W: Tell,
+    ensures { Runs H.acts H.state_of H.shown
+        (record { begins = F.begins; left = F.left; before = F.history files.old; after = F.history files.new })
+        (record { begins = G.begins; left = G.left; before = G.history targets.old; after = G.history targets.new })
+        (record { begins = Q.begins; left = Q.left; before = Q.history older.old; after = Q.history older.new })
+        (I.account input.old) (I.account input.new) (W.contents output.old) (W.contents output.new)
         result command.now }
 {
     match command {
-        Command::Init { db } => init(rt, db, start, target, input, output),
+        Command::Init { db } => init(host, files, db, input, output),
         Command::AnswerInMemory { team, key } => {
-            answer_in_memory(rt.alloc(), team, key, input, output)?;
+            answer_in_memory(host.alloc(), team, key, input, output)?;
             Ok(true)
         }
-        Command::OnStore { db, action } => on_file(rt, db, start, target, action, input, output),
-        Command::Extract { db, teams, to } => acceptance(extract_file(
-            rt, db, start, teams, to, target,
-        )),
-        Command::Migrate { from, to } => acceptance(migrate_file(rt, from, start, to, target)),
-        Command::Order { control, order } => acceptance(order_at(rt, control, order)),
-        Command::Copy { control, to } => acceptance(copy_at(rt, control, to)),
-        Command::Ping { control } => ping_at(rt, control, output),
-        Command::Stop { control } => acceptance(stop_at(rt, control)),
+        Command::OnStore { db, action } => on_file(host, files, db, action, input, output),
+        Command::Extract { db, teams, to } => {
+            acceptance(host.extract(files, targets, db, teams, to))
+        }
+        Command::Migrate { from, to } => acceptance(host.migrate(older, targets, from, to)),
+        Command::Order { control, order } => acceptance(host.order(control, order)),
+        Command::Copy { control, to } => acceptance(host.copy(control, to)),
+        Command::Ping { control } => host.ping(control, output),
+        Command::Stop { control } => acceptance(host.stop(control)),
     }
 }
 
 /// Makes a store with the shelf `common` alone, and returns true. Fails with `NotEmpty` if the file has bytes, and
 /// otherwise as `on_file` does. It reads one byte. If the file can't be read, opening the store says what is wrong.
-fn init<T: Start, U: Start + Copy, I: Hear, O: Tell>(
-    rt: &HostRuntime,
-    path: &str,
-    start: T,
-    target: U,
+fn init<S, C, H, F, I, W>(
+    host: &mut H,
+    files: &mut F,
+    name: &str,
     input: &mut I,
-    output: &mut O,
+    output: &mut W,
 ) -> Result<bool, CommandRefusal>
-    ensures { Inits ⟦<FileShelves<T> as Shelves>⟧.shown
-        (CopiesFile ⟦<FileShelves<T> as Shelves>⟧.shown ⟦<FileShelves<U> as Shelves>⟧.shown (image_at U.Start))
-        (image_at T.Start) (I.account input.old) (I.account input.new)
-        (O.contents output.old) (O.contents output.new) result }
+where
+    H: Host<S, C>,
+    F: StoreFiles<S, C, Unopened>,
+    I: Hear,
+    W: Tell,
+    ensures { Inits H.acts
+        (record { begins = F.begins; left = F.left; before = F.history files.old; after = F.history files.new })
+        name.now (I.account input.old) (I.account input.new) (W.contents output.old) (W.contents output.new)
+        result }
 {
-    if holds_bytes(rt, path) {
+    if host.holds_bytes(name) {
         return Err(CommandRefusal::NotEmpty);
     }
-    match on_file(rt, path, start, target, &Action::Open, input, output) {
+    match on_file(host, files, name, &Action::Open, input, output) {
         Ok(done) => Ok(done),
         Err(refusal) => Err(unmade(refusal)),
     }
@@ -187,35 +195,40 @@ fn command_refusal(unopened: Unopened) -> CommandRefusal
     }
 }
 
-/// Does an action on the store of a file, and returns whether it was accepted. Copies that are ordered while the store
-/// is served are made from it. If there is no file and the action only reads, none is left. If the store can't be
-/// opened, it fails with that refusal and reads and writes nothing; otherwise it fails as the function of the action
-/// does.
-fn on_file<T: Start, U: Start + Copy, I: Hear, O: Tell>(
-    rt: &HostRuntime,
-    path: &str,
-    start: T,
-    target: U,
+/// What an action opens its store for. These three leave a store that has no key as it is.
+fn use_of(action: &Action) -> Use {
+    match action {
+        Action::Inventory { .. } | Action::Requires { .. } | Action::Answer => Use::Reading,
+        _ => Use::Writing,
+    }
+}
+
+/// Opens the store of a file, does an action on it, closes it in the state that the action left it in, and returns
+/// whether the action was accepted. If there is no file and the action only reads, none is left. If the store can't be
+/// opened, it fails with that refusal and reads and writes nothing; otherwise it fails as the action does.
+fn on_file<S, C, H, F, I, W>(
+    host: &mut H,
+    files: &mut F,
+    name: &str,
     action: &Action,
     input: &mut I,
-    output: &mut O,
+    output: &mut W,
 ) -> Result<bool, CommandRefusal>
-    ensures { ActsOnFile ⟦<FileShelves<T> as Shelves>⟧.shown
-        (CopiesFile ⟦<FileShelves<T> as Shelves>⟧.shown ⟦<FileShelves<U> as Shelves>⟧.shown (image_at U.Start))
-        (image_at T.Start) (I.account input.old) (I.account input.new)
-        (O.contents output.old) (O.contents output.new)
+where
+    H: Host<S, C>,
+    F: StoreFiles<S, C, Unopened>,
+    I: Hear,
+    W: Tell,
+    ensures { ActsOnFile H.acts
+        (record { begins = F.begins; left = F.left; before = F.history files.old; after = F.history files.new })
+        name.now (I.account input.old) (I.account input.new) (W.contents output.old) (W.contents output.new)
         action.now result }
 {
-    let mut shelves = match open_for(rt, path, start, action) {
-        Ok(shelves) => shelves,
+    let mut file = match files.open(name, use_of(action)) {
+        Ok(file) => file,
         Err(unopened) => return Err(command_refusal(unopened)),
     };
-    let mut copies = FileCopies {
-        rt,
-        db: path,
-        target,
-    };
-    let told = act_on(rt, &mut shelves, &mut copies, action, input, output);
-    drop(shelves.close());
+    let told = host.act(name, &mut file.store, action, input, output);
+    files.close(file);
     told
 }

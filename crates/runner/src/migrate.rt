@@ -1,124 +1,204 @@
 //! Migrating the store of a file of an older schema into the store of another file.
 
 ghost use Rattle.std.specs.Prelude.{◌≡◌};
+ghost use Rattle.runner.specs.Migrate.{MigratesCopy, MigratesEmpty, MigratesFile, MigratesTo};
+ghost use Rattle.runner.specs.Opened as spec;
 ghost use Rattle.sqlite.specs.Held.{state};
-ghost use Rattle.sqlite.specs.Steps.{over_memory};
-ghost use Rattle.sqlite_wal.specs.Files.{image_at};
-ghost use Rattle.runner.specs.Migrate.{MigratesEmpty, MigratesFile, MigratesInto, MigratesTo};
+ghost use Rattle.store.specs.Migrated.{HasCauseInOne, Migrates};
 
-use crate::beside::check_name;
-use crate::old_file::copy_of;
+use crate::found::{ClosedFile, Found, FoundTables, OpenedStore};
+use crate::looks::Looks;
+use crate::older_files::OlderFiles;
+use crate::unnamed::Unnamed;
 use crate::{command_refusal, unmade};
-use commands::files::{is_missing_or_empty, is_same_file};
 use commands::refusal::CommandRefusal;
-use sqlite::{Alter, Connection, FileFrom, FileStore, Start};
+use files::files::{StoreFiles, Use};
+use sqlite::{Alter, Connection, MemStore};
 use sqlite_trees::store::Store;
-use std::rt::HostRuntime;
+use std::alloc::Global;
 use store::files::names_no_file;
 use store::migrate::migrate;
-use store::open::FileShelves;
-use store::open_older::open_older;
 use store::refusal::Refusal as Unopened;
-use store::store::SqlShelves;
 use world::shelves::Shelves;
+
+/// An older store that is open: that of a file, or one with no tables in memory.
+pub(crate) trait OlderStore {
+    ghost use Rattle.sqlite.specs.State.{State};
+    ghost use Rattle.runner.specs.Migrate.{MigratesInto};
+
+    /// Its tables.
+    ghost state_of: { Self → State };
+
+    /// Puts what it has into an open store. Fails with the refusals of the store.
+    fn migrate_into(&mut self, fresh: &mut OpenedStore) -> Result<(), CommandRefusal>
+        ensures { MigratesInto state_of (λ s. ⟦<Found as Shelves>⟧.shown s.shelves)
+            self.old self.new fresh.old fresh.new result };
+}
+
+impl OlderStore for ClosedFile {
+    ghost use Rattle.sqlite.specs.Held.{state};
+
+    ghost state_of = { λ c. state ⟦<FoundTables as Store>⟧ c.connection };
+
+    fn migrate_into(&mut self, fresh: &mut OpenedStore) -> Result<(), CommandRefusal> {
+        command_result(migrate_from(&mut self.connection, fresh))
+    }
+}
+
+impl OlderStore for Connection<MemStore> {
+    ghost use Rattle.sqlite.specs.Held.{state};
+    ghost use Rattle.sqlite.specs.Steps.{over_memory};
+
+    ghost state_of = { state over_memory };
+
+    fn migrate_into(&mut self, fresh: &mut OpenedStore) -> Result<(), CommandRefusal> {
+        command_result(migrate_from(self, fresh))
+    }
+}
+
+/// Puts what an older store has into that of a file. It is generic over the tables of the first, because a call at
+/// those of files for both takes the checker too many steps.
+fn migrate_from<S: Alter>(old: &mut Connection<S>, fresh: &mut OpenedStore) -> Result<(), Unopened>
+    ensures migrates { Migrates (state S.Store old.old) (state S.Store old.new)
+        (⟦<Found as Shelves>⟧.shown fresh.old.shelves) (⟦<Found as Shelves>⟧.shown fresh.new.shelves) result }
+    ensures cause { HasCauseInOne (state S.Store old.old) (state S.Store old.new)
+        fresh.old.shelves.failures fresh.new.shelves.failures result }
+{
+    migrate(old, &mut fresh.shelves)
+}
+
+/// Returns the result of the command, by that of the store.
+fn command_result(migrated: Result<(), Unopened>) -> Result<(), CommandRefusal>
+    ensures { result ≡ spec.store_result migrated }
+{
+    match migrated {
+        Ok(()) => Ok(()),
+        Err(refusal) => Err(command_refusal(refusal)),
+    }
+}
 
 /// Copies the older store in one file into the store of another. The older file and its log are only read. Fails with
 /// the refusals of the store, and with `NotEmpty` if both names lead to one file, which stays as it was.
 ///
 /// It opens the older store before the other, and judges its tables after it opened the other. What it opens is a copy.
 /// An older file that has no bytes, or is missing, has no tables: it is neither opened nor made.
-pub(crate) fn migrate_file<T: Start, U: Start>(
-    rt: &HostRuntime,
+pub(crate) fn migrate_file<L, Q, G>(
+    alloc: Global,
+    looks: &L,
+    older: &mut Q,
+    targets: &mut G,
     from: &str,
-    start: T,
     to: &str,
-    target: U,
 ) -> Result<(), CommandRefusal>
-    ensures { MigratesFile (state ⟦<FileStore<FileFrom<T>> as Store>⟧) (image_at T.Start)
-        ⟦<FileShelves<U> as Shelves>⟧.shown (image_at U.Start) result }
+where
+    L: Looks,
+    Q: OlderFiles<ClosedFile>,
+    G: StoreFiles<OpenedStore, ClosedFile, Unopened>,
+    ensures { MigratesFile ⟦<ClosedFile as OlderStore>⟧.state_of (λ s. ⟦<Found as Shelves>⟧.shown s.shelves)
+        (record { begins = Q.begins; left = Q.left; before = Q.history older.old; after = Q.history older.new })
+        (record { begins = G.begins; left = G.left; before = G.history targets.old; after = G.history targets.new })
+        from.now to.now result }
 {
-    if let Err(refusal) = check_name(rt, from, to) {
+    if let Err(refusal) = looks.check_name(from, to) {
         return Err(command_refusal(refusal));
     }
     if names_no_file(from) {
         return Err(command_refusal(Unopened::Device));
     }
-    if is_missing_or_empty(rt, from) {
-        return migrate_nothing(rt, from, to, target);
+    if looks.is_missing_or_empty(from) {
+        return migrate_nothing(alloc, looks, targets, from, to);
     }
-    let copy = match copy_of(rt, from, to) {
+    let copy = match older.copy(from, to) {
         Ok(copy) => copy,
         // no copy can be made beside it, because it is the new store
-        Err(_) if is_one_file(rt, from, to) => return Err(CommandRefusal::NotEmpty),
+        Err(_) if is_one_file(looks, from, to) => return Err(CommandRefusal::NotEmpty),
         Err(unread) => return Err(command_refusal(unread)),
     };
-    let mut old = match open_older(rt, copy.path.as_str(), start) {
-        Ok(conn) => conn,
-        Err((unopened, _)) => {
-            copy.unlink(rt);
-            return Err(command_refusal(unopened));
-        }
+    migrate_copy(looks, older, targets, &copy, from, to)
+}
+
+/// Migrates a copy of the older file at `from`, as `migrate_file` does, and takes its names away as soon as it is open.
+fn migrate_copy<L, Q, G>(
+    looks: &L,
+    older: &mut Q,
+    targets: &mut G,
+    copy: &Unnamed,
+    from: &str,
+    to: &str,
+) -> Result<(), CommandRefusal>
+where
+    L: Looks,
+    Q: OlderFiles<ClosedFile>,
+    G: StoreFiles<OpenedStore, ClosedFile, Unopened>,
+    ensures { MigratesCopy ⟦<ClosedFile as OlderStore>⟧.state_of (λ s. ⟦<Found as Shelves>⟧.shown s.shelves)
+        (record { begins = Q.begins; left = Q.left; before = Q.history older.old; after = Q.history older.new })
+        (record { begins = G.begins; left = G.left; before = G.history targets.old; after = G.history targets.new })
+        copy.now.path.bytes.items copy.now.log.bytes.items to.now result }
+{
+    let opened = older.open(copy.path.as_str(), Use::Writing);
+    older.unlink(copy.path.as_str());
+    older.unlink(copy.log.as_str());
+    let mut old = match opened {
+        Ok(file) => file,
+        Err(unopened) => return Err(command_refusal(unopened)),
     };
-    copy.unlink(rt);
-    migrate_to(rt, from, &mut old, to, target)
+    let told = migrate_to(looks, targets, from, &mut old.store, to);
+    older.close(old);
+    told
 }
 
 /// Whether both names are equal or lead to one file.
-fn is_one_file(rt: &HostRuntime, path: &str, other: &str) -> bool {
-    path == other || is_same_file(rt, path, other)
+fn is_one_file<L: Looks>(looks: &L, path: &str, other: &str) -> bool {
+    path == other || looks.is_same(path, other)
 }
 
 /// Opens the store of a file, and then fails: with `NotEmpty` if it has more than `common`, and otherwise because there
 /// are no older tables.
-fn migrate_nothing<U: Start>(
-    rt: &HostRuntime,
+fn migrate_nothing<L, G>(
+    alloc: Global,
+    looks: &L,
+    targets: &mut G,
     from: &str,
     to: &str,
-    target: U,
 ) -> Result<(), CommandRefusal>
-    ensures { MigratesEmpty ⟦<FileShelves<U> as Shelves>⟧.shown (image_at U.Start) result }
+where
+    L: Looks,
+    G: StoreFiles<OpenedStore, ClosedFile, Unopened>,
+    ensures { MigratesEmpty (λ s. ⟦<Found as Shelves>⟧.shown s.shelves)
+        (record { begins = G.begins; left = G.left; before = G.history targets.old; after = G.history targets.new })
+        to.now result }
 {
-    let Ok(mut none) = Connection::open_in_memory(rt.alloc()) else {
+    let Ok(mut none) = Connection::open_in_memory(alloc) else {
         return Err(command_refusal(Unopened::Memory));
     };
-    migrate_to(rt, from, &mut none, to, target)
+    migrate_to(looks, targets, from, &mut none, to)
 }
 
 /// Opens the store of a file and puts what an open older store has, whose file is at `from`, into it. Fails with the
-/// refusals of the store, and with `NotEmpty` if both names lead to one file. It is generic over the older store,
-/// because the checker runs out of steps with two file stores in one function.
-fn migrate_to<S: Alter, U: Start>(
-    rt: &HostRuntime,
+/// refusals of the store, and with `NotEmpty` if both names lead to one file.
+fn migrate_to<L, O, G>(
+    looks: &L,
+    targets: &mut G,
     from: &str,
-    old: &mut Connection<S>,
+    old: &mut O,
     to: &str,
-    target: U,
 ) -> Result<(), CommandRefusal>
-    ensures { MigratesTo (state S.Store) ⟦<FileShelves<U> as Shelves>⟧.shown
-        old.old old.new (image_at U.Start) result }
+where
+    L: Looks,
+    O: OlderStore,
+    G: StoreFiles<OpenedStore, ClosedFile, Unopened>,
+    ensures { MigratesTo O.state_of (λ s. ⟦<Found as Shelves>⟧.shown s.shelves)
+        (record { begins = G.begins; left = G.left; before = G.history targets.old; after = G.history targets.new })
+        to.now old.old old.new result }
 {
-    if is_one_file(rt, from, to) {
+    if is_one_file(looks, from, to) {
         return Err(CommandRefusal::NotEmpty);
     }
-    let mut fresh = match FileShelves::open_from(rt, to, target) {
-        Ok(shelves) => shelves,
-        Err((unopened, _)) => return Err(unmade(command_refusal(unopened))),
+    let mut fresh = match targets.open(to, Use::Writing) {
+        Ok(file) => file,
+        Err(unopened) => return Err(unmade(command_refusal(unopened))),
     };
-    let told = migrate_into(old, &mut fresh);
-    drop(fresh.close());
+    let told = old.migrate_into(&mut fresh.store);
+    targets.close(fresh);
     told
-}
-
-/// Puts what an older store has into an open one. Fails with the refusals of the store.
-fn migrate_into<S: Alter, F: Alter>(
-    old: &mut Connection<S>,
-    fresh: &mut SqlShelves<F>,
-) -> Result<(), CommandRefusal>
-    ensures { MigratesInto (state S.Store) ⟦<SqlShelves<F> as Shelves>⟧.shown
-        old.old old.new fresh.old fresh.new result }
-{
-    match migrate(old, fresh) {
-        Ok(()) => Ok(()),
-        Err(refusal) => Err(command_refusal(refusal)),
-    }
 }

@@ -6,7 +6,7 @@ ghost use Rattle.runner.specs.Opened.{HasBegun};
 
 use crate::old_file::is_missing;
 use crate::unnamed::Unnamed;
-use commands::action::Action;
+use files::files::Use;
 use sqlite::Start;
 use std::io::{self, ErrorKind};
 use std::rt::HostRuntime;
@@ -15,32 +15,24 @@ use store::open::FileShelves;
 use store::refusal::Refusal;
 use world::shelves::Shelves;
 
-/// Opens the store of a file for an action. Fails as `FileShelves::open_from` does.
+/// Opens the store of a file. Fails as `FileShelves::open_from` does.
 ///
-/// If there is neither the file nor its log, and the action only reads, it opens a new store in files that have no
-/// name, so that a mistyped name leaves none behind. What the action answers is the same: a new store has no key, so
-/// each publish gets a 404 there.
+/// If there is neither the file nor its log, and the store is only read, it opens a new store in files that have no
+/// name, so that a mistyped name leaves none behind. What is read there is the same: a new store has no key, so each
+/// publish gets a 404.
 pub(crate) fn open_for<T: Start>(
     rt: &HostRuntime,
     path: &str,
     start: T,
-    action: &Action,
+    purpose: Use,
 ) -> Result<FileShelves<T>, Refusal>
     ensures { IfOk result (HasBegun ⟦<FileShelves<T> as Shelves>⟧.shown (image_at T.Start)) }
 {
-    if only_reads(action) && !names_no_file(path) && is_unmade(rt, path) {
+    if matches!(purpose, Use::Reading) && !names_no_file(path) && is_unmade(rt, path) {
         open_unnamed(rt, path, start)
     } else {
         open_named(rt, path, start)
     }
-}
-
-/// Whether an action leaves a store that has no key as it is.
-fn only_reads(action: &Action) -> bool {
-    matches!(
-        action,
-        Action::Inventory { .. } | Action::Requires { .. } | Action::Answer
-    )
 }
 
 /// Whether there is neither a file of this name nor a log beside it, which may be all that is left of a store. False if

@@ -7,7 +7,7 @@ use std::{fs, io};
 
 /// The names of a database file and its log, which no other file has.
 #[derive(Drop)]
-pub(crate) struct Unnamed {
+pub struct Unnamed {
     pub path: String,
     pub log: String,
 }

@@ -1,4 +1,5 @@
 use Rattle.std.proofs.Common.{inl}
+use Rattle.files.proofs.HistoryLemmas.{opened_closed}
 use Rattle.control.proofs.TurnLemmas.{read_none}
 use Rattle.runner.proofs.CopyLemmas.{only_read}
 use Rattle.runner.proofs.copies.copy_to.Goals as goal
@@ -11,8 +12,9 @@ returns-clause-reads g c = only_read _ _ c.copy_into-told.ensures.copies.reads c
 
 pub returns-clause-came : goal.returns-clause-came
 returns-clause-came g c = inl (record {
-  begun = c.in-Ok.shelves;
+  begun = c.in-Ok.file.store;
   ended = c.copy_into-told.new.fresh;
-  begins = record { world = c.in-Ok.ensures.begins; found = c.in-Ok.ensures.found; none_failed = c.in-Ok.ensures.none_failed };
+  begins = c.in-Ok.ensures.begun.0;
   does = c.copy_into-told.ensures;
+  done = opened_closed _ _ _ _ _ _ c.in-Ok.ensures.begun.1 c.in-Ok.ensures.opened c.close.ensures;
 })

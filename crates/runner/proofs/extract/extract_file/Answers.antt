@@ -1,10 +1,12 @@
 use Rattle.std.proofs.Common.{inl}
+use Rattle.files.proofs.HistoryLemmas.{opened_closed}
 use Rattle.runner.proofs.extract.extract_file.Goals as goal
 
 pub returns : goal.returns
 returns g c = inl (record {
-  begun = c.in-Ok.shelves;
+  begun = c.in-Ok.file.store;
   ended = c.extract_to-told.new.source;
-  begins = record { world = c.in-Ok.ensures.begins; found = c.in-Ok.ensures.found; none_failed = c.in-Ok.ensures.none_failed };
+  begins = c.in-Ok.ensures.begun.0;
   does = c.extract_to-told.ensures;
+  done = opened_closed _ _ _ _ _ _ c.in-Ok.ensures.begun.1 c.in-Ok.ensures.opened c.close.ensures;
 })

@@ -1,0 +1,13 @@
+use Rattle.std.proofs.Common.{inl, ◌∙◌}
+use Rattle.runner.proofs.MigrateLemmas.{copy_migrated}
+use Rattle.runner.proofs.migrate.migrate_copy.Goals as goal
+
+pub returns : goal.returns
+returns g c = inl (record {
+  old = c.in-Ok.file.store;
+  old_new = c.migrate_to-told.new.old;
+  begins = c.in-Ok.ensures.begun.0;
+  migrates = c.migrate_to-told.ensures;
+  done = copy_migrated _ _ _ _ _ _ _ _ _ _ _ _ c.as_str.ensures.value c.as_str-2.ensures.value c.as_str-3.ensures.value
+      (c.in-Ok.ensures.begun.1 ∙ c.as_str.ensures.value) c.in-Ok.ensures.opened c.unlink.ensures c.unlink-2.ensures c.close.ensures;
+})

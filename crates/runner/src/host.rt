@@ -1,0 +1,245 @@
+//! What a command asks of the system, beside opening and closing the stores of files.
+ghost use Rattle.sqlite_wal.specs.Files.{image_at};
+ghost use Rattle.commands.specs.Action.{Acts};
+ghost use Rattle.runner.specs.Copies.{CopiesFile, CountsIn};
+ghost use Rattle.runner.specs.Opened.{HasBegun};
+
+use crate::beside::check_name;
+use crate::copies::FileCopies;
+use crate::extract::extract_file;
+use crate::found::{AsFound, ClosedFile, Found, FoundTables, OpenedStore};
+use crate::looks::Looks;
+use crate::migrate::migrate_file;
+use crate::older_files::OlderFiles;
+use commands::action::{Action, act_on};
+use commands::files::{holds_bytes, is_empty_file, is_missing_or_empty, is_same_file};
+use commands::order::{copy_at, order_at, stop_at};
+use commands::ping::ping_at;
+use commands::refusal::CommandRefusal;
+use control::Order;
+use files::files::StoreFiles;
+use histories::{Hear, Tell};
+use sqlite::Start;
+use sqlite_trees::store::Store;
+use std::alloc::Global;
+use std::rt::HostRuntime;
+use store::open::FileShelves;
+use store::refusal::Refusal;
+use world::shelves::Shelves;
+
+/// The system, as a command sees it whose stores are `S`. A closed store leaves a `C`, and an older store is opened as
+/// one.
+pub trait Host<S, C>: Looks {
+    ghost use Rattle.std.specs.Prelude.{map as each};
+    ghost use Rattle.sqlite.specs.State.{State};
+    ghost use Rattle.commands.specs.Order.{CopiesThere, OrdersThere, StopsThere};
+    ghost use Rattle.commands.specs.Ping.{PingsThere};
+    ghost use Rattle.runner.specs.Command.{Deeds};
+    ghost use Rattle.runner.specs.Extract.{ExtractsFile};
+    ghost use Rattle.runner.specs.Migrate.{MigratesFile};
+    ghost use Rattle.world.specs.Store.{Shown};
+
+    /// What doing an action does.
+    ghost acts: { Deeds S };
+
+    /// What a store shows.
+    ghost shown: { S → Shown };
+
+    /// The tables of an older store.
+    ghost state_of: { C → State };
+
+    /// Returns the memory that is allocated from.
+    fn alloc(&self) -> Global;
+
+    /// Does an action on the open store of the file of this name, and returns whether it was accepted. Fails as
+    /// [`act_on`] does.
+    fn act<I: Hear, O: Tell>(
+        &mut self,
+        name: &str,
+        shelves: &mut S,
+        action: &Action,
+        input: &mut I,
+        output: &mut O,
+    ) -> Result<bool, CommandRefusal>
+        ensures { acts
+            (record { store = shelves.old; came = I.account input.old; written = O.contents output.old })
+            (record { store = shelves.new; came = I.account input.new; written = O.contents output.new })
+            result action.now };
+
+    /// Puts some teams' part of the store of one file into the store of another, each opened by these files. Fails with
+    /// the refusals of the store, and with `NotEmpty` if both names lead to one file.
+    fn extract<F: StoreFiles<S, C, Refusal>, G: StoreFiles<S, C, Refusal>>(
+        &mut self,
+        files: &mut F,
+        targets: &mut G,
+        db: &str,
+        teams: &[&str],
+        to: &str,
+    ) -> Result<(), CommandRefusal>
+        ensures { ExtractsFile shown shown
+            (record { begins = F.begins; left = F.left; before = F.history files.old; after = F.history files.new })
+            (record { begins = G.begins; left = G.left; before = G.history targets.old; after = G.history targets.new })
+            db.now (each (λ team. team.now) teams.now) to.now result };
+
+    /// Puts what the older store of one file has into the store of another, each opened by these files. Fails with the
+    /// refusals of the store, and with `NotEmpty` if both names lead to one file.
+    fn migrate<Q: OlderFiles<C>, G: StoreFiles<S, C, Refusal>>(
+        &mut self,
+        older: &mut Q,
+        targets: &mut G,
+        from: &str,
+        to: &str,
+    ) -> Result<(), CommandRefusal>
+        ensures { MigratesFile state_of shown
+            (record { begins = Q.begins; left = Q.left; before = Q.history older.old; after = Q.history older.new })
+            (record { begins = G.begins; left = G.left; before = G.history targets.old; after = G.history targets.new })
+            from.now to.now result };
+
+    /// Sends an order to a running `serve`. Fails as [`order_at`] does.
+    fn order(&mut self, control: &str, order: &Order) -> Result<(), CommandRefusal>
+        ensures { OrdersThere order.now result };
+
+    /// Has a running `serve` copy its store into a file. Fails as [`copy_at`] does.
+    fn copy(&mut self, control: &str, to: &str) -> Result<(), CommandRefusal>
+        ensures { CopiesThere to.now result };
+
+    /// Asks a running `serve` for its health, and prints it. Fails as [`ping_at`] does.
+    fn ping<O: Tell>(&mut self, control: &str, output: &mut O) -> Result<bool, CommandRefusal>
+        ensures { PingsThere (O.contents output.old) (O.contents output.new) result };
+
+    /// Has a running `serve` end. Fails as [`stop_at`] does.
+    fn stop(&mut self, control: &str) -> Result<(), CommandRefusal>
+        ensures { StopsThere result };
+}
+
+/// The system.
+#[derive(Drop)]
+pub struct SystemHost<'a> {
+    pub rt: &'a HostRuntime,
+}
+
+impl<'a> Looks for SystemHost<'a> {
+    fn holds_bytes(&self, name: &str) -> bool {
+        holds_bytes(self.rt, name)
+    }
+
+    fn is_empty(&self, name: &str) -> bool {
+        is_empty_file(self.rt, name)
+    }
+
+    fn is_missing_or_empty(&self, name: &str) -> bool {
+        is_missing_or_empty(self.rt, name)
+    }
+
+    fn is_same(&self, name: &str, other: &str) -> bool {
+        is_same_file(self.rt, name, other)
+    }
+
+    fn check_name(&self, db: &str, to: &str) -> Result<(), Refusal> {
+        check_name(self.rt, db, to)
+    }
+}
+
+impl<'a> Host<OpenedStore, ClosedFile> for SystemHost<'a> {
+    ghost use Rattle.sqlite.specs.Held.{state};
+    ghost use Rattle.sqlite_wal.specs.Files.{image_at};
+    ghost use Rattle.commands.specs.Action.{Acts};
+    ghost use Rattle.runner.specs.Command.{within};
+    ghost use Rattle.runner.specs.Copies.{CopiesFile, CountsIn};
+    ghost use Rattle.runner.specs.Opened.{HasBegun};
+    ghost use Rattle.runner.specs.declared.found.OpenedStore.{OpenedStore};
+
+    ghost acts = { within (λ s. s.shelves) (Acts ⟦<Found as Shelves>⟧.shown
+        (CopiesFile ⟦<Found as Shelves>⟧.shown (λ (s : OpenedStore). ⟦<Found as Shelves>⟧.shown s.shelves)
+        (λ s. HasBegun ⟦<Found as Shelves>⟧.shown (image_at ⟦<AsFound as Start>⟧) s.shelves))
+        (CountsIn ⟦<Found as Shelves>⟧.shown)) };
+
+    ghost shown = { λ s. ⟦<Found as Shelves>⟧.shown s.shelves };
+
+    ghost state_of = { λ c. state ⟦<FoundTables as Store>⟧ c.connection };
+
+    fn alloc(&self) -> Global {
+        self.rt.alloc()
+    }
+
+    fn act<I: Hear, O: Tell>(
+        &mut self,
+        name: &str,
+        store: &mut OpenedStore,
+        action: &Action,
+        input: &mut I,
+        output: &mut O,
+    ) -> Result<bool, CommandRefusal> {
+        act_in::<AsFound, I, O>(self.rt, name, &mut store.shelves, action, input, output)
+    }
+
+    fn extract<F, G>(
+        &mut self,
+        files: &mut F,
+        targets: &mut G,
+        db: &str,
+        teams: &[&str],
+        to: &str,
+    ) -> Result<(), CommandRefusal>
+    where
+        F: StoreFiles<OpenedStore, ClosedFile, Refusal>,
+        G: StoreFiles<OpenedStore, ClosedFile, Refusal>,
+    {
+        extract_file(self, files, targets, db, teams, to)
+    }
+
+    fn migrate<Q, G>(
+        &mut self,
+        older: &mut Q,
+        targets: &mut G,
+        from: &str,
+        to: &str,
+    ) -> Result<(), CommandRefusal>
+    where
+        Q: OlderFiles<ClosedFile>,
+        G: StoreFiles<OpenedStore, ClosedFile, Refusal>,
+    {
+        migrate_file(self.rt.alloc(), self, older, targets, from, to)
+    }
+
+    fn order(&mut self, control: &str, order: &Order) -> Result<(), CommandRefusal> {
+        order_at(self.rt, control, order)
+    }
+
+    fn copy(&mut self, control: &str, to: &str) -> Result<(), CommandRefusal> {
+        copy_at(self.rt, control, to)
+    }
+
+    fn ping<O: Tell>(&mut self, control: &str, output: &mut O) -> Result<bool, CommandRefusal> {
+        ping_at(self.rt, control, output)
+    }
+
+    fn stop(&mut self, control: &str) -> Result<(), CommandRefusal> {
+        stop_at(self.rt, control)
+    }
+}
+
+/// Does an action on the open store of the file of this name, and returns whether it was accepted. Fails as [`act_on`]
+/// does.
+fn act_in<T: Start, I: Hear, O: Tell>(
+    rt: &HostRuntime,
+    name: &str,
+    shelves: &mut FileShelves<T>,
+    action: &Action,
+    input: &mut I,
+    output: &mut O,
+) -> Result<bool, CommandRefusal>
+    ensures { Acts ⟦<FileShelves<T> as Shelves>⟧.shown
+        (CopiesFile ⟦<FileShelves<T> as Shelves>⟧.shown (λ (s : OpenedStore). ⟦<Found as Shelves>⟧.shown s.shelves)
+        (λ s. HasBegun ⟦<Found as Shelves>⟧.shown (image_at ⟦<AsFound as Start>⟧) s.shelves))
+        (CountsIn ⟦<FileShelves<T> as Shelves>⟧.shown)
+        (record { store = shelves.old; came = I.account input.old; written = O.contents output.old })
+        (record { store = shelves.new; came = I.account input.new; written = O.contents output.new })
+        result action.now }
+{
+    let mut copies = FileCopies {
+        host: SystemHost { rt },
+        db: name,
+    };
+    act_on(rt, shelves, &mut copies, action, input, output)
+}

@@ -1,0 +1,21 @@
+//! What a command looks at before it opens a store.
+use store::refusal::Refusal;
+
+/// Looks at files. They change none, so no history has them.
+pub trait Looks {
+    /// Whether there is such a file, it can be read, and it has bytes.
+    fn holds_bytes(&self, name: &str) -> bool;
+
+    /// Whether there is a file with this name that has no bytes. Folders and devices do not count.
+    fn is_empty(&self, name: &str) -> bool;
+
+    /// Whether there is no such file, or it has no bytes. False for a folder or a device.
+    fn is_missing_or_empty(&self, name: &str) -> bool;
+
+    /// Whether both names lead to one file. False if one of them leads to none.
+    fn is_same(&self, name: &str, other: &str) -> bool;
+
+    /// Tests the name of a new store. Fails with `Device` if SQLite has a use for that file, by its name or by a link:
+    /// for the database at `db`, or for another that stands there. Fails with `Memory` if memory runs out.
+    fn check_name(&self, db: &str, to: &str) -> Result<(), Refusal>;
+}

@@ -1,0 +1,162 @@
+//! The files of the system. That these lines do what they note, and no more, is read and not proved.
+ghost use Rattle.std.specs.Prelude.{◌≡◌, [], ◌∷◌, ◌++◌};
+ghost use Rattle.files.specs.declared.files.Deed.TheVariants.{Closed};
+
+use crate::found::{AsFound, ClosedFile, Found, FoundTables, OpenedStore};
+use crate::old_file::copy_of;
+use crate::older_files::OlderFiles;
+use crate::open::open_for;
+use crate::unnamed::Unnamed;
+use files::files::{Deed, OpenFile, StoreFiles, Use};
+use files::record::Record;
+use sqlite::Start;
+use sqlite_trees::store::Store;
+use std::fs;
+use std::rt::HostRuntime;
+use store::open_older::open_older;
+use store::refusal::Refusal;
+use world::shelves::Shelves;
+
+/// The files of the system with the stores in them.
+#[derive(Drop)]
+pub struct SystemStoreFiles<'a> {
+    rt: &'a HostRuntime,
+    noted: Record<Deed<ClosedFile>>,
+}
+
+impl<'a> SystemStoreFiles<'a> {
+    /// Returns the files of the system, to which nothing was done.
+    pub fn new(rt: &'a HostRuntime) -> SystemStoreFiles<'a>
+        ensures { result.noted.deeds ≡ [] }
+    {
+        SystemStoreFiles {
+            rt,
+            noted: Record::new(),
+        }
+    }
+}
+
+impl<'a> StoreFiles<OpenedStore, ClosedFile, Refusal> for SystemStoreFiles<'a> {
+    ghost use Rattle.sqlite_wal.specs.Files.{image_at};
+    ghost use Rattle.runner.specs.Opened.{HasBegun};
+
+    ghost history = { λ f. f.noted.deeds };
+
+    ghost begins = { λ s. HasBegun ⟦<Found as Shelves>⟧.shown (image_at ⟦<AsFound as Start>⟧) s.shelves };
+
+    ghost left = { λ s. record { connection = s.shelves.conn } };
+
+    fn open<'n>(
+        &mut self,
+        name: &'n str,
+        purpose: Use,
+    ) -> Result<OpenFile<'n, OpenedStore>, Refusal> {
+        match open_for(self.rt, name, AsFound, purpose) {
+            Ok(shelves) => {
+                self.noted.note(name.as_bytes(), &Deed::Opened);
+                Ok(OpenFile {
+                    store: OpenedStore { shelves },
+                    name,
+                })
+            }
+            Err(refusal) => {
+                self.noted.note(name.as_bytes(), &Deed::Refused);
+                Err(refusal)
+            }
+        }
+    }
+
+    /// The connection is noted as it is dropped, so no statement runs after the note.
+    fn close<'n>(&mut self, file: OpenFile<'n, OpenedStore>)
+        ensures { self.new.noted.deeds ≡ self.old.noted.deeds
+            ++ (file.entry.name.now, Closed (record { connection = file.entry.store.shelves.conn })) ∷ [] }
+    {
+        let OpenedStore { shelves } = file.store;
+        let connection = shelves.close();
+        self.noted.note(
+            file.name.as_bytes(),
+            &Deed::Closed(ClosedFile { connection }),
+        );
+    }
+}
+
+/// The files of the system with the older stores in them.
+#[derive(Drop)]
+pub struct SystemOlderFiles<'a> {
+    rt: &'a HostRuntime,
+    noted: Record<Deed<ClosedFile>>,
+}
+
+impl<'a> SystemOlderFiles<'a> {
+    /// Returns the files of the system, to which nothing was done.
+    pub fn new(rt: &'a HostRuntime) -> SystemOlderFiles<'a>
+        ensures { result.noted.deeds ≡ [] }
+    {
+        SystemOlderFiles {
+            rt,
+            noted: Record::new(),
+        }
+    }
+}
+
+impl<'a> StoreFiles<ClosedFile, ClosedFile, Refusal> for SystemOlderFiles<'a> {
+    ghost use Rattle.sqlite.specs.Held.{state};
+    ghost use Rattle.sqlite_wal.specs.Files.{image_at};
+    ghost use Rattle.runner.specs.Migrate.{IsOlder};
+
+    ghost history = { λ f. f.noted.deeds };
+
+    ghost begins = { λ c. IsOlder (state ⟦<FoundTables as Store>⟧) (image_at ⟦<AsFound as Start>⟧) c.connection };
+
+    ghost left = { λ c. c };
+
+    fn open<'n>(
+        &mut self,
+        name: &'n str,
+        _purpose: Use,
+    ) -> Result<OpenFile<'n, ClosedFile>, Refusal> {
+        match open_older(self.rt, name, AsFound) {
+            Ok(connection) => {
+                self.noted.note(name.as_bytes(), &Deed::Opened);
+                Ok(OpenFile {
+                    store: ClosedFile { connection },
+                    name,
+                })
+            }
+            Err((refusal, _)) => {
+                self.noted.note(name.as_bytes(), &Deed::Refused);
+                Err(refusal)
+            }
+        }
+    }
+
+    fn close<'n>(&mut self, file: OpenFile<'n, ClosedFile>)
+        ensures { self.new.noted.deeds
+            ≡ self.old.noted.deeds ++ (file.entry.name.now, Closed file.entry.store) ∷ [] }
+    {
+        self.noted
+            .note(file.name.as_bytes(), &Deed::Closed(file.store));
+    }
+}
+
+impl<'a> OlderFiles<ClosedFile> for SystemOlderFiles<'a> {
+    fn copy(&mut self, from: &str, beside: &str) -> Result<Unnamed, Refusal> {
+        match copy_of(self.rt, from, beside) {
+            Ok(copy) => {
+                self.noted.note(from.as_bytes(), &Deed::Copied);
+                self.noted.note(copy.path.as_bytes(), &Deed::Made);
+                self.noted.note(copy.log.as_bytes(), &Deed::Made);
+                Ok(copy)
+            }
+            Err(refusal) => {
+                self.noted.note(from.as_bytes(), &Deed::Refused);
+                Err(refusal)
+            }
+        }
+    }
+
+    fn unlink(&mut self, name: &str) {
+        self.noted.note(name.as_bytes(), &Deed::Unlinked);
+        let _ = fs::remove_file(self.rt, name);
+    }
+}

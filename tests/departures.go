@@ -53,7 +53,7 @@ func main() {
 			text := unwritten(row[1])
 			_, own := modfile.Parse("go.mod", text, nil)
 			_, other := modfile.ParseLax("go.mod", text, nil)
-			fmt.Printf("%s; in another module %s\n", word(own), word(other))
+			fmt.Printf("%s; %s\n", word(own), word(other))
 		}
 	}
 }

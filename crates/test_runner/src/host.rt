@@ -1,0 +1,133 @@
+//! A system whose stores are in memory.
+use commands::action::{Action, act_on};
+use commands::refusal::CommandRefusal;
+use control::{Copies, CopyRefusal, Order};
+use files::files::StoreFiles;
+use histories::{Hear, Tell};
+use runner::host::Host;
+use runner::looks::Looks;
+use runner::older_files::OlderFiles;
+use std::alloc::Global;
+use std::rt::HostRuntime;
+use store::refusal::Refusal;
+use world::map_shelves::MapShelves;
+use world::registry::StoreFault;
+use world::shelves::Shelves;
+
+/// Makes no copy and counts no version.
+#[derive(Drop)]
+pub struct NoCopies;
+
+impl Copies<MapShelves> for NoCopies {
+    ghost copied = { λ _ _ _ _. Unit {0} };
+
+    ghost counted = { λ _ _ _. Unit {0} };
+
+    fn copy(&mut self, _shelves: &mut MapShelves, _path: &str) -> Result<(), CopyRefusal> {
+        Err(CopyRefusal::Device)
+    }
+
+    fn versions(&mut self, _shelves: &mut MapShelves) -> Result<u64, StoreFault> {
+        Ok(0)
+    }
+}
+
+/// A system in which only `bytes.db` is a file with bytes. No `serve` listens, and it neither extracts nor migrates.
+#[derive(Drop)]
+pub struct MemoryHost<'a> {
+    pub rt: &'a HostRuntime,
+}
+
+impl<'a> Looks for MemoryHost<'a> {
+    fn holds_bytes(&self, name: &str) -> bool {
+        name == "bytes.db"
+    }
+
+    fn is_empty(&self, _name: &str) -> bool {
+        false
+    }
+
+    fn is_missing_or_empty(&self, _name: &str) -> bool {
+        false
+    }
+
+    fn is_same(&self, name: &str, other: &str) -> bool {
+        name == other
+    }
+
+    fn check_name(&self, _db: &str, _to: &str) -> Result<(), Refusal> {
+        Ok(())
+    }
+}
+
+impl<'a> Host<MapShelves, MapShelves> for MemoryHost<'a> {
+    ghost use Rattle.commands.specs.Action.{Acts};
+    ghost use Rattle.test_runner.specs.Tables.{no_tables};
+
+    ghost acts = { Acts ⟦<MapShelves as Shelves>⟧.shown ⟦<NoCopies as Copies<MapShelves>>⟧.copied
+        ⟦<NoCopies as Copies<MapShelves>>⟧.counted };
+
+    ghost shown = { ⟦<MapShelves as Shelves>⟧.shown };
+
+    ghost state_of = { λ _. no_tables };
+
+    fn alloc(&self) -> Global {
+        self.rt.alloc()
+    }
+
+    fn act<I: Hear, O: Tell>(
+        &mut self,
+        _name: &str,
+        shelves: &mut MapShelves,
+        action: &Action,
+        input: &mut I,
+        output: &mut O,
+    ) -> Result<bool, CommandRefusal> {
+        act_on(self.rt, shelves, &mut NoCopies, action, input, output)
+    }
+
+    fn extract<F, G>(
+        &mut self,
+        _files: &mut F,
+        _targets: &mut G,
+        _db: &str,
+        _teams: &[&str],
+        _to: &str,
+    ) -> Result<(), CommandRefusal>
+    where
+        F: StoreFiles<MapShelves, MapShelves, Refusal>,
+        G: StoreFiles<MapShelves, MapShelves, Refusal>,
+    {
+        Err(CommandRefusal::NotEmpty)
+    }
+
+    fn migrate<Q, G>(
+        &mut self,
+        _older: &mut Q,
+        _targets: &mut G,
+        _from: &str,
+        _to: &str,
+    ) -> Result<(), CommandRefusal>
+    where
+        Q: OlderFiles<MapShelves>,
+        G: StoreFiles<MapShelves, MapShelves, Refusal>,
+    {
+        Err(CommandRefusal::NotEmpty)
+    }
+
+    fn order(&mut self, _control: &str, _order: &Order) -> Result<(), CommandRefusal> {
+        Err(CommandRefusal::Device)
+    }
+
+    fn copy(&mut self, _control: &str, _to: &str) -> Result<(), CommandRefusal> {
+        Err(CommandRefusal::Device)
+    }
+
+    fn ping<O: Tell>(&mut self, _control: &str, _output: &mut O) -> Result<bool, CommandRefusal> {
+        Err(CommandRefusal::Device)
+    }
+
+    fn stop(&mut self, _control: &str) -> Result<(), CommandRefusal> {
+        Err(CommandRefusal::Device)
+    }
+}

@@ -1,0 +1,52 @@
+//! A system with no older store.
+ghost use Rattle.std.specs.Prelude.{◌≡◌, [], ◌∷◌, ◌++◌};
+ghost use Rattle.files.specs.declared.files.Deed.TheVariants.{Closed};
+
+use files::files::{Deed, OpenFile, StoreFiles, Use};
+use files::record::Record;
+use runner::older_files::OlderFiles;
+use runner::unnamed::Unnamed;
+use store::refusal::Refusal;
+use world::map_shelves::MapShelves;
+
+/// Files of which none holds an older store.
+#[derive(Drop)]
+pub struct NoOlderFiles {
+    pub noted: Record<Deed<MapShelves>>,
+}
+
+impl StoreFiles<MapShelves, MapShelves, Refusal> for NoOlderFiles {
+    ghost history = { λ f. f.noted.deeds };
+
+    ghost begins = { λ _. Unit {0} };
+
+    ghost left = { λ s. s };
+
+    fn open<'n>(
+        &mut self,
+        name: &'n str,
+        _purpose: Use,
+    ) -> Result<OpenFile<'n, MapShelves>, Refusal> {
+        self.noted.note(name.as_bytes(), &Deed::Refused);
+        Err(Refusal::Device)
+    }
+
+    fn close<'n>(&mut self, file: OpenFile<'n, MapShelves>)
+        ensures { self.new.noted.deeds
+            ≡ self.old.noted.deeds ++ (file.entry.name.now, Closed file.entry.store) ∷ [] }
+    {
+        self.noted
+            .note(file.name.as_bytes(), &Deed::Closed(file.store));
+    }
+}
+
+impl OlderFiles<MapShelves> for NoOlderFiles {
+    fn copy(&mut self, from: &str, _beside: &str) -> Result<Unnamed, Refusal> {
+        self.noted.note(from.as_bytes(), &Deed::Refused);
+        Err(Refusal::Device)
+    }
+
+    fn unlink(&mut self, name: &str) {
+        self.noted.note(name.as_bytes(), &Deed::Unlinked);
+    }
+}

@@ -1,0 +1,138 @@
+//! Commands, one after another, over a file in memory.
+use crate::host::MemoryHost;
+use crate::no_older::NoOlderFiles;
+use commands::action::Action;
+use commands::refusal::CommandRefusal;
+use control::Order;
+use files::files::StoreFiles;
+use files::memory::MemoryStoreFiles;
+use files::record::Record;
+use histories::{Hearing, Telling};
+use runner::host::Host;
+use runner::older_files::OlderFiles;
+use runner::{Command, run};
+use std::alloc::Global;
+use std::rt::HostRuntime;
+use std::test::Fail;
+use store::refusal::Refusal;
+use test_support::rows::cell;
+use world::entry::Right;
+use world::map_shelves::MapShelves;
+
+/// A command, its file, what it adds, a key, and the word that it ends by. There is one file, `shelves.db`. A command
+/// that finds what another left was run on the store that the other closed.
+const RUNS: &str = "\
+init | other.db | | | device
+init | bytes.db | | | not-empty
+init | shelves.db | | | done
+team-add | other.db | alpha | | device
+team-add | shelves.db | alpha | | done
+team-add | shelves.db | alpha | | taken
+key-add | shelves.db | beta | betakey000000001 | no-team
+key-add | shelves.db | alpha | alphakey00000001 | done
+key-add | shelves.db | alpha | alphakey00000001 | taken
+inventory | shelves.db | | betakey000000001 | no-key
+inventory | shelves.db | | alphakey00000001 | done
+extract | shelves.db | alpha | | not-empty
+migrate | shelves.db | | | not-empty
+order | shelves.db | alpha | | device
+copy | shelves.db | | | device
+ping | shelves.db | | | device
+stop | shelves.db | | | device
+inventory | shelves.db | | alphakey00000001 | done
+";
+
+/// Returns the command of a row.
+fn command_of<'a>(row: &'a str, teams: &'a [&'a str]) -> Command<'a> {
+    let (db, name, key) = (cell(row, 1), cell(row, 2), cell(row, 3));
+    let order = Order::TeamAdd { name, group: None };
+    let action = match cell(row, 0) {
+        "init" => return Command::Init { db },
+        "extract" => return Command::Extract {
+            db,
+            teams,
+            to: "new.db",
+        },
+        "migrate" => return Command::Migrate {
+            from: db,
+            to: "new.db",
+        },
+        "order" => return Command::Order { control: db, order },
+        "copy" => return Command::Copy {
+            control: db,
+            to: "new.db",
+        },
+        "ping" => return Command::Ping { control: db },
+        "stop" => return Command::Stop { control: db },
+        "team-add" => Action::Register { order },
+        "key-add" => Action::Register {
+            order: Order::KeyAdd {
+                shelf: name,
+                key,
+                right: Right::Publishes,
+            },
+        },
+        _ => Action::Inventory { key },
+    };
+    Command::OnStore { db, action }
+}
+
+/// Returns the word that a command ended by.
+fn word_of(told: Result<bool, CommandRefusal>) -> &'static str {
+    match told {
+        Ok(true) => "done",
+        Ok(false) => "not accepted",
+        Err(refusal) => refusal.word(),
+    }
+}
+
+/// Returns the first row that ends by another word, or the empty text.
+fn wrong_row<S, C, H, F, G, Q>(
+    alloc: Global,
+    host: &mut H,
+    files: &mut F,
+    targets: &mut G,
+    older: &mut Q,
+) -> &'static str
+where
+    H: Host<S, C>,
+    F: StoreFiles<S, C, Refusal>,
+    G: StoreFiles<S, C, Refusal>,
+    Q: OlderFiles<C>,
+{
+    for row in RUNS.lines() {
+        let mut printed = Vec::<u8>::new(alloc);
+        let told = run(
+            host,
+            files,
+            targets,
+            older,
+            &command_of(row, &[cell(row, 2)]),
+            &mut Hearing::new(&b""[..]),
+            &mut Telling::new(&mut printed),
+        );
+        if word_of(told) != cell(row, 4) {
+            return row;
+        }
+    }
+    ""
+}
+
+#[test]
+fn commands_run_on_the_store_that_the_last_one_closed(rt: HostRuntime) -> Result<(), Fail> {
+    let mut host = MemoryHost { rt: &rt };
+    let Ok(shelves) = MapShelves::new(rt.alloc()) else {
+        return Err(Fail::from("no memory"));
+    };
+    let mut files = MemoryStoreFiles::new("shelves.db", shelves, Refusal::Device);
+    let Ok(none) = MapShelves::new(rt.alloc()) else {
+        return Err(Fail::from("no memory"));
+    };
+    let mut targets = MemoryStoreFiles::new("new.db", none, Refusal::Device);
+    let mut older = NoOlderFiles {
+        noted: Record::new(),
+    };
+    let wrong = wrong_row(rt.alloc(), &mut host, &mut files, &mut targets, &mut older);
+    assert!(rt; wrong == "");
+    Ok(())
+}

@@ -19,8 +19,9 @@ from extract import made, removed, rows, spread
 from store import gomod, keys
 
 sys.path.insert(0, os.path.join(os.path.dirname(os.path.abspath(__file__)), "..", "tests"))
-from harness import PROGRAM  # noqa: E402
-from migrate import OWN, PIECE, SHARED  # noqa: E402
+from lib.older import OWN, SHARED
+from lib.program import PROGRAM
+from lib.tables import PIECE
 
 # a zip of one piece: 100,000 of them are 1 GiB
 ZIP = bytes(range(256)) * 41 + b"z" * 241

@@ -1,7 +1,7 @@
 #!/usr/bin/env python3
 """A public module that nginx has not cached: what nginx adds to the public proxy's own time.
 
-The company and its public proxy are those of tests/one_url.py, by docs/NGINX.md, over TLS and with a login. The public
+The company and its public proxy are those of lib/developers.py, by docs/NGINX.md, over TLS and with a login. The public
 proxy takes --delay milliseconds (20) for an answer. It is asked itself and through nginx in turn, --count times (200)
 each, by a client that keeps its connections, and so does nginx. Build the program first; it wants root, nginx, openssl
 and go.
@@ -18,8 +18,8 @@ import tempfile
 import time
 
 sys.path.insert(0, os.path.join(os.path.dirname(os.path.dirname(os.path.abspath(__file__))), "tests"))
-from developers import Developers
-from outside import NAME
+from lib.developers import Developers
+from lib.outside import NAME
 
 # in one piece, so that no end waits for the other's acknowledgement
 ANSWER = b"HTTP/1.1 200 OK\r\nContent-Type: text/plain\r\nContent-Length: 9\r\n\r\nmodule x\n"

@@ -14,11 +14,15 @@ import subprocess
 import sys
 import tempfile
 
-from go_client import escaped, h1
-from harness import PROGRAM, Suite, new_store, run, write
-from repositories import ADOPT, KEY, READER, TIME, Room, Server, blocks, module, shell, zipped
+from lib.modules import escaped, h1, zipped
+from lib.pages import blocks
+from lib.program import PROGRAM, run
+from lib.repositories import ADOPT, KEY, READER, TIME, Room, module, shell
+from lib.scratch import write
+from lib.servers import Server
+from lib.stores import new_store
+from lib.suite import Suite
 
-NEEDS = ["go"]
 MIB = 1_048_576
 # each version, and the time of its .info
 VERSIONS = [

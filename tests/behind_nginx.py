@@ -1,151 +1,33 @@
 #!/usr/bin/env python3
 """nginx before `goshelf serve`, by deploy/nginx/ and the commands of docs/NGINX.md: log in, TLS, its cache, slow clients, logs.
 
-The files and the commands run as they are, on a machine in a folder (machine.py). Users are added and removed by the page's commands.
+The files and the commands run as they are, on a machine in a folder (lib/machine.py). Users are added and removed by the page's commands.
 Clients are slow with a head, with a body or with what they are sent. The go command logs in by ~/.netrc.
 """
 
 import base64
-import http.client
 import http.server
-import io
 import os
 import re
 import signal
-import socket
-import ssl
 import subprocess
 import sys
 import tempfile
 import threading
 import time
-import zipfile
 from concurrent.futures import ThreadPoolExecutor
 
-from harness import ROOT, Suite, done, new_store
-from machine import Machine, block, read_page, wait_for
+from lib.front import AT, GOMOD, LIB, UNUSED, ZIP, keys_of, set_up, settle
+from lib.modules import zipped
+from lib.pages import block, read_page
+from lib.peers import rest_of
+from lib.ports import wait_until
+from lib.program import ROOT
+from lib.scratch import play
+from lib.suite import Suite
 
-NEEDS = ["nginx", "openssl", "go", "git", "curl"]
-LIB = "/example.com/lib"
-AT = f"{LIB}/@v"
-GOMOD, ZIP = b"module example.com/lib\n", os.urandom(3_000_000)
 # more than all buffers of sockets on the way hold
 LARGEST_ZIP = os.urandom(16_777_216)
-# name, shelf and right; the name of one begins as another's, and one shelf has the longest name
-LONG = "z" * 32
-# a key of alpha that nginx does not know
-UNUSED = "firstkey00000001"
-USERS = [("ann", "alpha", "read"), ("ann-b", "alpha", "read"), ("pub", "alpha", "publish"), ("bob", "beta", "publish"), ("zoe", LONG, "publish")]
-
-
-class Client:
-    """What the users of the front see of it."""
-
-    def __init__(self, machine):
-        self.machine, self.passwords = machine, {}
-        self.pem = f"{machine.folder}/etc/ssl/goshelf.pem"
-        self.context = ssl.create_default_context(cafile=self.pem)
-
-    def add(self, user, shelf, right):
-        """Adds a user by the page's commands, and keeps the password that they print."""
-        script = block("sh", "goshelf-user add ann")
-        line = self.machine.does(script.replace("ann alpha read", f"{user} {shelf} {right}"))
-        assert line.split()[:4] == ["machine", "localhost", "login", user], line
-        self.passwords[user] = line.split()[5]
-
-    def login(self, user):
-        """The header by which a user logs in."""
-        return "Basic " + base64.b64encode(f"{user}:{self.passwords[user]}".encode()).decode()
-
-    def ask(self, method, target, header, body=None, headers=None):
-        reply = self.reply(method, target, header, body, headers)
-        return reply.status, reply.body
-
-    def reply(self, method, target, header, body=None, headers=None):
-        """The answer, which has been read: its `body`."""
-        conn = http.client.HTTPSConnection("localhost", self.machine.front, timeout=60, context=self.context)
-        conn.request(method, target, body, {**({"Authorization": header} if header else {}), **(headers or {})})
-        reply = conn.getresponse()
-        reply.body = reply.read()
-        conn.close()
-        return reply
-
-    def get(self, target, user="ann"):
-        return self.ask("GET", target, self.login(user))
-
-    def put(self, version, body, user="pub"):
-        return self.ask("PUT", f"{AT}/{version}", self.login(user), body, {"Mod-Length": str(len(GOMOD))})
-
-    def begin(self, sent, room=None):
-        """A connection on which this is sent; with room for so many bytes of what is answered."""
-        raw = socket.socket()
-        raw.settimeout(60)
-        if room:
-            raw.setsockopt(socket.SOL_SOCKET, socket.SO_RCVBUF, room)
-        raw.connect(("127.0.0.1", self.machine.front))
-        held = self.context.wrap_socket(raw, server_hostname="localhost")
-        held.sendall(sent)
-        return held
-
-    def head(self, method, target, user, *lines):
-        """The head of a request, without the empty line at its end."""
-        return "".join(f"{it}\r\n" for it in (f"{method} {target} HTTP/1.1", "Host: localhost", f"Authorization: {self.login(user)}", *lines)).encode()
-
-
-def rest_of(held):
-    """What is read on a connection to its end."""
-    told = b""
-    while part := held.recv(1_048_576):
-        told += part
-    return told
-
-
-def set_up(suite, folder):
-    """A machine with goshelf behind nginx, and its users, by the page's commands."""
-    machine = Machine(folder)
-    new_store(machine.store, ("alpha", UNUSED), ("beta", "firstkey00000002"), (LONG, "firstkey00000003"))
-    start(machine, lambda block: block.replace("alpha", f"alpha beta {LONG}"))
-    client = Client(machine)
-    for user in USERS:
-        client.add(*user)
-    settle(client, wanted=404)
-    maps = [f"{folder}/etc/nginx/goshelf/{name}" for name in ("users.map", "keys.map")]
-    suite.equal("only root may read the maps", [os.stat(it).st_mode & 0o777 for it in maps], [0o600, 0o600])
-    return machine, client
-
-
-def start(machine, paths, change=lambda machine: None):
-    """Starts goshelf and nginx by the page's commands. `paths` makes the command that names the company's paths from
-    the page's, and `change` changes files before nginx starts."""
-    machine.does("systemctl start goshelf")
-    made = "openssl req -x509 -newkey rsa:2048 -nodes -days 2 -subj /CN=localhost -addext subjectAltName=DNS:localhost"
-    machine.does(f"{made} -out /etc/ssl/goshelf.pem -keyout /etc/ssl/goshelf.key")
-    machine.check_out()
-    machine.does(block("sh", "deploy/nginx/users.map"))
-    machine.does("sed -i 's/server_name shelf.example.com;/server_name localhost;/' /etc/nginx/conf.d/goshelf.conf")
-    machine.does(paths(block("sh", ">> /etc/nginx/goshelf/paths.map")))
-    change(machine)
-    machine.does(block("sh", "systemctl restart nginx"))
-    wait_for(machine.front)
-
-
-def settle(client, user="zoe", wanted=200):
-    """Waits until nginx has read its maps anew, so that a user gets what is wanted. Returns the seconds that it took.
-
-    The processes of before go on for a moment beside the new ones, so it waits for ten such answers in a row. Strangers who ask
-    often get a 429 in the place of a 401."""
-    begun, row = time.time(), 0
-    while row < 10:
-        status = client.get(f"{AT}/v1.0.0.mod", user)[0]
-        row = row + 1 if status == wanted or (status, wanted) == (429, 401) else 0
-        assert time.time() - begun < 30, f"{user} does not get {wanted}"
-        time.sleep(0.02)
-    return time.time() - begun
-
-
-def keys_of(machine):
-    """Every key of the store that nginx knows."""
-    return re.findall(r"^\".*\" (\w+);$", machine.read("etc/nginx/goshelf/keys.map"), re.M)
 
 
 def strangers(suite, client):
@@ -313,21 +195,13 @@ def at_once(suite, client):
     """A user has 200 requests at a time and no more; another user is answered meanwhile, and the first again once some have ended."""
     head = client.head("PUT", f"{AT}/v9.1.0", "bob", f"Mod-Length: {len(GOMOD)}", f"Content-Length: {len(GOMOD)}") + b"\r\n"
     held = [client.begin(head) for _ in range(200)]
-    until(lambda: client.get(f"{AT}/list", "bob")[0] == 429)
+    wait_until(lambda: client.get(f"{AT}/list", "bob")[0] == 429)
     suite.equal("the 201st request of a user", client.get(f"{AT}/list", "bob"), (429, b"too many requests at once\n"))
     suite.equal("another user meanwhile", client.get(f"{AT}/list")[0], 200)
     for it in held:
         it.close()
-    until(lambda: client.get(f"{AT}/list", "bob")[0] != 429)
+    wait_until(lambda: client.get(f"{AT}/list", "bob")[0] != 429)
     suite.equal("the user again", client.get(f"{AT}/list", "bob")[0], 200)
-
-
-def until(holds):
-    """Waits until something holds."""
-    begun = time.time()
-    while not holds():
-        assert time.time() - begun < 30, "it does not come about"
-        time.sleep(0.05)
 
 
 def keys_change(suite, client):
@@ -424,14 +298,6 @@ class Behind(http.server.BaseHTTPRequestHandler):
         pass
 
 
-def module_zip(path, version, files):
-    held = io.BytesIO()
-    with zipfile.ZipFile(held, "w") as file:
-        for name, text in files.items():
-            file.writestr(f"{path}@{version}/{name}", text)
-    return held.getvalue()
-
-
 def go(client, proxies, netrc, *words):
     """Runs the go command in a new module, with no cache: whether it ended well, what it said, and what the public proxy was asked."""
     ASKED.clear()
@@ -452,12 +318,12 @@ def go_command(suite, client):
     behind = http.server.ThreadingHTTPServer(("127.0.0.1", 0), Behind)
     threading.Thread(target=behind.serve_forever, daemon=True).start()
     gomod = "module example.com/greet\n"
-    zipped = module_zip("example.com/greet", "v1.0.0", {"go.mod": gomod, "greet.go": "package greet\n\nconst Text = 1\n"})
+    zip_bytes = zipped("example.com/greet", "v1.0.0", {"go.mod": gomod, "greet.go": "package greet\n\nconst Text = 1\n"})
     with tempfile.TemporaryDirectory(prefix="goshelf-put-") as folder:
         with open(f"{folder}/go.mod", "w", encoding="utf-8") as file:
             file.write(gomod)
         with open(f"{folder}/body", "wb") as file:
-            file.write(gomod.encode() + zipped)
+            file.write(gomod.encode() + zip_bytes)
         client.machine.write("root/.netrc", f"machine localhost login pub password {client.passwords['pub']}\n")
         publish = block("sh", "curl --netrc -T body").replace("curl ", "curl -sS --cacert /etc/ssl/goshelf.pem ").replace("shelf.example.com", f"localhost:{client.machine.front}")
         settings = {"module": "example.com/greet", "version": "v1.0.0", "time": "2024-01-31T12:00:00Z"}
@@ -506,19 +372,9 @@ def three_modules(suite, client):
 
 def main():
     suite = Suite()
-    if os.geteuid() != 0:
-        suite.skip("nginx", "its users and folders need root")
-        return suite.end()
-    with tempfile.TemporaryDirectory(prefix="goshelf-front-") as folder:
-        machine = client = None
-        try:
-            machine, client = set_up(suite, folder)
-            for part in (strangers, rights, spellings, sizes, slow_clients, cached, stalled, go_command, three_modules, revoked, keys_change, too_many, at_once, logs, unwritable_cache):
-                part(suite, client)
-        finally:
-            if machine:
-                machine.close()
-    return suite.end()
+    parts = (strangers, rights, spellings, sizes, slow_clients, cached, stalled, go_command, three_modules, revoked)
+    parts += (keys_change, too_many, at_once, logs, unwritable_cache)
+    return play(suite, "nginx", "its users and folders need root", lambda folder: set_up(suite, folder), parts)
 
 
 if __name__ == "__main__":

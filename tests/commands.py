@@ -1,7 +1,7 @@
 #!/usr/bin/env python3
 """What each command prints and how it ends: words, names, help, runs on one store, imports, inventories, and the port and address of `serve`.
 
-A table holds runs, which are made in order, as `harness.runs_of` reads them. Each run is to end with its status, print its lines, byte
+A table holds runs, which are made in order, as `runs_of` of lib/program.py reads them. Each run is to end with its status, print its lines, byte
 for byte, and say its word or nothing on standard error.
 """
 
@@ -13,7 +13,13 @@ import subprocess
 import sys
 import tty
 
-from harness import NOBODY, PROGRAM, ROOT, Suite, can_be_nobody, get, in_new_folders, put, read, reply, run, runs_of, words_of, write
+from lib.messages import get, put, reply
+from lib.peers import exchanged
+from lib.program import NOBODY, PROGRAM, ROOT, can_be_nobody, run, runs_of, words_of
+from lib.scratch import in_new_folders, read, write
+from lib.servers import Server
+from lib.suite import Suite
+from lib.worked import HEADER
 
 NAMES = """
 answer --mem --team alpha --key A | 0
@@ -262,7 +268,6 @@ group-add --db new.db --group platform | 0
 team-add --db new.db --team alpha --group platform | 0
 """
 
-HEADER = "path,version,time,mod,zip\n"
 # what `serve` says of a file that is missing or empty
 NEW_STORE = "new store: the file of --db is missing or empty; without a key, each request gets a 404\n"
 NEW_FILE = "new store: the file of --db is missing or empty\n"
@@ -559,24 +564,21 @@ def serve(suite):
         suite.equal("serve on a port that is taken", run(words.split()), (1, b"", "goshelf: io\n"))
 
 
-def asked(address, port, request):
+def told_at(address, port, request):
     """What is answered to a request at an address and a port, or `refused`."""
     try:
-        with socket.create_connection((address, port), timeout=60) as stream:
-            stream.sendall(request)
-            return b"".join(iter(lambda: stream.recv(65_536), b""))
+        return exchanged(port, request, address)
     except ConnectionRefusedError:
         return "refused"
 
 
 def address(suite):
     suite.runs("a new store", "init --db store.db | 0")
-    child = subprocess.Popen([PROGRAM, *"serve --db store.db --port 0 --connections 1".split()], stdout=subprocess.PIPE, text=True)
-    port = int(child.stdout.readline().rpartition(":")[2])
+    server = Server("store.db", None, "--connections", "1")
     request = get("example.com/lib/@v/list")
-    suite.equal("serve does not listen at another address of the machine", asked("127.0.0.2", port, request), "refused")
-    suite.equal("serve answers at 127.0.0.1", asked("127.0.0.1", port, request), reply(404, b"not found\n"))
-    suite.equal("serve of one connection ends well", child.wait(60), 0)
+    suite.equal("serve does not listen at another address of the machine", told_at("127.0.0.2", server.port, request), "refused")
+    suite.equal("serve answers at 127.0.0.1", told_at("127.0.0.1", server.port, request), reply(404, b"not found\n"))
+    suite.equal("serve of one connection ends well", server.child.wait(60), 0)
 
 
 if __name__ == "__main__":

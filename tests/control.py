@@ -8,19 +8,23 @@ under load. `control_kills` has the kills.
 import contextlib
 import os
 import socket
-import statistics
 import stat
+import statistics
 import subprocess
 import sys
 import threading
 import time
 
-from harness import KEY, KEYS, NOBODY, PROGRAM, Suite, can_be_nobody, get, in_new_folders, new_store, put, read, reply, run, words_of, write
+from lib.keys import KEY, KEYS
+from lib.messages import get, put, reply
+from lib.peers import GOMOD, LIST, Load, asked_by, by_false_server, rest
+from lib.program import NOBODY, PROGRAM, can_be_nobody, run, words_of
+from lib.scratch import in_new_folders, read, write
+from lib.servers import CONTROL, Server
+from lib.stores import new_store
+from lib.suite import Suite
 
-CONTROL = "control"
-LIST = "example.com/lib/@v/list"
 LISTED = b"path,version,shelf,class,time,mod_bytes,zip_bytes\nexample.com/lib,v1.0.0,alpha,release,,23,0\n"
-GOMOD = b"module example.com/lib\n"
 # the seconds that an operator has for its line, and those that a busy machine takes more
 PATIENCE, MARGIN = 2, 2
 
@@ -79,69 +83,11 @@ LINES = [
 ]  # fmt: skip
 
 
-class Server:
-    """A `serve` with a socket for operators."""
-
-    def __init__(self, store, control=CONTROL, *more):
-        words = [PROGRAM, "serve", "--db", store, "--port", "0", *(["--control", control] if control else []), *more]
-        self.control = control
-        self.child = subprocess.Popen(words, stdin=subprocess.DEVNULL, stdout=subprocess.PIPE, stderr=subprocess.DEVNULL)
-        line = self.child.stdout.readline()
-        self.port = int(line.rpartition(b":")[2]) if line else None
-
-    def connected(self):
-        held = socket.create_connection(("127.0.0.1", self.port), timeout=60)
-        held.setsockopt(socket.IPPROTO_TCP, socket.TCP_NODELAY, 1)
-        return held
-
-    def asked(self, request):
-        """All that is answered to a request."""
-        return asked_by(self.connected, request)
-
-    def status(self, request):
-        return int(self.asked(request).split()[1])
-
-    def operator(self):
-        held = socket.socket(socket.AF_UNIX)
-        # (with a timeout it would fail where the queue is full)
-        held.connect(self.control)
-        held.settimeout(60)
-        return held
-
-    def order(self, line):
-        """What is told of a line."""
-        return asked_by(self.operator, line)
-
-    def kill(self):
-        self.child.kill()
-        self.child.wait()
-        self.child.stdout.close()
-
-
-def asked_by(connected, sent):
-    """All that is answered on a new connection to what is sent, behind which the sender shuts its side."""
-    with connected() as held:
-        held.sendall(sent)
-        held.shutdown(socket.SHUT_WR)
-        return rest(held)
-
-
-def rest(held):
-    """All that comes until the other side closes. Who sends more than an order may have is told, and then reset."""
-    told = b""
-    try:
-        while piece := held.recv(65_536):
-            told += piece
-    except ConnectionResetError:
-        pass
-    return told
-
-
 def orders(suite):
     """The same commands, by `--control` on the one store and by `--db` on the other."""
     new_store("served.db")
     new_store("other.db")
-    server = Server("served.db")
+    server = Server("served.db", CONTROL)
     for line in ORDERS.strip().split("\n"):
         command, _, ending = line.partition(" | ")
         status, _, word = ending.partition(" ")
@@ -152,7 +98,7 @@ def orders(suite):
     for words, word in UNSAYABLE:
         for way in (["--control", CONTROL], ["--db", "other.db"]):
             suite.equal(f"{words}, by {way[0]}", run([words[0], *way, *words[1:]]), (1, b"", f"goshelf: {word}\n"))
-    told = [server.asked(get(LIST, KEYS[it])) for it in "ARMPCN"]
+    told = [server.told(get(LIST, KEYS[it])) for it in "ARMPCN"]
     suite.equal("the keys answer", {*told}, {reply(404, b"not found\n")})
     suite.equal("a key that was added publishes", server.status(put("example.com/lib", "v1.0.0", GOMOD)), 201)
     suite.equal("one that only reads does not", server.status(put("example.com/lib", "v1.0.0", GOMOD, key=KEYS["R"])), 403)
@@ -166,7 +112,7 @@ def orders(suite):
 def lines(suite):
     """Bytes of an operator, and what is told; none of them changes anything, and peers are answered meanwhile."""
     new_store("served.db", ("alpha", KEY), groups=[("platform", KEYS["P"])])
-    server = Server("served.db")
+    server = Server("served.db", CONTROL)
     before = read("served.db-wal"), read("served.db")
     for sent, told in LINES:
         suite.equal(f"told of {sent[:60]!r} of {len(sent)} bytes", server.order(sent), told)
@@ -286,7 +232,7 @@ def untold(suite):
     new_store("served.db", ("alpha", KEY))
     if can_be_nobody():
         os.chmod(".", 0o755)
-        server = Server("served.db")
+        server = Server("served.db", CONTROL)
         suite.equal("another user", run([*words, CONTROL], before=NOBODY), (1, b"", "goshelf: device\n"))
         suite.equal("revokes nothing", server.status(put("example.com/lib", "v1.0.0", GOMOD)), 201)
         os.mkdir("other")
@@ -301,58 +247,10 @@ def untold(suite):
         suite.skip("another user", "this needs root to become nobody")
 
 
-def by_false_server(words, told):
-    """How a command ends that is told this, and what it sent."""
-    sent = []
-
-    def tell():
-        held, _ = listener.accept()
-        with held:
-            held.settimeout(60)
-            sent.append(held.recv(1_000))
-            held.sendall(told)
-
-    with socket.socket(socket.AF_UNIX) as listener:
-        listener.bind("false")
-        listener.listen()
-        thread = threading.Thread(target=tell)
-        thread.start()
-        ran = run([*words, "false"])
-        thread.join()
-    os.unlink("false")
-    return ran, b"".join(sent)
-
-
-class Load:
-    """Peers who ask on and on with one key, and when each request began and ended and what it got. They may be cut off."""
-
-    def __init__(self, server, key, count=4, is_cut=False):
-        self.server, self.request, self.stopped, self.seen, self.is_cut = server, get(LIST, key), threading.Event(), [], is_cut
-        self.threads = [threading.Thread(target=self.ask) for _ in range(count)]
-        for thread in self.threads:
-            thread.start()
-
-    def ask(self):
-        while not self.stopped.is_set():
-            begun = time.monotonic()
-            try:
-                status = self.server.status(self.request)
-            except (OSError, IndexError):
-                if self.is_cut:
-                    return
-                raise
-            self.seen.append((begun, time.monotonic(), status))
-
-    def stop(self):
-        self.stopped.set()
-        for thread in self.threads:
-            thread.join()
-
-
 def revoked(suite):
     """Keys that are revoked while peers ask with them: no request that begins after `done` gets a 200."""
     new_store("served.db", ("alpha", KEY))
-    server = Server("served.db")
+    server = Server("served.db", CONTROL)
     suite.equal("a version", server.status(put("example.com/lib", "v1.0.0", GOMOD)), 201)
     late, early, taken = [], [], []
     for number in range(20):
@@ -379,7 +277,7 @@ def revoked(suite):
 def at_once(suite):
     """200 operators at once, among peers."""
     new_store("served.db", ("alpha", KEY))
-    server = Server("served.db")
+    server = Server("served.db", CONTROL)
     load, told = Load(server, KEY, 2), []
     threads = [threading.Thread(target=lambda at=at: told.append(server.order(f"key-add alpha key{at:013}\n".encode()))) for at in range(200)]
     for thread in threads:
@@ -400,7 +298,7 @@ def stopped(suite):
     suite.equal("stop where nobody listens", run(words), (1, b"", "goshelf: device\n"))
     for told, wanted in ((b"done\n", (1, b"", "goshelf: io\n")), (b"", (1, b"", "goshelf: io\n")), (b"stopping\n", (0, b"", ""))):
         suite.equal(f"stop of a server that tells {told}", by_false_server(["stop", "--control"], told), (wanted, b"stop\n"))
-    server = Server("served.db")
+    server = Server("served.db", CONTROL)
     with server.connected() as held:
         held.sendall(put("example.com/lib", "v1.0.0", GOMOD)[:-5])
         time.sleep(0.2)
@@ -415,7 +313,7 @@ def stopped(suite):
     suite.equal("and the server with 0", server.child.wait(60), 0)
     suite.equal("its socket is gone", os.path.lexists(CONTROL), False)
     suite.equal("and its store is free", run(["inventory", "--db", "served.db", "--key", KEY])[:2], (0, LISTED))
-    server = Server("served.db")
+    server = Server("served.db", CONTROL)
     load = Load(server, KEY, 4, is_cut=True)
     time.sleep(0.1)
     suite.equal("a line that stops it under load", server.order(b"stop\n"), b"stopping\n")
@@ -428,14 +326,14 @@ def same_bytes(suite):
     """A peer gets the same bytes with a socket for operators and without."""
     new_store("one.db", ("alpha", KEY))
     new_store("two.db", ("alpha", KEY))
-    one, two = Server("one.db"), Server("two.db", None)
+    one, two = Server("one.db", CONTROL), Server("two.db")
     requests = [
         put("example.com/lib", "v1.0.0", GOMOD, b"zip"), put("example.com/lib", "v1.0.0", GOMOD, b"other"), get(LIST), get(LIST, KEYS["N"]),
         get("example.com/lib/@v/v1.0.0.zip"), get("example.com/lib/@latest"), get("-/modules"), b"GET /k/control HTTP/1.1\r\n\r\n",
         b"team-add alpha\n", b"PUT / HTTP/1.1\r\nContent-Length: 17825793\r\n\r\n", b"",
     ]  # fmt: skip
     for request in requests:
-        suite.equal(f"answered alike: {request[:50]}", one.asked(request), two.asked(request))
+        suite.equal(f"answered alike: {request[:50]}", one.told(request), two.told(request))
     one.kill()
     two.kill()
 

@@ -8,11 +8,15 @@ many; --seed N repeats a run.
 
 import random
 import sys
-import time
 
-import kills
-from control import Server
-from harness import KEY, Suite, answered, get, in_new_folders, new_store
+from lib.keys import KEY
+from lib.kills import MOST, count_of, is_kept, kill_after, publish
+from lib.messages import get
+from lib.program import answered
+from lib.scratch import in_new_folders
+from lib.servers import CONTROL, Server
+from lib.stores import new_store
+from lib.suite import Suite
 
 SHORT, LONG = 20, 1_000
 
@@ -33,7 +37,7 @@ class Acknowledged:
             if server.order(f"key-add alpha {key}\n".encode()) != b"done\n":
                 return
             self.kept.append(key)
-            if server.status(kills.publish(self.next_number, key)) != 201:
+            if server.status(publish(self.next_number, key)) != 201:
                 return
             self.published.append(self.next_number)
             self.next_number += 1
@@ -45,7 +49,7 @@ class Acknowledged:
 
     def wrong(self):
         """Opens the store again. Returns what is wrong with its publishes and with its keys, each None where nothing is."""
-        is_there, wrong = kills.is_kept(self.store, self.published[-12:], [self.next_number])
+        is_there, wrong = is_kept(self.store, self.published[-12:], [self.next_number])
         self.next_number += is_there
         keys, wanted = self.kept[-8:] + self.gone[-8:], [200] * len(self.kept[-8:]) + [404] * len(self.gone[-8:])
         # (a key that is there sees its shelf, though it be empty)
@@ -55,12 +59,12 @@ class Acknowledged:
 
 def killed(suite):
     """Kills with orders among the publishes: what was acknowledged is there, and of the rest all or nothing."""
-    count, stores, said = count_of(sys.argv[1:]), [], None
+    count, stores, said = count_of(sys.argv[1:], SHORT, LONG), [], None
     for turn in range(count):
-        if not stores or said or stores[-1].next_number > kills.MOST:
+        if not stores or said or stores[-1].next_number > MOST:
             stores.append(Acknowledged(f"kills{len(stores)}.db"))
-        server = Server(stores[-1].store)
-        timer = kills.kill_after(server.child, random.choice((0.01, 0.03, 0.08)) * random.random())
+        server = Server(stores[-1].store, CONTROL)
+        timer = kill_after(server.child, random.choice((0.01, 0.03, 0.08)) * random.random())
         try:
             stores[-1].ask(server)
         except (OSError, IndexError):
@@ -74,14 +78,6 @@ def killed(suite):
     sums = [sum(len(them) for them in of) for of in zip(*((it.published, it.kept, it.gone) for it in stores))]
     suite.holds("some publishes, keys and revoked keys were acknowledged", all(sums))
     print(f"{count} kills over {len(stores)} stores: {sums[0]} publishes, {sums[1]} keys and {sums[2]} revoked keys acknowledged")
-
-
-def count_of(words):
-    """How many kills the words ask for; their seed, or a new one, is set and printed."""
-    seed = int(words[words.index("--seed") + 1]) if "--seed" in words else time.time_ns() % 10**9
-    random.seed(seed)
-    print(f"seed {seed}")
-    return next((int(it) for it in words if it.isdigit() and int(it) != seed), LONG if "--long" in words else SHORT)
 
 
 if __name__ == "__main__":

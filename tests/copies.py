@@ -12,9 +12,15 @@ import sys
 import threading
 import time
 
-from control import CONTROL, GOMOD, LIST, Load, Server, by_false_server
-from harness import KEY, KEYS, MEMBERS, PLATFORM, SHELVES, Suite, answered, get, in_new_folders, mounted, new_store, put, read, run, write
-from kills import fetch, kill_after, publish
+from lib.keys import KEY, KEYS, MEMBERS, PLATFORM, SHELVES
+from lib.kills import fetch, kill_after, publish, seeded
+from lib.messages import get, put
+from lib.peers import GOMOD, LIST, Load, by_false_server
+from lib.program import answered, refusal, run
+from lib.scratch import in_new_folders, mounted, read, write
+from lib.servers import CONTROL, Server
+from lib.stores import new_store
+from lib.suite import Suite
 
 # versions of a store that is copied; their zips have up to 150,000 bytes
 VERSIONS = 12
@@ -24,10 +30,6 @@ DONE = 0, b"", ""
 LONGEST = 4_087
 # the longest path in an order
 SAID = 4_090
-
-
-def refusal(word):
-    return 1, b"", f"goshelf: {word}\n"
 
 
 def copy(to, control=CONTROL):
@@ -56,7 +58,7 @@ def path_of(length):
 def whole(suite):
     """Copies of a store with groups, teams and keys, each at its moment, in one run of `serve`."""
     new_store("served.db", *SHELVES, *MEMBERS, groups=[PLATFORM])
-    server = Server("served.db")
+    server = Server("served.db", CONTROL)
     for number in range(VERSIONS):
         server.status(publish(number, KEYS["P"] if number % 3 == 0 else KEY))
     before = read("served.db-wal"), read("served.db")
@@ -78,7 +80,7 @@ def whole(suite):
     suite.equal("and not the key", run(["inventory", "--db", "two.db", "--key", "newkey0000000001"])[0], 1)
     suite.equal("the first has not the publish", {status for status, _ in zips_in("one.db", [100])}, {404})
     suite.equal("and all before it", zips_in("one.db", range(VERSIONS)), zips_in("served.db", range(VERSIONS)))
-    server = Server("one.db")
+    server = Server("one.db", CONTROL)
     suite.equal("a copy is served", server.status(fetch(1, "mod")), 200)
     suite.equal("and published to", server.status(publish(200)), 201)
     suite.equal("and copied", copy("four.db"), DONE)
@@ -110,7 +112,7 @@ class Publishes:
 def loaded(suite):
     """Copies while 8 clients ask and one publishes."""
     new_store("served.db", *SHELVES)
-    server = Server("served.db")
+    server = Server("served.db", CONTROL)
     for number in range(VERSIONS):
         server.status(publish(number))
     suite.equal("a version that peers list", server.status(put("example.com/lib", "v1.0.0", GOMOD)), 201)
@@ -143,7 +145,7 @@ def refused(suite):
     write({"text": "bytes\n"})
     os.mkdir("folder")
     suite.equal("nobody listens", copy("one.db"), refusal("device"))
-    server = Server("served.db")
+    server = Server("served.db", CONTROL)
     suite.equal("a version", server.status(put("example.com/lib", "v1.0.0", GOMOD, b"zip")), 201)
     suite.equal("a copy", copy("made.db"), DONE)
     os.link("served.db", "linked.db")
@@ -178,7 +180,7 @@ def refused(suite):
         os.unlink(name)
     suite.equal("the store is whole", run(["inventory", "--db", "served.db", "--key", KEY])[:2], run(["inventory", "--db", "made.db", "--key", KEY])[:2])
     new_store("odd-wal", ("alpha", KEY))
-    server = Server("odd-wal")
+    server = Server("odd-wal", CONTROL)
     suite.equal("a copy whose log would be the store", copy("odd"), refusal("device"))
     suite.equal("which is held all the same", run(["inventory", "--db", "odd-wal", "--key", KEY]), refusal("device"))
     suite.equal("and answers on", server.status(put("example.com/lib", "v1.0.0", GOMOD)), 201)
@@ -199,7 +201,7 @@ def full(suite):
         return
     try:
         new_store("served.db", *SHELVES)
-        server = Server("served.db")
+        server = Server("served.db", CONTROL)
         for number in range(VERSIONS):
             server.status(publish(number))
         before = read("served.db-wal"), read("served.db")
@@ -218,11 +220,9 @@ def full(suite):
 def killed(suite):
     """A server that is killed while it copies leaves the copy empty or whole, and its own store as it was."""
     words = sys.argv[1:]
-    seed = int(words[words.index("--seed") + 1]) if "--seed" in words else time.time_ns() % 10**9
-    random.seed(seed)
-    print(f"seed {seed}")
+    seeded(words)
     new_store("served.db", *SHELVES)
-    server = Server("served.db")
+    server = Server("served.db", CONTROL)
     for number in range(10 * VERSIONS):
         server.status(publish(number))
     began = time.monotonic()
@@ -231,7 +231,7 @@ def killed(suite):
     server.kill()
     wanted, whole_ones = inventories("served.db"), 0
     for turn in range(MANY_KILLS if "--long" in words else KILLS):
-        server, to = Server("served.db"), f"copy{turn}.db"
+        server, to = Server("served.db", CONTROL), f"copy{turn}.db"
         timer = kill_after(server.child, 1.2 * took * random.random())
         told = copy(to)
         timer.cancel()

@@ -10,9 +10,11 @@ import subprocess
 import sys
 import tempfile
 
-from harness import KEY, MEMORY, ROOT, Suite, answered
+from lib.keys import KEY, MEMORY
+from lib.modules import escaped
+from lib.program import ROOT, answered
+from lib.suite import Suite
 
-NEEDS = ["go"]
 PAGE = os.path.join(ROOT, "docs", "DIFFERENCES-FROM-GO.md")
 PACKAGES = "/usr/share/gocode/src/golang.org/x/mod"
 LONG_PATH = "example.com/" + "a" * 244
@@ -77,11 +79,6 @@ def go_says(rows):
 def unwritten(text):
     """The bytes of a go.mod, as a row writes it."""
     return re.sub(rb"<([0-9A-F ]+)>", lambda named: bytes.fromhex(named[1].decode()), text.encode().replace(rb"\n", b"\n"))
-
-
-def escaped(text):
-    """The case escape of the GOPROXY protocol."""
-    return "".join("!" + c.lower() if c.isupper() else c for c in text)
 
 
 def put(row):

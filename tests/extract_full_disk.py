@@ -12,10 +12,13 @@ import random
 import subprocess
 import sys
 import tempfile
-import time
 
-from harness import KEY, Suite, answered, mounted, new_store, run
-from kills import fetch, publish
+from lib.keys import KEY
+from lib.kills import fetch, publish, seeded
+from lib.program import answered, run
+from lib.scratch import mounted
+from lib.stores import new_store
+from lib.suite import Suite
 
 OTHER_KEY = "betakey000000001"
 # versions of each team; their zips have up to 150,000 bytes
@@ -73,9 +76,7 @@ def refused(suite, whole, at, pages, before):
 
 
 def main(words):
-    seed = int(words[words.index("--seed") + 1]) if "--seed" in words else time.time_ns() % 10**9
-    random.seed(seed)
-    print(f"seed {seed}")
+    seeded(words)
     suite = Suite()
     with tempfile.TemporaryDirectory(prefix="goshelf-extract-") as folder:
         whole, at = os.path.join(folder, "whole.db"), os.path.join(folder, "small")

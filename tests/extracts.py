@@ -4,7 +4,7 @@
 The store is that of the worked rows, with versions of beta's own before those of the others. Each version that is there, and one that
 is not, is asked for in every way, by each key, of two stores: of the whole and of alpha's part, and of two stores of which one has
 100 versions of beta more. So it is of gamma, a team of the group platform, whose part has the group too, of the group's other team,
-delta, and of the part of both. The bytes of the replies are compared. A table holds runs, as `harness.runs_of` reads them.
+delta, and of the part of both. The bytes of the replies are compared. A table holds runs, as `runs_of` of lib/program.py reads them.
 """
 
 import os
@@ -12,48 +12,13 @@ import sqlite3
 import sys
 from textwrap import indent
 
-from harness import KEYS, SHELVES, Suite, add_platform, answered, get, in_new_folders, new_store, raw_replies, read, reply, run, write
-
-HEADER = "path,version,time,mod,zip\n"
-FILES = {
-    "none": "",
-    "a": "a",
-    "c": "c",
-    "d": "d",
-    "g": "g",
-    "h": "h",
-    "m": "m",
-    "one": "X",
-    **{f"{name}.mod": f"module example.com/{name}\n" for name in ("own", "lib", "Lib", "ps", "ra", "rb", "rc", "rd", "x", "y", "g", "h", "s")},
-    "ra-next.mod": "module example.com/ra\nretract [v1.0.5, v1.1.0]\n",
-    "rb-next.mod": "module example.com/rb\nretract v1.1.0\n",
-    "rd.mod": "module example.com/rd\nretract v1.0.0\n",
-    "many.csv": HEADER + "".join(f"example.com/own,v1.{n}.0,,own.mod,one\n" for n in range(1, 101)),
-    "beta.csv": HEADER + "example.com/own,v1.0.0,,own.mod,one\n",
-    "alpha.csv": HEADER + """\
-example.com/lib,v1.0.0,,lib.mod,none
-example.com/y,v1.0.0,,y.mod,a
-example.com/Lib,v1.0.0,,Lib.mod,none
-example.com/lib,v2.0.0+incompatible,,lib.mod,none
-example.com/rc,v1.0.0-rc.10,,rc.mod,none
-example.com/rc,v1.0.0,,rc.mod,none
-example.com/rc,v1.0.0-rc.2,,rc.mod,none
-example.com/ps,v0.0.0-20240101000000-aaaaaaaaaaaa,,ps.mod,none
-example.com/ps,v0.0.1-0.20230101000000-bbbbbbbbbbbb,,ps.mod,none
-example.com/ra,v1.0.0,,ra.mod,none
-example.com/ra,v1.1.0,,ra-next.mod,none
-example.com/rb,v1.1.0,,rb.mod,none
-example.com/rb,v1.2.0-rc.1,,rb-next.mod,none
-example.com/rd,v1.0.0,,rd.mod,none
-""",
-    "common.csv": HEADER + "example.com/x,v1.0.0,,x.mod,one\nexample.com/y,v1.0.0,,y.mod,c\n",
-    # group-publishes and chain-publishes, and a version of delta's own
-    "gamma.csv": HEADER + "example.com/h,v1.0.0,,h.mod,m\n",
-    "platform.csv": HEADER + "example.com/g,v1.0.0,,g.mod,g\nexample.com/h,v1.0.0,,h.mod,h\n",
-    "common-h.csv": HEADER + "example.com/h,v1.0.0,,h.mod,c\n",
-    "delta.csv": HEADER + "example.com/s,v1.0.0,,s.mod,d\n",
-    "many-delta.csv": HEADER + "".join(f"example.com/s,v1.{n}.0,,s.mod,one\n" for n in range(1, 101)),
-}
+from lib.keys import KEYS
+from lib.messages import get, reply
+from lib.program import answered
+from lib.scratch import in_new_folders, read, write
+from lib.stores import new_store
+from lib.suite import Suite
+from lib.worked import FILES, filled_group, seen_by, worked_store
 
 # what alpha sees, of the whole and of its part
 SEEN = """\
@@ -153,30 +118,6 @@ group-add --db alpha.db --group platform | 0
 # extract-gamma: the zip of h by each key, of the part
 OF_PART = [("M", 200, b"m"), ("P", 200, b"h"), ("C", 200, b"c"), ("D", 404, b"not found\n"), ("A", 404, b"not found\n")]
 
-# each version that is there, and lib v9.0.0, which is not, as targets have them
-VERSIONS = """\
-example.com/!lib v1.0.0
-example.com/g v1.0.0
-example.com/h v1.0.0
-example.com/lib v1.0.0
-example.com/lib v2.0.0%2Bincompatible
-example.com/lib v9.0.0
-example.com/own v1.0.0
-example.com/ps v0.0.0-20240101000000-aaaaaaaaaaaa
-example.com/ps v0.0.1-0.20230101000000-bbbbbbbbbbbb
-example.com/ra v1.0.0
-example.com/ra v1.1.0
-example.com/rb v1.1.0
-example.com/rb v1.2.0-rc.1
-example.com/rc v1.0.0-rc.2
-example.com/rc v1.0.0-rc.10
-example.com/rc v1.0.0
-example.com/rd v1.0.0
-example.com/s v1.0.0
-example.com/x v1.0.0
-example.com/y v1.0.0"""
-TARGETS = ("{0}/@v/{1}.info", "{0}/@v/{1}.mod", "{0}/@v/{1}.zip", "-/gosum/{0}/@v/{1}", "{0}/@v/list", "{0}/@latest", "-/modules")
-
 ONE_VERSION = """
 team-add --db whole.db --team alpha | 0
 key-add --db whole.db --shelf alpha --key A | 0
@@ -256,62 +197,28 @@ answer --db empty < A example.com/lib/@v/v1.0.0.mod | 0
 """
 
 
-def published(count):
-    """What an import of this many versions prints."""
-    return "".join(f"    {n} 201 published\n" for n in range(1, count + 1))
-
-
-def filled(suite, file, more=""):
-    """Makes the store of the worked rows, behind another list of beta's where one is named."""
-    new_store(file, *SHELVES)
-    imported(suite, file, ("B", more), ("B", "beta.csv"), ("A", "alpha.csv"), ("C", "common.csv"))
-
-
-def filled_group(suite, file, more=""):
-    """Adds the group platform and its versions, behind another list of delta's where one is named."""
-    add_platform(file)
-    imported(suite, file, ("D", more), ("D", "delta.csv"), ("M", "gamma.csv"), ("P", "platform.csv"), ("C", "common-h.csv"))
-
-
-def imported(suite, file, *lists):
-    """Imports lists, each by a key."""
-    for letter, name in filter(lambda it: it[1], lists):
-        count = FILES[name].count("\n") - 1
-        suite.runs("imports", f"import --db {file} --key {letter} --list {name} | 0\n{published(count)}")
-
-
-def asked(file, letter):
-    """The replies of a store to everything that is asked by a key."""
-    targets = [target.format(*line.split()) for line in VERSIONS.split("\n") for target in TARGETS]
-    status, output, told = run(["answer", "--db", file], b"".join(get(target, KEYS[letter]) for target in targets))
-    assert (status, told) == (0, ""), (status, told)
-    found = raw_replies(output)
-    assert len(found) == len(targets), len(found)
-    return list(zip(targets, found))
-
-
 def alike(suite, one, other, letters="ARC"):
     """Adds a row for each key, those of alpha and of `common` unless others are named: both stores answer it alike."""
     for letter in letters:
-        pairs = zip(asked(one, letter), asked(other, letter))
+        pairs = zip(seen_by(one, letter), seen_by(other, letter))
         suite.equal(f"{one} and {other} answer {letter} alike", [them for them in pairs if them[0] != them[1]], [])
 
 
 def part(suite):
     write(FILES)
-    filled(suite, "whole.db")
+    worked_store(suite, "whole.db")
     suite.runs("a part", PART)
     alike(suite, "whole.db", "part.db")
     not_found = reply(404, b"not found\n")
-    suite.equal("the part finds nothing for beta", [it for it in asked("part.db", "B") if it[1] != not_found], [])
+    suite.equal("the part finds nothing for beta", [it for it in seen_by("part.db", "B") if it[1] != not_found], [])
 
 
 def another_team(suite):
     write(FILES)
-    filled(suite, "few.db")
-    filled(suite, "more.db", "many.csv")
+    worked_store(suite, "few.db")
+    worked_store(suite, "more.db", "many.csv")
     alike(suite, "few.db", "more.db")
-    changed = {few[0] for few, more in zip(asked("few.db", "B"), asked("more.db", "B")) if few != more}
+    changed = {few[0] for few, more in zip(seen_by("few.db", "B"), seen_by("more.db", "B")) if few != more}
     suite.equal("beta sees its versions", changed, {"example.com/own/@v/list", "example.com/own/@latest"})
 
 
@@ -325,7 +232,7 @@ def shelves(file):
 
 def group_part(suite):
     write(FILES)
-    filled(suite, "whole.db")
+    worked_store(suite, "whole.db")
     filled_group(suite, "whole.db")
     before = [read(f"whole.db{end}") for end in ("", "-wal")]
     suite.runs("a part with a group", GROUP_PART)
@@ -338,7 +245,7 @@ def group_part(suite):
     alike(suite, "whole.db", "two.db", "MDPC")
     not_found = reply(404, b"not found\n")
     for letter in "DABR":
-        suite.equal(f"the part finds nothing for {letter}", [it for it in asked("part.db", letter) if it[1] != not_found], [])
+        suite.equal(f"the part finds nothing for {letter}", [it for it in seen_by("part.db", letter) if it[1] != not_found], [])
     suite.runs("the shelves of a part", IN_PART)
     of_group = [("common", None), ("delta", "platform"), ("eps", "platform"), ("gamma", "platform"), ("platform", None)]
     of_two = [("common", None), ("delta", "platform"), ("gamma", "platform"), ("platform", None)]
@@ -351,10 +258,10 @@ def group_part(suite):
 def another_team_of_the_group(suite):
     write(FILES)
     for file, more in (("few.db", ""), ("more.db", "many-delta.csv")):
-        filled(suite, file)
+        worked_store(suite, file)
         filled_group(suite, file, more)
     alike(suite, "few.db", "more.db", "MPCARB")
-    changed = {few[0] for few, more in zip(asked("few.db", "D"), asked("more.db", "D")) if few != more}
+    changed = {few[0] for few, more in zip(seen_by("few.db", "D"), seen_by("more.db", "D")) if few != more}
     suite.equal("delta sees its versions", changed, {"example.com/s/@v/list", "example.com/s/@latest"})
 
 

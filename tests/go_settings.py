@@ -5,19 +5,22 @@ The proxy behind is one that has no module and notes what it is asked; nothing e
 """
 
 import http.server
-import io
 import os
 import re
 import subprocess
 import sys
 import tempfile
 import threading
-import zipfile
 
-from harness import KEY, PROGRAM, ROOT, Suite, done, new_store
-from repositories import blocks
+from lib.keys import KEY
+from lib.modules import zipped
+from lib.pages import blocks
+from lib.program import ROOT, done
+from lib.scratch import write
+from lib.servers import Server
+from lib.stores import new_store
+from lib.suite import Suite
 
-NEEDS = ["go"]
 READER = "alphareader00001"
 AT = "example.com/greet@v1.0.0"
 FILES = {"go.mod": "module example.com/greet\n", "greet.go": "package greet\n\nconst Text = 1\n", "sub/sub.go": "package sub\n\nconst Text = 1\n"}
@@ -38,18 +41,13 @@ class Behind(http.server.BaseHTTPRequestHandler):
 def filled(folder):
     store = os.path.join(folder, "shelves.db")
     new_store(store, ("alpha", KEY, READER))
-    gomod, zipped, held = os.path.join(folder, "go.mod"), os.path.join(folder, "greet.zip"), io.BytesIO()
-    with zipfile.ZipFile(held, "w") as file:
-        for name, text in FILES.items():
-            file.writestr(f"{AT}/{name}", text)
-    for name, text in ((gomod, FILES["go.mod"].encode()), (zipped, held.getvalue())):
-        with open(name, "wb") as file:
-            file.write(text)
-    done("publish", "--db", store, "--key", KEY, "--module", "example.com/greet", "--version", "v1.0.0", "--mod", gomod, "--zip", zipped)
+    path, version, gomod, zip_file = *AT.split("@"), f"{folder}/go.mod", f"{folder}/greet.zip"
+    write({gomod: FILES["go.mod"], zip_file: zipped(path, version, FILES)})
+    done("publish", "--db", store, "--key", KEY, "--module", path, "--version", version, "--mod", gomod, "--zip", zip_file)
     return store
 
 
-def asked(proxies, imported, *words, **settings):
+def go_asks(proxies, imported, *words, **settings):
     """Runs the go command in a module that imports this package, with no cache: whether it ended well, and the paths that the proxy behind was asked."""
     ASKED.clear()
     with tempfile.TemporaryDirectory(prefix="goshelf-go-") as folder:
@@ -88,22 +86,20 @@ def main():
     behind = http.server.ThreadingHTTPServer(("127.0.0.1", 0), Behind)
     threading.Thread(target=behind.serve_forever, daemon=True).start()
     with tempfile.TemporaryDirectory(prefix="goshelf-settings-") as folder:
-        words = [PROGRAM, "serve", "--db", filled(folder), "--port", "0"]
-        child = subprocess.Popen(words, stdout=subprocess.PIPE, text=True)
-        shelf = f"http://127.0.0.1:{child.stdout.readline().rsplit(':', 1)[1].strip()}/k/{READER}"
+        server = Server(filled(folder))
+        shelf = f"{server.url}/k/{READER}"
         proxies = f"{shelf},http://127.0.0.1:{behind.server_port}"
         greet, fronts = "example.com/greet", {"example.com", "example.com/nosuch", "example.com/nosuch/pkg"}
         rows = [
-            ("a module that the shelf sees", asked(proxies, greet, "get", AT), (True, set())),
-            ("a package below it", asked(proxies, f"{greet}/sub", "mod", "tidy"), (True, set())),
-            ("a package that it has not", asked(proxies, f"{greet}/nosub", "mod", "tidy"), (False, set())),
-            ("an import that no module fits", asked(proxies, "example.com/nosuch/pkg", "mod", "tidy"), (False, fronts)),
-            ("a version that is not there", asked(proxies, greet, "get", f"{greet}@v9.9.9"), (False, {"example.com", greet})),
-            ("the shelf alone", asked(shelf, "example.com/nosuch/pkg", "mod", "tidy"), (False, set())),
-            ("GOPRIVATE and GONOPROXY=none", asked(proxies, greet, "get", AT, GOPRIVATE="example.com", GONOPROXY="none", GONOSUMDB=""), (True, set())),
+            ("a module that the shelf sees", go_asks(proxies, greet, "get", AT), (True, set())),
+            ("a package below it", go_asks(proxies, f"{greet}/sub", "mod", "tidy"), (True, set())),
+            ("a package that it has not", go_asks(proxies, f"{greet}/nosub", "mod", "tidy"), (False, set())),
+            ("an import that no module fits", go_asks(proxies, "example.com/nosuch/pkg", "mod", "tidy"), (False, fronts)),
+            ("a version that is not there", go_asks(proxies, greet, "get", f"{greet}@v9.9.9"), (False, {"example.com", greet})),
+            ("the shelf alone", go_asks(shelf, "example.com/nosuch/pkg", "mod", "tidy"), (False, set())),
+            ("GOPRIVATE and GONOPROXY=none", go_asks(proxies, greet, "get", AT, GOPRIVATE="example.com", GONOPROXY="none", GONOSUMDB=""), (True, set())),
         ]
-        child.terminate()
-        child.wait()
+        server.stop()
     suite = Suite()
     of_pages(suite)
     for name, told, wanted in rows:

@@ -13,8 +13,14 @@ import sys
 import threading
 import time
 
-from control import CONTROL, GOMOD, LIST, Load, Server, by_false_server, rest
-from harness import KEY, KEYS, PROGRAM, Suite, get, in_new_folders, new_store, put, read, run
+from lib.keys import KEY, KEYS
+from lib.messages import get, put
+from lib.peers import GOMOD, LIST, Load, by_false_server, rest
+from lib.program import PROGRAM, refusal, run
+from lib.scratch import in_new_folders, read
+from lib.servers import CONTROL, Server
+from lib.stores import new_store
+from lib.suite import Suite
 
 FORM = re.compile(
     rb"connections=(\d+) 2xx=(\d+) 4xx=(\d+) 5xx=(\d+) unanswered=(\d+) store-failures=(\d+) "
@@ -38,10 +44,6 @@ FALSE = [
 # the place of each class of statuses among the counts
 CLASSES = [None, 2, 4, 5]
 NO_LINGER = struct.pack("ii", 1, 0)
-
-
-def refusal(word):
-    return 1, b"", f"goshelf: {word}\n"
 
 
 def health():
@@ -75,7 +77,7 @@ def known(suite):
     new_store("served.db", ("alpha", KEY), ("beta", KEYS["B"]))
     suite.equal("ping where nobody listens", run(PING), refusal("device"))
     begun = utc()
-    server = Server("served.db")
+    server = Server("served.db", CONTROL)
     first = health()
     suite.holds("the time of the begin", begun <= first[6] <= utc(), (begun, first[6]))
     suite.equal("all else of a server that begins", first[:6] + first[7:], [0, 0, 0, 0, 0, 0, 0])
@@ -99,7 +101,7 @@ def known(suite):
 def unanswered(suite):
     """Connections that get no status count, and as unanswered; one that closes at once holds nobody."""
     new_store("served.db", ("alpha", KEY))
-    server = Server("served.db")
+    server = Server("served.db", CONTROL)
     for _ in range(50):
         server.connected().close()
     suite.equal("50 peers that close at once", counts_of(50), [50, 0, 0, 0, 50])
@@ -125,7 +127,7 @@ def unanswered(suite):
 def beside(suite):
     """What a ping leaves as it is, and what is not counted."""
     new_store("served.db", ("alpha", KEY))
-    server = Server("served.db")
+    server = Server("served.db", CONTROL)
     server.status(put("example.com/lib", "v1.0.0", GOMOD))
     before = read("served.db-wal"), read("served.db"), health()
     for _ in range(100):
@@ -150,7 +152,7 @@ def beside(suite):
 def loaded(suite):
     """Pings among requests: each sums up, none falls behind the one before, and the last one counts what the peers saw."""
     new_store("served.db", ("alpha", KEY))
-    server = Server("served.db")
+    server = Server("served.db", CONTROL)
     load, told, begun = Load(server, KEY, 4), [], time.monotonic()
     while time.monotonic() - begun < 3:
         told.append(counts())
@@ -164,7 +166,7 @@ def loaded(suite):
 def behind(suite):
     """A ping behind a publish waits for its answer, and counts it."""
     new_store("served.db", ("alpha", KEY))
-    server = Server("served.db")
+    server = Server("served.db", CONTROL)
     request = put("example.com/lib", "v1.0.0", GOMOD, b"z" * 100_000)
     with server.connected() as held:
         held.sendall(request[:-5])
@@ -191,7 +193,7 @@ def false(suite):
         suite.equal(f"one whose store tells {word}", by_false_server(PING[:-1], f"{word}\n".encode()), (refusal(word), b"ping\n"))
     with open("/dev/full", "wb") as full:
         new_store("served.db")
-        server = Server("served.db")
+        server = Server("served.db", CONTROL)
         ran = subprocess.run([PROGRAM, *PING], stdout=full, stderr=subprocess.PIPE, timeout=60)
         suite.equal("an output that is full", (ran.returncode, ran.stderr), (1, b"goshelf: io\n"))
         server.kill()

@@ -8,9 +8,29 @@ Memory has one team with one key, so rows of other keys run over the file alone.
 
 import sys
 
-from harness import KEY, KEYS, Suite, add_shelf, get, in_new_folders, put, reply
-from stores import AGAIN, BAD, CONFLICT, FORBIDDEN, NO_MODULE, NOT_FOUND, PUBLISHED, TOO_LARGE
-from stores import File, Memory, answer_rows, gomod_sum, info, run_in_reads, zipped
+from lib.keys import KEY, KEYS
+from lib.messages import get, put, reply
+from lib.scratch import in_new_folders
+from lib.shelves import (
+    AGAIN,
+    BAD,
+    CONFLICT,
+    FORBIDDEN,
+    NOT_FOUND,
+    NO_MODULE,
+    PUBLISHED,
+    TOO_LARGE,
+    File,
+    Memory,
+    answer_rows,
+    gomod_sum,
+    info,
+    run_in_reads,
+    zipped,
+)
+from lib.stores import add_shelf
+from lib.suite import Suite
+from lib.tables import PIECE
 
 READER, NOBODY = KEYS["R"], KEYS["N"]
 GOMOD = b"module example.com/lib\n"
@@ -73,7 +93,6 @@ FRONTS = [
 ]
 
 PATH = "example.com/p"
-PIECE = 65_536
 # the zip of each version, which ends where a piece ends or beside it
 ZIPS = {
     "v1.0.0": b"",

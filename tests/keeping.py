@@ -1,20 +1,20 @@
 #!/usr/bin/env python3
 """goshelf-backup, goshelf-restore and goshelf-forget, used and misused: nothing is lost but what was asked for.
 
-The commands run on a machine in a folder (machine.py), with the store of tests/operating.py.
+The commands run on a machine in a folder (lib/machine.py), with the store of lib/operating.py.
 """
 
 import os
 import re
 import shutil
 import sys
-import tempfile
 
-from harness import Suite, read, write
-from machine import Machine, block
-from operating import ALPHA, BETA, PUBLISHED, SECRET, asked, copies, publish, runs, set_up
+from lib.machine import Machine
+from lib.operating import ALPHA, BETA, PUBLISHED, SECRET, answers_of, copies, prepared, publish, runs
+from lib.pages import block
+from lib.scratch import play, read, write
+from lib.suite import Suite
 
-NEEDS = ["sqlite3", "curl", "flock"]
 # a command `goshelf-uncache`, which stands in for the one that needs an nginx: it notes that it ran
 UNCACHE = "#!/bin/sh\necho >> @/root/uncached\n"
 # a backup that tests/operating.py would have made a while ago
@@ -211,31 +211,24 @@ def taken_out(suite, machine):
     at, gone = "example.com/lib/@v", (404, b"not found\n")
     own = {"v1.1.0.zip": gone, "v1.1.0.mod": gone, "list": (200, b"v1.0.0\nv1.2.0\n")}
     own.update({f"{version}.zip": (200, zipped) for _, _, version, zipped in (PUBLISHED[0], PUBLISHED[2])})
-    found = asked(machine.store, *(f"{at}/{it}" for it in own), "example.com/base/@v/v0.1.0.zip")
+    found = answers_of(machine.store, *(f"{at}/{it}" for it in own), "example.com/base/@v/v0.1.0.zip")
     suite.equal("the version is gone, and no other", found, [*own.values(), (200, PUBLISHED[4][3])])
-    others = asked(machine.store, f"{at}/v1.1.0.zip", key=BETA)
+    others = answers_of(machine.store, f"{at}/v1.1.0.zip", key=BETA)
     suite.equal("another team has its own", others, [(200, PUBLISHED[3][3])])
     kept = b"".join(read(it) for it in (machine.store, machine.store + "-wal") if os.path.exists(it))
     pages = (SECRET[it : it + 64] for it in range(0, len(SECRET), 4096))
     suite.holds("no page of it is in the store", not any(it in kept for it in pages))
 
 
+def typed(suite, machine):
+    """Files of what an operator types."""
+    for name, text in (("yes", "yes"), ("yess", "yess"), ("other", f"{LEAKED[:-1]}1"), ("words", LEAKED)):
+        machine.write(f"root/{name}", f"{text}\n")
+
+
 def main():
-    suite = Suite()
-    if os.geteuid() != 0:
-        suite.skip("the machine", "an operator's commands need root")
-        return suite.end()
-    with tempfile.TemporaryDirectory(prefix="goshelf-keeping-") as folder:
-        machine = Machine(folder)
-        try:
-            set_up(machine)
-            for name, text in (("yes", "yes"), ("yess", "yess"), ("other", f"{LEAKED[:-1]}1"), ("words", LEAKED)):
-                machine.write(f"root/{name}", f"{text}\n")
-            for part in (at_once, restores, unlucky, older_one, leaked):
-                part(suite, machine)
-        finally:
-            machine.close()
-    return suite.end()
+    parts = (prepared, typed, at_once, restores, unlucky, older_one, leaked)
+    return play(Suite(), "the machine", "an operator's commands need root", Machine, parts)
 
 
 if __name__ == "__main__":

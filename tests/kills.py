@@ -13,43 +13,23 @@ import random
 import subprocess
 import sys
 import tempfile
-import threading
 import time
 
-import harness
-from harness import KEY, NOBODY, PROGRAM, Suite, can_be_nobody, get, mounted, put, replies, run
+from lib import stores
+from lib.keys import KEY
+from lib.kills import MODULE, MOST, count_of, fetch, files_of, is_kept, kill_after, publish
+from lib.messages import replies
+from lib.program import NOBODY, PROGRAM, can_be_nobody, run
+from lib.scratch import mounted
+from lib.suite import Suite
 
-MODULE = "example.com/kills"
-SIZES = [0, 1, 300, 5_000, 30_000, 150_000]
-# versions on one store: each opening reads all of it
-MOST = 150
 SHORT, LONG = 100, 1_000
 
 
 def new_store(folder, name):
     store = os.path.join(folder, name)
-    harness.new_store(store, ("alpha", KEY))
+    stores.new_store(store, ("alpha", KEY))
     return store
-
-
-def files_of(number):
-    """The go.mod and the zip of the version of a number; they tell it."""
-    gomod = f"module {MODULE}\n\nrequire example.com/other v1.{number}.0\n".encode()
-    return gomod, random.Random(number).randbytes(SIZES[number % len(SIZES)])
-
-
-def publish(number, key=KEY):
-    return put(MODULE, f"v1.{number}.0", *files_of(number), key)
-
-
-def fetch(number, kind, key=KEY):
-    return get(f"{MODULE}/@v/v1.{number}.0.{kind}", key)
-
-
-def kill_after(child, wait):
-    timer = threading.Timer(wait, child.kill)
-    timer.start()
-    return timer
 
 
 def killed(start, store, numbers, wait, is_early):
@@ -120,24 +100,6 @@ def start_serve(store):
         return line.endswith("\n"), lambda number: send(int(line.rsplit(":", 1)[1]), number)
 
     return child, ready
-
-
-def is_kept(store, acknowledged, underway):
-    """Opens the store again. Returns whether the version underway is there, and what is wrong, or None."""
-    asked = [*acknowledged, *underway]
-    status, written, told = run(["answer", "--db", store], b"".join(fetch(number, kind) for number in asked for kind in ("mod", "zip")))
-    got = replies(written) if status == 0 else []
-    if len(got) != 2 * len(asked):
-        return False, f"{len(got)} replies to {2 * len(asked)} requests, status {status}, {told}"
-    pairs = dict(zip(asked, zip(got[::2], got[1::2])))
-    whole = {number: tuple((200, part) for part in files_of(number)) for number in asked}
-    for number in acknowledged:
-        if pairs[number] != whole[number]:
-            return False, f"version {number} is lost or changed"
-    for number in underway:
-        if pairs[number] != whole[number] and [status for status, _ in pairs[number]] != [404, 404]:
-            return False, f"version {number} is there in part"
-    return any(pairs[number] == whole[number] for number in underway), None
 
 
 def kills(suite, folder, count):
@@ -213,10 +175,7 @@ def only_read(suite, folder):
 
 
 def main(words):
-    seed = int(words[words.index("--seed") + 1]) if "--seed" in words else time.time_ns() % 10**9
-    count = next((int(word) for word in words if word.isdigit() and int(word) != seed), LONG if "--long" in words else SHORT)
-    random.seed(seed)
-    print(f"seed {seed}")
+    count = count_of(words, SHORT, LONG)
     suite = Suite()
     with tempfile.TemporaryDirectory(prefix="goshelf-kills-") as folder:
         kills(suite, folder, count)

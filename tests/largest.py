@@ -8,9 +8,25 @@ bytes with a zip of 16,777,216, fetched back, and each a byte longer; go.mod fil
 
 import sys
 
-from harness import KEY, KEYS, PLATFORM, SHELVES, Suite, get, in_new_folders, put, reply
-from stores import AGAIN, CONFLICT, FULL, NO_MODULE, NOT_FOUND, PUBLISHED, TOO_LARGE
-from stores import File, Memory, answer_rows, gomod_sum, info, zipped
+from lib.keys import KEY, KEYS, PLATFORM, SHELVES
+from lib.messages import get, put, reply
+from lib.scratch import in_new_folders
+from lib.shelves import (
+    AGAIN,
+    CONFLICT,
+    FULL,
+    NOT_FOUND,
+    NO_MODULE,
+    PUBLISHED,
+    TOO_LARGE,
+    File,
+    Memory,
+    answer_rows,
+    gomod_sum,
+    info,
+    zipped,
+)
+from lib.suite import Suite
 
 GOMOD, ZIP = 1_048_576, 16_777_216
 READER, BETA, COMMON, GROUP = KEYS["R"], KEYS["B"], KEYS["C"], KEYS["P"]

@@ -9,34 +9,18 @@ way after another, and a store is read-only, or has rows in its log alone.
 import fcntl
 import os
 import shutil
-import sqlite3
 import subprocess
 import sys
 
-import extracts
-from harness import KEYS, NOBODY, Suite, can_be_nobody, get, in_new_folders, mounted, put, raw_replies, read, run, write
-from tables import order_key, rank_key
+from lib.keys import KEYS
+from lib.messages import get, put
+from lib.older import LONG, filled, older, put_entry, with_log
+from lib.program import NOBODY, can_be_nobody, run
+from lib.scratch import files_of, in_new_folders, mounted, read, write
+from lib.suite import Suite
+from lib.tables import connected, order_key, rank_key, rows_of, settled
+from lib.worked import everything, replies_of
 
-# the tables of schemas 1 and 2: those that they share, and those of each
-SHARED = (
-    "CREATE TABLE meta (name TEXT PRIMARY KEY, value INTEGER NOT NULL) STRICT",
-    "CREATE TABLE shelf (name TEXT PRIMARY KEY) STRICT",
-    "CREATE TABLE access (token TEXT PRIMARY KEY, shelf TEXT NOT NULL REFERENCES shelf (name), publish INTEGER NOT NULL CHECK (publish IN (0, 1))) STRICT",
-)
-OWN = {
-    1: (
-        "CREATE TABLE version (id INTEGER PRIMARY KEY, shelf TEXT NOT NULL REFERENCES shelf (name), path TEXT NOT NULL, version TEXT NOT NULL, time TEXT, mod BLOB NOT NULL, UNIQUE (shelf, path, version)) STRICT",
-        "CREATE TABLE body (id INTEGER PRIMARY KEY REFERENCES version (id), zip BLOB NOT NULL) STRICT",
-    ),
-    2: (
-        "CREATE TABLE version (id INTEGER PRIMARY KEY, shelf TEXT NOT NULL REFERENCES shelf (name), path TEXT NOT NULL, version TEXT NOT NULL, time TEXT, mod BLOB NOT NULL, order_key BLOB NOT NULL, rank_key BLOB NOT NULL, UNIQUE (shelf, path, version)) STRICT",
-        "CREATE TABLE piece (version INTEGER NOT NULL REFERENCES version (id), number INTEGER NOT NULL CHECK (number >= 0), bytes BLOB NOT NULL, PRIMARY KEY (version, number)) STRICT",
-    ),
-}
-PIECE = 65_536
-# zips of more pieces than one, the last one full or not
-LONG = {"v1.0.1": b"p" * PIECE, "v1.0.2": b"q" * (PIECE + 1), "v1.0.3": bytes(range(256)) * 1024}
-LONG_MOD = b"module example.com/long\n"
 INVENTORY_OF_BETA = b"""\
 path,version,shelf,class,time,mod_bytes,zip_bytes
 example.com/own,v1.0.0,beta,release,,23,1
@@ -45,83 +29,15 @@ example.com/y,v1.0.0,common,release,,21,1
 """
 
 
-def connected(file):
-    conn = sqlite3.connect(file, isolation_level=None)
-    conn.execute("PRAGMA foreign_keys = OFF")
-    return conn
-
-
-def settled(conn):
-    """Closes a connection whose file then holds all of it."""
-    conn.execute("PRAGMA wal_checkpoint(TRUNCATE)")
-    conn.close()
-
-
-def entries_of(conn):
-    """The entries of a store of today's schema: the row of `version`, and the zip."""
-    for row in conn.execute("SELECT id, shelf, path, version, time, mod, order_key, rank_key FROM version ORDER BY id").fetchall():
-        pieces = conn.execute("SELECT bytes FROM piece WHERE version = ? ORDER BY number", row[:1])
-        yield row, b"".join(piece for (piece,) in pieces)
-
-
-def older(file, schema, source="whole.db"):
-    """Makes a file of an older schema with the rows of a store, which has no group."""
-    new, old = connected(source), connected(file)
-    for text in (*SHARED, *OWN[schema]):
-        old.execute(text)
-    old.execute("BEGIN")
-    old.execute("INSERT INTO meta VALUES ('schema', ?)", (schema,))
-    old.executemany("INSERT INTO shelf VALUES (?)", new.execute("SELECT name FROM shelf").fetchall())
-    old.executemany("INSERT INTO access VALUES (?, ?, ?)", new.execute("SELECT token, shelf, publish FROM access").fetchall())
-    for row, zip in entries_of(new):
-        put_entry(old, schema, row, zip)
-    old.execute("COMMIT")
-    new.close()
-    settled(old)
-
-
-def put_entry(conn, schema, row, zip):
-    if schema == 1:
-        conn.execute("INSERT INTO version VALUES (?, ?, ?, ?, ?, ?)", row[:6])
-        conn.execute("INSERT INTO body VALUES (?, ?)", (row[0], zip))
-    else:
-        conn.execute("INSERT INTO version VALUES (?, ?, ?, ?, ?, ?, ?, ?)", row)
-        for at in range(0, len(zip), PIECE):
-            conn.execute("INSERT INTO piece VALUES (?, ?, ?)", (row[0], at // PIECE, zip[at : at + PIECE]))
-
-
-def rows_of(file):
-    """What a store of today's schema holds, but for the numbers of its rows."""
-    conn = connected(file)
-    tables = [sorted(conn.execute(f"SELECT * FROM {table}")) for table in ("meta", "access")]
-    shelves = sorted(conn.execute("SELECT name, ifnull(parent, '') FROM shelf"))
-    entries = sorted((row[1:4], row[4] or "", row[5:], zip) for row, zip in entries_of(conn))
-    settled(conn)
-    return tables, shelves, entries
-
-
-def asked(file):
+def answers_of(file):
     """The bytes of a store's replies to everything that is asked, by each key, and of the long zips."""
-    targets = [target.format(*line.split()) for line in extracts.VERSIONS.split("\n") for target in extracts.TARGETS]
-    targets += [f"example.com/long/@v/{version}.zip" for version in LONG]
-    requests = b"".join(get(target, KEYS[letter]) for letter in "ARBCN" for target in targets)
-    status, written, told = run(["answer", "--db", file], requests, 600)
-    assert (status, told) == (0, ""), (status, told)
-    return raw_replies(written)
-
-
-def filled(suite):
-    """The store of the worked rows, with some long zips."""
-    write(extracts.FILES)
-    extracts.filled(suite, "whole.db")
-    publishes = b"".join(put("example.com/long", version, LONG_MOD, zip, KEYS["A"]) for version, zip in LONG.items())
-    status, written, _ = run(["answer", "--db", "whole.db"], publishes)
-    suite.equal("the long zips are published", (status, [raw.split()[1] for raw in raw_replies(written)]), (0, [b"201"] * len(LONG)))
+    targets = [*everything(), *(f"example.com/long/@v/{version}.zip" for version in LONG)]
+    return replies_of(file, [get(target, KEYS[letter]) for letter in "ARBCN" for target in targets])
 
 
 def migrated(suite):
     filled(suite)
-    whole, wanted = rows_of("whole.db"), asked("whole.db")
+    whole, wanted = rows_of("whole.db"), answers_of("whole.db")
     for schema in (1, 2):
         old, new = f"old{schema}.db", f"new{schema}.db"
         older(old, schema)
@@ -129,7 +45,7 @@ def migrated(suite):
         suite.equal(f"schema {schema} alone is refused, and how is told", run(["inventory", "--db", old, "--key", KEYS["B"]]), (1, b"", "goshelf: bad-schema\n"))
         suite.equal(f"schema {schema} migrates", run(["migrate", "--from", old, "--to", new]), (0, b"", ""))
         suite.holds(f"schema {schema}: the old file has its bytes", read(old) == before)
-        suite.equal(f"schema {schema}: each reply is as it was", [at for at, (one, other) in enumerate(zip(asked(new), wanted)) if one != other], [])
+        suite.equal(f"schema {schema}: each reply is as it was", [at for at, (one, other) in enumerate(zip(answers_of(new), wanted)) if one != other], [])
         suite.equal(f"schema {schema}: the inventory of beta", run(["inventory", "--db", new, "--key", KEYS["B"]]), (0, INVENTORY_OF_BETA, ""))
         suite.holds(f"schema {schema}: the tables are those of the whole store", rows_of(new) == whole)
         after = read(new)
@@ -279,24 +195,6 @@ def faults(suite):
     suite.equal("no log is left beside a file that was read", [it for it in ("old.db-wal", "foreign-wal", "empty-wal", "first.db-wal") if os.path.exists(it)], [])
 
 
-def files_of(folder="."):
-    """The files of a folder, with their bytes."""
-    return {name: read(os.path.join(folder, name)) for name in sorted(os.listdir(folder)) if os.path.isfile(os.path.join(folder, name))}
-
-
-def with_log(folder, schema):
-    """Makes an older store whose last key stands in its log alone, as a program leaves it that was killed."""
-    os.mkdir(folder)
-    older("kept.db", schema)
-    conn = connected("kept.db")
-    assert conn.execute("PRAGMA journal_mode = WAL").fetchone() == ("wal",)
-    conn.execute("PRAGMA wal_checkpoint(TRUNCATE)")
-    conn.execute("INSERT INTO access VALUES ('latekey000000001', 'beta', 1)")
-    for end in ("", "-wal"):
-        shutil.copy(f"kept.db{end}", f"{folder}/old.db{end}")
-    conn.close()
-
-
 def logs(suite):
     """What stands in the log of the older store is migrated too, and both its files stay as they were."""
     filled(suite)
@@ -352,7 +250,7 @@ def read_only(suite):
     if not can_be_nobody():
         return suite.skip("a read-only file", "the user nobody cannot be used here")
     filled(suite)
-    wanted = asked("whole.db")
+    wanted = answers_of("whole.db")
     os.mkdir("room")
     os.chmod("room", 0o777)
     os.chmod(".", 0o755)
@@ -376,7 +274,7 @@ def read_only(suite):
             suite.equal(f"{about}: it migrates", run(["migrate", "--from", f"{folder}/old.db", "--to", new], before=NOBODY), (0, b"", ""))
             suite.holds(f"{about}: the folder is as it was", files_of(folder) == before, sorted(files_of(folder)))
             suite.equal(f"{about}: nothing is left beside the new store", [it for it in os.listdir("room") if it.startswith("goshelf-")], [])
-            suite.holds(f"{about}: each reply is as it was", asked(new) == wanted)
+            suite.holds(f"{about}: each reply is as it was", answers_of(new) == wanted)
     suite.equal("root too", run(["migrate", "--from", "fixed1/old.db", "--to", "root.db"]), (0, b"", ""))
     os.chmod("fixed1/old.db", 0o400)
     told = run(["migrate", "--from", "fixed1/old.db", "--to", "room/unread.db"], before=NOBODY)

@@ -11,10 +11,14 @@ import subprocess
 import sys
 import time
 
-from harness import KEYS, PROGRAM, Suite, get, in_new_folders, mounted, raw_replies, run
-from migrate import OWN, SHARED, connected, files_of, put_entry, rows_of, settled
-from tables import order_key, rank_key
-
+from lib.keys import KEYS
+from lib.kills import seeded
+from lib.messages import get, raw_replies
+from lib.older import OWN, SHARED, put_entry
+from lib.program import PROGRAM, run
+from lib.scratch import files_of, in_new_folders, mounted
+from lib.suite import Suite
+from lib.tables import connected, order_key, rank_key, rows_of, settled
 
 def small_zips(file, count=60):
     """Makes a store of schema 2 with this many versions of 40,000 bytes, and returns the requests for all of them."""
@@ -130,9 +134,7 @@ def kills(suite):
 
 
 def main(words):
-    seed = int(words[words.index("--seed") + 1]) if "--seed" in words else time.time_ns() % 10**9
-    random.seed(seed)
-    print(f"seed {seed}")
+    seeded(words)
     return in_new_folders(Suite(), full_disks, kills)
 
 

@@ -8,16 +8,35 @@ port, so both are asked on standard input.
 
 import os
 import shutil
-import socket
 import socketserver
 import subprocess
 import sys
 import threading
 
-import extracts
-import go_client
-from harness import KEYS, PROGRAM, SHELVES, Suite, get, in_new_folders, put, raw_replies, read, run, write
-
+from lib.go_sessions import (
+    ALPHA,
+    BETA,
+    COMMON,
+    ON_ALPHA,
+    ON_BETA,
+    ON_COMMON,
+    READER,
+    Client,
+    builds,
+    downloads,
+    gets,
+    lists,
+    teams,
+)
+from lib.keys import KEYS, SHELVES
+from lib.messages import get, put, raw_replies
+from lib.modules import escaped
+from lib.peers import exchanged
+from lib.program import PROGRAM, run
+from lib.scratch import in_new_folders, read, write
+from lib.servers import Server
+from lib.suite import Suite
+from lib.worked import FILES, everything
 
 class Recorder(socketserver.ThreadingTCPServer):
     """Passes connections on to a server, and keeps the request and the reply of each."""
@@ -35,7 +54,7 @@ class Recorder(socketserver.ThreadingTCPServer):
 
     def sum_line(self, key, path, version):
         """What is answered for the go.sum line of a version's go.mod, as go_client asks for it."""
-        request = get(f"-/gosum/{go_client.escaped(path)}/@v/{go_client.escaped(version)}", key)
+        request = get(f"-/gosum/{escaped(path)}/@v/{escaped(version)}", key)
         return exchanged(self.behind, request).partition(b"\r\n\r\n")[2].decode()
 
 
@@ -53,28 +72,9 @@ class Passing(socketserver.BaseRequestHandler):
         self.request.sendall(reply)
 
 
-def exchanged(port, request):
-    """The reply to a request, up to the end of the connection."""
-    with socket.create_connection(("127.0.0.1", port), timeout=60) as conn:
-        conn.sendall(request)
-        return b"".join(iter(lambda: conn.recv(65_536), b""))
-
-
-class Serving:
-    """A program that serves a store."""
-
-    def __init__(self, program, store):
-        self.child = subprocess.Popen([program, "serve", "--db", store, "--port", "0"], stdout=subprocess.PIPE, text=True)
-        self.port = int(self.child.stdout.readline().rsplit(":", 1)[1])
-
-    def stop(self):
-        self.child.terminate()
-        self.child.wait()
-
-
 # what go_client publishes on shelves that schema 2 has
-PUBLISHED = ((go_client.ALPHA, go_client.ON_ALPHA), (go_client.COMMON, go_client.ON_COMMON), (go_client.BETA, go_client.ON_BETA))
-OF_GO = (("beta", go_client.BETA), ("alpha", go_client.ALPHA, go_client.READER), ("common", go_client.COMMON))
+PUBLISHED = ((ALPHA, ON_ALPHA), (COMMON, ON_COMMON), (BETA, ON_BETA))
+OF_GO = (("beta", BETA), ("alpha", ALPHA, READER), ("common", COMMON))
 
 
 def told_done(program, *words):
@@ -95,7 +95,7 @@ def made_by(program, file, shelves):
 def publishes():
     """The publishes of go_client, as requests."""
     return b"".join(
-        put(go_client.escaped(path), go_client.escaped(version), gomod, zipped, key, "2024-01-31T12:00:00Z")
+        put(escaped(path), escaped(version), gomod, zipped, key, "2024-01-31T12:00:00Z")
         for key, entries in PUBLISHED
         for path, version, gomod, zipped in entries
     )
@@ -123,17 +123,14 @@ def of_go(suite, program, file):
     """Has the go command ask an older program for what it published, and returns what was asked and answered."""
     made_by(program, file, OF_GO)
     assert {it.split()[1] for it in replied(program, file, [publishes()])} == {b"201"}
-    serving = Serving(program, file)
+    serving = Server(file, program=program)
     recorder = Recorder(serving.port)
-    rows = go_client.SUITE.passed, go_client.SUITE.failed
-    alpha, beta = (go_client.Client(recorder, os.path.abspath(name), key) for name, key in (("alpha", go_client.READER), ("beta", go_client.BETA)))
-    go_client.downloads(alpha, [*go_client.ON_ALPHA, *go_client.ON_COMMON])
-    go_client.lists(alpha)
-    go_client.gets(alpha)
-    go_client.builds(alpha)
-    go_client.teams(alpha, beta)
-    suite.passed += go_client.SUITE.passed - rows[0]
-    suite.failed += go_client.SUITE.failed - rows[1]
+    alpha, beta = (Client(suite, recorder, os.path.abspath(name), key) for name, key in (("alpha", READER), ("beta", BETA)))
+    downloads(alpha, [*ON_ALPHA, *ON_COMMON])
+    lists(alpha)
+    gets(alpha)
+    builds(alpha)
+    teams(alpha, beta)
     recorder.shutdown()
     serving.stop()
     return recorder.kept
@@ -146,11 +143,11 @@ def by_programs(suite):
     if not two:
         suite.skip("a store of a program of schema 2", "OLD_GOSHELF names none")
     else:
-        write(extracts.FILES)
+        write(FILES)
         made_by(two, "two.db", SHELVES)
         for letter, lines in (("B", "beta.csv"), ("A", "alpha.csv"), ("C", "common.csv")):
             told_done(two, "import", "--db", "two.db", "--key", KEYS[letter], "--list", lines)
-        targets = [target.format(*line.split()) for line in extracts.VERSIONS.split("\n") for target in extracts.TARGETS]
+        targets = everything()
         is_as_before(suite, "schema 2", two, "two.db", "two-new.db", [get(it, KEYS[letter]) for letter in "ARBCN" for it in targets])
         if not shutil.which("go"):
             suite.skip("the go command's traffic", "there is no go command")
@@ -159,7 +156,7 @@ def by_programs(suite):
             requests = [request for request, _ in kept]
             suite.holds(f"the go command made {len(kept)} requests", len(kept) > 50)
             is_as_before(suite, "what the go command asked of schema 2", two, "go.db", "go-new.db", requests)
-            serving = Serving(PROGRAM, "go-new.db")
+            serving = Server("go-new.db")
             unlike = [at for at, (request, wanted) in enumerate(kept) if exchanged(serving.port, request) != wanted]
             serving.stop()
             suite.equal("each reply that the go command got from the old program, byte for byte", unlike, [])
@@ -168,9 +165,9 @@ def by_programs(suite):
     else:
         made_by(one, "one.db", OF_GO)
         assert {it.split()[1] for it in replied(one, "one.db", [publishes()])} == {b"201"}
-        paths = [(go_client.escaped(path), go_client.escaped(version)) for _, entries in PUBLISHED for path, version, _, _ in entries]
+        paths = [(escaped(path), escaped(version)) for _, entries in PUBLISHED for path, version, _, _ in entries]
         targets = sorted({f"{path}/{it}".format(version) for path, version in paths for it in ("@v/list", "@v/{}.info", "@v/{}.mod", "@v/{}.zip", "@latest")})
-        asked_of_it = [get(it, key) for key in (go_client.ALPHA, go_client.READER, go_client.BETA, go_client.COMMON, KEYS["N"]) for it in (*targets, "-/modules")]
+        asked_of_it = [get(it, key) for key in (ALPHA, READER, BETA, COMMON, KEYS["N"]) for it in (*targets, "-/modules")]
         is_as_before(suite, "schema 1", one, "one.db", "one-new.db", [*asked_of_it, *(request for request, _ in kept)])
 
 

@@ -11,10 +11,12 @@ import subprocess
 import sys
 import time
 
-from harness import NOBODY, PROGRAM, Suite, can_be_nobody, in_new_folders, read, run
-from migrate import connected, filled, files_of, older, rows_of, with_log
+from lib.older import filled, older, with_log
+from lib.program import NOBODY, PROGRAM, can_be_nobody, run
+from lib.scratch import files_of, in_new_folders, read
+from lib.suite import Suite
+from lib.tables import connected, rows_of
 
-NEEDS = ["strace"]
 
 LATE = "latekey000000001"
 # a program that commits a key to a store, and ends without a checkpoint; for some seconds it waits for a lock

@@ -1,22 +1,23 @@
 #!/usr/bin/env python3
 """Public modules at a site of deploy/one: they cross the line once, and never in the place of what is the company's.
 
-The hosts are those of tests/one.py. The public proxy (outside.py) is on the first host, and has bait for the paths of
+The hosts are those of lib/company.py. The public proxy (lib/outside.py) is on the first host, and has bait for the paths of
 the company.
 """
 
 import os
 import sys
-import tempfile
 
-from harness import Suite
-from hosts import inside, wait_until
-from machine import AUTHORITIES, block
-from one import FIRST, SITE, Company
-from one_url import SPELLINGS
-from outside import JSON, TEXT, Outside
+from lib.company import FIRST, SITE, Company
+from lib.developers import SPELLINGS
+from lib.hosts import inside
+from lib.machine import AUTHORITIES
+from lib.outside import JSON, TEXT, XMOD, Outside
+from lib.pages import block
+from lib.ports import wait_until
+from lib.scratch import play
+from lib.suite import Suite
 
-NEEDS = ["nginx", "openssl", "go", "ip", "pgrep"]
 LIB, OURS = "pub.example/lib", "example.com/lib"
 BAIT = b"BAIT"
 HTML = "text/html", b"<html>log in to the net</html>"
@@ -37,6 +38,15 @@ class WithPublic(Company):
         os.symlink(self.outside.authority, f"{self.first.folder}{AUTHORITIES}")
         super().start()
         self.claim("forge.example/corp")
+        self.fill()
+
+    def fill(self):
+        """What is public, and the bait."""
+        for version in ("v1.0.0", "v1.1.0"):
+            self.outside.add(LIB, version)
+        for path in (OURS, "example.com/alpha/core", "forge.example/corp/x"):
+            self.outside.add(path, "v1.9.9", files={"a.go": 'package core\n\nconst V = "BAIT"\n'})
+            self.outside.files[f"/{path}/@v/v1.9.9.mod"] = TEXT, BAIT
 
     def asks(self, target, user="ann"):
         """The status and the body of an answer at the site, and whether it came from the cache there."""
@@ -135,24 +145,9 @@ def cut_off(suite, company):
 
 
 def main():
-    suite = Suite()
-    if os.geteuid() != 0 or not os.path.isdir("/usr/share/gocode/src/golang.org/x/mod"):
-        suite.skip("public modules at a site", "it needs root and golang-golang-x-mod-dev")
-        return suite.end()
-    with tempfile.TemporaryDirectory(prefix="goshelf-one-public-") as folder:
-        os.chmod(folder, 0o755)
-        company = WithPublic(folder)
-        try:
-            for version in ("v1.0.0", "v1.1.0"):
-                company.outside.add(LIB, version)
-            for path in (OURS, "example.com/alpha/core", "forge.example/corp/x"):
-                company.outside.add(path, "v1.9.9", files={"a.go": 'package core\n\nconst V = "BAIT"\n'})
-                company.outside.files[f"/{path}/@v/v1.9.9.mod"] = TEXT, BAIT
-            for part in (kept, not_kept, apart, attacks, claimed, cut_off):
-                part(suite, company)
-        finally:
-            company.close()
-    return suite.end()
+    parts = (kept, not_kept, apart, attacks, claimed, cut_off)
+    why = "it needs root and golang-golang-x-mod-dev"
+    return play(Suite(), "public modules at a site", why, WithPublic, parts, os.path.isdir(XMOD))
 
 
 if __name__ == "__main__":

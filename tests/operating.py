@@ -1,7 +1,7 @@
 #!/usr/bin/env python3
 """What the pages have an operator do besides nginx: keys, backups, queries, alerts, an upgrade, a team's own store, tables.
 
-Their commands and the scripts of deploy/ run as they are, on a machine in a folder (machine.py).
+Their commands and the scripts of deploy/ run as they are, on a machine in a folder (lib/machine.py).
 """
 
 import http.server
@@ -10,26 +10,17 @@ import re
 import shutil
 import subprocess
 import sys
-import tempfile
 import threading
 
-from harness import PROGRAM, ROOT, Suite, answered, done, get, new_store, read, run
-from machine import OPERATORS, Machine, block, read_page
-from refusals import change, reordered
-from store_files import SCHEMA_1, SCHEMA_2
+from lib.machine import Machine
+from lib.older import SCHEMA_1, SCHEMA_2
+from lib.operating import ALPHA, BETA, PUBLISHED, SECRET, answers_of, copies, prepared, publish, runs
+from lib.pages import OPERATORS, block, read_page
+from lib.program import PROGRAM, run
+from lib.scratch import play, read
+from lib.suite import Suite
+from lib.tables import change, reordered
 
-NEEDS = ["sqlite3", "openssl", "curl", "xxd"]
-ALPHA, READER, BETA, COMMON = "alphakey00000001", "alphareader00001", "betakey000000001", "commonkey0000001"
-GROUP, MEMBER = "platformkey00001", "gammakey00000001"
-SECRET = os.urandom(150_000)
-# shelf's key, path, version, and the zip
-PUBLISHED = [
-    (ALPHA, "example.com/lib", "v1.0.0", b"one"),
-    (ALPHA, "example.com/lib", "v1.1.0", SECRET),
-    (ALPHA, "example.com/lib", "v1.2.0", b"three"),
-    (BETA, "example.com/lib", "v1.1.0", b"beta's own"),
-    (COMMON, "example.com/base", "v0.1.0", b"four" * 50_000),
-]
 
 
 PAGES = "".join(map(read_page, OPERATORS))
@@ -38,44 +29,6 @@ PAGES = "".join(map(read_page, OPERATORS))
 def beginning(first):
     """The block of the pages that begins with these words."""
     return next(it for it in re.findall(r"```sh\n(.*?)```", PAGES, re.S) if it.startswith(first))
-
-
-def publish(machine, key, path, version, zipped, store=None):
-    """Publishes while the program is stopped, and returns what is printed."""
-    mod, file = f"{machine.folder}/root/go.mod", f"{machine.folder}/root/zip"
-    for name, content in ((mod, f"module {path}\n".encode()), (file, zipped)):
-        with open(name, "wb") as held:
-            held.write(content)
-    line = f"publish --db {store or machine.store} --key {key} --module {path} --version {version} --mod {mod} --zip {file} --time 2024-01-31T12:00:00Z"
-    return run(line.split())[1].decode().strip()
-
-
-def set_up(machine):
-    """Gives a machine the scripts of deploy/ and a store, whose program runs."""
-    machine.write("restarts", "0\n")
-    machine.check_out()
-    new_store(machine.store, ("alpha", ALPHA, READER), ("beta", BETA), ("common", COMMON), ("gamma", MEMBER, "", "platform"), groups=[("platform", GROUP)])
-    told = [publish(machine, *it) for it in PUBLISHED]
-    assert told == ["201 published"] * len(PUBLISHED), told
-    for script in ("goshelf-backup", "goshelf-watch", "goshelf-metrics"):
-        machine.does(block("sh", f"root $(command -v {script})"))
-    os.makedirs(f"{machine.folder}/var/cache/nginx/goshelf/1/ab")
-    machine.does("systemctl start goshelf")
-
-
-def runs(machine):
-    """Whether the program runs."""
-    return machine.sh('kill -0 "$(cat /serve.pid)"'.replace("/serve.pid", f"{machine.folder}/serve.pid"))[0] == 0
-
-
-def copies(machine):
-    """The good copies, the oldest first."""
-    return sorted(it for it in os.listdir(f"{machine.folder}/var/backups/goshelf") if it.startswith("2"))
-
-
-def asked(file, *targets, key=ALPHA):
-    """The statuses and bodies of requests to a store."""
-    return answered(["--db", file], [get(it, key) for it in targets])
 
 
 def keys(suite, machine):
@@ -92,7 +45,7 @@ def keys(suite, machine):
     machine.does(block("sh", "team-add --control").replace("beta", "omega").replace("KEY", more))
     suite.holds("goshelf runs on", runs(machine))
     machine.does("systemctl stop goshelf")
-    found = [asked(machine.store, "-/modules", key=it)[0][0] for it in (made, ALPHA, more)]
+    found = [answers_of(machine.store, "-/modules", key=it)[0][0] for it in (made, ALPHA, more)]
     suite.equal("the store has it so: a revoked key, one as before, and one of a new team", found, [404, 200, 200])
     suite.equal("and nobody listens", machine.sh(f"goshelf key-revoke {control} --key {more}"), (1, "", "goshelf: device\n"))
     machine.does("systemctl start goshelf")
@@ -153,7 +106,7 @@ def backups(suite, machine):
     suite.equal("its versions", read(f"{at}/{first[0]}/versions").decode().splitlines(), sorted(
         f"{shelf}|{path}|{version}|2024-01-31T12:00:00Z" for (_, path, version, _), shelf in zip(PUBLISHED, ["alpha"] * 3 + ["beta", "common"])))
     shutil.copytree(f"{at}/{first[0]}", f"{machine.folder}/root/copy")
-    suite.equal("it is a store", asked(f"{machine.folder}/root/copy/shelves.db", "example.com/lib/@v/v1.1.0.zip"), [(200, SECRET)])
+    suite.equal("it is a store", answers_of(f"{machine.folder}/root/copy/shelves.db", "example.com/lib/@v/v1.1.0.zip"), [(200, SECRET)])
     for day in range(20):
         shutil.copytree(f"{at}/{first[0]}", f"{at}/2020-01-{day + 1:02}T031500Z")
     os.rename(f"{at}/{first[0]}", f"{at}/2020-02-01T031500Z")
@@ -172,7 +125,7 @@ def backups(suite, machine):
     machine.write("root/yes", "yes\n")
     machine.does(beginning("goshelf-restore\n").replace("goshelf-restore last", "goshelf-restore last < yes"))
     machine.does("systemctl stop goshelf")
-    suite.equal("a restored store", asked(machine.store, "example.com/lib/@v/v1.1.0.zip", "example.com/lib/@v/list"), [(200, SECRET), (200, b"v1.0.0\nv1.1.0\nv1.2.0\n")])
+    suite.equal("a restored store", answers_of(machine.store, "example.com/lib/@v/v1.1.0.zip", "example.com/lib/@v/list"), [(200, SECRET), (200, b"v1.0.0\nv1.1.0\nv1.2.0\n")])
     machine.does("systemctl start goshelf")
 
 
@@ -339,10 +292,10 @@ def moved(suite, machine):
     machine.does(block("sh", "goshelf extract", "DEPLOYMENTS.md"))
     own, at = f"{machine.folder}/root/alpha.db", "example.com/lib/@v"
     suite.holds("goshelf runs after an extract", runs(machine))
-    found = asked(own, f"{at}/list", f"{at}/v1.0.0.zip", "example.com/base/@v/list")
+    found = answers_of(own, f"{at}/list", f"{at}/v1.0.0.zip", "example.com/base/@v/list")
     wanted = [(200, b"v1.0.0\nv1.1.0\nv1.2.0\n"), (200, b"one"), (200, b"v0.1.0\n")]
     suite.equal("the team's own store", found, wanted)
-    suite.equal("it answers no other team", asked(own, f"{at}/list", key=BETA), [(404, b"not found\n")])
+    suite.equal("it answers no other team", answers_of(own, f"{at}/list", key=BETA), [(404, b"not found\n")])
 
 
 def older(suite, machine, schema, tables):
@@ -390,21 +343,9 @@ def tables(suite, machine):
 
 
 def main():
-    suite = Suite()
-    if os.geteuid() != 0:
-        suite.skip("the machine", "an operator's commands need root")
-        return suite.end()
-    with tempfile.TemporaryDirectory(prefix="goshelf-operating-") as folder:
-        machine = Machine(folder)
-        try:
-            set_up(machine)
-            for part in (keys, cron, by_hand, backups, queries, watch, metrics, upgrade, moved, tables):
-                part(suite, machine)
-            for schema, tables_of in ((1, SCHEMA_1), (2, SCHEMA_2)):
-                older(suite, machine, schema, tables_of)
-        finally:
-            machine.close()
-    return suite.end()
+    parts = (prepared, keys, cron, by_hand, backups, queries, watch, metrics, upgrade, moved, tables)
+    olds = [lambda suite, machine, it=it: older(suite, machine, *it) for it in ((1, SCHEMA_1), (2, SCHEMA_2))]
+    return play(Suite(), "the machine", "an operator's commands need root", Machine, (*parts, *olds))
 
 
 if __name__ == "__main__":

@@ -16,10 +16,12 @@ import tarfile
 import tempfile
 import time
 
-from harness import KEY, PROGRAM, ROOT, Suite, read, write
-from machine import block
+from lib.keys import KEY
+from lib.pages import block
+from lib.program import PROGRAM, ROOT
+from lib.scratch import read, write
+from lib.suite import Suite
 
-NEEDS = ["adduser", "cc", "curl", "dpkg-deb", "git", "ldd", "nsenter", "sqlite3", "systemd-analyze", "unshare"]
 RELEASE = os.path.join(ROOT, "tools", "release")
 VERSION = os.path.join(ROOT, "crates", "cli", "src", "version.rt")
 UNIT = os.path.join(ROOT, "deploy", "systemd", "goshelf.service")

@@ -11,12 +11,13 @@ import os
 import re
 import shutil
 import signal
-import socket
 import subprocess
 import sys
 import tempfile
 
-from harness import PROGRAM, ROOT, Suite, shown
+from lib.ports import free_port
+from lib.program import PROGRAM, ROOT
+from lib.suite import Suite, shown
 
 LONGEST_README = 120
 LONGEST_CELL = 120
@@ -147,12 +148,6 @@ def blocks(text):
         elif kind == "output":
             found[-1][1] = body
     return found
-
-
-def free_port():
-    with socket.socket() as held:
-        held.bind(("127.0.0.1", 0))
-        return held.getsockname()[1]
 
 
 def ended(child, seconds=300):

@@ -5,9 +5,13 @@ import os
 import subprocess
 import sys
 
-from harness import KEYS, ROOT, Suite, add_platform, answered, in_new_folders, new_store, put, read, run, write
+from lib.keys import KEYS
+from lib.messages import put
+from lib.program import ROOT, answered, run
+from lib.scratch import in_new_folders, read, write
+from lib.stores import add_platform, new_store
+from lib.suite import Suite
 
-NEEDS = ["sqlite3"]
 SCRIPT = os.path.join(ROOT, "deploy", "goshelf-paths")
 USAGE = "goshelf-paths: usage: goshelf-paths check [PATHS [KEYS]] | conflicts COPY [PATHS]; --help says more\n"
 KEYS_MAP = '"alpha read" 00112233;\n"alpha publish" 00112234;\n"beta publish" 00112235;\n"common publish" 00112236;\n'

@@ -3,14 +3,15 @@
 
 usage: python3 tests/proofs_page.py
 """
+
 import importlib.machinery
 import importlib.util
 import os
 import subprocess
 import sys
 
-from harness import ROOT, Suite
-
+from lib.program import ROOT
+from lib.suite import Suite
 
 def tool(name):
     """A tool of tools/ as a module."""

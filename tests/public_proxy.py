@@ -1,7 +1,7 @@
 #!/usr/bin/env python3
 """A public proxy that is slow, dead or wrong, behind nginx by one URL: builds go on from what is kept.
 
-The company and what is outside are those of tests/one_url.py. A row that has the public proxy misbehave has a module of
+The company and what is outside are those of lib/developers.py. A row that has the public proxy misbehave has a module of
 its own, so that no cache helps.
 """
 
@@ -10,15 +10,14 @@ import os
 import socket
 import subprocess
 import sys
-import tempfile
 import time
 from concurrent.futures import ThreadPoolExecutor
 
-from developers import PATIENCE, Developers
-from harness import Suite, mounted
-from outside import NAME, STORE, TEXT, ZIP
+from lib.developers import PATIENCE, Developers
+from lib.outside import NAME, STORE, TEXT, XMOD, ZIP
+from lib.scratch import mounted, play
+from lib.suite import Suite
 
-NEEDS = ["nginx", "openssl", "go", "umount"]
 CORE = "/example.com/alpha/core"
 AWAY = b"the public proxy does not answer: try again in a minute\n"
 # files whose zip is larger than what nginx takes at once
@@ -112,16 +111,16 @@ def headers(suite, company):
     outside.add("pub.example/kept", "v1.0.0")
     wild = (("Set-Cookie", "a=b"), ("Cache-Control", "no-store, private"), ("Vary", "*"), ("Goshelf-Part", "beta 1"))
     outside.how["/pub.example/kept"] = lambda handler, found: handler.reply(200, *found, *wild)
-    begun = company.asked()
+    begun = company.asked_outside()
     told = {company.ask("/pub.example/kept/@v/v1.0.0.mod", it) for it in ("ann", "bob", "com")}
-    found = len(told), company.asked() - begun
+    found = len(told), company.asked_outside() - begun
     suite.equal("no header stops the cache, and one entry serves all shelves", found, (1, 1))
     reply = company.client.reply("GET", "/pub.example/kept/@v/v1.0.0.mod", company.client.login("ann"))
     found = [reply.headers.get_all(it) for it in ("Set-Cookie", "Goshelf-Part")]
     suite.equal("its cookie and its part do not arrive", found, [None, ["public alpha 1"]])
     outside.add("pub.example/sent", "v1.0.0", files=FILES)
     outside.how["/pub.example/sent/@v/v1.0.0.zip"] = follows
-    begun = company.asked()
+    begun = company.asked_outside()
     told = [company.go(company.work(), "mod", "download", "pub.example/sent@v1.0.0") for _ in range(2)]
     zips = [it for it in outside.targets(begun) if ".zip" in it]
     found = [it[0] for it in told], len(zips)
@@ -133,15 +132,15 @@ def at_once(suite, company):
     outside = company.outside
     outside.add("pub.example/large", "v1.0.0", files=FILES)
     outside.how["/pub.example/large/"] = lambda handler, found: (time.sleep(0.3), handler.reply(200, *found))
-    begun = company.asked()
+    begun = company.asked_outside()
     with ThreadPoolExecutor(16) as pool:
         told = set(pool.map(lambda _: company.ask("/pub.example/large/@v/v1.0.0.zip"), range(16)))
-    suite.equal("16 at once for one zip ask once", (len(told), company.asked() - begun), (1, 1))
-    before, begun = len(outside.servers[outside.port].taken), company.asked()
+    suite.equal("16 at once for one zip ask once", (len(told), company.asked_outside() - begun), (1, 1))
+    before, begun = len(outside.servers[outside.port].taken), company.asked_outside()
     for it in range(100):
         company.ask(f"/pub.example/none{it}/@v/list")
     made = len(outside.servers[outside.port].taken) - before
-    suite.holds("100 misses go over few connections", company.asked() - begun == 100 and made <= 16, made)
+    suite.holds("100 misses go over few connections", company.asked_outside() - begun == 100 and made <= 16, made)
     outside.how["/pub.example/hang"] = is_slow
     company.machine.edit("etc/nginx/goshelf/public.conf", ("goshelf_out 200", "goshelf_out 10"))
     company.reload()
@@ -165,9 +164,9 @@ def certificates(suite, company):
         outside.listen(name, port)
         company.reload()
         outside.add("pub.example/tls", f"v1.0.0-{name}")
-        begun = company.asked()
+        begun = company.asked_outside()
         told = company.ask(f"/pub.example/tls/@v/v1.0.0-{name}.mod")[0]
-        suite.equal(f"the certificate `{name}`", (told, company.asked() - begun), (wanted, 1 if wanted == 200 else 0))
+        suite.equal(f"the certificate `{name}`", (told, company.asked_outside() - begun), (wanted, 1 if wanted == 200 else 0))
     suite.equal("it is asked by its name", set(outside.names), {NAME, STORE})
 
 
@@ -230,23 +229,21 @@ def full_disk(suite, company):
     suite.holds("no key is in what nginx says of it", not any(it in text for it in company.secrets()))
 
 
+def filled(suite, company):
+    """What is public, and what the company publishes."""
+    for version in ("v1.0.0", "v1.1.0"):
+        company.outside.add("pub.example/lib", version)
+    company.publish("pat", CORE[1:])
+
+
+def no_leaks(suite, company):
+    suite.equal("no path of ours was asked outside", company.leaks(), [])
+
+
 def main():
-    suite = Suite()
-    if os.geteuid() != 0 or not os.path.isdir("/usr/share/gocode/src/golang.org/x/mod"):
-        suite.skip("a public proxy", "it needs root and golang-golang-x-mod-dev")
-        return suite.end()
-    with tempfile.TemporaryDirectory(prefix="goshelf-public-") as folder:
-        company = Developers(folder)
-        try:
-            for version in ("v1.0.0", "v1.1.0"):
-                company.outside.add("pub.example/lib", version)
-            company.publish("pat", CORE[1:])
-            for part in (misbehaves, headers, at_once, certificates, away, without_block, full_disk):
-                part(suite, company)
-            suite.equal("no path of ours was asked outside", company.leaks(), [])
-        finally:
-            company.close()
-    return suite.end()
+    parts = (filled, misbehaves, headers, at_once, certificates, away, without_block, full_disk, no_leaks)
+    why = "it needs root and golang-golang-x-mod-dev"
+    return play(Suite(), "a public proxy", why, Developers, parts, os.path.isdir(XMOD))
 
 
 if __name__ == "__main__":

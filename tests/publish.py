@@ -13,12 +13,15 @@ import shutil
 import sys
 import tempfile
 
-from go_client import escaped
-from harness import KEYS, ROOT, Suite, new_store, run, write
-from repositories import KEY, PUBLISH, READER, TIME, UNASKED
-from repositories import Repository, Room, Server, blocks, code, greet_of, module, shell
+from lib.modules import escaped
+from lib.pages import blocks
+from lib.program import ROOT, run
+from lib.repositories import KEY, PUBLISH, READER, TIME, UNASKED, Repository, Room, code, greet_of, module, shell
+from lib.scratch import write
+from lib.servers import Server
+from lib.stores import new_store
+from lib.suite import Suite
 
-NEEDS = ["curl", "git", "go"]
 SUITE = Suite()
 # the tags for which a job runs, and others
 VERSION_TAGS = ["v1.0.0", "v10.20.30-rc.1", "one/v0.1.0", "sub/dir/v1.2.3"]

@@ -18,14 +18,17 @@ import subprocess
 import sys
 import tempfile
 import threading
-import zipfile
 
-from go_client import h1
-from harness import KEYS, ROOT, Suite, new_store, run, write
-from repositories import KEY, PUBLISH, READER, SHELL, TIME, UNASKED
-from repositories import Repository, Room, Server, free_port, gomod, greet_of, module, zipped
+from lib.keys import KEYS
+from lib.modules import h1, zipped
+from lib.ports import free_port
+from lib.program import ROOT, run
+from lib.repositories import KEY, PUBLISH, READER, SHELL, TIME, UNASKED, Repository, Room, gomod, greet_of, module
+from lib.scratch import write
+from lib.servers import Server
+from lib.stores import new_store
+from lib.suite import Suite
 
-NEEDS = ["curl", "git", "go", "ps"]
 MIB = 1_048_576
 SUITE = Suite()
 
@@ -203,10 +206,14 @@ def conflicts(room, server):
     first = other.commit(module("example.com/other"), "v1.0.0", "v1.1.0", "v1.2.0", "v1.3.0", "v1.4.0")
     path, files = "example.com/other", other.files(first, "")
     text, changed = files["go.mod"], {**files, "other.go": b"package other\n"}
-    server.put(path, "v1.0.0", text, zipped(path, "v1.0.0", files), TIME)
-    server.put(path, "v1.1.0", text, zipped(path, "v1.1.0", changed), TIME)
-    server.put(path, "v1.2.0", text, zipped(path, "v1.2.0", files), "2024-02-01T12:00:00Z")
-    server.put(path, "v1.3.0", text, b"rubbish", TIME)
+    for version, zip_bytes, stamp in (
+        ("v1.0.0", zipped(path, "v1.0.0", files), TIME),
+        ("v1.1.0", zipped(path, "v1.1.0", changed), TIME),
+        ("v1.2.0", zipped(path, "v1.2.0", files), "2024-02-01T12:00:00Z"),
+        ("v1.3.0", b"rubbish", TIME),
+    ):
+        told = server.put(KEY, path, version, text, zip_bytes, stamp)
+        assert told[0] == 201, (version, told)
     words = ["--to", server.url, "--key-file", f"{room.folder}/key", "--repository", other.folder, path]
     told = 0, "already published " + other.lines(path, "v1.0.0", first), "publish: the zip there has other bytes, but the same files and sums\n"
     SUITE.equal("the same files in another zip", room.publish(*words, "v1.0.0"), told)

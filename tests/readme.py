@@ -8,9 +8,9 @@ import subprocess
 import sys
 import tempfile
 
-from harness import ROOT, Suite
+from lib.program import ROOT
+from lib.suite import Suite
 
-NEEDS = ["git", "rt"]
 BLOCK = re.compile(r"^```sh try\n(.*?)^```$", re.M | re.S)
 # what a stand-in prints as its last line, and with which status it ends
 GATE, SUITES = ("72 passed, 0 failed", 0), ("5788 passed, 0 failed, 2 skipped", 0)

@@ -17,12 +17,18 @@ import tempfile
 import threading
 import time
 
-import harness
-from harness import KEY, KEYS, NOBODY, PROGRAM, ROOT, Suite, add_platform, answered, can_be_nobody, mounted, put, run
-from store_files import SCHEMA_1, SCHEMA_2
+from lib import stores
+from lib.keys import KEY, KEYS, SHELVES
+from lib.messages import put
+from lib.older import SCHEMA_1, SCHEMA_2
+from lib.program import NOBODY, PROGRAM, ROOT, answered, can_be_nobody, run
+from lib.scratch import mounted
+from lib.stores import add_platform
+from lib.suite import Suite
+from lib.tables import PIECE, change, reordered
+from lib.worked import HEADER
 
 ROW = f"--key {KEY} --module example.com/lib --version v1.0.0"
-HEADER = "path,version,time,mod,zip\n"
 
 def word(line, *more, before=(), output=subprocess.PIPE):
     """The word that a command ends with; nothing where it ends with 0."""
@@ -113,20 +119,9 @@ def keys(version):
 
 
 def new_store(name):
-    harness.new_store(name, ("alpha", KEY))
+    stores.new_store(name, ("alpha", KEY))
 
 
-def change(name, *statements):
-    """Runs statements by sqlite3, which also copies the log into the file."""
-    conn = sqlite3.connect(name, isolation_level=None)
-    for statement, *values in statements:
-        conn.execute(statement, values)
-    conn.execute("PRAGMA wal_checkpoint(TRUNCATE)")
-    conn.close()
-
-
-# bytes of a piece of a zip but for its last
-PIECE = 65_536
 # what docs/REFERENCE.md has sqlite3 run in a new store, to take over the rows of a file f
 TAKE_OVER = (
     "BEGIN",
@@ -136,17 +131,6 @@ TAKE_OVER = (
     "INSERT INTO piece (version, number, bytes) SELECT version, number, bytes FROM f.piece",
     "COMMIT",
 )
-
-
-def reordered(name, other):
-    """Makes a file with the tables and the rows of another, the tables in the order of their names."""
-    conn = sqlite3.connect(name, isolation_level=None)
-    conn.execute("ATTACH ? AS f", (other,))
-    tables = conn.execute("SELECT name, sql FROM f.sqlite_schema WHERE type = 'table' ORDER BY name").fetchall()
-    for table, sql in tables:
-        conn.execute(sql)
-        conn.execute(f"INSERT INTO {table} SELECT * FROM f.{table}")
-    conn.close()
 
 
 # ends in the middle of a transaction whose pages no longer fit into its cache
@@ -391,7 +375,7 @@ def migrations(suite):
 
 
 def outcomes(suite):
-    harness.new_store("o.db", *harness.SHELVES)
+    stores.new_store("o.db", *SHELVES)
     add_platform("o.db")
     rows = [[it.strip() for it in line.split("|")] for line in OUTCOMES.splitlines()]
     more = [

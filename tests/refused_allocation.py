@@ -16,10 +16,13 @@ import subprocess
 import sys
 import tempfile
 
-import harness
-from harness import KEY, MEMORY, PLATFORM, PROGRAM, Suite, new_store, put
+from lib import messages
+from lib.keys import KEY, MEMORY, PLATFORM
+from lib.messages import put
+from lib.program import PROGRAM
+from lib.stores import new_store
+from lib.suite import Suite
 
-NEEDS = ["cc"]
 # in the short form, one in this many allocations over a file
 SHARE = 10
 
@@ -48,7 +51,7 @@ def publish(path, version, zip_bytes=b""):
 
 
 def get(path, file, key=KEY):
-    return harness.get(f"{path}/@v/{file}", key)
+    return messages.get(f"{path}/@v/{file}", key)
 
 
 REQUESTS = [
@@ -99,7 +102,7 @@ class Runs:
 def replies(stream):
     """The statuses and the whole texts of the replies written one behind another."""
     found, at = [], 0
-    for status, body in harness.replies(stream):
+    for status, body in messages.replies(stream):
         end = stream.index(b"\r\n\r\n", at) + 4 + len(body)
         found.append((status, stream[at:end]))
         at = end

@@ -8,9 +8,9 @@ import os
 import subprocess
 import sys
 
-from harness import ROOT, Suite
+from lib.program import ROOT
+from lib.suite import Suite
 
-NEEDS = ["shellcheck"]
 SUITE = Suite()
 SCRIPTS = ["tools/adopt", "tools/publish", "tools/release", "tools/shards", "tests/all"]
 

@@ -9,14 +9,18 @@ import random
 import ssl
 import subprocess
 import sys
-import tempfile
 import time
 from concurrent.futures import ThreadPoolExecutor
 
-from harness import PROGRAM, ROOT, Suite, done, new_store, run
-from machine import Machine, wait_for
+from lib.machine import Machine
+from lib.peers import fetched
+from lib.ports import wait_for
+from lib.program import PROGRAM, ROOT, done, run
+from lib.scratch import play
+from lib.servers import Server
+from lib.stores import new_store
+from lib.suite import Suite
 
-NEEDS = ["nginx", "openssl"]
 # gamma is a team of the group platform
 TEAMS = {"first": ("alpha", "beta"), "second": ("platform", "gamma", "delta")}
 SHELVES = ("common", "alpha", "beta", "platform", "gamma", "delta")
@@ -82,24 +86,11 @@ def add(file, shelf):
         done("team-add", "--db", file, "--team", shelf, *(["--group", "platform"] if shelf == "gamma" else []))
 
 
-class Goshelf:
-    """`goshelf serve` over a store."""
-
-    def __init__(self, file):
-        self.file, self.port = file, 0
-        self.start()
-
-    def start(self):
-        self.child = subprocess.Popen([PROGRAM, "serve", "--db", self.file, "--port", str(self.port)], stdout=subprocess.PIPE, text=True)
-        self.port = int(self.child.stdout.readline().rsplit(":", 1)[1])
-
-    def stop(self):
-        self.child.terminate()
-        self.child.wait()
+class Goshelf(Server):
+    """A server that teams ask by their keys."""
 
     def ask(self, method, shelf, target, body=None, headers=None, right="publish"):
-        conn = http.client.HTTPConnection("127.0.0.1", self.port, timeout=60)
-        return asked(conn, method, f"/k/{key(shelf, right)}{target}", body, headers or {})
+        return super().ask(method, target.removeprefix("/"), body, key(shelf, right), headers)
 
 
 def with_teams(file, teams):
@@ -111,14 +102,6 @@ def with_teams(file, teams):
         done("key-add", "--db", file, "--shelf", shelf, "--key", key(shelf))
         done("key-add", "--db", file, "--shelf", shelf, "--key", key(shelf, "read"), "--read-only")
     return file
-
-
-def asked(conn, method, target, body, headers):
-    conn.request(method, target, body, headers)
-    reply = conn.getresponse()
-    told = reply.status, reply.read()
-    conn.close()
-    return told
 
 
 class Company:
@@ -153,7 +136,8 @@ class Company:
     def ask(self, method, shelf, target, body=None, headers=None, right="publish"):
         """What nginx answers."""
         conn = http.client.HTTPSConnection("127.0.0.1", self.machine.front, timeout=60, context=self.context)
-        return asked(conn, method, target, body, {"Authorization": login(shelf, right), **(headers or {})})
+        status, _, told = fetched(conn, method, target, body, {"Authorization": login(shelf, right), **(headers or {})})
+        return status, told
 
     def put(self, shelf, path, version, content=None, at=None):
         """Publishes by nginx, or at a goshelf."""
@@ -251,7 +235,7 @@ def pseudo_versions(suite, company):
     first, name = company.shards["first"], f"{company.folder}/inventory.csv"
     first.stop()
     with open(name, "wb") as file:
-        file.write(run(["inventory", "--db", first.file, "--key", key("common")])[1])
+        file.write(run(["inventory", "--db", first.store, "--key", key("common")])[1])
     first.start()
     suite.equal("with one it is", company.tool("send", "--inventory", name)[1][-1], "1 sent, 0 wrong")
     suite.equal("and agrees", company.tool("check", "--inventory", name)[0], 0)
@@ -265,23 +249,23 @@ def made(suite, company):
     folder, one = f"{company.folder}/made", company.one
     os.mkdir(folder)
     one.stop()
-    told = company.tool("make", folder, keys=one.file)
+    told = company.tool("make", folder, keys=one.store)
     suite.equal("make makes a store for each", told, (0, [f"{it} is {folder}/{it}.db" for it in TEAMS], ""))
-    status, lines, errors = company.tool("make", folder, keys=one.file)
+    status, lines, errors = company.tool("make", folder, keys=one.store)
     suite.equal("and none in place of one that is there", (status, lines, errors), (1, [], "shards: first is not made: goshelf: not-empty\n"))
     name = f"{company.folder}/wrong"
-    before = {it: os.path.getmtime(one.file + it) for it in ("", "-wal") if os.path.exists(one.file + it)}
+    before = {it: os.path.getmtime(one.store + it) for it in ("", "-wal") if os.path.exists(one.store + it)}
     for text, said in NOT_THE_STORE.items():
         with open(name, "w", encoding="utf-8") as file:
             file.write("shard a 127.0.0.1:1\n" + text)
         os.mkdir(f"{folder}/none")
-        status, lines, errors = company.tool("make", f"{folder}/none", file=name, keys=one.file)
+        status, lines, errors = company.tool("make", f"{folder}/none", file=name, keys=one.store)
         found = status, lines, errors.replace(f"{name}: ", "").splitlines()
         suite.equal(f"make of {text!r}", found, (2, [], [f"shards: {it}" for it in said]))
-        left = os.listdir(f"{folder}/none"), os.path.exists(f"{one.file}-shm")
+        left = os.listdir(f"{folder}/none"), os.path.exists(f"{one.store}-shm")
         suite.equal(f"make of {text!r} makes nothing", left, ([], False))
         os.rmdir(f"{folder}/none")
-    suite.equal("and leaves the store as it was", {it: os.path.getmtime(one.file + it) for it in before}, before)
+    suite.equal("and leaves the store as it was", {it: os.path.getmtime(one.store + it) for it in before}, before)
     for store in (f"{folder}/missing.db", company.file):
         status, lines, errors = company.tool("make", folder, keys=store)
         is_right = (status, lines) == (1, []) and "cannot be read" in errors
@@ -301,11 +285,11 @@ def new_team(suite, company):
     """A team is added at the second shard, to the file of the shards and to nginx's maps."""
     second, machine = company.shards["second"], company.machine
     second.stop()
-    add(second.file, "zeta")
+    add(second.store, "zeta")
     maps = {it: machine.read(f"etc/nginx/goshelf/{it}.map") for it in ("keys", "users", "paths")}
     maps["paths"] += '"example.com/zeta" "zeta";\n'
     for right, words in (("read", ["--read-only"]), ("publish", [])):
-        done("key-add", "--db", second.file, "--shelf", "zeta", "--key", key("zeta", right), *words)
+        done("key-add", "--db", second.store, "--shelf", "zeta", "--key", key("zeta", right), *words)
         maps["keys"] += f'"zeta {right}" {key("zeta", right)};\n'
         maps["users"] += user_line("zeta", right)
     second.start()
@@ -357,12 +341,12 @@ def other_keys(suite, company):
     """A shard that does not know the key of common, or the key of a team."""
     second = company.shards["second"]
     second.stop()
-    done("key-revoke", "--db", second.file, "--key", key("common"))
+    done("key-revoke", "--db", second.store, "--key", key("common"))
     second.start()
     status, lines, _ = company.tool("send")
     suite.equal("a shard without the key of common is named", (status, lines[0]), (1, "second does not know the key that publishes to common"))
     second.stop()
-    done("key-add", "--db", second.file, "--shelf", "common", "--key", key("common"))
+    done("key-add", "--db", second.store, "--shelf", "common", "--key", key("common"))
     second.start()
 
 
@@ -389,19 +373,8 @@ def wrong_files(suite, company):
 
 
 def main():
-    suite = Suite()
-    if os.geteuid() != 0:
-        suite.skip("nginx", "its users and folders need root")
-        return suite.end()
-    with tempfile.TemporaryDirectory(prefix="goshelf-shards-") as folder:
-        os.chmod(folder, 0o755)
-        company = Company(folder)
-        try:
-            for part in (alike, shard_down, two_publishers, pseudo_versions, made, new_team, wrong_files, ran_ahead, other_keys, past_nginx):
-                part(suite, company)
-        finally:
-            company.close()
-    return suite.end()
+    parts = (alike, shard_down, two_publishers, pseudo_versions, made, new_team, wrong_files, ran_ahead, other_keys)
+    return play(Suite(), "nginx", "its users and folders need root", Company, (*parts, past_nginx))
 
 
 if __name__ == "__main__":

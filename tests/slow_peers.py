@@ -10,15 +10,21 @@ import os
 import shutil
 import socket
 import struct
-import subprocess
 import sys
 import tempfile
 import threading
 import time
 from concurrent.futures import ThreadPoolExecutor
 
-from behind_nginx import AT, GOMOD, rest_of, set_up
-from harness import KEY, PROGRAM, Suite, answered, new_store, put, reply
+from lib.front import AT, GOMOD, set_up
+from lib.keys import KEY
+from lib.messages import put, reply
+from lib.peers import rest_of
+from lib.program import answered
+from lib.scratch import play
+from lib.servers import Server
+from lib.stores import new_store
+from lib.suite import Suite
 
 MIB = 1_048_576
 ZIP = os.urandom(16 * MIB)
@@ -36,9 +42,8 @@ class Door:
     closes = True
 
     def __init__(self, file):
-        words = [PROGRAM, "serve", "--db", file, "--port", "0"]
-        self.server = subprocess.Popen(words, stdin=subprocess.DEVNULL, stdout=subprocess.PIPE, stderr=subprocess.DEVNULL)
-        self.port = int(self.server.stdout.readline().rpartition(b":")[2])
+        self.server = Server(file)
+        self.port = self.server.port
 
     def plain(self, room=None):
         """A connection, with room for this many bytes of what is answered."""
@@ -55,7 +60,7 @@ class Door:
         """The head of a request, without the empty line at its end."""
         return "".join(f"{it}\r\n" for it in (f"{method} /k/{KEY}{target} HTTP/1.1", *lines)).encode()
 
-    def asked(self):
+    def waits(self):
         """Makes a request, and returns the seconds until it is answered."""
         begun = time.monotonic()
         with self.plain() as held:
@@ -67,8 +72,6 @@ class Door:
 
     def close(self):
         self.server.kill()
-        self.server.wait()
-        self.server.stdout.close()
 
 
 class Front:
@@ -87,7 +90,7 @@ class Front:
     def head(self, method, target, *lines):
         return self.client.head(method, target, "pub", *lines)
 
-    def asked(self):
+    def waits(self):
         begun = time.monotonic()
         told = self.client.get(f"{AT}/list", "pub")
         assert told == (200, b"v1.0.0\n"), told
@@ -244,7 +247,7 @@ def behind(door, acts, count):
     for it in peers:
         # these come and go, and the others go on for as long as they are let
         it.thread.join(30 if acts in (is_reset_in_mid_zip, closes_1000_connections) else 0.1)
-    seconds = door.asked()
+    seconds = door.waits()
     return seconds, [it.end() for it in peers]
 
 
@@ -302,21 +305,16 @@ def honest(suite, folder):
     door.close()
 
 
-def through_nginx(suite, folder):
+def through_nginx(suite, client):
     """The same peers at nginx, which waits for them itself."""
-    machine = None
-    try:
-        machine, client = set_up(suite, folder)
-        door = Front(client)
-        told = client.put("v1.0.0", GOMOD + ZIP)
-        assert told == (201, b"published\n"), told
-        for acts, _, _ in KINDS:
-            for count in (1, 3):
-                seconds = behind(door, acts, count)[0]
-                suite.holds(f"nginx: behind {count} that {acts.__name__.replace('_', ' ')}: {seconds:.2f} s, at most 1", seconds <= 1)
-    finally:
-        if machine:
-            machine.close()
+    door = Front(client)
+    told = client.put("v1.0.0", GOMOD + ZIP)
+    assert told == (201, b"published\n"), told
+    for acts, _, _ in KINDS:
+        for count in (1, 3):
+            seconds = behind(door, acts, count)[0]
+            row = f"nginx: behind {count} that {acts.__name__.replace('_', ' ')}: {seconds:.2f} s, at most 1"
+            suite.holds(row, seconds <= 1)
 
 
 def main():
@@ -325,12 +323,8 @@ def main():
         own_port(suite, folder)
         honest(suite, folder)
     lacking = [it for it in ("nginx", "openssl") if not shutil.which(it) and not shutil.which(it, path="/usr/sbin:/sbin")]
-    if os.geteuid() != 0 or lacking:
-        suite.skip("nginx", "its users and folders need root" if not lacking else f"the machine has no {lacking[0]}")
-        return suite.end()
-    with tempfile.TemporaryDirectory(prefix="goshelf-front-") as folder:
-        through_nginx(suite, folder)
-    return suite.end()
+    why = f"the machine has no {lacking[0]}" if lacking else "its users and folders need root"
+    return play(suite, "nginx", why, lambda folder: set_up(suite, folder), [through_nginx], not lacking)
 
 
 if __name__ == "__main__":

@@ -9,8 +9,15 @@ import sqlite3
 import struct
 import sys
 
-from control import CONTROL, Server
-from harness import KEY, KEYS, MEMORY, Suite, get, in_new_folders, new_store, put, raw_replies, read, reply, run, words_of, write
+from lib.keys import KEY, KEYS, MEMORY
+from lib.messages import get, put, raw_replies, reply
+from lib.older import ORDER_KEY, RANK_KEY, SCHEMA_1, SCHEMA_2
+from lib.program import run, words_of
+from lib.scratch import in_new_folders, read, write
+from lib.servers import CONTROL, Server
+from lib.stores import new_store
+from lib.suite import Suite
+from lib.tables import PIECE
 
 KEPT_FILES = {"go.mod": "module example.com/lib\n", "Z": "Z\n"}
 KEPT = """
@@ -38,8 +45,7 @@ group-add --db a.db --group platform | 1 taken
 team-add --db a.db --team platform | 1 taken
 """
 
-# bytes of a piece of a zip but for its last; the largest zip, of 256 of them, is in tables.py and largest.py
-PIECE = 65_536
+# the largest zip, of 256 pieces, is in tables.py and largest.py
 SIZES = {"v1.0.0": 0, "v1.0.1": 1, "v1.0.2": PIECE, "v1.0.3": PIECE + 1}
 # sizes of zips that the inventory tells by their last piece, of a piece and of more
 LISTED = (0, 1, PIECE - 1, PIECE, PIECE + 1, 2 * PIECE - 1, 2 * PIECE, 2 * PIECE + 1, 16 * PIECE)
@@ -61,38 +67,6 @@ serve --db F --port 0 --connections 0 | bad-schema
 init --db F | not-empty
 extract --db good.db --team alpha --to F | not-empty
 migrate --from good.db --to F | not-empty
-"""
-
-# the tables of schema 1, which have no keys of order, with their rows
-SCHEMA_1 = """
-CREATE TABLE meta (name TEXT PRIMARY KEY, value INTEGER NOT NULL) STRICT;
-CREATE TABLE shelf (name TEXT PRIMARY KEY) STRICT;
-CREATE TABLE access (token TEXT PRIMARY KEY, shelf TEXT NOT NULL REFERENCES shelf (name), publish INTEGER NOT NULL CHECK (publish IN (0, 1))) STRICT;
-CREATE TABLE version (id INTEGER PRIMARY KEY, shelf TEXT NOT NULL REFERENCES shelf (name), path TEXT NOT NULL, version TEXT NOT NULL, time TEXT, mod BLOB NOT NULL, UNIQUE (shelf, path, version)) STRICT;
-CREATE TABLE body (id INTEGER PRIMARY KEY REFERENCES version (id), zip BLOB NOT NULL) STRICT;
-INSERT INTO meta VALUES ('schema', 1);
-INSERT INTO shelf VALUES ('common'), ('alpha');
-INSERT INTO access VALUES ('alphakey00000001', 'alpha', 1);
-INSERT INTO version VALUES (7, 'common', 'example.com/lib', 'v1.0.0', NULL, X'6d6f64756c65206578616d706c652e636f6d2f6c69620a');
-INSERT INTO body VALUES (7, X'5A');
-"""
-
-# the keys of v1.0.0
-ORDER_KEY = "00000000000000010000000000000000000000000000000003"
-RANK_KEY = "03" + ORDER_KEY
-
-# the tables of schema 2, whose shelves have no parents, with their rows
-SCHEMA_2 = f"""
-CREATE TABLE meta (name TEXT PRIMARY KEY, value INTEGER NOT NULL) STRICT;
-CREATE TABLE shelf (name TEXT PRIMARY KEY) STRICT;
-CREATE TABLE access (token TEXT PRIMARY KEY, shelf TEXT NOT NULL REFERENCES shelf (name), publish INTEGER NOT NULL CHECK (publish IN (0, 1))) STRICT;
-CREATE TABLE version (id INTEGER PRIMARY KEY, shelf TEXT NOT NULL REFERENCES shelf (name), path TEXT NOT NULL, version TEXT NOT NULL, time TEXT, mod BLOB NOT NULL, order_key BLOB NOT NULL, rank_key BLOB NOT NULL, UNIQUE (shelf, path, version)) STRICT;
-CREATE TABLE piece (version INTEGER NOT NULL REFERENCES version (id), number INTEGER NOT NULL CHECK (number >= 0), bytes BLOB NOT NULL, PRIMARY KEY (version, number)) STRICT;
-INSERT INTO meta VALUES ('schema', 2);
-INSERT INTO shelf VALUES ('common'), ('alpha');
-INSERT INTO access VALUES ('alphakey00000001', 'alpha', 1);
-INSERT INTO version VALUES (7, 'common', 'example.com/lib', 'v1.0.0', NULL, X'6d6f64756c65206578616d706c652e636f6d2f6c69620a', X'{ORDER_KEY}', X'{RANK_KEY}');
-INSERT INTO piece VALUES (7, 0, X'5A');
 """
 
 # a team and a version in a store
@@ -269,7 +243,7 @@ def logs_of_others(suite):
     new_store("good.db")
     changed("good.db", FILL)
     new_store("served.db", ("alpha", KEY))
-    server = Server("served.db")
+    server = Server("served.db", CONTROL)
     rows = [*COMMANDS.strip().split("\n"), f"copy --control {CONTROL} --to F | not-empty"]
     for number, (cause, files) in enumerate(of_no_store()):
         name = f"no-store-{number}.db"

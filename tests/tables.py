@@ -13,14 +13,17 @@ import sqlite3
 import sys
 import tempfile
 
-import harness
-from harness import KEY, KEYS, Suite, add_platform, answered, get, read, run
+from lib import messages, stores
+from lib.keys import KEY, KEYS
+from lib.messages import get
+from lib.program import answered, run
+from lib.scratch import read
+from lib.stores import add_platform
+from lib.suite import Suite
+from lib.tables import PIECE, PSEUDO, order_key, rank_key
 
 PATH = "example.com/m"
 GOMOD = f"module {PATH}\n".encode()
-# bytes of a piece of a zip but for its last
-PIECE = 65_536
-PSEUDO = re.compile(r"^v0\.0\.0-(\d{14})-[0-9a-f]{12}$")
 # each version with the length of its zip
 VERSIONS = {
     "v1.0.0": 0,
@@ -63,24 +66,8 @@ def zip_of(version):
     return b"".join(b"%08d" % at + block for at in range(0, length + 1, len(block)))[:length]
 
 
-def order_key(version):
-    numbers, _, identifiers = version[1:].partition("-")
-    key = b"".join(int(number).to_bytes(8, "big") for number in numbers.split("."))
-    if not identifiers:
-        return key + b"\3"
-    for one in identifiers.split("."):
-        key += bytes([1, len(one)]) + one.encode() if one.isdigit() else b"\2" + one.encode() + b"\0"
-    return key + b"\0"
-
-
-def rank_key(version):
-    stamp = PSEUDO.match(version)
-    rank = b"\1" + stamp[1].encode() if stamp else b"\2" if "-" in version else b"\3"
-    return rank + order_key(version)
-
-
 def put(version):
-    return harness.put(PATH, version, GOMOD, zip_of(version), time=stamp_time(version) if PSEUDO.match(version) else "")
+    return messages.put(PATH, version, GOMOD, zip_of(version), time=stamp_time(version) if PSEUDO.match(version) else "")
 
 
 def stamp_time(version):
@@ -95,7 +82,7 @@ def served(file):
 
 
 def new_store(file):
-    harness.new_store(file, ("alpha", KEY))
+    stores.new_store(file, ("alpha", KEY))
 
 
 def opened(file):
@@ -145,9 +132,9 @@ def seen(file, letter):
 
 def shelves_read(suite):
     """Tables, columns and the parents of shelves, as sqlite3 tells them."""
-    harness.new_store("shelves.db", ("alpha", KEY), ("common", KEYS["C"]))
+    stores.new_store("shelves.db", ("alpha", KEY), ("common", KEYS["C"]))
     add_platform("shelves.db")
-    puts = [harness.put(f"example.com/{it.lower()}", "v1.0.0", f"module example.com/{it.lower()}\n".encode(), it.encode(), KEYS[it]) for it in PUBLISHED]
+    puts = [messages.put(f"example.com/{it.lower()}", "v1.0.0", f"module example.com/{it.lower()}\n".encode(), it.encode(), KEYS[it]) for it in PUBLISHED]
     suite.equal("each shelf publishes", [status for status, _ in answered(["--db", "shelves.db"], puts)], [201] * len(puts))
     conn = opened("shelves.db")
     suite.equal("each shelf has its parent", conn.execute("SELECT name, parent FROM shelf ORDER BY name").fetchall(), SHELVES)

@@ -1,18 +1,19 @@
 #!/usr/bin/env python3
 """goshelf-user and goshelf-uncache beside an nginx, used and misused; no cache answers what a restored store lost.
 
-The machine, its users and its nginx are those of tests/behind_nginx.py.
+The machine, its users and its nginx are those of lib/front.py.
 """
 
 import base64
 import os
 import sys
-import tempfile
 
-from behind_nginx import AT, GOMOD, USERS, ZIP, rest_of, set_up, settle, until
-from harness import Suite
+from lib.front import AT, GOMOD, USERS, ZIP, set_up, settle
+from lib.peers import rest_of
+from lib.ports import wait_until
+from lib.scratch import play
+from lib.suite import Suite
 
-NEEDS = ["nginx", "openssl", "curl", "sqlite3"]
 # words of goshelf-user that are refused, the status, and what is said
 MISUSES = (
     ("add ann alpha read", 1, "ann is a user already"),
@@ -195,7 +196,7 @@ def uncached(suite, client):
         raised = before.replace('"$goshelf_shelf 1"', f'"$goshelf_shelf {number}"')
         suite.equal(f"nothing else changed to {number}", machine.read(name), raised)
         # (nginx reads the file a moment later, and must not find a half of the next one)
-        until(lambda number=number: part_is(client, number))
+        wait_until(lambda number=number: part_is(client, number))
     line = 'default "$goshelf_shelf 3";'
     for cause, text in (
         ("a file that nginx refuses", f"{raised}nonsense;\n"),
@@ -231,25 +232,13 @@ def lost(suite, client):
 
 def gone(suite, client, file):
     """Adds a row: a file gets a 404, ten times in a row, once nginx's processes of before have ended."""
-    until(lambda: {client.get(f"{AT}/{file}")[0] for _ in range(10)} == {404})
+    wait_until(lambda: {client.get(f"{AT}/{file}")[0] for _ in range(10)} == {404})
     suite.equal(f"{file} is gone", client.get(f"{AT}/{file}"), (404, b"not found\n"))
 
 
 def main():
-    suite = Suite()
-    if os.geteuid() != 0:
-        suite.skip("nginx", "its users and folders need root")
-        return suite.end()
-    with tempfile.TemporaryDirectory(prefix="goshelf-users-") as folder:
-        machine = client = None
-        try:
-            machine, client = set_up(suite, folder)
-            for part in (misused, unlucky, faults, kept_in_step, uncached, lost):
-                part(suite, client)
-        finally:
-            if machine:
-                machine.close()
-    return suite.end()
+    suite, parts = Suite(), (misused, unlucky, faults, kept_in_step, uncached, lost)
+    return play(suite, "nginx", "its users and folders need root", lambda folder: set_up(suite, folder), parts)
 
 
 if __name__ == "__main__":

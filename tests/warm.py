@@ -1,25 +1,25 @@
 #!/usr/bin/env python3
 """deploy/warm, broken and healed: a host that answers from a copy of the store; every answer is compared with the first host's store.
 
-The hosts are network namespaces (hosts.py). The files of deploy/ run as they are, set up by the commands of the pages.
+The hosts are network namespaces (lib/hosts.py). The files of deploy/ run as they are, set up by the commands of the pages.
 """
 
 import os
-import re
 import shlex
 import shutil
 import subprocess
 import sys
 import time
 
-from go_client import module
-from harness import Suite, done, read, write
-from hosts import wait_until
-from machine import block
-from one import DESK, FIRST, KEPT, equal, told_over_reloads
-from warm_hosts import BOTH, COPY, ELSEWHERE, HOME, NOT_WHOLE, PAGE, SECOND_WAY, WARM, play, publishes, store_of
+from lib.company import DESK, FIRST, KEPT, equal, told_over_reloads
+from lib.modules import module
+from lib.pages import block
+from lib.ports import wait_until
+from lib.program import done
+from lib.scratch import play, read, write
+from lib.suite import Suite
+from lib.warm import BOTH, COPY, ELSEWHERE, HOME, NOT_WHOLE, PAGE, SECOND_WAY, WARM, Warm, publishes, store_of
 
-NEEDS = ["curl", "flock", "ip", "nginx", "openssl", "pgrep", "sqlite3"]
 
 
 def before_the_copy(suite, company):
@@ -353,4 +353,4 @@ def promoted(suite, company):
 
 if __name__ == "__main__":
     parts = (before_the_copy, first_copy, old_copy, first_reloaded, copy_down, go_goes_on, public_modules, removed, key_revoked)
-    sys.exit(play(Suite(), (*parts, restored, under_way, promoted)))
+    sys.exit(play(Suite(), "deploy/warm", "network namespaces need root", Warm, (*parts, restored, under_way, promoted)))

@@ -1,7 +1,7 @@
 #!/usr/bin/env python3
 """The copies of deploy/warm: cut short, damaged, of another store, under a rush, on full disks; what was served goes on, and all is named.
 
-The hosts are network namespaces (hosts.py). The files of deploy/ run as they are, set up by the commands of the pages.
+The hosts are network namespaces (lib/hosts.py). The files of deploy/ run as they are, set up by the commands of the pages.
 """
 
 import hashlib
@@ -13,12 +13,13 @@ import sys
 import tarfile
 import threading
 
-from harness import PROGRAM, Suite, done, mounted, read, run, write
-from hosts import wait_until
-from one import FIRST, equal, fill
-from warm_hosts import COPY, HOME, NOT_WHOLE, SAMPLE, WARM, play, publishes, tried
+from lib.company import FIRST, equal
+from lib.ports import wait_until
+from lib.program import PROGRAM, done, run
+from lib.scratch import fill, mounted, play, read, write
+from lib.suite import Suite
+from lib.warm import COPY, HOME, NOT_WHOLE, SAMPLE, WARM, Warm, publishes, tried
 
-NEEDS = ["curl", "flock", "ip", "nginx", "openssl", "pgrep", "sqlite3", "umount"]
 LACKS = r"the copy lacks versions that are served here:\nalpha\|example.com/lib\|v1.1.0\|"
 BROKEN_STORE = "(the copy is no store|goshelf refuses the copy|the copy lacks versions)"
 # On the first host: cp, but behind a copy of the store's file so much is published that goshelf empties its log.
@@ -248,4 +249,4 @@ def rush(suite, company):
 
 
 if __name__ == "__main__":
-    sys.exit(play(Suite(), (start, bad_copies, cut_line, killed_runs, full_disks, rush)))
+    sys.exit(play(Suite(), "deploy/warm", "network namespaces need root", Warm, (start, bad_copies, cut_line, killed_runs, full_disks, rush)))

@@ -12,11 +12,16 @@ import hashlib
 import itertools
 import re
 import shutil
-import socket
 import subprocess
 import sys
 
-from harness import KEYS, MEMORY, PROGRAM, SHELVES, Suite, add_platform, columns, get, in_new_folders, new_store, put, raw_replies, reply, run
+from lib.keys import KEYS, MEMORY, SHELVES
+from lib.messages import get, put, raw_replies, reply
+from lib.peers import exchanged
+from lib.program import PROGRAM, columns, run
+from lib.scratch import in_new_folders
+from lib.stores import add_platform, new_store
+from lib.suite import Suite
 
 REQUESTS = """
 # empty-modules
@@ -340,9 +345,7 @@ def by_serve(suite, where, words, rows):
     serve = subprocess.Popen([PROGRAM, "serve", *words, "--port", "0", "--connections", str(len(rows))], stdout=subprocess.PIPE)
     port = int(serve.stdout.readline().rpartition(b":")[2])
     for name, row, request, wanted in rows:
-        with socket.create_connection(("127.0.0.1", port), timeout=60) as stream:
-            stream.sendall(request)
-            suite.equal(f"{where}, {name}: {row}", b"".join(iter(lambda: stream.recv(65_536), b"")), wanted)
+        suite.equal(f"{where}, {name}: {row}", exchanged(port, request), wanted)
     suite.equal(f"{where}: it ends well", serve.wait(60), 0)
 
 

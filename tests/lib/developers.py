@@ -8,11 +8,13 @@ import os
 import re
 import subprocess
 
-from behind_nginx import Client, settle, start
-from harness import new_store, read, write
-from hosts import wait_until
-from machine import AUTHORITIES, Machine
-from outside import STORE, Outside, escaped, module
+from lib.front import Client, settle, start
+from lib.machine import AUTHORITIES, Machine
+from lib.modules import escaped
+from lib.outside import STORE, Outside, module
+from lib.ports import wait_until
+from lib.scratch import read, write
+from lib.stores import new_store
 
 PATHS = {
     "example.com": "common",
@@ -132,7 +134,7 @@ class Developers:
         """What was asked outside that names a path of the company."""
         return self.outside.leaks(PATHS, since)
 
-    def asked(self):
+    def asked_outside(self):
         """How often anything was asked outside."""
         return len(self.outside.asked)
 
@@ -148,3 +150,20 @@ class Developers:
     def close(self):
         self.machine.close()
         self.outside.close()
+# how somebody might spell the path of another shelf
+SPELLINGS = """
+/{} //{} /./{} /pub.example/../{} /pub.example/%2e%2e/{} /pub.example/..%2f{} /pub.example/.%2e/{}
+/%65xample.com/alpha/core /example%2ecom/alpha/core /example%2Ecom/alpha/core /example.com%2falpha%2fcore
+/example.com%2Falpha/core /%2f{} /%2e/{} /%252e%252e/{} /example%252ecom/alpha/core /EXAMPLE.COM/alpha/core
+/Example.com/alpha/core /!{} /%21{} /example.com/!alpha/core /example.com/%21alpha/core /example.com/ALPHA/core
+/!e!x!a!m!p!l!e.com/alpha/core /example.!com/alpha /{}/ /{};x /example.com./alpha/core /.example.com/alpha/core
+/example.com\\alpha/core /pub.example\\..\\example.com/alpha /pub.example/@v/{} /pub.example/@v/../{}
+/pub.example/@latest/{} /pub.example/x/@v/v1.0.0.mod/{} /example.com/@v/alpha/core /example.com//alpha/core
+/example.com/./alpha/core /sumdb/sum.golang.org/lookup/{} /sumdb/sum.golang.org/tile/{} /sumdb/sum.golang.org/{}
+/sumdb/{} /sumdb/sum.golang.org/lookup/!{} /sumdb//sum.golang.org/lookup/{} /!sumdb/sum.golang.org/lookup/{}
+/sumdb/sum.golang.org/supported/{} /k/x/{} /-/{} /https://{} /http:/{} /pub.example@{} /pub.example:80/{}
+/example.com:443/alpha/core /example.com%00/alpha/core /example.com%09/alpha /example.com%20/alpha/core
+/example.com%c0%ae/alpha /example%EF%BC%8Ecom/alpha /example.com/alpha%23/core /forge.example/%21corp/x
+/forge.example/!corp/x /forge.example/Corp/x /forge.example/!c!o!r!p/x /forge.example/corp /forge.example/corp/x
+/fallow.example/x /{}/../../../pub.example /{}/%2e%2e/%2e%2e/%2e%2e/pub.example
+"""

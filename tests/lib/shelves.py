@@ -6,7 +6,11 @@ import socket
 import subprocess
 import threading
 
-from harness import KEY, MEMORY, PROGRAM, difference, new_store, replies, reply, run
+from lib.keys import KEY, MEMORY
+from lib.messages import replies, reply
+from lib.program import PROGRAM, run
+from lib.stores import new_store
+from lib.suite import difference
 
 PUBLISHED = reply(201, b"published\n")
 AGAIN = reply(200, b"already published\n")

@@ -10,11 +10,10 @@ import contextlib
 import os
 import re
 import shutil
-import socket
 import subprocess
-import time
 
-from harness import PROGRAM, ROOT
+from lib.ports import free_port
+from lib.program import PROGRAM, ROOT
 
 # folders whose names the pages and deploy/ use; each is put below the folder of the machine
 PLACES = re.compile(
@@ -26,8 +25,6 @@ FOLDERS = (
     "etc/nginx/conf.d", "etc/nginx/modules-enabled", "etc/ssl/certs", "etc/cron.d", "etc/default", "var/lib/nginx",
     "var/log/nginx", "var/lib/goshelf", "var/backups", "usr/local/bin", "usr/share", "run", "root",
 )  # fmt: skip
-# the pages for operators
-OPERATORS = ("OPERATING.md", "NGINX.md", "TROUBLE.md")
 # the authorities that nginx takes for the public proxy
 AUTHORITIES = "/etc/ssl/certs/ca-certificates.crt"
 SYSTEMCTL = """\
@@ -74,38 +71,11 @@ http {
 """
 
 
-def free_port():
-    """A port on which nobody listens."""
-    with socket.socket() as held:
-        held.bind(("127.0.0.1", 0))
-        return held.getsockname()[1]
-
-
-def wait_for(port):
-    """Waits until somebody listens on a port."""
-    for _ in range(200):
-        with socket.socket() as probe:
-            if probe.connect_ex(("127.0.0.1", port)) == 0:
-                return
-        time.sleep(0.05)
-    raise TimeoutError(f"nobody listens on {port}")
-
-
-def read_page(name):
-    with open(os.path.join(ROOT, "docs", name), encoding="utf-8") as file:
-        return file.read()
-
-
-def block(kind, first, *pages):
-    """The block of code of these pages, or of those for operators, by its kind and what stands in it."""
-    text = "".join(map(read_page, pages or OPERATORS))
-    found = [it for it in re.findall(rf"```{kind}\n(.*?)```", text, re.S) if first in it]
-    assert len(found) == 1, (kind, first, len(found))
-    return found[0]
-
-
 class Machine:
     """A machine in a folder."""
+
+    # what runs a script of it
+    within = ()
 
     def __init__(self, folder, public=9):
         self.folder, self.front, self.behind, self.public = folder, free_port(), free_port(), public
@@ -153,8 +123,9 @@ class Machine:
     def sh(self, script, **settings):
         """Runs a script that is written for a whole machine, in `root`. Returns its status, what it prints, and its errors."""
         where = {"PATH": f"{self.folder}/usr/local/bin:{os.environ['PATH']}:/usr/sbin", "HOME": f"{self.folder}/root", **settings}
-        ran = subprocess.run(["sh", "-euc", self.placed(script)], cwd=f"{self.folder}/root", env=where, capture_output=True, text=True,
-                             stdin=subprocess.DEVNULL, timeout=120)
+        words = [*self.within, "sh", "-euc", self.placed(script)]
+        how = {"cwd": f"{self.folder}/root", "env": where, "stdin": subprocess.DEVNULL, "timeout": 120}
+        ran = subprocess.run(words, capture_output=True, text=True, **how)
         return ran.returncode, ran.stdout, ran.stderr
 
     def does(self, script, **settings):

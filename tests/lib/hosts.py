@@ -15,7 +15,10 @@ import ssl
 import subprocess
 import time
 
-from machine import Machine, block
+from lib.machine import Machine
+from lib.pages import block
+from lib.peers import over
+from lib.ports import wait_until
 
 NEW_NET = 0x40000000
 LIBC = ctypes.CDLL(None, use_errno=True)
@@ -44,15 +47,10 @@ class Host(Machine):
     def __init__(self, folder, namespace, name, number):
         super().__init__(folder)
         self.namespace, self.name, self.address = namespace, name, f"198.18.0.{number}"
+        self.within = ("ip", "netns", "exec", namespace)
 
     def placed(self, text):
         return self.placed_on_host(text)
-
-    def sh(self, script, **settings):
-        where = {"PATH": f"{self.folder}/usr/local/bin:{os.environ['PATH']}:/usr/sbin", "HOME": f"{self.folder}/root", **settings}
-        words = ["ip", "netns", "exec", self.namespace, "sh", "-euc", self.placed(script)]
-        ran = subprocess.run(words, cwd=f"{self.folder}/root", env=where, capture_output=True, text=True, stdin=subprocess.DEVNULL, timeout=120)
-        return ran.returncode, ran.stdout, ran.stderr
 
     def link(self, up):
         """Takes the host's cable out, or puts it in again."""
@@ -185,28 +183,3 @@ class Desk:
         if not reply.will_close:
             self.kept[name] = conn
         return told
-
-
-def over(connection):
-    """A connection of http.client on one that is there."""
-    conn = http.client.HTTPConnection("localhost")
-    conn.sock = connection
-    return conn
-
-
-def asked(connect, target, method="GET", body=None, headers=None):
-    """The status, the kind and the body of a reply on a new connection."""
-    conn = over(connect())
-    try:
-        conn.request(method, target, body, headers or {})
-        reply = conn.getresponse()
-        return reply.status, reply.headers.get("Content-Type", ""), reply.read()
-    finally:
-        conn.close()
-
-
-def wait_until(holds, seconds=30):
-    begun = time.time()
-    while not holds():
-        assert time.time() - begun < seconds, "it does not come about"
-        time.sleep(0.02)

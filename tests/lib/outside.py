@@ -4,12 +4,9 @@ The public proxy notes what it is asked, and misbehaves as it is told. It has ce
 authorities that stand three deep, of which `Outside.authority` is the first.
 """
 
-import base64
 import contextlib
-import hashlib
 import http.client
 import http.server
-import io
 import os
 import re
 import socket
@@ -18,12 +15,15 @@ import struct
 import subprocess
 import threading
 import urllib.parse
-import zipfile
 
-from harness import ROOT
+from lib.modules import escaped, sums, zipped
+from lib.peers import fetched
+from lib.program import ROOT
 
 NAME, STORE = "proxy.golang.org", "storage.googleapis.com"
 DATABASE = "/sumdb/sum.golang.org"
+# the folder of golang.org/x/mod by Debian's package golang-golang-x-mod-dev, with which the checksum database is built
+XMOD = "/usr/share/gocode/src/golang.org/x/mod"
 TIME = "2024-01-31T12:00:00Z"
 TEXT, JSON, ZIP = "text/plain; charset=UTF-8", "application/json", "application/zip"
 CERTIFICATES = """
@@ -51,27 +51,12 @@ openssl req -x509 -newkey rsa:2048 -nodes -days 2 -subj /CN=self -keyout self.ke
 """
 
 
-def escaped(text):
-    """A path or a version as it stands in a target."""
-    return re.sub("[A-Z]", lambda found: "!" + found[0].lower(), text)
-
-
-def digest(files):
-    """The hash of files in a go.sum, by their names."""
-    text = "".join(f"{hashlib.sha256(content).hexdigest()}  {name}\n" for name, content in sorted(files.items()))
-    return "h1:" + base64.b64encode(hashlib.sha256(text.encode()).digest()).decode()
-
-
 def module(path, version, gomod=None, files=None):
     """The go.mod, the zip and the go.sum lines of a version. Without files it has one, and a short go.mod without one."""
     gomod, files = gomod or f"module {path}\n\ngo 1.17\n", files or {"a.go": "package a\n"}
-    whole = {f"{path}@{version}/{name}": text.encode() for name, text in {"go.mod": gomod, **files}.items()}
-    held = io.BytesIO()
-    with zipfile.ZipFile(held, "w", zipfile.ZIP_DEFLATED) as file:
-        for name, content in whole.items():
-            file.writestr(zipfile.ZipInfo(name), content)
-    sums = f"{path} {version} {digest(whole)}\n{path} {version}/go.mod {digest({'go.mod': gomod.encode()})}\n"
-    return gomod.encode(), held.getvalue(), sums
+    whole = zipped(path, version, {"go.mod": gomod, **files})
+    of_gomod, of_zip = sums(gomod.encode(), whole)
+    return gomod.encode(), whole, f"{path} {version} {of_zip}\n{path} {version}/go.mod {of_gomod}\n"
 
 
 class NameServer(threading.Thread):
@@ -131,7 +116,7 @@ class Handler(http.server.BaseHTTPRequestHandler):
         pass
 
 
-class Server(http.server.ThreadingHTTPServer):
+class Listener(http.server.ThreadingHTTPServer):
     """Takes connections over TLS. The thread of a connection does its handshake."""
 
     daemon_threads, request_queue_size = True, 128
@@ -192,14 +177,11 @@ class Outside:
         if target == "/supported":
             return 200, TEXT, b""
         conn = http.client.HTTPConnection("127.0.0.1", self.database_port, timeout=30)
-        conn.request("GET", target)
-        reply = conn.getresponse()
-        told = reply.status, reply.headers.get("Content-Type", TEXT), reply.read()
-        conn.close()
-        return told
+        status, kind, body = fetched(conn, "GET", target)
+        return status, kind or TEXT, body
 
     def listen(self, certificate, port=0):
-        server = Server(self, certificate, port)
+        server = Listener(self, certificate, port)
         self.servers[server.server_address[1]] = server
         return server.server_address[1]
 

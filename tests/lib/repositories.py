@@ -1,16 +1,14 @@
 """What the suites of tools/publish and tools/adopt share: repositories with modules and tags, their sums, and a served store."""
 
-import http.client
-import io
 import os
 import re
 import shutil
-import socket
 import subprocess
-import zipfile
 
-from go_client import escaped, h1
-from harness import KEYS, PROGRAM, ROOT, write
+from lib.keys import KEYS
+from lib.modules import h1
+from lib.program import ROOT
+from lib.scratch import write
 
 PUBLISH, ADOPT = (os.path.join(ROOT, "tools", it) for it in ("publish", "adopt"))
 SHELL = shutil.which("dash") or "sh"
@@ -125,43 +123,6 @@ def greet_of(room):
     return greet
 
 
-class Server:
-    """The program, serving a store."""
-
-    def __init__(self, store):
-        self.child = subprocess.Popen([PROGRAM, "serve", "--db", store, "--port", "0"], stdout=subprocess.PIPE, text=True)
-        self.port = int(self.child.stdout.readline().rsplit(":", 1)[1])
-        self.url = f"http://127.0.0.1:{self.port}"
-
-    def ask(self, method, target, body=None, key=KEY, **headers):
-        conn = http.client.HTTPConnection("127.0.0.1", self.port, timeout=30)
-        conn.request(method, f"/k/{key}/{target}", body, {name.replace("_", "-"): text for name, text in headers.items()})
-        reply = conn.getresponse()
-        return reply.status, reply.read()
-
-    def put(self, path, version, text, zipped, stamp):
-        told = self.ask("PUT", f"{escaped(path)}/@v/{escaped(version)}", text + zipped, Mod_Length=str(len(text)), Version_Time=stamp)
-        assert told[0] == 201, (path, version, told)
-
-    def stop(self):
-        self.child.terminate()
-        self.child.wait()
-
-
-def zipped(path, version, files, how=zipfile.ZIP_STORED):
-    held = io.BytesIO()
-    with zipfile.ZipFile(held, "w", how) as file:
-        for name, text in files.items():
-            file.writestr(f"{path}@{version}/{name}", text)
-    return held.getvalue()
-
-
-def blocks(page, kind, word=""):
-    """The blocks of code of a page, by their kind and a word that stands in them."""
-    with open(os.path.join(ROOT, page), encoding="utf-8") as file:
-        return [it for it in re.findall(rf"```{kind}\n(.*?)```", file.read(), re.S) if word in it]
-
-
 def shell(room, folder, script, replaced, **more):
     """Runs a block of a page in a folder, with other words in place of some, and returns its status, output and errors."""
     for old, new in replaced.items():
@@ -170,9 +131,3 @@ def shell(room, folder, script, replaced, **more):
     env = {**room.env, **more}
     ran = subprocess.run(["bash", "-e", "-c", script], cwd=folder, env=env, capture_output=True, text=True, timeout=300)
     return ran.returncode, ran.stdout, ran.stderr
-
-
-def free_port():
-    with socket.socket() as held:
-        held.bind(("127.0.0.1", 0))
-        return held.getsockname()[1]

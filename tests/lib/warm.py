@@ -10,13 +10,13 @@ import re
 import socket
 import subprocess
 import sys
-import tempfile
 import threading
 
-from harness import read
-from hosts import inside, wait_until
-from machine import block
-from one import FIRST, KEPT, Company
+from lib.company import FIRST, KEPT, Company
+from lib.hosts import inside
+from lib.pages import block
+from lib.ports import wait_until
+from lib.scratch import read
 
 WARM, BOTH, PAGE = "warm.example.com", "modules.example.com", "DEPLOYMENTS.md"
 # modules that are not the company's: goshelf has none of them, and nginx answers them as goshelf would, by the second way
@@ -182,21 +182,3 @@ def tried(company, text):
     """What goshelf-warm says of a copy."""
     with company.wire.gives(text):
         return company.warm.sh("goshelf-warm store")
-
-
-def play(suite, parts):
-    """Has a suite play parts with a new company, and returns its exit status."""
-    if os.geteuid() != 0:
-        suite.skip("deploy/warm", "network namespaces need root")
-        return suite.end()
-    with tempfile.TemporaryDirectory(prefix="goshelf-warm-") as folder:
-        os.chmod(folder, 0o755)
-        company = None
-        try:
-            company = Warm(folder)
-            for part in parts:
-                part(suite, company)
-        finally:
-            if company:
-                company.close()
-    return suite.end()

@@ -1,0 +1,132 @@
+"""A machine with goshelf behind nginx, by the page's commands, and its users."""
+
+import base64
+import http.client
+import os
+import re
+import socket
+import ssl
+import time
+
+from lib.machine import Machine
+from lib.pages import block
+from lib.ports import wait_for
+from lib.stores import new_store
+
+LIB = "/example.com/lib"
+AT = f"{LIB}/@v"
+GOMOD, ZIP = b"module example.com/lib\n", os.urandom(3_000_000)
+# name, shelf and right; the name of one begins as another's, and one shelf has the longest name
+LONG = "z" * 32
+# a key of alpha that nginx does not know
+UNUSED = "firstkey00000001"
+USERS = [("ann", "alpha", "read"), ("ann-b", "alpha", "read"), ("pub", "alpha", "publish"), ("bob", "beta", "publish"), ("zoe", LONG, "publish")]
+
+
+class Client:
+    """What the users of the front see of it."""
+
+    def __init__(self, machine):
+        self.machine, self.passwords = machine, {}
+        self.pem = f"{machine.folder}/etc/ssl/goshelf.pem"
+        self.context = ssl.create_default_context(cafile=self.pem)
+
+    def close(self):
+        self.machine.close()
+
+    def add(self, user, shelf, right):
+        """Adds a user by the page's commands, and keeps the password that they print."""
+        script = block("sh", "goshelf-user add ann")
+        line = self.machine.does(script.replace("ann alpha read", f"{user} {shelf} {right}"))
+        assert line.split()[:4] == ["machine", "localhost", "login", user], line
+        self.passwords[user] = line.split()[5]
+
+    def login(self, user):
+        """The header by which a user logs in."""
+        return "Basic " + base64.b64encode(f"{user}:{self.passwords[user]}".encode()).decode()
+
+    def ask(self, method, target, header, body=None, headers=None):
+        reply = self.reply(method, target, header, body, headers)
+        return reply.status, reply.body
+
+    def reply(self, method, target, header, body=None, headers=None):
+        """The answer, which has been read: its `body`."""
+        conn = http.client.HTTPSConnection("localhost", self.machine.front, timeout=60, context=self.context)
+        conn.request(method, target, body, {**({"Authorization": header} if header else {}), **(headers or {})})
+        reply = conn.getresponse()
+        reply.body = reply.read()
+        conn.close()
+        return reply
+
+    def get(self, target, user="ann"):
+        return self.ask("GET", target, self.login(user))
+
+    def put(self, version, body, user="pub"):
+        return self.ask("PUT", f"{AT}/{version}", self.login(user), body, {"Mod-Length": str(len(GOMOD))})
+
+    def begin(self, sent, room=None):
+        """A connection on which this is sent; with room for so many bytes of what is answered."""
+        raw = socket.socket()
+        raw.settimeout(60)
+        if room:
+            raw.setsockopt(socket.SOL_SOCKET, socket.SO_RCVBUF, room)
+        raw.connect(("127.0.0.1", self.machine.front))
+        held = self.context.wrap_socket(raw, server_hostname="localhost")
+        held.sendall(sent)
+        return held
+
+    def head(self, method, target, user, *lines):
+        """The head of a request, without the empty line at its end."""
+        return "".join(f"{it}\r\n" for it in (f"{method} {target} HTTP/1.1", "Host: localhost", f"Authorization: {self.login(user)}", *lines)).encode()
+
+
+def set_up(suite, folder):
+    """The users of a machine with goshelf behind nginx, by the page's commands."""
+    machine = Machine(folder)
+    try:
+        new_store(machine.store, ("alpha", UNUSED), ("beta", "firstkey00000002"), (LONG, "firstkey00000003"))
+        start(machine, lambda block: block.replace("alpha", f"alpha beta {LONG}"))
+        client = Client(machine)
+        for user in USERS:
+            client.add(*user)
+        settle(client, wanted=404)
+    except BaseException:
+        machine.close()
+        raise
+    maps = [f"{folder}/etc/nginx/goshelf/{name}" for name in ("users.map", "keys.map")]
+    suite.equal("only root may read the maps", [os.stat(it).st_mode & 0o777 for it in maps], [0o600, 0o600])
+    return client
+
+
+def start(machine, paths, change=lambda machine: None):
+    """Starts goshelf and nginx by the page's commands. `paths` makes the command that names the company's paths from
+    the page's, and `change` changes files before nginx starts."""
+    machine.does("systemctl start goshelf")
+    made = "openssl req -x509 -newkey rsa:2048 -nodes -days 2 -subj /CN=localhost -addext subjectAltName=DNS:localhost"
+    machine.does(f"{made} -out /etc/ssl/goshelf.pem -keyout /etc/ssl/goshelf.key")
+    machine.check_out()
+    machine.does(block("sh", "deploy/nginx/users.map"))
+    machine.does("sed -i 's/server_name shelf.example.com;/server_name localhost;/' /etc/nginx/conf.d/goshelf.conf")
+    machine.does(paths(block("sh", ">> /etc/nginx/goshelf/paths.map")))
+    change(machine)
+    machine.does(block("sh", "systemctl restart nginx"))
+    wait_for(machine.front)
+
+
+def settle(client, user="zoe", wanted=200):
+    """Waits until nginx has read its maps anew, so that a user gets what is wanted. Returns the seconds that it took.
+
+    The processes of before go on for a moment beside the new ones, so it waits for ten such answers in a row. Strangers who ask
+    often get a 429 in the place of a 401."""
+    begun, row = time.time(), 0
+    while row < 10:
+        status = client.get(f"{AT}/v1.0.0.mod", user)[0]
+        row = row + 1 if status == wanted or (status, wanted) == (429, 401) else 0
+        assert time.time() - begun < 30, f"{user} does not get {wanted}"
+        time.sleep(0.02)
+    return time.time() - begun
+
+
+def keys_of(machine):
+    """Every key of the store that nginx knows."""
+    return re.findall(r"^\".*\" (\w+);$", machine.read("etc/nginx/goshelf/keys.map"), re.M)

@@ -1,0 +1,66 @@
+"""Publishes that are killed: versions whose number tells their bytes, and whether a store kept them."""
+
+import random
+import threading
+import time
+
+from lib.keys import KEY
+from lib.messages import get, put, replies
+from lib.program import run
+
+MODULE = "example.com/kills"
+SIZES = [0, 1, 300, 5_000, 30_000, 150_000]
+# versions on one store: each opening reads all of it
+MOST = 150
+
+
+def files_of(number):
+    """The go.mod and the zip of the version of a number; they tell it."""
+    gomod = f"module {MODULE}\n\nrequire example.com/other v1.{number}.0\n".encode()
+    return gomod, random.Random(number).randbytes(SIZES[number % len(SIZES)])
+
+
+def publish(number, key=KEY):
+    return put(MODULE, f"v1.{number}.0", *files_of(number), key)
+
+
+def fetch(number, kind, key=KEY):
+    return get(f"{MODULE}/@v/v1.{number}.0.{kind}", key)
+
+
+def kill_after(child, wait):
+    timer = threading.Timer(wait, child.kill)
+    timer.start()
+    return timer
+
+
+def is_kept(store, acknowledged, underway):
+    """Opens the store again. Returns whether the version underway is there, and what is wrong, or None."""
+    asked = [*acknowledged, *underway]
+    status, written, told = run(["answer", "--db", store], b"".join(fetch(number, kind) for number in asked for kind in ("mod", "zip")))
+    got = replies(written) if status == 0 else []
+    if len(got) != 2 * len(asked):
+        return False, f"{len(got)} replies to {2 * len(asked)} requests, status {status}, {told}"
+    pairs = dict(zip(asked, zip(got[::2], got[1::2])))
+    whole = {number: tuple((200, part) for part in files_of(number)) for number in asked}
+    for number in acknowledged:
+        if pairs[number] != whole[number]:
+            return False, f"version {number} is lost or changed"
+    for number in underway:
+        if pairs[number] != whole[number] and [status for status, _ in pairs[number]] != [404, 404]:
+            return False, f"version {number} is there in part"
+    return any(pairs[number] == whole[number] for number in underway), None
+
+
+def seeded(words):
+    """Sets the seed that the words name, or a new one, prints it and returns it."""
+    seed = int(words[words.index("--seed") + 1]) if "--seed" in words else time.time_ns() % 10**9
+    random.seed(seed)
+    print(f"seed {seed}")
+    return seed
+
+
+def count_of(words, short, long):
+    """How many kills the words ask for. Their seed is set."""
+    seed = seeded(words)
+    return next((int(it) for it in words if it.isdigit() and int(it) != seed), long if "--long" in words else short)

@@ -1,0 +1,66 @@
+"""Folders and files of a suite's own, and disks that are small."""
+
+import os
+import subprocess
+import tempfile
+
+def mounted(at, size):
+    """Mounts a tmpfs of a size at a folder, and returns whether this machine could. `umount` takes it away."""
+    options = (f"size={size},noswap", f"size={size}")
+    return any(subprocess.run(["mount", "-t", "tmpfs", "-o", it, "tmpfs", at], capture_output=True).returncode == 0 for it in options)
+
+
+def in_new_folders(suite, *parts):
+    """Calls each part with the suite, in a new folder of its own, and ends the suite."""
+    for part in parts:
+        with tempfile.TemporaryDirectory(prefix="goshelf-") as folder:
+            os.chdir(folder)
+            part(suite)
+            os.chdir("/")
+    return suite.end()
+
+
+def play(suite, about, why, made, parts, is_able=True):
+    """Has a suite play parts with what `made` makes in a new folder, closes it, and returns the suite's exit status.
+
+    For anybody but root, and where the machine is not able, it skips a row about it and says why."""
+    if os.geteuid() != 0 or not is_able:
+        suite.skip(about, why)
+        return suite.end()
+    with tempfile.TemporaryDirectory(prefix="goshelf-") as folder:
+        os.chmod(folder, 0o755)
+        them = made(folder)
+        try:
+            for part in parts:
+                part(suite, them)
+        finally:
+            them.close()
+    return suite.end()
+
+
+def write(files):
+    """Writes files, by their names. A text is written as UTF-8."""
+    for name, content in files.items():
+        with open(name, "wb") as file:
+            file.write(content if isinstance(content, bytes) else content.encode())
+
+
+def read(name):
+    """The bytes of a file."""
+    with open(name, "rb") as file:
+        return file.read()
+
+
+def files_of(folder="."):
+    """The files of a folder, with their bytes."""
+    return {name: read(os.path.join(folder, name)) for name in sorted(os.listdir(folder)) if os.path.isfile(os.path.join(folder, name))}
+
+
+def fill(name):
+    """Writes a file until its disk is full."""
+    with open(name, "wb", buffering=0) as file:
+        try:
+            while True:
+                file.write(bytes(4_096))
+        except OSError:
+            pass

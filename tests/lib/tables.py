@@ -1,0 +1,73 @@
+"""The tables of a store as sqlite3 reads and writes them."""
+
+import re
+import sqlite3
+
+# bytes of a piece of a zip but for its last
+PIECE = 65_536
+PSEUDO = re.compile(r"^v0\.0\.0-(\d{14})-[0-9a-f]{12}$")
+
+
+def order_key(version):
+    numbers, _, identifiers = version[1:].partition("-")
+    key = b"".join(int(number).to_bytes(8, "big") for number in numbers.split("."))
+    if not identifiers:
+        return key + b"\3"
+    for one in identifiers.split("."):
+        key += bytes([1, len(one)]) + one.encode() if one.isdigit() else b"\2" + one.encode() + b"\0"
+    return key + b"\0"
+
+
+def rank_key(version):
+    stamp = PSEUDO.match(version)
+    rank = b"\1" + stamp[1].encode() if stamp else b"\2" if "-" in version else b"\3"
+    return rank + order_key(version)
+
+
+def connected(file):
+    conn = sqlite3.connect(file, isolation_level=None)
+    conn.execute("PRAGMA foreign_keys = OFF")
+    return conn
+
+
+def settled(conn):
+    """Closes a connection whose file then holds all of it."""
+    conn.execute("PRAGMA wal_checkpoint(TRUNCATE)")
+    conn.close()
+
+
+def entries_of(conn):
+    """The entries of a store of today's schema: the row of `version`, and the zip."""
+    for row in conn.execute("SELECT id, shelf, path, version, time, mod, order_key, rank_key FROM version ORDER BY id").fetchall():
+        pieces = conn.execute("SELECT bytes FROM piece WHERE version = ? ORDER BY number", row[:1])
+        yield row, b"".join(piece for (piece,) in pieces)
+
+
+def rows_of(file):
+    """What a store of today's schema holds, but for the numbers of its rows."""
+    conn = connected(file)
+    tables = [sorted(conn.execute(f"SELECT * FROM {table}")) for table in ("meta", "access")]
+    shelves = sorted(conn.execute("SELECT name, ifnull(parent, '') FROM shelf"))
+    entries = sorted((row[1:4], row[4] or "", row[5:], zip) for row, zip in entries_of(conn))
+    settled(conn)
+    return tables, shelves, entries
+
+
+def change(name, *statements):
+    """Runs statements by sqlite3, which also copies the log into the file."""
+    conn = sqlite3.connect(name, isolation_level=None)
+    for statement, *values in statements:
+        conn.execute(statement, values)
+    conn.execute("PRAGMA wal_checkpoint(TRUNCATE)")
+    conn.close()
+
+
+def reordered(name, other):
+    """Makes a file with the tables and the rows of another, the tables in the order of their names."""
+    conn = sqlite3.connect(name, isolation_level=None)
+    conn.execute("ATTACH ? AS f", (other,))
+    tables = conn.execute("SELECT name, sql FROM f.sqlite_schema WHERE type = 'table' ORDER BY name").fetchall()
+    for table, sql in tables:
+        conn.execute(sql)
+        conn.execute(f"INSERT INTO {table} SELECT * FROM f.{table}")
+    conn.close()

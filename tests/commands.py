@@ -123,6 +123,7 @@ extract --db --team --to
 migrate --from --to
 answer --db --mem --team --key
 serve --db --port --stdin --connections --control
+copy --control --to
 ping --control
 stop --control
 """
@@ -446,8 +447,8 @@ def helped(suite):
     for command, options in commands.items():
         named = set(re.findall(r"(?<![\w-])--[a-z][a-z-]*", shown(f"{command} --help", [command, "--help"])))
         suite.equal(f"{command} --help names its options", sorted(named - {"--help"}), sorted(options.split()))
-    listed = shown("--help", ["--help"])
-    suite.equal("--help lists each command", [it for it in commands if not re.search(rf"^  {it} ", listed, re.M)], [])
+    listed = re.findall(r"^  ([a-z][a-z-]*) ", shown("--help", ["--help"]), re.M)
+    suite.equal("--help lists each command, and no other", sorted(listed), sorted([*commands, "help"]))
     with open(os.path.join(ROOT, "crates", "cli", "src", "version.rt"), encoding="utf-8") as file:
         version = re.search(r'"(.*)"', file.read())[1]
     suite.equal("--version names the version", shown("--version", ["--version"]), f"goshelf {version}\n")

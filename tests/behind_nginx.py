@@ -6,7 +6,7 @@ Clients are slow with a head, with a body or with what they are sent. The go com
 """
 
 import base64
-import http.server
+import http.client
 import os
 import re
 import signal
@@ -20,7 +20,7 @@ from concurrent.futures import ThreadPoolExecutor
 from lib.front import AT, GOMOD, LIB, UNUSED, ZIP, keys_of, set_up, settle
 from lib.modules import zipped
 from lib.pages import block, read_page
-from lib.peers import rest_of
+from lib.peers import NoModules, rest_of
 from lib.ports import wait_until
 from lib.program import ROOT
 from lib.scratch import play
@@ -284,23 +284,10 @@ def unwritable_cache(suite, client):
     suite.holds("a line of crit holds a key", any(it in text for it in keys_of(client.machine)))
 
 
-ASKED = []
-
-
-class Behind(http.server.BaseHTTPRequestHandler):
-    """A public proxy that has no module, and notes what it is asked."""
-
-    def do_GET(self):
-        ASKED.append(self.path)
-        self.send_error(404)
-
-    def log_message(self, *_):
-        pass
-
-
-def go(client, proxies, netrc, *words):
+def go(client, behind, netrc, *words):
     """Runs the go command in a new module, with no cache: whether it ended well, what it said, and what the public proxy was asked."""
-    ASKED.clear()
+    behind.asked.clear()
+    proxies = f"https://localhost:{client.machine.front},{behind.url}"
     code = 'package main\n\nimport "example.com/greet"\n\nfunc main() { println(greet.Text) }\n'
     with tempfile.TemporaryDirectory(prefix="goshelf-go-") as folder:
         for name, text in (("go.mod", "module example.com/hello\n\ngo 1.19\n"), (".netrc", netrc), ("main.go", code)):
@@ -310,13 +297,12 @@ def go(client, proxies, netrc, *words):
         own = {"HOME": folder, "GOPATH": f"{folder}/go", "GOFLAGS": "-modcacherw", "GOPROXY": proxies, "GONOSUMDB": "example.com", "GOTOOLCHAIN": "local",
                "CGO_ENABLED": "0", "SSL_CERT_FILE": client.pem}
         ran = subprocess.run(["go", *words], cwd=folder, env={**clean, **own}, capture_output=True, text=True, timeout=300)
-    return ran.returncode == 0, ran.stdout + ran.stderr, list(ASKED)
+    return ran.returncode == 0, ran.stdout + ran.stderr, list(behind.asked)
 
 
 def go_command(suite, client):
     """The go command logs in by ~/.netrc, and a 401 ends it before it asks the public proxy."""
-    behind = http.server.ThreadingHTTPServer(("127.0.0.1", 0), Behind)
-    threading.Thread(target=behind.serve_forever, daemon=True).start()
+    behind = NoModules()
     gomod = "module example.com/greet\n"
     zip_bytes = zipped("example.com/greet", "v1.0.0", {"go.mod": gomod, "greet.go": "package greet\n\nconst Text = 1\n"})
     with tempfile.TemporaryDirectory(prefix="goshelf-put-") as folder:
@@ -329,16 +315,15 @@ def go_command(suite, client):
         settings = {"module": "example.com/greet", "version": "v1.0.0", "time": "2024-01-31T12:00:00Z"}
         told = client.machine.does(f"cd {folder}\n{publish}", **settings)
     suite.equal("curl publishes by ~/.netrc", told, "published\n")
-    proxies = f"https://localhost:{client.machine.front},http://127.0.0.1:{behind.server_port}"
     line = "machine localhost login ann password {}\n"
     good, wrong = line.format(client.passwords["ann"]), line.format("wrong")
-    ended, told, asked = go(client, proxies, good, "run", "-mod=mod", ".")
+    ended, told, asked = go(client, behind, good, "run", "-mod=mod", ".")
     suite.equal("a build by ~/.netrc", (ended, told.splitlines()[-1:], asked), (True, ["1"], []))
     suite.holds("no secret is in what the go command says", not any(it in told for it in (*client.passwords.values(), *keys_of(client.machine))))
     for name, netrc in (("no ~/.netrc", ""), ("a wrong password", wrong)):
-        ended, told, asked = go(client, proxies, netrc, "get", "example.com/greet@v1.0.0")
+        ended, told, asked = go(client, behind, netrc, "get", "example.com/greet@v1.0.0")
         suite.holds(f"{name}: the go command ends with a 401 and asks nobody else", not ended and "401" in told and "log in: " in told and not asked, (told, asked))
-    ended, told, asked = go(client, proxies, good, "get", "example.com/nosuch@v1.0.0")
+    ended, told, asked = go(client, behind, good, "get", "example.com/nosuch@v1.0.0")
     suite.holds("a name that the shelf does not see is asked for at the next proxy", not ended and any("nosuch" in it for it in asked), (told, asked))
     behind.shutdown()
 

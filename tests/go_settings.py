@@ -4,17 +4,16 @@
 The proxy behind is one that has no module and notes what it is asked; nothing else is reached.
 """
 
-import http.server
 import os
 import re
 import subprocess
 import sys
 import tempfile
-import threading
 
 from lib.keys import KEY
 from lib.modules import zipped
 from lib.pages import blocks
+from lib.peers import NoModules
 from lib.program import ROOT, done
 from lib.scratch import write
 from lib.servers import Server
@@ -24,18 +23,6 @@ from lib.suite import Suite
 READER = "alphareader00001"
 AT = "example.com/greet@v1.0.0"
 FILES = {"go.mod": "module example.com/greet\n", "greet.go": "package greet\n\nconst Text = 1\n", "sub/sub.go": "package sub\n\nconst Text = 1\n"}
-ASKED = []
-
-
-class Behind(http.server.BaseHTTPRequestHandler):
-    """A proxy that has no module."""
-
-    def do_GET(self):
-        ASKED.append(self.path)
-        self.send_error(404)
-
-    def log_message(self, *_):
-        pass
 
 
 def filled(folder):
@@ -47,9 +34,9 @@ def filled(folder):
     return store
 
 
-def go_asks(proxies, imported, *words, **settings):
+def go_asks(behind, proxies, imported, *words, **settings):
     """Runs the go command in a module that imports this package, with no cache: whether it ended well, and the paths that the proxy behind was asked."""
-    ASKED.clear()
+    behind.asked.clear()
     with tempfile.TemporaryDirectory(prefix="goshelf-go-") as folder:
         with open(f"{folder}/go.mod", "w", encoding="utf-8") as file:
             file.write("module example.com/hello\n\ngo 1.19\n")
@@ -58,7 +45,7 @@ def go_asks(proxies, imported, *words, **settings):
         own = {"HOME": folder, "GOPATH": f"{folder}/go", "GOFLAGS": "-modcacherw", "GOPROXY": proxies, "GONOSUMDB": "example.com"}
         clean = {name: text for name, text in os.environ.items() if not name.startswith("GO")}
         ran = subprocess.run(["go", *words], cwd=folder, env={**clean, **own, **settings}, capture_output=True, timeout=120)
-    return ran.returncode == 0, {it.split("/@v/")[0].strip("/") for it in ASKED}
+    return ran.returncode == 0, {it.split("/@v/")[0].strip("/") for it in behind.asked}
 
 
 def of_pages(suite):
@@ -83,21 +70,20 @@ def of_pages(suite):
 
 
 def main():
-    behind = http.server.ThreadingHTTPServer(("127.0.0.1", 0), Behind)
-    threading.Thread(target=behind.serve_forever, daemon=True).start()
+    behind = NoModules()
     with tempfile.TemporaryDirectory(prefix="goshelf-settings-") as folder:
         server = Server(filled(folder))
         shelf = f"{server.url}/k/{READER}"
-        proxies = f"{shelf},http://127.0.0.1:{behind.server_port}"
+        proxies = f"{shelf},{behind.url}"
         greet, fronts = "example.com/greet", {"example.com", "example.com/nosuch", "example.com/nosuch/pkg"}
         rows = [
-            ("a module that the shelf sees", go_asks(proxies, greet, "get", AT), (True, set())),
-            ("a package below it", go_asks(proxies, f"{greet}/sub", "mod", "tidy"), (True, set())),
-            ("a package that it has not", go_asks(proxies, f"{greet}/nosub", "mod", "tidy"), (False, set())),
-            ("an import that no module fits", go_asks(proxies, "example.com/nosuch/pkg", "mod", "tidy"), (False, fronts)),
-            ("a version that is not there", go_asks(proxies, greet, "get", f"{greet}@v9.9.9"), (False, {"example.com", greet})),
-            ("the shelf alone", go_asks(shelf, "example.com/nosuch/pkg", "mod", "tidy"), (False, set())),
-            ("GOPRIVATE and GONOPROXY=none", go_asks(proxies, greet, "get", AT, GOPRIVATE="example.com", GONOPROXY="none", GONOSUMDB=""), (True, set())),
+            ("a module that the shelf sees", go_asks(behind, proxies, greet, "get", AT), (True, set())),
+            ("a package below it", go_asks(behind, proxies, f"{greet}/sub", "mod", "tidy"), (True, set())),
+            ("a package that it has not", go_asks(behind, proxies, f"{greet}/nosub", "mod", "tidy"), (False, set())),
+            ("an import that no module fits", go_asks(behind, proxies, "example.com/nosuch/pkg", "mod", "tidy"), (False, fronts)),
+            ("a version that is not there", go_asks(behind, proxies, greet, "get", f"{greet}@v9.9.9"), (False, {"example.com", greet})),
+            ("the shelf alone", go_asks(behind, shelf, "example.com/nosuch/pkg", "mod", "tidy"), (False, set())),
+            ("GOPRIVATE and GONOPROXY=none", go_asks(behind, proxies, greet, "get", AT, GOPRIVATE="example.com", GONOPROXY="none", GONOSUMDB=""), (True, set())),
         ]
         server.stop()
     suite = Suite()

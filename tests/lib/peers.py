@@ -1,6 +1,7 @@
 """Who asks a server: on a connection of their own, on and on, and an operator whose server lies."""
 
 import http.client
+import http.server
 import os
 import socket
 import threading
@@ -62,6 +63,26 @@ def fetched(conn, method, target, body=None, headers=None):
         return reply.status, reply.headers.get("Content-Type", ""), reply.read()
     finally:
         conn.close()
+
+
+class NoModules(http.server.ThreadingHTTPServer):
+    """A public proxy that has no module, and notes what it is asked."""
+
+    def __init__(self):
+        super().__init__(("127.0.0.1", 0), NotFound)
+        self.asked, self.url = [], f"http://127.0.0.1:{self.server_port}"
+        threading.Thread(target=self.serve_forever, daemon=True).start()
+
+
+class NotFound(http.server.BaseHTTPRequestHandler):
+    """A connection to a proxy that has no module."""
+
+    def do_GET(self):
+        self.server.asked.append(self.path)
+        self.send_error(404)
+
+    def log_message(self, *_):
+        pass
 
 
 def by_false_server(words, told):

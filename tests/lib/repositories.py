@@ -14,8 +14,7 @@ PUBLISH, ADOPT = (os.path.join(ROOT, "tools", it) for it in ("publish", "adopt")
 SHELL = shutil.which("dash") or "sh"
 KEY, READER = KEYS["A"], KEYS["R"]
 # what a check says that asks no server
-UNASKED = "publish: not checked without --to: the other rules of go.mod files, a key, and whether the version is there"
-UNASKED += "\n"
+UNASKED = "publish: not checked without --to: a key, and whether the version is there\n"
 # the time of each commit, as git is told it and as goshelf is to have it
 STAMP, TIME = "2024-01-31T13:00:00+0100", "2024-01-31T12:00:00Z"
 

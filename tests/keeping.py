@@ -10,7 +10,7 @@ import shutil
 import sys
 
 from lib.machine import Machine
-from lib.operating import ALPHA, BETA, PUBLISHED, SECRET, answers_of, copies, prepared, publish, runs
+from lib.operating import ALPHA, BETA, PUBLISHED, READER, SECRET, answers_of, copies, prepared, publish, runs
 from lib.pages import block
 from lib.scratch import play, read, write
 from lib.suite import Suite
@@ -33,6 +33,13 @@ RESTORES = (
     ("last", 1, "nothing was changed"),
     ("last < yess", 1, "nothing was changed"),
 )
+# what happens to keys after the backups
+NEW_KEY, OMEGA = "alphanewkey00001", "omegakey00000001"
+KEYS_SINCE = f"""set -- --control /run/goshelf/control
+goshelf key-revoke "$@" --key {READER}
+goshelf key-add "$@" --shelf alpha --key {NEW_KEY}
+goshelf team-add "$@" --team omega
+goshelf key-add "$@" --shelf omega --key {OMEGA}"""
 # what leaked, and words of goshelf-forget, as above
 LEAKED = "alpha example.com/lib v1.1.0"
 FORGETS = (
@@ -117,6 +124,7 @@ def restores(suite, machine):
     suite.holds("while another has the lock", told[0] == 1 and BUSY in told[2], told)
     told = machine.sh("goshelf-restore last < yes")
     is_right = told[0] == 0 and f"{OLDER[-1]} lacks 0 versions:" in told[1] and runs(machine)
+    suite.holds("the keys of a store that has lost all are not kept", f"The keys are those of {OLDER[-1]}. " in told[1], told)
     suite.holds("the last backup is put back", is_right, told)
     aside = [it for it in os.listdir(home) if it.startswith("aside-")]
     suite.equal("the old store is set aside", [read(f"{home}/{it}/shelves.db") for it in aside], [before])
@@ -164,7 +172,13 @@ def late(machine):
 def older_one(suite, machine):
     """An older backup: what was published since is named, and later backups are set aside. Then a spoilt store."""
     at, lost = f"{machine.folder}/var/backups/goshelf", "beta|example.com/late|v1.0.0|2024-01-31T12:00:00Z"
+    machine.does(KEYS_SINCE)
     told = machine.sh(f"goshelf-restore --yes {OLDER[0]}")
+    lacks = f"\n{OLDER[0]} lacks a shelf and its keys: omega\n"
+    suite.holds("a shelf that an older backup lacks is named", lacks in told[1] and "The keys are those" not in told[1], told)
+    ask = "curl -s -o /dev/null -w '%{http_code}' http://127.0.0.1:8080/k/{}/-/modules"
+    statuses = [machine.does(ask.replace("{}", it)) for it in (ALPHA, READER, NEW_KEY, OMEGA)]
+    suite.equal("keys stay as they are: one of ever, one revoked, one added, one of a lost shelf", statuses, ["200", "404", "200", "404"])
     is_right = told[0] == 0 and f"{OLDER[0]} lacks 1 versions:\n{lost}\n" in told[1]
     suite.holds("what an older backup lacks is named", is_right, told)
     suite.equal("the lost version is gone", late(machine), "not found\n")

@@ -6,7 +6,9 @@ The machine, its users and its nginx are those of lib/front.py.
 
 import base64
 import os
+import re
 import sys
+import time
 
 from lib.front import AT, GOMOD, USERS, ZIP, set_up, settle
 from lib.peers import rest_of
@@ -157,6 +159,7 @@ def kept_in_step(suite, client):
         told = sync(machine, text)
         is_right = told[0] == 1 and said in told[2] and maps_of(machine) == before
         suite.holds(f"a list with {text[len(OWN):] or text!r}: {said}", is_right, told)
+    of_files(suite, client, before)
     csv = OWN.replace("ann-b alpha read\n", "").replace("bob beta publish", "bob beta read")
     csv += "eve,beta,publish,good,pass:word\n\ntim, alpha, read\n"
     wanted = "changed bob beta read\nadded eve beta publish\nadded tim alpha read\nremoved ann-b\n"
@@ -177,6 +180,27 @@ def kept_in_step(suite, client):
     settle(client, "ann-b", 404)
 
 
+def of_files(suite, client, before):
+    """A list of several files: one that is missing or empty removes nobody."""
+    machine, first, rest = client.machine, *OWN.split("\n", 1)
+    for name, text in (("one", f"# machines\n{first}\n"), ("two", rest), ("none", "# nobody\n"), ("bad", "eve alpha\n")):
+        machine.write(f"root/{name}", text)
+    for words, wanted in (
+        ("one two", (0, "", "")),
+        ("--dry-run two one", (0, "", "")),
+        ("one three", (1, "", "three cannot be read")),
+        ("two three", (1, "", "three cannot be read")),
+        ("two none", (1, "", "none names nobody")),
+        ("one ''", (1, "", " cannot be read")),
+        ("one two bad", (1, "", "bad:1: a right")),
+        ("one two one", (1, "", "one:2: ")),
+        ("one -n two", (2, "", "usage")),
+    ):
+        status, told, errors = machine.sh(f"goshelf-user sync {words}")
+        is_right = (status, told) == wanted[:2] and wanted[2] in errors and maps_of(machine) == before
+        suite.holds(f"goshelf-user sync {words}", is_right, (status, told, errors))
+
+
 def part_is(client, number):
     """Whether nginx names this number of the caches' part, ten times in a row."""
     asking = client.head("GET", f"{AT}/list", "ann", "Connection: close") + b"\r\n"
@@ -185,19 +209,25 @@ def part_is(client, number):
 
 
 def uncached(suite, client):
-    """goshelf-uncache raises the number, time after time, and puts a file back that nginx refuses."""
+    """goshelf-uncache makes the number one that no host had, time after time, and puts a file back that nginx refuses."""
     machine, name = client.machine, "etc/nginx/conf.d/goshelf.conf"
     told = [client.put("v1.0.0", GOMOD + ZIP)[0], client.put("v1.0.0", GOMOD + b"other", "bob")[0]]
     suite.equal("two teams publish", told, [201, 201])
     before, beside = machine.read(name), sorted(os.listdir(f"{machine.folder}/etc/nginx/conf.d"))
-    for number in (2, 3):
-        wanted = 0, f"the caches are reset: their generation is {number}\n", ""
-        suite.equal(f"the number is {number}", machine.sh("goshelf-uncache"), wanted)
+    last, later = int(time.time()) - 1, f"{machine.folder}/usr/local/bin/date"
+    for way in ("by the clock", "by a clock that is set back"):
+        told = machine.sh("goshelf-uncache")
+        number = int((re.findall(r"^the caches are reset: their generation is (\d+)\n", told[1]) or [0])[0])
+        is_next = number == last + 1 if os.path.exists(later) else last < number <= time.time()
+        suite.holds(f"the number {way}", (told[0], told[2], is_next) == (0, "", True), (told, last))
         raised = before.replace('"$goshelf_shelf 1"', f'"$goshelf_shelf {number}"')
-        suite.equal(f"nothing else changed to {number}", machine.read(name), raised)
+        suite.equal(f"nothing else changed {way}", machine.read(name), raised)
+        machine.command("date", "#!/bin/sh\necho 7\n")
+        last = number
         # (nginx reads the file a moment later, and must not find a half of the next one)
         wait_until(lambda number=number: part_is(client, number))
-    line = 'default "$goshelf_shelf 3";'
+    os.remove(later)
+    line = f'default "$goshelf_shelf {number}";'
     for cause, text in (
         ("a file that nginx refuses", f"{raised}nonsense;\n"),
         ("a file without the number", raised.replace(line, "")),
@@ -220,12 +250,12 @@ def lost(suite, client):
     suite.equal("a publish after the backup", client.put("v1.50.0", GOMOD)[0], 201)
     suite.equal("it is cached", [client.get(f"{AT}/v1.50.0.mod") for _ in range(2)], [(200, GOMOD)] * 2)
     told = machine.sh("goshelf-restore --yes last")
-    is_right = told[0] == 0 and "alpha|example.com/lib|v1.50.0|" in told[1] and "their generation is 4" in told[1]
+    is_right = told[0] == 0 and "alpha|example.com/lib|v1.50.0|" in told[1] and "their generation is " in told[1]
     suite.holds("the backup is restored", is_right, told)
     gone(suite, client, "v1.50.0.mod")
     suite.equal("what it has is there", client.get(f"{AT}/v1.0.0.zip"), (200, ZIP))
     told = machine.sh("goshelf-forget --yes alpha example.com/lib v1.0.0")
-    suite.holds("a version is taken out", told[0] == 0 and "their generation is 5" in told[1], told)
+    suite.holds("a version is taken out", told[0] == 0 and "their generation is " in told[1], told)
     gone(suite, client, "v1.0.0.zip")
     suite.equal("the other team has its own", client.get(f"{AT}/v1.0.0.zip", "bob"), (200, b"other"))
 

@@ -6,6 +6,7 @@ import base64
 import http.client
 import os
 import random
+import re
 import ssl
 import subprocess
 import sys
@@ -13,10 +14,11 @@ import time
 from concurrent.futures import ThreadPoolExecutor
 
 from lib.machine import Machine
+from lib.pages import block
 from lib.peers import fetched
 from lib.ports import wait_for
 from lib.program import PROGRAM, ROOT, done, run
-from lib.scratch import play
+from lib.scratch import play, read
 from lib.servers import Server
 from lib.stores import new_store
 from lib.suite import Suite
@@ -297,7 +299,7 @@ def new_team(suite, company):
         machine.write(f"etc/nginx/goshelf/{name}.map", text)
     with open(company.file, "a", encoding="utf-8") as file:
         file.write("team zeta\n")
-    machine.does(f"{ROOT}/tools/shards conf {company.file} < deploy/nginx/goshelf.conf > /etc/nginx/conf.d/goshelf.conf\nnginx -t && nginx -s reload")
+    conf_in_place(suite, company)
     for _ in range(100):
         if company.ask("GET", "zeta", "/-/modules")[0] == 200:
             break
@@ -308,6 +310,28 @@ def new_team(suite, company):
     suite.equal("it sees common", company.ask("GET", "zeta", "/example.com/common/@v/list"), company.ask("GET", "delta", "/example.com/common/@v/list"))
     suite.equal("and send goes on", company.tool("send")[1][-1], "0 sent, 0 wrong")
     suite.equal("no answer to another differs", company.differing(), [])
+
+
+def conf_in_place(suite, company):
+    """The command of the page changes nginx's file, or leaves it as it was, with the names and the number in it."""
+    machine, name = company.machine, "etc/nginx/conf.d/goshelf.conf"
+    command = block("sh", "tools/shards conf", "DEPLOYMENTS.md").replace("/root/shards.conf", company.file)
+    command = command.replace("/usr/share/goshelf/tools", f"{ROOT}/tools")
+    machine.edit(name, ('"$goshelf_shelf 1"', '"$goshelf_shelf 7"'), ("server_name shelf.example.com;", "server_name own.example.com;"))
+    before, text, own = machine.read(name), read(company.file).decode(), "wrong"
+    for why, shards, said in (("a wrong line", f"{text}junk\n", "neither `shard"), ("an address that is none", text.replace(":", ":9", 1), "nginx refuses")):
+        machine.write(f"root/{own}", shards)
+        told = machine.sh(command.replace(company.file, own))
+        suite.holds(f"conf with {why}", told[0] and said in told[2] and machine.read(name) == before, told)
+    told = machine.sh(command), machine.sh(command)
+    suite.equal("conf, and a second time", told, ((0, "", ""), (0, "", "")))
+    text = machine.read(name)
+    changed = [it for it in text.splitlines() if it not in before.splitlines()]
+    suite.equal("it changes nothing else", changed, ["    zeta goshelf_second;"])
+    left = [it for it in os.listdir(f"{machine.folder}/etc/nginx/conf.d") if it != "goshelf.conf"]
+    suite.equal("and leaves nothing beside the file", left, [])
+    single = re.sub(r"[^\n]*zeta[^\n]*\n", "", text)
+    suite.equal("by another way it prints the same", subprocess.run([f"{ROOT}/tools/shards", "conf", company.file], input=single.encode(), capture_output=True).stdout.decode(), text)
 
 
 def ran_ahead(suite, company):

@@ -311,7 +311,7 @@ def go_command(suite, client):
         with open(f"{folder}/body", "wb") as file:
             file.write(gomod.encode() + zip_bytes)
         client.machine.write("root/.netrc", f"machine localhost login pub password {client.passwords['pub']}\n")
-        publish = block("sh", "curl --netrc -T body").replace("curl ", "curl -sS --cacert /etc/ssl/goshelf.pem ").replace("shelf.example.com", f"localhost:{client.machine.front}")
+        publish = block("sh", "curl --netrc --fail-with-body").replace("curl ", "curl -sS --cacert /etc/ssl/goshelf.pem ").replace("shelf.example.com", f"localhost:{client.machine.front}")
         settings = {"module": "example.com/greet", "version": "v1.0.0", "time": "2024-01-31T12:00:00Z"}
         told = client.machine.does(f"cd {folder}\n{publish}", **settings)
     suite.equal("curl publishes by ~/.netrc", told, "published\n")

@@ -1,5 +1,5 @@
 #!/usr/bin/env python3
-"""What the pages have an operator do besides nginx: keys, backups, queries, alerts, an upgrade, a team's own store, tables.
+"""What the pages have an operator do besides nginx: keys, backups, queries, alerts, a team's own store, tables.
 
 Their commands and the scripts of deploy/ run as they are, on a machine in a folder (lib/machine.py).
 """
@@ -16,7 +16,7 @@ from lib.machine import Machine
 from lib.older import SCHEMA_1, SCHEMA_2
 from lib.operating import ALPHA, BETA, PUBLISHED, SECRET, answers_of, copies, prepared, publish, runs
 from lib.pages import OPERATORS, block, read_page
-from lib.program import PROGRAM, run
+from lib.program import run
 from lib.scratch import play, read
 from lib.suite import Suite
 from lib.tables import change, reordered
@@ -52,9 +52,14 @@ def keys(suite, machine):
     machine.does(f"goshelf key-revoke {control} --key {more}")
 
 
+def cron_lines(machine):
+    """The lines of the files that the blocks for cron write, run once or twice."""
+    return [line for it in ("backup", "watch", "metrics") for line in machine.read(f"etc/cron.d/goshelf-{it}").splitlines()]
+
+
 def cron(suite, machine):
     """The lines for cron run as cron runs them, with few settings."""
-    lines = machine.read("etc/cron.d/goshelf").splitlines()
+    lines = cron_lines(machine)
     wanted = [["root", f"{machine.folder}/usr/local/bin/goshelf-{it}"] for it in ("backup", "watch", "metrics")]
     suite.equal("the lines for cron", [it.split()[5:7] for it in lines], wanted)
     ran = subprocess.run(["sh", "-c", lines[0].split()[6]], env={"PATH": "/usr/bin:/bin", "HOME": "/root"}, cwd="/", capture_output=True, text=True)
@@ -179,6 +184,8 @@ def watch(suite, machine):
     wanted = f"GOSHELF_HOST=shelf.example.com\nGOSHELF_CERTIFICATE={machine.folder}/etc/ssl/goshelf.pem\n"
     suite.equal("the page writes two settings", settings, wanted)
     machine.does(CERTIFICATE.format(days=30))
+    told = machine.sh("goshelf-watch")[1].splitlines()
+    suite.equal("a log that nginx has not made, or another file", [it for it in told if "5xx" in it or "goshelf.log" in it], [f"goshelf: there is no {machine.folder}/var/log/nginx/goshelf.log"])
     lacking = machine.sh("rm /etc/default/goshelf; goshelf-watch")
     names = re.findall(r"has no GOSHELF_(\w+)\n", lacking[1])
     suite.equal("settings that are missing are problems", (lacking[0], names), (1, ["HOST", "CERTIFICATE"]))
@@ -223,6 +230,9 @@ def watch(suite, machine):
         os.utime(f"{machine.folder}/var/backups/goshelf/{it}")
     machine.does(CERTIFICATE.format(days=10))
     says("the certificate", "within 14 days")
+    machine.write("etc/ssl/goshelf.pem", "none")
+    says("a file that is no certificate", "openssl cannot read the certificate ")
+    machine.does(CERTIFICATE.format(days=10))
     server.shutdown()
 
 
@@ -253,7 +263,7 @@ def metrics(suite, machine):
     suite.equal("it writes a file", machine.sh(f"goshelf-metrics --to {folder}/goshelf.prom"), (0, "", ""))
     suite.equal("and nothing beside it", os.listdir(f"{machine.folder}{folder}"), ["goshelf.prom"])
     suite.equal("which all may read", os.stat(f"{machine.folder}{folder}/goshelf.prom").st_mode & 0o777, 0o644)
-    last = machine.read("etc/cron.d/goshelf").splitlines()[-1].split()
+    last = cron_lines(machine)[-1].split()
     words = ["env", "-i", "PATH=/usr/bin:/bin", "sh", "-c", " ".join(last[6:])]
     ran = subprocess.run(words, capture_output=True, text=True)
     suite.equal("by cron it prints nothing", (ran.returncode, ran.stdout, ran.stderr), (0, "", ""))
@@ -275,16 +285,6 @@ def metrics(suite, machine):
     for name, it in (("up", text), ("down", down)):
         ran = subprocess.run(["promtool", "check", "metrics"], input=it, capture_output=True, text=True)
         suite.equal(f"promtool: {name}", (ran.returncode, ran.stdout, ran.stderr), (0, "", ""))
-
-
-def upgrade(suite, machine):
-    """A new program, and the old one again."""
-    os.symlink(PROGRAM, f"{machine.folder}/root/goshelf.new")
-    program = f"{machine.folder}/usr/local/bin/goshelf"
-    machine.does(block("sh", "goshelf.old\ninstall goshelf.new"))
-    suite.holds("the new program runs", runs(machine) and read(program) == read(PROGRAM) and not os.path.islink(program))
-    machine.does(block("sh", "install /usr/local/bin/goshelf.old"))
-    suite.holds("the old program runs", runs(machine))
 
 
 def moved(suite, machine):
@@ -343,7 +343,7 @@ def tables(suite, machine):
 
 
 def main():
-    parts = (prepared, keys, cron, by_hand, backups, queries, watch, metrics, upgrade, moved, tables)
+    parts = (prepared, keys, cron, by_hand, backups, queries, watch, metrics, moved, tables)
     olds = [lambda suite, machine, it=it: older(suite, machine, *it) for it in ((1, SCHEMA_1), (2, SCHEMA_2))]
     return play(Suite(), "the machine", "an operator's commands need root", Machine, (*parts, *olds))
 

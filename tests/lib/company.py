@@ -136,7 +136,7 @@ class Company:
 def set_up_first(first):
     """The first host, by the commands of NGINX."""
     first.check_out()
-    first.does(block("sh", "deploy/nginx/users.map"))
+    first.does(block("sh", "for it in users.map"))
     first.edit("etc/nginx/conf.d/goshelf.conf", SMALL)
     first.does(block("sh", ">> /etc/nginx/goshelf/paths.map").replace("alpha", " ".join(SHELVES)))
     for shelf in SHELVES:

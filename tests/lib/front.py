@@ -105,7 +105,7 @@ def start(machine, paths, change=lambda machine: None):
     made = "openssl req -x509 -newkey rsa:2048 -nodes -days 2 -subj /CN=localhost -addext subjectAltName=DNS:localhost"
     machine.does(f"{made} -out /etc/ssl/goshelf.pem -keyout /etc/ssl/goshelf.key")
     machine.check_out()
-    machine.does(block("sh", "deploy/nginx/users.map"))
+    machine.does(block("sh", "for it in users.map"))
     machine.does("sed -i 's/server_name shelf.example.com;/server_name localhost;/' /etc/nginx/conf.d/goshelf.conf")
     machine.does(paths(block("sh", ">> /etc/nginx/goshelf/paths.map")))
     change(machine)

@@ -37,7 +37,7 @@ def prepared(suite, machine):
     new_store(machine.store, ("alpha", ALPHA, READER), ("beta", BETA), ("common", COMMON), ("gamma", MEMBER, "", "platform"), groups=[("platform", GROUP)])
     told = [publish(machine, *it) for it in PUBLISHED]
     assert told == ["201 published"] * len(PUBLISHED), told
-    for script in ("goshelf-backup", "goshelf-watch", "goshelf-metrics"):
+    for script in ("goshelf-backup", "goshelf-watch", "goshelf-metrics", "goshelf-backup", "goshelf-metrics"):
         machine.does(block("sh", f"root $(command -v {script})"))
     os.makedirs(f"{machine.folder}/var/cache/nginx/goshelf/1/ab")
     machine.does("systemctl start goshelf")

@@ -121,7 +121,7 @@ class Warm(Company):
         host.check_out()
         host.command("ssh", SSH.format(python=sys.executable))
         host.write("root/goshelf-first.pem", certificate)
-        host.does(block("sh", "deploy/warm/server.conf", PAGE))
+        host.does(block("sh", "warm/server.conf", PAGE))
         for it in (self.first, host):
             it.edit("etc/nginx/conf.d/goshelf.conf", SECOND_WAY)
         host.start_nginx()

@@ -474,7 +474,7 @@ def upgraded(suite, copy, first, second, version):
     """The commands of the page try another version on a copy, and put it over a running one, which restarts; and the first one again."""
     old, new = copy.put(first), copy.put(second)
     names = {f"goshelf_{name}_amd64.deb": os.path.basename(it) for name, it in (("OLD", old), ("NEW", new))}
-    tries, over, back = (commands(it) for it in ("dpkg-deb -x", "apt install ./goshelf_NEW", "--allow-downgrades"))
+    tries, over, back = (commands(it) for it in ("dpkg-deb -x", "apt install -y ./goshelf_NEW", "--allow-downgrades"))
     copy.sh("systemctl stop goshelf; cp /var/lib/goshelf/shelves.db* /root; systemctl start goshelf")
     copied = tries.replace("COPY", "/root/shelves.db").replace("KEY", KEY)
     for name, script, wanted in (("a try", copied, version), ("an upgrade", over, f"{version}.later"), ("the way back", back, version)):

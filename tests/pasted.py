@@ -101,6 +101,20 @@ def of_warm(suite, machine):
         os.remove(f"{machine.folder}/usr/local/bin/{it}")
 
 
+def of_maps(suite, machine):
+    """New maps are fetched without a word, so that cron mails nothing, also where nginx has one to say."""
+    files = "for it in users keys paths; do echo new > $it.map; done; sha256sum *.map > SHA256SUMS; tar -cf - *"
+    ssh = f"#!/bin/sh\nmkdir -p @/root/maps && cd @/root/maps\n{files}\n"
+    commands(machine, ssh=ssh, flock="#!/bin/sh\n", nginx='#!/bin/sh\n[ "$1" = -q ] || echo a notice >&2\n')
+    os.makedirs(f"{machine.folder}/etc/nginx/goshelf", exist_ok=True)
+    for it in ("users", "keys", "paths"):
+        machine.write(f"etc/nginx/goshelf/{it}.map", "old\n")
+    told = machine.sh("goshelf-warm maps"), machine.read("etc/nginx/goshelf/users.map")
+    suite.equal("new maps, and an nginx that says something", told, ((0, "", ""), "new\n"))
+    for it in ("ssh", "flock", "nginx"):
+        os.remove(f"{machine.folder}/usr/local/bin/{it}")
+
+
 def of_stores(suite, machine):
     """A migration and a second shard leave the stores that are there."""
     home, script = f"{machine.folder}/var/lib/goshelf", block("sh", "goshelf migrate")
@@ -157,7 +171,7 @@ def main():
         machine = Machine(folder)
         machine.check_out()
         os.symlink(os.path.join(ROOT, "tools"), f"{folder}/root/tools")
-        for part in (of_nginx, of_users, of_cron, of_warm, of_stores, of_files, of_loops):
+        for part in (of_nginx, of_users, of_cron, of_warm, of_maps, of_stores, of_files, of_loops):
             part(suite, machine)
     return suite.end()
 

@@ -528,6 +528,13 @@ def by_hand(suite, copy, tar, version):
     suite.equal("the tar file: the unit is right", copy.sh("systemd-analyze verify goshelf.service"), (0, "", ""))
     copy.sh("\n".join(commands("goshelf_VERSION_amd64.deb").replace("KEY", KEY).splitlines()[1:]))
     suite.equal("the tar file: goshelf answers", ask(copy, "-/modules"), "200")
+    before, kept = first_process(copy), "cat /usr/local/bin/goshelf | sha256sum; cat /usr/share/goshelf/BUILD | sha256sum"
+    files = copy.prints(kept)
+    copy.sh("echo other > /usr/share/goshelf/BUILD; echo '#!/bin/sh' > goshelf.other; install goshelf.other /usr/local/bin/goshelf")
+    told = copy.sh("cd /root\n" + commands("tar -xzf").replace("VERSION", version) + "systemctl restart goshelf")
+    suite.equal("the tar file, over another: the commands end well", (told[0], told[2]), (0, ""))
+    found = copy.prints(kept), ask(copy, "-/modules"), first_process(copy) not in (before, "0")
+    suite.equal("its program is there, and runs over the store", found, (files, "200", True))
 
 
 def on_a_copy(suite, tar, package, version, folder):

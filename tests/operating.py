@@ -70,12 +70,12 @@ def cron(suite, machine):
 def by_hand(suite, machine):
     """goshelf copies its store while it runs. sqlite3 copies it once goshelf is stopped; before, its copy is empty, as an inventory shows."""
     ways = re.findall(r"`(sqlite3 F [^`]*COPY[^`]*)`", PAGES)
-    suite.equal("ways to copy", len(ways), 3)
+    suite.equal("ways to copy", len(ways), 1)
     listed = beginning("goshelf inventory").replace("KEY", ALPHA)
     for at, way in enumerate(ways):
         copy = f"{machine.folder}/root/copy-{at}.db"
         status, _, told = machine.sh(way.replace("F", machine.store, 1).replace("COPY", copy))
-        suite.equal(f"{way}: fails while goshelf runs", (status == 0, "database is locked" in told), (".dump" in way, ".dump" not in way))
+        suite.equal(f"{way}: fails while goshelf runs", (status == 0, "database is locked" in told), (False, True))
         suite.holds(f"{way}: leaves an empty copy", os.path.getsize(copy) == 0)
         suite.equal(f"{way}: sqlite3 calls that copy good", machine.does(f"sqlite3 {copy} 'PRAGMA integrity_check'"), "ok\n")
         suite.equal(f"{way}: an inventory does not", machine.sh(listed.replace("COPY", copy)), (1, "", "goshelf: no-key\n"))

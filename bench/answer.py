@@ -1,8 +1,8 @@
 #!/usr/bin/env python3
 """Speed and memory of `goshelf answer --mem`: makes streams of requests and runs the built program on them.
 
-Build the program first (`./goshelf --version`); GOSHELF names another program. Each line tells requests a second, bytes a second in and out,
-and the peak memory of the run. With --quick the streams are a tenth as long.
+Build the program first (`./goshelf --version`); GOSHELF names another program. Each line tells requests a second, bytes
+a second in and out, and the peak memory of the run. With --quick the streams are a tenth as long.
 """
 
 import itertools

@@ -2,10 +2,11 @@
 """A synthetic company asks as the go command does: answers and builds a second, processor time of a build (goshelf and
 nginx) and of an answer at each hop, and latencies.
 
-One goshelf is asked alone, and then 1, 2 and 4 of them behind nginx by tools/shards and deploy/nginx (without TLS), the teams shared out
-among them, without and with nginx's cache. Each is asked three times: with publishes and an empty cache, where every answer is compared with that
-of the one goshelf; by other builds, as fast as it answers; and at --load of that rate, in bursts, for the latencies. Build the program first
-(`./goshelf --version`); nginx and a C compiler are on the path (Debian: nginx-light, gcc).
+One goshelf is asked alone, and then 1, 2 and 4 of them behind nginx by tools/shards and deploy/nginx (without TLS), the
+teams shared out among them, without and with nginx's cache. Each is asked three times: with publishes and an empty
+cache, where every answer is compared with that of the one goshelf; by other builds, as fast as it answers; and at
+--load of that rate, in bursts, for the latencies. Build the program first (`./goshelf --version`); nginx and a C
+compiler are on the path (Debian: nginx-light, gcc).
 
 With --public 95, 95 of 100 requests of a build are for public modules, and each deployment behind a cache is asked in
 three ways: goshelf answers 404 and the public proxy stands behind in GOPROXY; nginx answers that 404 itself; or nginx

@@ -1,6 +1,6 @@
-"""A synthetic company: teams and groups with modules and versions, builds that ask for them in bursts as the go command does, and publishes.
+"""A synthetic company: teams and groups with modules and versions, builds that ask in bursts, and publishes.
 
-Everything follows from the sizes and the seed.
+A build asks as the go command does. Everything follows from the sizes and the seed.
 """
 
 import itertools
@@ -79,7 +79,8 @@ class Company:
         return [f"/{path}/@v/v1.0.0.{end}" for path in paths for end in ("mod", "zip")]
 
     def builds(self):
-        """The lists of requests of every build, as pairs of a team and its targets, in bursts of builds that need the same."""
+        """The lists of requests of every build, as pairs of a team and its targets, in bursts of builds that need
+        the same."""
         names, weights = zip(*KINDS)
         left = self.sizes.builds
         while left > 0:
@@ -96,7 +97,8 @@ def lists(kind, needed):
 
 
 def targets(kind, path, version):
-    """What a go command asks for about a module: with a go.sum, by `go get -u`, or for an import of a package that no go.mod names."""
+    """What a go command asks for about a module: with a go.sum, by `go get -u`, or for an import of a package that
+    no go.mod names."""
     files = [f"/{path}/@v/{version}.{end}" for end in ("mod", "zip")]
     if kind == "pinned":
         return files
@@ -148,7 +150,8 @@ class Plan:
         self.list(self.front.port(team), [put, *looks])
 
     def fill(self, rate):
-        """Adds every build and publish. With a rate, bursts are due so that there are so many answers a second on average."""
+        """Adds every build and publish. With a rate, bursts are due so that there are so many answers a second on
+        average."""
         sizes, bursts = self.company.sizes, list(self.company.builds())
         every = max(1, len(bursts) // max(1, sizes.publishes))
         numbers = iter(range(sizes.publishes))

@@ -1,4 +1,7 @@
-"""The public proxy of bench/company.py: an nginx of its own, over TLS for nginx and plain for those who ask it themselves."""
+"""The public proxy of bench/company.py: an nginx of its own.
+
+It listens over TLS for nginx, and plain for those who ask it themselves.
+"""
 
 import os
 import shutil

@@ -1,7 +1,8 @@
 #!/usr/bin/env python3
-"""What `serve --control` costs its peers and its operators: GETs with the socket and without, orders under load, a key revoked, a copy.
+"""What `serve --control` costs its peers and its operators.
 
-Build the program first (`./goshelf --version`); cc is on the path. With --program FILE it measures that program. It prints a table for
+It measures GETs with the socket and without, orders under load, a key revoked, a copy. Build the program first
+(`./goshelf --version`); cc is on the path. With --program FILE it measures that program. It prints a table for
 bench/RESULTS.md, of five parts, or of those that --only names:
 
   gets      GETs a second of one `.mod` with `--control` beside those without, in turn, by a client in C, each on a connection of its own, and

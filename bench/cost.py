@@ -1,8 +1,9 @@
 #!/usr/bin/env python3
-"""What a request costs `goshelf answer --mem`, and a GET `goshelf serve`: instructions by valgrind's count, reads by strace's, and peak memory.
+"""What a request costs `goshelf answer --mem`, and a GET `goshelf serve`.
 
-Build the program first (`./goshelf --version`); it wants valgrind and strace. With --program FILE it measures that program. With --gets it
-measures GETs alone, with --changes what opens, changes or misses in a file alone.
+Instructions are valgrind's count, reads strace's; peak memory is measured too. Build the program first (`./goshelf
+--version`); it wants valgrind and strace. With --program FILE it measures that program. With --gets it measures GETs
+alone, with --changes what opens, changes or misses in a file alone.
 """
 
 import fcntl
@@ -68,7 +69,8 @@ def of_a_get(program, rest, words):
 
 
 def served(program, folder, count):
-    """How many instructions `serve` takes, with its opening, to answer so many GETs of a small .mod, each on a connection of its own."""
+    """How many instructions `serve` takes, with its opening, to answer so many GETs of a small .mod, each on a
+    connection of its own."""
     store = made(program, folder)
     with stream_of(publish(PATH, VERSION)) as source:
         subprocess.run([program, "answer", "--db", store], stdin=source, stdout=subprocess.DEVNULL, check=True)

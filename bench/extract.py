@@ -1,11 +1,12 @@
 #!/usr/bin/env python3
 """Time and memory of `goshelf extract`, beside Python's sqlite3 that copies the same rows.
 
-Build the program first (`./goshelf --version`), and have strace. A store of 100,000 versions of ten teams is made by sqlite3, and one
-team's part of it extracted, in turn with sqlite3, which copies the rows of that part into new tables in one transaction with synchronous
-FULL. The program reads and judges the whole store when it opens it, which sqlite3 does not. strace tells the two apart by the calls on
-the file of the part: its making goes from the first of them, once the whole was opened, to the end of the last. Reads and writes are not
-traced, so tracing costs next to nothing; an extract without it is timed in each turn too. With --quick the store is a tenth as large.
+Build the program first (`./goshelf --version`), and have strace. A store of 100,000 versions of ten teams is made by
+sqlite3, and one team's part of it extracted, in turn with sqlite3, which copies the rows of that part into new tables
+in one transaction with synchronous FULL. The program reads and judges the whole store when it opens it, which sqlite3
+does not. strace tells the two apart by the calls on the file of the part: its making goes from the first of them, once
+the whole was opened, to the end of the last. Reads and writes are not traced, so tracing costs next to nothing; an
+extract without it is timed in each turn too. With --quick the store is a tenth as large.
 """
 
 import os

@@ -1,8 +1,9 @@
 #!/usr/bin/env python3
-"""Memory and time of `list` and `@latest` on a path with as many versions as there may be on each of two shelves, with large go.mod files.
+"""Memory and time of `list` and `@latest` on a path with as many versions as there may be.
 
-Build the program first (`./goshelf --version`). The store is made by sqlite3, with the tables of bench/store.py. With numbers: how many
-versions on each shelf (4,096), and how many bytes a go.mod has (1,048,576); the disk needs room for all of them.
+It has them on each of two shelves, with large go.mod files. Build the program first (`./goshelf --version`). The store
+is made by sqlite3, with the tables of bench/store.py. With numbers: how many versions on each shelf (4,096), and how
+many bytes a go.mod has (1,048,576); the disk needs room for all of them.
 """
 
 import os

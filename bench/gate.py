@@ -1,12 +1,13 @@
 #!/usr/bin/env python3
-"""What the gate costs: runs `rt ci` on a fresh clone of a commit, from nothing, and prints processor time by kind and crate, and peaks.
+"""What the gate costs: runs `rt ci` on a fresh clone of a commit, from nothing.
 
+It prints processor time by kind and crate, and peaks.
 usage: python3 bench/gate.py [COMMIT] [--kept]
 
-COMMIT is HEAD if it is left out. With --kept, proofs of earlier runs on this machine count, as they do at a landing; kit 13b keeps none, so
-it is refused there. The total is what the system counted for all processes of the run. The rest is a sample of the run's processes of the
-prover, twice a second: it misses the end of each. A peak is the most memory that one process held. The output of the run goes to gate.log in
-the folder that is printed first.
+COMMIT is HEAD if it is left out. With --kept, proofs of earlier runs on this machine count, as they do at a landing;
+kit 13b keeps none, so it is refused there. The total is what the system counted for all processes of the run. The rest
+is a sample of the run's processes of the prover, twice a second: it misses the end of each. A peak is the most memory
+that one process held. The output of the run goes to gate.log in the folder that is printed first.
 """
 
 import argparse
@@ -31,7 +32,8 @@ def read(path):
 
 
 def gate(is_kept):
-    """The words that run the gate: a kit that keeps proofs runs from nothing by `--anew`, and one that keeps none has no such word."""
+    """The words that run the gate: a kit that keeps proofs runs from nothing by `--anew`, and one that keeps none
+    has no such word."""
     # (its status is 2)
     told = subprocess.run(["rt", "help"], stdout=subprocess.PIPE, stderr=subprocess.STDOUT, text=True, check=False).stdout
     keeps = "--anew" in told

@@ -1,9 +1,10 @@
 #!/usr/bin/env python3
-"""What groups cost: instructions of a request over a file by a team in a group, beside a team in none, and beside an older program.
+"""What groups cost: instructions of a request over a file by a team in a group.
 
-Build the program first (`./goshelf --version`); it wants valgrind. With --program FILE it measures that program. With --beside FILE it
-also measures a program from before groups, whose stores have schema 2; each program makes its own store, by the same requests. The
-opening of a store does not count. A list that is asked again is kept by the store, one that is asked first is not.
+Beside it stand those of a team in none, and of an older program. Build the program first (`./goshelf --version`); it
+wants valgrind. With --program FILE it measures that program. With --beside FILE it also measures a program from before
+groups, whose stores have schema 2; each program makes its own store, by the same requests. The opening of a store does
+not count. A list that is asked again is kept by the store, one that is asked first is not.
 """
 
 import functools
@@ -57,7 +58,8 @@ def copied_in(file):
 
 
 def made(program, file, groups):
-    """A store whose shelves have their paths, made by the program. With groups there are also platform, and gamma in it."""
+    """A store whose shelves have their paths, made by the program. With groups there are also platform, and gamma in
+    it."""
     done(program, "init", "--db", file)
     done(program, "team-add", "--db", file, "--team", "alpha")
     if groups:

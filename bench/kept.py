@@ -1,11 +1,13 @@
 #!/usr/bin/env python3
-"""What a store in a file keeps, in instructions by valgrind's count: `list` and `@latest` of 200 and 2,000 paths, asked in turn once and again;
-`@latest` of a path whose go.mod has as many retractions as one may; a `.zip` of each size, fetched once and again, where another was before;
-a GET of each other kind of a path with one version.
+"""What a store in a file keeps, in instructions by valgrind's count.
 
-Build the program first (`./goshelf --version`); it wants valgrind. With --program FILE it measures that program. The opening of a store does
-not count. With --gomods it asks only for the first `@latest` of paths whose go.mod files are as costly to read as one may be, and also tells
-the processor time, the best of nine runs less the best of nine openings.
+It asks for `list` and `@latest` of 200 and 2,000 paths, in turn once and again; `@latest` of a path whose go.mod has as
+many retractions as one may; a `.zip` of each size, fetched once and again, where another was before; a GET of each
+other kind of a path with one version.
+
+Build the program first (`./goshelf --version`); it wants valgrind. With --program FILE it measures that program. The
+opening of a store does not count. With --gomods it asks only for the first `@latest` of paths whose go.mod files are as
+costly to read as one may be, and also tells the processor time, the best of nine runs less the best of nine openings.
 """
 
 import functools
@@ -62,7 +64,8 @@ def shuffled(line):
 
 
 def gomods():
-    """What the worst go.mod files hold, each with a keyword, its lines, and the version that a number names there, if a path is to have many."""
+    """What the worst go.mod files hold, each with a keyword, its lines, and the version that a number names there,
+    if a path is to have many."""
     release, alike = "v0.0.{}".format, lambda n: f"v0.0.0-0.0.0.{named(n)}"
     pre, interval = lambda n: f"v0.0.0-{named(n)}", lambda n: f"[v0.0.{n},v0.0.{n + 1}]"
     yield "equal retractions", "retract", itertools.repeat("v0.0.0"), None

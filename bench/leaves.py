@@ -1,11 +1,12 @@
 #!/usr/bin/env python3
 """Speed of the calls that need no store: checks of paths, the order of versions, and the reading of go.mod files.
 
-Build the program first (`cd crates/bench_leaves && rt run -- gomod 0 </dev/null`). It does the same work in rounds, and each
-line tells what a round costs in processor time, beside a run with no rounds, which only makes the input ready. Of a
-go.mod it also tells how many times dearer the text is than one half as long, and the status is 1 where that is more
-than 2.5 times. With --quick the inputs are a tenth as long. With --gomods it measures one round alone of the worst go.mod files
-that bench/kept.py makes, with the choice of the latest among few or many versions, the best of nine; --program FILE names the program.
+Build the program first (`cd crates/bench_leaves && rt run -- gomod 0 </dev/null`). It does the same work in rounds, and
+each line tells what a round costs in processor time, beside a run with no rounds, which only makes the input ready. Of
+a go.mod it also tells how many times dearer the text is than one half as long, and the status is 1 where that is more
+than 2.5 times. With --quick the inputs are a tenth as long. With --gomods it measures one round alone of the worst
+go.mod files that bench/kept.py makes, with the choice of the latest among few or many versions, the best of nine;
+--program FILE names the program.
 """
 
 import os

@@ -1,8 +1,10 @@
 #!/usr/bin/env python3
-"""Publishes with each of some programs in turn, and what they leave: the log, the time to open the store, and to copy both files.
+"""Publishes with each of some programs in turn, and what they leave.
 
-It compares programs that differ in `checkpoint_frames`, a figure of `Options` in crates/store/src/files.rt, which says how long the log grows
-before it is copied into the file. Name each by --program FILE. Each publish is one transaction that is on the disk before it is answered.
+It measures the log, the time to open the store, and to copy both files. It compares programs that differ in
+`checkpoint_frames`, a figure of `Options` in crates/store/src/files.rt, which says how long the log grows before it is
+copied into the file. Name each by --program FILE. Each publish is one transaction that is on the disk before it is
+answered.
 """
 
 import os

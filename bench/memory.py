@@ -1,8 +1,9 @@
 #!/usr/bin/env python3
-"""Memory and time of the program on stores of several sizes: to open one, to fetch its largest zip, to publish the largest one, to serve.
+"""Memory and time of the program on stores of several sizes.
 
-Build the program first (`./goshelf --version`). The stores are made by sqlite3, with the tables of bench/store.py. With numbers, the stores of
-this many MiB alone (100, 500).
+It opens one, fetches its largest zip, publishes the largest one, and serves. Build the program first (`./goshelf
+--version`). The stores are made by sqlite3, with the tables of bench/store.py. With numbers, the stores of this many
+MiB alone (100, 500).
 """
 
 import os

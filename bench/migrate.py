@@ -1,11 +1,12 @@
 #!/usr/bin/env python3
 """Time and memory of `goshelf migrate`, beside Python's sqlite3 that makes the same rows.
 
-Build the program first (`./goshelf --version`). A store of 100,000 versions and 1 GiB is made by sqlite3 in the tables of schema 1, and
-another in those of schema 2. Each is migrated, in turn with sqlite3, which writes the rows of today's tables in one transaction with
-synchronous FULL; from schema 1 it makes the keys of order and the pieces too. The program reads the whole older store when it opens it,
-which sqlite3 does not. The peak is that of the whole run; beside it stand the peaks of runs that open one of the two stores and are then
-refused. GOSHELF names another program. With --quick the stores are a tenth as large, and --rounds N makes N turns, in place of 5.
+Build the program first (`./goshelf --version`). A store of 100,000 versions and 1 GiB is made by sqlite3 in the tables
+of schema 1, and another in those of schema 2. Each is migrated, in turn with sqlite3, which writes the rows of today's
+tables in one transaction with synchronous FULL; from schema 1 it makes the keys of order and the pieces too. The
+program reads the whole older store when it opens it, which sqlite3 does not. The peak is that of the whole run; beside
+it stand the peaks of runs that open one of the two stores and are then refused. GOSHELF names another program. With
+--quick the stores are a tenth as large, and --rounds N makes N turns, in place of 5.
 """
 
 import os
@@ -55,8 +56,9 @@ def filled(file, schema, entries):
 
 
 def ran(status, *words):
-    """Seconds, seconds of the processor, and peak memory of a run of the program, which has to end with this status. What a child had
-    before it became the program counts for the peak of getrusage, so that is asked of the system while it runs."""
+    """Seconds, seconds of the processor, and peak memory of a run of the program, which has to end with this status.
+    What a child had before it became the program counts for the peak of getrusage, so that is asked of the system
+    while it runs."""
     started, peak = time.monotonic(), 0
     child = subprocess.Popen([PROGRAM, *words], stderr=subprocess.DEVNULL)
     while not (ended := os.wait4(child.pid, os.WNOHANG))[0]:

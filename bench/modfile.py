@@ -1,9 +1,10 @@
 #!/usr/bin/env python3
-"""Reading a go.mod of 20,000 requirements: this repository's `gomod` beside golang.org/x/mod/modfile, nine runs of each in turn.
+"""Reading a go.mod of 20,000 requirements: this repository's `gomod` beside golang.org/x/mod/modfile.
 
-Build the program first (`cd crates/bench_leaves && rt run -- gomod 0 </dev/null`). The other side is built here, by Debian's packages
-golang-go and golang-golang-x-mod-dev. It is run as it comes, with its collector on other processors, and on one processor alone.
-Each line tells the processor time of a reading, beside a run that reads none, and how many times ours it is, run by run.
+Nine runs of each are made in turn. Build the program first (`cd crates/bench_leaves && rt run -- gomod 0 </dev/null`).
+The other side is built here, by Debian's packages golang-go and golang-golang-x-mod-dev. It is run as it comes, with
+its collector on other processors, and on one processor alone. Each line tells the processor time of a reading, beside a
+run that reads none, and how many times ours it is, run by run.
 """
 
 import os

@@ -1,7 +1,8 @@
 #!/usr/bin/env python3
-"""Seconds in which tools/shards finds and mends what a shard missed of `common`, and in which it compares two shards whole.
+"""Seconds in which tools/shards finds and mends what a shard missed of `common`.
 
-Build the program first (`./goshelf --version`). With a number: how many versions common has (1,000, four to a path).
+It also measures a comparison of two whole shards. Build the program first (`./goshelf --version`). With a number: how
+many versions common has (1,000, four to a path).
 """
 
 import argparse

@@ -1,9 +1,10 @@
 #!/usr/bin/env python3
-"""Speed and memory of a store in a file: `goshelf answer --db`, beside Python's sqlite3 that inserts the same rows; lists of a long path.
+"""Speed and memory of a store in a file: `goshelf answer --db`, and lists of a long path.
 
-Build the program first (`./goshelf --version`); GOSHELF names another program. Each publish is one transaction that is on the disk before it
-is answered, and so is each of sqlite3's (synchronous=FULL). The publishes of both go in turn, each time into a new store. With --publishes
-these alone are measured; with --quick the stores are a tenth as large. STORES names the folder of the stores.
+Beside it Python's sqlite3 inserts the same rows. Build the program first (`./goshelf --version`); GOSHELF names another
+program. Each publish is one transaction that is on the disk before it is answered, and so is each of sqlite3's
+(synchronous=FULL). The publishes of both go in turn, each time into a new store. With --publishes these alone are
+measured; with --quick the stores are a tenth as large. STORES names the folder of the stores.
 """
 
 import itertools
@@ -113,7 +114,8 @@ def answered(file, requests):
 
 
 def published(folder, count, zip_length):
-    """Milliseconds of one of this many publishes, and of one of as many by sqlite3, and the program's peak, each into a new store."""
+    """Milliseconds of one of this many publishes, and of one of as many by sqlite3, and the program's peak, each
+    into a new store."""
     ours, theirs = (os.path.join(folder, f"{name}.db") for name in ("ours", "theirs"))
     made(ours).close()
     opening, _ = answered(ours, [])
@@ -165,15 +167,16 @@ def filled_file(folder, entries):
 
 
 def fetching(file, entries, gets):
-    """Seconds of this many GETs of a .mod from a store, without its opening. The asked versions are spread over the store.
-    They are so many that what an opening takes more or less from run to run hardly counts."""
+    """Seconds of this many GETs of a .mod from a store, without its opening. The asked versions are spread over the
+    store. They are so many that what an opening takes more or less from run to run hardly counts."""
     opening, _ = answered(file, [])
     seconds, _ = answered(file, (get(n * 7919 % entries) for n in range(gets)))
     return max(seconds - opening, 1e-9)
 
 
 def fetches(folder, few, many, gets):
-    """GETs from a small and from a large store, in turn, since the machine's speed may change meanwhile: the least of each."""
+    """GETs from a small and from a large store, in turn, since the machine's speed may change meanwhile: the least
+    of each."""
     files = {entries: filled_file(folder, entries) for entries in (few, many)}
     rounds = [{entries: fetching(file, entries, gets) for entries, file in files.items()} for _ in range(ROUNDS)]
     least = {entries: min(it[entries] for it in rounds) for entries in files}

@@ -1,10 +1,11 @@
 #!/usr/bin/env python3
 """A `.zip` of each size by `goshelf serve`, fetched first and again, in turn with nginx over the same bytes as files.
 
-Build the program first (`./goshelf --version`); nginx and cc are on the path. With --program FILE, once or more, it measures these programs
-beside each other. Each request has a connection of its own, by a client in C, so that it is no bottleneck. What is fetched first are other
-versions each time, of a store that was opened anew; nginx's files are in the system's memory. That store has 93 MiB. With --beyond N it has
-N more versions of 16 MiB, which nobody fetches. --rounds N makes N turns (9); with --quick there are a tenth of the requests.
+Build the program first (`./goshelf --version`); nginx and cc are on the path. With --program FILE, once or more, it
+measures these programs beside each other. Each request has a connection of its own, by a client in C, so that it is no
+bottleneck. What is fetched first are other versions each time, of a store that was opened anew; nginx's files are in
+the system's memory. That store has 93 MiB. With --beyond N it has N more versions of 16 MiB, which nobody fetches.
+--rounds N makes N turns (9); with --quick there are a tenth of the requests.
 """
 
 import argparse

@@ -1,8 +1,8 @@
 #!/usr/bin/env python3
-"""tools/adopt: lists of a module cache, a static proxy and an Athens, imported and fetched by the go command with the sums they had.
+"""tools/adopt: lists of a module cache, a static proxy and an Athens.
 
-The module cache is filled by the go command from a static proxy, whose zips are made here. The commands of docs/OPERATING.md are run as
-the page has them.
+They are imported and fetched by the go command, with the sums that they had. The module cache is filled by the go
+command from a static proxy, whose zips are made here. The commands of docs/OPERATING.md are run as the page has them.
 """
 
 import csv

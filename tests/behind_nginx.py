@@ -1,8 +1,9 @@
 #!/usr/bin/env python3
-"""nginx before `goshelf serve`, by deploy/nginx/ and the commands of docs/NGINX.md: log in, TLS, its cache, slow clients, logs.
+"""nginx before `goshelf serve`: log in, TLS, its cache, slow clients, logs.
 
-The files and the commands run as they are, on a machine in a folder (lib/machine.py). Users are added and removed by the page's commands.
-Clients are slow with a head, with a body or with what they are sent. The go command logs in by ~/.netrc.
+It is set up by deploy/nginx/ and the commands of docs/NGINX.md. The files and the commands run as they are, on a
+machine in a folder (lib/machine.py). Users are added and removed by the page's commands. Clients are slow with a head,
+with a body or with what they are sent. The go command logs in by ~/.netrc.
 """
 
 import base64
@@ -160,7 +161,8 @@ def stalled(suite, client):
 
 
 def revoked(suite, client):
-    """A user who is removed by the page's commands gets nothing from then on, cached or not, on a new connection or an old one."""
+    """A user who is removed by the page's commands gets nothing from then on, cached or not, on a new connection or
+    an old one."""
     suite.holds("before: what is cached, and a list", [client.get(f"{AT}/{it}")[0] for it in ("v1.0.0.zip", "list")] == [200, 200])
     held = http.client.HTTPSConnection("localhost", client.machine.front, timeout=60, context=client.context)
     held.request("GET", f"{AT}/v1.0.0.mod", headers={"Authorization": client.login("ann")})
@@ -192,7 +194,8 @@ def too_many(suite, client):
 
 
 def at_once(suite, client):
-    """A user has 200 requests at a time and no more; another user is answered meanwhile, and the first again once some have ended."""
+    """A user has 200 requests at a time and no more; another user is answered meanwhile, and the first again once
+    some have ended."""
     head = client.head("PUT", f"{AT}/v9.1.0", "bob", f"Mod-Length: {len(GOMOD)}", f"Content-Length: {len(GOMOD)}") + b"\r\n"
     held = [client.begin(head) for _ in range(200)]
     wait_until(lambda: client.get(f"{AT}/list", "bob")[0] == 429)
@@ -285,7 +288,8 @@ def unwritable_cache(suite, client):
 
 
 def go(client, behind, netrc, *words):
-    """Runs the go command in a new module, with no cache: whether it ended well, what it said, and what the public proxy was asked."""
+    """Runs the go command in a new module, with no cache: whether it ended well, what it said, and what the public
+    proxy was asked."""
     behind.asked.clear()
     proxies = f"https://localhost:{client.machine.front},{behind.url}"
     code = 'package main\n\nimport "example.com/greet"\n\nfunc main() { println(greet.Text) }\n'
@@ -329,7 +333,8 @@ def go_command(suite, client):
 
 
 def three_modules(suite, client):
-    """A user publishes the tutorial's repository of three modules by the page's commands, and another, who only reads, builds with them."""
+    """A user publishes the tutorial's repository of three modules by the page's commands, and another, who only
+    reads, builds with them."""
     made, uses = (block("sh run", it, "TUTORIAL.md") for it in ("mkdir -p team/log", 'import "example.com/team/log"'))
     publish, wanted = block("sh", "--netrc --repository team"), block("output", "published example.com/team v1.0.0", "TUTORIAL.md")
     url = f"https://localhost:{client.machine.front}"

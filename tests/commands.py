@@ -1,8 +1,9 @@
 #!/usr/bin/env python3
-"""What each command prints and how it ends: words, names, help, runs on one store, imports, inventories, and the port and address of `serve`.
+"""What each command prints and how it ends.
 
-A table holds runs, which are made in order, as `runs_of` of lib/program.py reads them. Each run is to end with its status, print its lines, byte
-for byte, and say its word or nothing on standard error.
+It has words, names, help, runs on one store, imports, inventories, and the port and address of `serve`. A table holds
+runs, which are made in order, as `runs_of` of lib/program.py reads them. Each run is to end with its status, print its
+lines, byte for byte, and say its word or nothing on standard error.
 """
 
 import os
@@ -176,8 +177,8 @@ answer --db store.db < A example.com/lib/@v/v1.0.0.mod | 0
 init --db store.db | 1 not-empty
 """
 
-# a store with the team alpha and its key, and what is then refused and changes nothing: the name first, then whether it is taken, then
-# the group
+# a store with the team alpha and its key, and what is then refused and changes nothing: the name first, then whether it
+# is taken, then the group
 GROUPS = """
 team-add --db store.db --team alpha | 0
 key-add --db store.db --shelf alpha --key A | 0
@@ -489,8 +490,8 @@ def quick_start(suite):
 
 
 def new_store_told(suite):
-    """`serve` says before it listens that its store is new, and does not say so of another file. No other command does, unless standard
-    error is a terminal."""
+    """`serve` says before it listens that its store is new, and does not say so of another file. No other command
+    does, unless standard error is a terminal."""
     write({"empty.db": b"", "bad.db": b"no store"})
     serve = "serve --db {} --port 0 --connections 0"
     for name in ("none.db", "empty.db"):

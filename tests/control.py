@@ -1,8 +1,8 @@
 #!/usr/bin/env python3
-"""`serve --control` and `--stdin`: orders and their words, sockets that are refused, operators that misbehave, keys that go under load.
+"""`serve --control` and `--stdin`: orders, bad sockets, operators that misbehave, keys that go under load.
 
-Each order is compared with what the same command does with `--db` on a store of its own. A restart by the socket that systemd holds is made
-under load. `control_kills` has the kills.
+Each order is compared with what the same command does with `--db` on a store of its own. A restart by the socket that
+systemd holds is made under load. `control_kills` has the kills.
 """
 
 import contextlib

@@ -1,9 +1,10 @@
 #!/usr/bin/env python3
-"""What `serve --control` acknowledged is there after it is killed: the kills of `kills`, with orders among the publishes.
+"""What `serve --control` acknowledged is there after it is killed.
 
-The server is killed (SIGKILL) at random moments while keys are added, publish and are revoked. After each kill the store is opened again: each
-version and key that was acknowledged is there, whole, and each revoked key is unknown. The short form has 20 kills, --long 1,000, and a number as
-many; --seed N repeats a run.
+The kills are those of tests/kills.py, with orders among the publishes. The server is killed (SIGKILL) at random moments
+while keys are added, publish and are revoked. After each kill the store is opened again: each version and key that was
+acknowledged is there, whole, and each revoked key is unknown. The short form has 20 kills, --long 1,000, and a number
+as many; --seed N repeats a run.
 """
 
 import random
@@ -48,7 +49,8 @@ class Acknowledged:
                 self.gone.append(key)
 
     def wrong(self):
-        """Opens the store again. Returns what is wrong with its publishes and with its keys, each None where nothing is."""
+        """Opens the store again. Returns what is wrong with its publishes and with its keys, each None where nothing
+        is."""
         is_there, wrong = is_kept(self.store, self.published[-12:], [self.next_number])
         self.next_number += is_there
         keys, wanted = self.kept[-8:] + self.gone[-8:], [200] * len(self.kept[-8:]) + [404] * len(self.gone[-8:])

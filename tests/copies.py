@@ -1,8 +1,9 @@
 #!/usr/bin/env python3
-"""`copy --control S --to G`: copies of a store while peers ask and publish, each opened and compared; what is refused; a full disk; kills.
+"""`copy --control S --to G`: copies of a store while peers ask and publish.
 
-A copy has each version that was acknowledged before the order, and none whose publish began after the answer. The store that is served
-keeps its bytes. 5 kills in the middle of a copy, and 50 with --long; --seed N repeats a run.
+Each is opened and compared. Some are refused, some meet a full disk, and some kills. A copy has each version that was
+acknowledged before the order, and none whose publish began after the answer. The store that is served keeps its bytes.
+5 kills in the middle of a copy, and 50 with --long; --seed N repeats a run.
 """
 
 import os

@@ -20,8 +20,8 @@ PACKAGES = "/usr/share/gocode/src/golang.org/x/mod"
 LONG_PATH = "example.com/" + "a" * 244
 LONG_VERSION = "v1.0.0-" + "a" * 122
 
-# What a row is about, and the row: a path, a path and a version, or the text of a go.mod. In that text \n ends a line, and <C2 A0>
-# has the bytes that it names, as `unwritten` reads it.
+# What a row is about, and the row: a path, a path and a version, or the text of a go.mod. In that text \n ends a line,
+# and <C2 A0> has the bytes that it names, as `unwritten` reads it.
 ROWS = [
     ("`gopkg.in` with `-unstable`", "path", "gopkg.in/yaml.v2-unstable"),
     ("a path of 256 bytes", "path", LONG_PATH),

@@ -1,10 +1,10 @@
 #!/usr/bin/env python3
 """An extract onto a disk that is full ends with `device`, leaves its source as it was, and is taken once there is room.
 
-The store of two teams is on the machine's disk, and the part of one of them goes to a small tmpfs, where the machine lets one be mounted.
-It is tried with sizes of the tmpfs from one page up, until the part has room; after each refusal the files of the source have the bytes
-that they had, and no reply is lost. Then the tmpfs gets more room, and the same extract into the same file is taken. --seed N repeats a
-run, with its sizes.
+The store of two teams is on the machine's disk, and the part of one of them goes to a small tmpfs, where the machine
+lets one be mounted. It is tried with sizes of the tmpfs from one page up, until the part has room; after each refusal
+the files of the source have the bytes that they had, and no reply is lost. Then the tmpfs gets more room, and the same
+extract into the same file is taken. --seed N repeats a run, with its sizes.
 """
 
 import os
@@ -55,7 +55,8 @@ def extract(file, to):
 
 
 def refused(suite, whole, at, pages, before):
-    """Extracts onto a disk of this many pages; where that is refused, again onto the same one with more room. Whether it was refused."""
+    """Extracts onto a disk of this many pages; where that is refused, again onto the same one with more room.
+    Whether it was refused."""
     part, on = os.path.join(at, "part.db"), f"a disk of {pages} pages"
     try:
         told = extract(whole, part)

@@ -1,10 +1,11 @@
 #!/usr/bin/env python3
-"""A team's part answers that team as the whole does, another team's versions change no answer, and extracts are refused in order.
+"""A team's part answers that team as the whole does, and extracts are refused in order.
 
-The store is that of the worked rows, with versions of beta's own before those of the others. Each version that is there, and one that
-is not, is asked for in every way, by each key, of two stores: of the whole and of alpha's part, and of two stores of which one has
-100 versions of beta more. So it is of gamma, a team of the group platform, whose part has the group too, of the group's other team,
-delta, and of the part of both. The bytes of the replies are compared. A table holds runs, as `runs_of` of lib/program.py reads them.
+Another team's versions change no answer. The store is that of the worked rows, with versions of beta's own before those
+of the others. Each version that is there, and one that is not, is asked for in every way, by each key, of two stores:
+of the whole and of alpha's part, and of two stores of which one has 100 versions of beta more. So it is of gamma, a
+team of the group platform, whose part has the group too, of the group's other team, delta, and of the part of both. The
+bytes of the replies are compared. A table holds runs, as `runs_of` of lib/program.py reads them.
 """
 
 import os
@@ -126,7 +127,8 @@ publish --db whole.db --key A --module example.com/lib --version v1.0.0 --mod go
 answer --db whole.db < A example.com/lib/@v/v1.0.0.mod | 0
     200 module example.com/lib
 """
-# `text` and `foreign.db` are no stores, `folder` is a folder, `link` leads to whole.db, `empty` has no bytes, the others are not there
+# `text` and `foreign.db` are no stores, `folder` is a folder, `link` leads to whole.db, `empty` has no bytes, the
+# others are not there
 FAULTS = """
 extract --db text --team alpha --to part.db | 1 bad-schema
 extract --db text --team alpha --to text | 1 bad-schema
@@ -161,8 +163,9 @@ extract --db whole.db --team alpha --to team.db | 1 not-empty
 key-add --db key.db --shelf common --key C | 0
 extract --db whole.db --team alpha --to key.db | 1 not-empty
 """
-# names that SQLite gives the files beside a database: by the name itself, by another folder, by a link, and of another database;
-# `away/log` is a link to the log, `away/shared` one to the shared memory of other.db, and `twin` a hard link to its log
+# names that SQLite gives the files beside a database: by the name itself, by another folder, by a link, and of another
+# database; `away/log` is a link to the log, `away/shared` one to the shared memory of other.db, and `twin` a hard link
+# to its log
 TAKEN = """
 extract --db whole.db --team alpha --to whole.db-journal | 1 device
 extract --db whole.db --team alpha --to whole.db-wal | 1 device

@@ -1,7 +1,8 @@
 #!/usr/bin/env python3
-"""The go command against `goshelf serve`: what it downloads, lists, gets and builds from a store of two teams, and of a third in a group.
+"""The go command against `goshelf serve`: what it downloads, lists, gets and builds.
 
-Versions are published by PUT. Expected values are Go's own rules (Go Modules Reference) and sums that are made here from the zips.
+The store has two teams, and a third in a group. Versions are published by PUT. Expected values are Go's own rules (Go
+Modules Reference) and sums that are made here from the zips.
 """
 
 import os
@@ -36,7 +37,8 @@ SUITE = Suite()
 
 
 def two_contents(server, alpha, beta):
-    """A version that `common` publishes after a team did: the team keeps its own, and a go.sum of one fails at the other."""
+    """A version that `common` publishes after a team did: the team keeps its own, and a go.sum of one fails at the
+    other."""
     path = "example.com/shared"
     of_alpha, of_common, next_one = module(path, "v1.5.0"), module(path, "v1.5.0", more="// of common\n"), module(path, "v1.5.1")
     told = [server.put(key, *it)[0] for key, it in ((ALPHA, of_alpha), (COMMON, of_common), (COMMON, next_one), (ALPHA, module(path, "v1.5.1", more="// of alpha\n")))]
@@ -61,7 +63,8 @@ def two_contents(server, alpha, beta):
 
 
 def group(server, member, of_group, alpha):
-    """A team sees the versions of its group beside its own and common's. The group sees none of the team's, and another team sees neither."""
+    """A team sees the versions of its group beside its own and common's. The group sees none of the team's, and
+    another team sees neither."""
     path = "example.com/tools"
     first, second, own = module(path, "v1.0.0"), module(path, "v1.1.0"), module(path, "v1.2.0")
     told = [server.put(key, *it)[0] for key, it in ((GROUP, first), (GROUP, second), (MEMBER, own), (MEMBER, (*first[:3], b"other bytes")))]

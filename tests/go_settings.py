@@ -1,7 +1,8 @@
 #!/usr/bin/env python3
-"""What the go settings of docs/NGINX.md tell the proxy behind the shelf: nothing of a module that the shelf sees, else the names.
+"""What the go settings of docs/NGINX.md tell the proxy behind the shelf.
 
-The proxy behind is one that has no module and notes what it is asked; nothing else is reached.
+Of a module that the shelf sees it is nothing, of others their names. The proxy behind is one that has no module and
+notes what it is asked; nothing else is reached.
 """
 
 import os
@@ -35,7 +36,8 @@ def filled(folder):
 
 
 def go_asks(behind, proxies, imported, *words, **settings):
-    """Runs the go command in a module that imports this package, with no cache: whether it ended well, and the paths that the proxy behind was asked."""
+    """Runs the go command in a module that imports this package, with no cache: whether it ended well, and the paths
+    that the proxy behind was asked."""
     behind.asked.clear()
     with tempfile.TemporaryDirectory(prefix="goshelf-go-") as folder:
         with open(f"{folder}/go.mod", "w", encoding="utf-8") as file:

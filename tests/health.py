@@ -1,8 +1,8 @@
 #!/usr/bin/env python3
-"""`ping --control S`: the counts after known requests, and after each kind of connection that gets no answer; what a ping leaves as it is;
-pings under load, behind a publish and of servers that lie.
+"""`ping --control S`: the counts after known requests, and after connections that get no answer.
 
-What goshelf counts is compared with what the peers here were told.
+It leaves all else as it is. Some pings are made under load, behind a publish and of servers that lie. What goshelf
+counts is compared with what the peers here were told.
 """
 
 import re

@@ -1,9 +1,10 @@
 #!/usr/bin/env python3
 """What hostile callers send, and the bytes that answer them: over shelves in memory and over a file.
 
-Build the program first (`./goshelf --version`). A publish that is cut at each byte; heads and lengths at their limits and beyond; what
-each key may do on each of eight shelves, of which one is a group, and what it sees; zips that end where a piece ends; 100,000 messages, each in a read of its own.
-Memory has one team with one key, so rows of other keys run over the file alone. tests/largest.py has the largest files and full shelves.
+Build the program first (`./goshelf --version`). A publish that is cut at each byte; heads and lengths at their limits
+and beyond; what each key may do on each of eight shelves, of which one is a group, and what it sees; zips that end
+where a piece ends; 100,000 messages, each in a read of its own. Memory has one team with one key, so rows of other keys
+run over the file alone. tests/largest.py has the largest files and full shelves.
 """
 
 import sys
@@ -42,7 +43,8 @@ NOTHING = NOT_FOUND + NOT_FOUND + NO_MODULE
 
 
 def cuts(suite, store):
-    """A publish that is cut at each of its bytes is bad. Over a file nothing stands then; memory is lost when a run ends."""
+    """A publish that is cut at each of its bytes is bad. Over a file nothing stands then; memory is lost when a run
+    ends."""
     wrong = [end for end in range(1, len(PUT)) if store.answer([PUT[:end]]) != BAD]
     suite.equal(f"{store.name} a publish of 121 bytes, cut at each", (len(PUT), wrong), (121, []))
     if isinstance(store, File):
@@ -127,7 +129,8 @@ PIECES = [
     *[(f"conflicts: {what}", [publish(version, zip_bytes)], [CONFLICT]) for what, version, zip_bytes in OTHER_ZIPS],
 ]
 
-# each shelf, its key that publishes, and its key that reads: teams of no group, those of the group, the group, and common
+# each shelf, its key that publishes, and its key that reads: teams of no group, those of the group, the group, and
+# common
 ALONE = [
     ("alpha", KEY, READER),
     ("beta", "betakey000000001", "betareader000001"),
@@ -190,8 +193,8 @@ BETA, BETA_READER = ALONE[1][1:]
 GAMMA, GAMMA_READER = MEMBERS[0][1:]
 PLATFORM, PLATFORM_READER = GROUP[1:]
 COMMON, COMMON_READER = TOP[1:]
-# once common has published too, each shelf goes on seeing its own; of two teams that came last, each with a key of 64 bytes, `late` sees
-# common, and `member`, which is of the group, sees the group
+# once common has published too, each shelf goes on seeing its own; of two teams that came last, each with a key of 64
+# bytes, `late` sees common, and `member`, which is of the group, sees the group
 AFTER = [
     *[by_both(f"{shelf}: still sees its own", f"{OWN}/@v/v1.0.0.zip", keys, zipped(keys[0].encode())) for shelf, *keys in SHELVES],
     ("beta: sees its own list", [get(f"{OWN}/@v/list", BETA_READER)], [LIST]),

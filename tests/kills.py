@@ -1,10 +1,11 @@
 #!/usr/bin/env python3
 """What was acknowledged is there after the program is killed, and no store is refused after a kill.
 
-The program is killed (SIGKILL) at random moments while it answers publishes, by turns as `answer` on a pipe and as `serve` on a port,
-over one file that goes on from kill to kill. After each kill the store is opened again: each version whose 201 was read has its go.mod
-and its zip, byte for byte, and of the version that was on its way there is all or nothing. Then a disk that is full (a small tmpfs), a
-file and a folder that can only be read. The short form has 100 kills, --long 1,000, and a number as many; --seed N repeats a run.
+The program is killed (SIGKILL) at random moments while it answers publishes, by turns as `answer` on a pipe and as
+`serve` on a port, over one file that goes on from kill to kill. After each kill the store is opened again: each version
+whose 201 was read has its go.mod and its zip, byte for byte, and of the version that was on its way there is all or
+nothing. Then a disk that is full (a small tmpfs), a file and a folder that can only be read. The short form has 100
+kills, --long 1,000, and a number as many; --seed N repeats a run.
 """
 
 import http.client
@@ -33,8 +34,8 @@ def new_store(folder, name):
 
 
 def killed(start, store, numbers, wait, is_early):
-    """Publishes until the kill, some time after the start, or after the program is ready. Returns the numbers that were acknowledged,
-    and what another status than 201 says, or None."""
+    """Publishes until the kill, some time after the start, or after the program is ready. Returns the numbers that
+    were acknowledged, and what another status than 201 says, or None."""
     child, send = start(store)
     timers, done = [kill_after(child, wait)] if is_early else [], []
     try:

@@ -1,9 +1,10 @@
 #!/usr/bin/env python3
 """Nothing is refused without a cause: what has the largest size is taken, and one more is refused.
 
-Build the program first (`./goshelf --version`). Over shelves in memory and over a file, each reply byte for byte: a go.mod of 1,048,576
-bytes with a zip of 16,777,216, fetched back, and each a byte longer; go.mod files of very many lines and words; a stream of more than
-100 MiB; 4,096 versions of a path, and what a full shelf still does. tests/hostile.py has 100,000 messages and what each key may do.
+Build the program first (`./goshelf --version`). Over shelves in memory and over a file, each reply byte for byte: a
+go.mod of 1,048,576 bytes with a zip of 16,777,216, fetched back, and each a byte longer; go.mod files of very many
+lines and words; a stream of more than 100 MiB; 4,096 versions of a path, and what a full shelf still does.
+tests/hostile.py has 100,000 messages and what each key may do.
 """
 
 import sys

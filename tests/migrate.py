@@ -1,9 +1,10 @@
 #!/usr/bin/env python3
-"""A store of schema 1 or 2 that is migrated answers as before, and a file that stands for no world is refused and stays as it was.
+"""A store of schema 1 or 2 that is migrated answers as before, and a spoilt one is refused.
 
-The store of the worked rows is filled by the program, and Python's sqlite3 writes its rows into files of the older schemas, by their SQL
-texts. Each is migrated, and each request by each key gets the bytes that the whole store answers. Then sqlite3 spoils an older file in one
-way after another, and a store is read-only, or has rows in its log alone.
+A file that stands for no world stays as it was. The store of the worked rows is filled by the program, and Python's
+sqlite3 writes its rows into files of the older schemas, by their SQL texts. Each is migrated, and each request by each
+key gets the bytes that the whole store answers. Then sqlite3 spoils an older file in one way after another, and a store
+is read-only, or has rows in its log alone.
 """
 
 import fcntl
@@ -211,7 +212,8 @@ def logs(suite):
 
 
 def full_disk(suite):
-    """The disk is full while the older store is copied beside the new one: both keep their bytes, and no other file stays."""
+    """The disk is full while the older store is copied beside the new one: both keep their bytes, and no other file
+    stays."""
     filled(suite)
     with_log("kept", 2)
     room = os.path.getsize("kept/old.db")

@@ -1,7 +1,8 @@
 #!/usr/bin/env python3
-"""A migration onto a disk that is full, or that is killed, leaves the old store as it was, and a new store that has `common` alone or all.
+"""A migration onto a full disk, or that is killed, leaves the old store as it was.
 
-The sizes of the disks, small tmpfs, and the moments of the kills are random: --seed N repeats a run. The short form has 100 kills, --long 1,000.
+The new store has `common` alone or all. The sizes of the disks, small tmpfs, and the moments of the kills are random:
+--seed N repeats a run. The short form has 100 kills, --long 1,000.
 """
 
 import os
@@ -51,7 +52,8 @@ def is_common_alone(file):
 
 
 def full_disks(suite):
-    """A disk that is full midway: the old store is as it was, what is left of the new one is `common` alone, and with room it is taken."""
+    """A disk that is full midway: the old store is as it was, what is left of the new one is `common` alone, and
+    with room it is taken."""
     requests = small_zips("old.db")
     before, wanted = files_of(), None
     os.mkdir("small")
@@ -95,7 +97,8 @@ def killed(words, wait):
 
 
 def kills(suite):
-    """A kill at any moment: the old store is as it was, and the new one is `common` alone, which is taken, or the whole."""
+    """A kill at any moment: the old store is as it was, and the new one is `common` alone, which is taken, or the
+    whole."""
     requests = small_zips("old.db", 30)
     before = files_of()
     begun = time.monotonic()

@@ -1,9 +1,10 @@
 #!/usr/bin/env python3
-"""Stores that programs of schemas 1 and 2 made themselves answer as before once they are migrated, also what the go command asks.
+"""Stores that programs of schemas 1 and 2 made themselves answer as before once they are migrated.
 
-OLD_GOSHELF names a program of schema 2, and OLDEST_GOSHELF one of schema 1. The first serves a store to the go command, behind a recorder
-that keeps each request and each reply; then the migrated store is asked the same, and each reply has the same bytes. The second answers no
-port, so both are asked on standard input.
+So it is with what the go command asks. OLD_GOSHELF names a program of schema 2, and OLDEST_GOSHELF one of schema 1. The
+first serves a store to the go command, behind a recorder that keeps each request and each reply; then the migrated
+store is asked the same, and each reply has the same bytes. The second answers no port, so both are asked on standard
+input.
 """
 
 import os
@@ -137,7 +138,8 @@ def of_go(suite, program, file):
 
 
 def by_programs(suite):
-    """Stores that programs of the older schemas made themselves answer as before, and the go command's requests with the same bytes."""
+    """Stores that programs of the older schemas made themselves answer as before, and the go command's requests with
+    the same bytes."""
     two, one = os.environ.get("OLD_GOSHELF"), os.environ.get("OLDEST_GOSHELF")
     kept = []
     if not two:

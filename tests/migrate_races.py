@@ -1,8 +1,9 @@
 #!/usr/bin/env python3
 """`migrate` while sqlite3 commits to the older store: the commit stays, whichever call of the system it comes behind.
 
-strace stops the program for a moment behind its first call on the older file or its log, then behind its second, and so on. Meanwhile
-sqlite3 commits a key, and ends without a checkpoint, so that the key stands in the log alone. Without --long every third call is tried.
+strace stops the program for a moment behind its first call on the older file or its log, then behind its second, and so
+on. Meanwhile sqlite3 commits a key, and ends without a checkpoint, so that the key stands in the log alone. Without
+--long every third call is tried.
 """
 
 import os
@@ -66,8 +67,8 @@ def lines_in(trace):
 
 
 def raced(folder, to, turn, before=()):
-    """Runs `migrate`, stopped behind one of its calls on both files, and meanwhile commits a key. Returns how the run ended, how the
-    commit did, and whether there were this many calls."""
+    """Runs `migrate`, stopped behind one of its calls on both files, and meanwhile commits a key. Returns how the
+    run ended, how the commit did, and whether there were this many calls."""
     trace = os.path.abspath("trace")
     if os.path.exists(trace):
         os.remove(trace)
@@ -84,7 +85,8 @@ def raced(folder, to, turn, before=()):
 
 
 def races(suite, about, make, to=None):
-    """A commit behind one call after another: it stays, and the new store has the rows from before it, or from after it."""
+    """A commit behind one call after another: it stays, and the new store has the rows from before it, or from after
+    it."""
     step, tried = 1 if "--long" in sys.argv else 3, 0
     for turn in range(1, MOST, step):
         make("folder")

@@ -1,8 +1,9 @@
 #!/usr/bin/env python3
-"""deploy/one, broken and healed: one store behind nginx, caches at two sites, each a host of its own; every answer is compared with the store's.
+"""deploy/one, broken and healed: one store behind nginx, caches at two sites, each a host of its own.
 
-The hosts are network namespaces (lib/hosts.py). The files of deploy/ run as they are, set up by the commands of the pages, but a site asks
-again after 2 seconds, not after a minute, who may log in.
+Every answer is compared with the store's. The hosts are network namespaces (lib/hosts.py). The files of deploy/ run as
+they are, set up by the commands of the pages, but a site asks again after 2 seconds, not after a minute, who may log
+in.
 """
 
 import os

@@ -1,8 +1,8 @@
 #!/usr/bin/env python3
 """Public modules at a site of deploy/one: they cross the line once, and never in the place of what is the company's.
 
-The hosts are those of lib/company.py. The public proxy (lib/outside.py) is on the first host, and has bait for the paths of
-the company.
+The hosts are those of lib/company.py. The public proxy (lib/outside.py) is on the first host, and has bait for the
+paths of the company.
 """
 
 import os

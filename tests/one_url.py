@@ -1,8 +1,8 @@
 #!/usr/bin/env python3
 """One URL for the go command: our modules come from goshelf, all others from the public proxy, and nothing leaks.
 
-nginx, goshelf and the go command are real; what is outside is on this host (lib/outside.py) and notes what it is asked. For
-paths of the company it has bait. tests/public_proxy.py has the public proxy misbehave.
+nginx, goshelf and the go command are real; what is outside is on this host (lib/outside.py) and notes what it is asked.
+For paths of the company it has bait. tests/public_proxy.py has the public proxy misbehave.
 """
 
 import os

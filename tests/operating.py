@@ -1,7 +1,8 @@
 #!/usr/bin/env python3
-"""What the pages have an operator do besides nginx: keys, backups, queries, alerts, a team's own store, tables.
+"""What the pages have an operator do besides nginx: keys, backups, queries, alerts, tables.
 
-Their commands and the scripts of deploy/ run as they are, on a machine in a folder (lib/machine.py).
+A team gets a store of its own. Their commands and the scripts of deploy/ run as they are, on
+a machine in a folder (lib/machine.py).
 """
 
 import http.server
@@ -68,7 +69,8 @@ def cron(suite, machine):
 
 
 def by_hand(suite, machine):
-    """goshelf copies its store while it runs. sqlite3 copies it once goshelf is stopped; before, its copy is empty, as an inventory shows."""
+    """goshelf copies its store while it runs. sqlite3 copies it once goshelf is stopped; before, its copy is empty,
+    as an inventory shows."""
     ways = re.findall(r"`(sqlite3 F [^`]*COPY[^`]*)`", PAGES)
     suite.equal("ways to copy", len(ways), 1)
     listed = beginning("goshelf inventory").replace("KEY", ALPHA)
@@ -319,7 +321,8 @@ def older(suite, machine, schema, tables):
 
 
 def tables(suite, machine):
-    """What sqlite3 does with the tables: a zip is read, rows are taken over from other tables, and the highest row number is moved."""
+    """What sqlite3 does with the tables: a zip is read, rows are taken over from other tables, and the highest row
+    number is moved."""
     machine.does("systemctl stop goshelf")
     script = block("sh", "xxd -r -p", "REFERENCE.md").rstrip().replace("'P'", "'example.com/base'").replace("'V'", "'v0.1.0'").replace("'alpha'", "'common'")
     machine.does(f"{script.replace(' F ', f' {machine.store} ')} > zip.out")

@@ -1,9 +1,10 @@
 #!/usr/bin/env python3
-"""The release of tools/release: its files, and its Debian package installed, upgraded, removed and purged under systemd.
+"""The release of tools/release: its files, and its Debian package under systemd.
 
-The package goes to a copy of this machine: the same files under an overlay, with processes, a network and a systemd of its own. The copy
-vanishes with the suite, and the machine stays as it is. The commands that set goshelf up are those of docs/OPERATING.md, and those for a
-second shard of docs/DEPLOYMENTS.md.
+The package is installed, upgraded, removed and purged. The package goes to a copy of this machine: the same files under
+an overlay, with processes, a network and a systemd of its own. The copy vanishes with the suite, and the machine stays
+as it is. The commands that set goshelf up are those of docs/OPERATING.md, and those for a second shard of
+docs/DEPLOYMENTS.md.
 """
 
 import hashlib
@@ -40,7 +41,8 @@ UNPROVED = "this program was built unproved, with a sanitizer"
 AT = "example.com/lib/@v"
 LEFT = "/etc/default/goshelf /var/lib/goshelf: shelves.db shelves.db-wal"
 KEPT = "goshelf: kept /var/lib/goshelf and the user goshelf. A purge with GOSHELF_REMOVE_DATA=yes removes both.\n"
-# Starts systemd over a copy of the files of this machine, with nothing that runs at boot, in the namespaces of `unshare`.
+# Starts systemd over a copy of the files of this machine, with nothing that runs at boot, in the namespaces of
+# `unshare`.
 BOOT = """
 mount --make-rprivate /
 mount -t tmpfs tmpfs "$0"
@@ -94,7 +96,8 @@ class Copy:
         return "systemd did not come up in a minute"
 
     def sh(self, script, **settings):
-        """Runs a script on the copy, as root. Returns its exit status, and what it prints on standard output and on standard error."""
+        """Runs a script on the copy, as root. Returns its exit status, and what it prints on standard output and on
+        standard error."""
         spaces = ["--mount", "--pid", "--uts", "--ipc", "--net", "--cgroup", "--root", "--wd"]
         env = ["env", "-i", "--chdir=/", *SETTINGS, *(f"{name}={value}" for name, value in settings.items())]
         words = ["nsenter", "--target", self.first, *spaces, *env, "sh", "-euc", script]
@@ -403,7 +406,8 @@ chmod 755 /usr/local/bin/cp"""
 
 
 def stopped(suite, copy):
-    """While systemd holds the port, a connection starts a goshelf that was stopped alone; the word of the page and the scripts stop the port too."""
+    """While systemd holds the port, a connection starts a goshelf that was stopped alone; the word of the page and
+    the scripts stop the port too."""
     are = "systemctl is-active goshelf goshelf.socket"
     copy.sh("systemctl stop goshelf")
     answer = ask(copy, f"{AT}/list")
@@ -471,7 +475,8 @@ def edited(suite, copy):
 
 
 def upgraded(suite, copy, first, second, version):
-    """The commands of the page try another version on a copy, and put it over a running one, which restarts; and the first one again."""
+    """The commands of the page try another version on a copy, and put it over a running one, which restarts; and the
+    first one again."""
     old, new = copy.put(first), copy.put(second)
     names = {f"goshelf_{name}_amd64.deb": os.path.basename(it) for name, it in (("OLD", old), ("NEW", new))}
     tries, over, back = (commands(it) for it in ("dpkg-deb -x", "apt install -y ./goshelf_NEW", "--allow-downgrades"))

@@ -1,10 +1,11 @@
 #!/usr/bin/env python3
 """Checks the pages of the repository, each *.md file that git knows or would add.
 
-Of each page: links lead to files and headings that exist; commits, files, crates and items that it cites in backticks exist; a line has at
-most 100 characters, a table cell 120, and the README 120 lines. The blocks marked `sh run` of a page run one after another in one shell, in a
-folder of their own with the built program and tools/ on the path. A block marked `output` is what the last block before it that runs has to print.
-A sheet of docs/theorems/ is what tools/theorems prints. With names of pages, only those are checked. tools/pages calls it too.
+Of each page: links lead to files and headings that exist; commits, files, crates and items that it cites in backticks
+exist; a line has at most 100 characters, a table cell 120, and the README 120 lines. The blocks marked `sh run` of a
+page run one after another in one shell, in a folder of their own with the built program and tools/ on the path. A block
+marked `output` is what the last block before it that runs has to print. A sheet of docs/theorems/ is what
+tools/theorems prints. With names of pages, only those are checked. tools/pages calls it too.
 """
 
 import os

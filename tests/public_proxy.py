@@ -1,8 +1,8 @@
 #!/usr/bin/env python3
 """A public proxy that is slow, dead or wrong, behind nginx by one URL: builds go on from what is kept.
 
-The company and what is outside are those of lib/developers.py. A row that has the public proxy misbehave has a module of
-its own, so that no cache helps.
+The company and what is outside are those of lib/developers.py. A row that has the public proxy misbehave has a module
+of its own, so that no cache helps.
 """
 
 import hashlib

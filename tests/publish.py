@@ -1,8 +1,8 @@
 #!/usr/bin/env python3
-"""tools/publish: versions of git repositories, as the go command has them from the shelf, and the CI jobs of docs/CI.md.
+"""tools/publish: versions of git repositories, as the go command has them from the shelf.
 
-Expected sums are made from what git has at the commit. The README's command and the jobs of docs/CI.md are run as the pages have
-them, on clones of tags; only the server's name is put in.
+It also runs the CI jobs of docs/CI.md. Expected sums are made from what git has at the commit. The README's command and
+the jobs of docs/CI.md are run as the pages have them, on clones of tags; only the server's name is put in.
 """
 
 import csv
@@ -29,7 +29,8 @@ OTHER_TAGS = ["1.8.0", "nightly", "one/1.8.0", "v1.8", "one/v1", "v", "version-1
 
 
 def versions(greet, old, early):
-    """Each version that is published: its path, what stands for REF, its name, its repository, its commit and its folder."""
+    """Each version that is published: its path, what stands for REF, its name, its repository, its commit and its
+    folder."""
     first, last = greet.first, greet.last
     rows = [
         ("example.com/greet", "v1.0.0", "v1.0.0", greet, first, ""),
@@ -64,7 +65,8 @@ def publishes(room, server, rows):
 
 
 def ways(room, server, greet):
-    """Other ways to say the same: a key on standard input, options behind, a subfolder, a version for a tag, and the host of the path."""
+    """Other ways to say the same: a key on standard input, options behind, a subfolder, a version for a tag, and the
+    host of the path."""
     words = ["example.com/greet", "v1.0.0"]
     told = 0, "already published " + greet.lines("example.com/greet", "v1.0.0", greet.first), ""
     behind = [f"--to={server.url}/", f"--repository={greet.folder}/sub", f"--key-file={room.folder}/key"]

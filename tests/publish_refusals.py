@@ -1,8 +1,8 @@
 #!/usr/bin/env python3
 """tools/publish refuses: each cause ends with status 1 and a sentence, and nothing is published.
 
-The answers of servers that are not goshelf are those of a server in this file. The table of docs/REFERENCE.md is compared with what
-was printed: each of its sentences was, and no other.
+The answers of servers that are not goshelf are those of a server in this file. The table of docs/REFERENCE.md is
+compared with what was printed: each of its sentences was, and no other.
 """
 
 import base64
@@ -34,7 +34,8 @@ SUITE = Suite()
 
 
 class Answers(http.server.BaseHTTPRequestHandler):
-    """A server that is not goshelf: what it answers is set by a row. It notes what it is asked, and the words of the processes that ask."""
+    """A server that is not goshelf: what it answers is set by a row. It notes what it is asked, and the words of the
+    processes that ask."""
 
     answer, asked, words = (200, b""), [], []
 
@@ -305,7 +306,8 @@ def unverified(room):
 
 
 def from_host(room, url):
-    """What stands against a version without a clone, which the go command fetches from the host of the path: a user's insteadOf here."""
+    """What stands against a version without a clone, which the go command fetches from the host of the path: a
+    user's insteadOf here."""
     hosted = Repository(room, "hosted")
     hosted.commit(module("github.com/acme/tool"), "v1.0.0")
     hosted.commit({"tool.go": "package tool\n"})
@@ -379,7 +381,8 @@ def of_others(room, greet):
 
 
 def by_netrc(room, url, words):
-    """With --netrc the user stands in a header and no key in the path, and goshelf's answer is that of a server with a user."""
+    """With --netrc the user stands in a header and no key in the path, and goshelf's answer is that of a server with
+    a user."""
     write({f"{room.folder}/netrc": f"machine 127.0.0.1 login alpha password {KEY}\n"})
     Answers.answer, Answers.asked = (201, b"published\n"), []
     status, output, errors = room.publish(*words, "--netrc", NETRC=f"{room.folder}/netrc")

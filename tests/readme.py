@@ -1,5 +1,8 @@
 #!/usr/bin/env python3
-"""README's two commands for a fresh machine, each run as printed in a clean clone: the main job, and the tests with stand-ins for rt and python3."""
+"""README's two commands for a fresh machine, each run as printed in a clean clone.
+
+The main job runs as it is, and the tests with stand-ins for rt and python3.
+"""
 
 import ast
 import os
@@ -58,7 +61,8 @@ def check_main_job(suite, line, clone, before):
 
 
 def run_tests(line, clone, gate, suites):
-    """Runs the line with stand-ins for `rt` and `python3`, and returns its exit status, its last line, and the calls that they had."""
+    """Runs the line with stand-ins for `rt` and `python3`, and returns its exit status, its last line, and the calls
+    that they had."""
     with tempfile.TemporaryDirectory(prefix="goshelf-readme-") as room:
         for name, (last, status) in (("rt", gate), ("python3", suites)):
             with open(f"{room}/{name}", "w", encoding="utf-8") as file:

@@ -1,9 +1,9 @@
 #!/usr/bin/env python3
 """Each cause that docs/REFERENCE.md or goshelf-doctor names for a refusal, and what they say to do.
 
-Every row makes the cause, runs a command, and looks at its exit status and its word; where
-they name a remedy, the command is run again after it. Rights are tried as nobody, where the machine lets a process become that; a
-full disk on a small tmpfs, where it lets one be mounted; sqlite3 by Python's own.
+Every row makes the cause, runs a command, and looks at its exit status and its word; where they name a remedy, the
+command is run again after it. Rights are tried as nobody, where the machine lets a process become that; a full disk on
+a small tmpfs, where it lets one be mounted; sqlite3 by Python's own.
 """
 
 import os
@@ -40,8 +40,9 @@ def word(line, *more, before=(), output=subprocess.PIPE):
     return told[len("goshelf: ") : -1]
 
 
-# causes of the table of publish outcomes in docs/REFERENCE.md, in order: the outcome, the cause, and what is published. `-` is in the place
-# of what a row lacks: a go.mod other than that of its path, a zip other than `zip`, a time, and a key other than alpha's
+# causes of the table of publish outcomes in docs/REFERENCE.md, in order: the outcome, the cause, and what is published.
+# `-` is in the place of what a row lacks: a go.mod other than that of its path, a zip other than `zip`, a time, and a
+# key other than alpha's
 PSEUDO = "v0.0.0-20240131120000-abcdefabcdef"
 OUTCOMES = f"""\
 201 published            | a version                         | example.com/lib    v1.0.0 - - -

@@ -1,6 +1,8 @@
 #!/usr/bin/env python3
-"""tools/shards: two goshelfs behind one nginx, compared with one that has it all, and made of it; missed publishes, two publishers, and files
-that are wrong."""
+"""tools/shards: two goshelfs behind one nginx, compared with one that has it all, and made of it.
+
+It has missed publishes, two publishers, and files that are wrong.
+"""
 
 import base64
 import http.client

@@ -1,9 +1,11 @@
 #!/usr/bin/env python3
-"""How long a request waits behind slow and hostile peers: at goshelf's own port as long as its bounds, through nginx at most a second.
+"""How long a request waits behind slow and hostile peers.
 
-goshelf answers one connection after another, so a peer holds up all others, as docs/REFERENCE.md says: 5 seconds while it sends a
-request and 5 while it takes the reply, each with one more for each MiB, and 2 while it sends what nobody reads. Each kind of peer has a
-server of its own. A request is made behind one such peer, and behind three. Then the same peers come to nginx, by the files of deploy/.
+At goshelf's own port it is as long as its bounds, through nginx at most a second. goshelf answers one connection after
+another, so a peer holds up all others, as docs/REFERENCE.md says: 5 seconds while it sends a request and 5 while it
+takes the reply, each with one more for each MiB, and 2 while it sends what nobody reads. Each kind of peer has a server
+of its own. A request is made behind one such peer, and behind three. Then the same peers come to nginx, by the files of
+deploy/.
 """
 
 import os
@@ -98,7 +100,8 @@ class Front:
 
 
 class Peer:
-    """A peer that does as a function says, which yields the seconds until its next step: its first step here, the others in a thread."""
+    """A peer that does as a function says, which yields the seconds until its next step: its first step here, the
+    others in a thread."""
 
     def __init__(self, door, acts):
         self.door, self.held, self.got, self.stopped = door, None, b"", threading.Event()
@@ -224,7 +227,8 @@ def closes_1000_connections(peer):
         peer.door.plain().close()
 
 
-# what a peer does, the seconds that it may hold others, beside those for the bytes that it is sent, and the status that it gets
+# what a peer does, the seconds that it may hold others, beside those for the bytes that it is sent, and the status that
+# it gets
 KINDS = [
     (is_silent, PATIENCE, None),
     (sends_a_byte_every_4_seconds, PATIENCE, None),
@@ -293,7 +297,8 @@ def honest(suite, folder):
         time.sleep(max(0, begun + at / 1_600_000 - time.monotonic()))
         held.sendall(body[at : at + 100_000])
     suite.equal("a publish of 12 MiB in 7.9 s", rest_of(held)[9:12], b"201")
-    # with room for the bytes of 0.16 s: where each few KiB wait until a busy machine runs this reader again, it is a slow peer
+    # with room for the bytes of 0.16 s: where each few KiB wait until a busy machine runs this reader again, it is a
+    # slow peer
     held = door.plain(262_144)
     held.sendall(door.head("GET", f"{target}.zip") + b"\r\n")
     begun, got = time.monotonic(), b""

@@ -1,7 +1,8 @@
 #!/usr/bin/env python3
-"""What a file keeps from run to run, zips about the length of a piece and their lengths, and which files are refused: with which word, and unchanged.
+"""What a file keeps from run to run, and which files are refused: with which word, and unchanged.
 
-Python's sqlite3 makes the files that are no stores. Each command with --db is tried on each of them.
+Zips are about as long as a piece, and an inventory tells their lengths. Python's sqlite3 makes the files that are no
+stores. Each command with --db is tried on each of them.
 """
 
 import os
@@ -297,7 +298,8 @@ def logs_alone(suite):
 
 
 def started(suite):
-    """What a crash leaves of a store that was being made is opened: no bytes or a 0 in the file, and no more than a header in the log."""
+    """What a crash leaves of a store that was being made is opened: no bytes or a 0 in the file, and no more than a
+    header in the log."""
     for cause, file, log in (
         ("no files", None, None),
         ("two empty files", b"", b""),

@@ -1,9 +1,10 @@
 #!/usr/bin/env python3
 """The tables of a store as sqlite3 reads and writes them: shelves and their parents, keys of order, and zips in pieces.
 
-The program publishes, and Python's sqlite3 finds the tables whole, the parent of each shelf, the pieces of each zip
-and the keys of each version, which are made here by their own rules. Then sqlite3 changes rows, also such as break a reference, and the
-program refuses each file as `bad-schema` and leaves its bytes as they were. At last sqlite3 makes the rows, and the program serves them.
+The program publishes, and Python's sqlite3 finds the tables whole, the parent of each shelf, the pieces of each zip and
+the keys of each version, which are made here by their own rules. Then sqlite3 changes rows, also such as break a
+reference, and the program refuses each file as `bad-schema` and leaves its bytes as they were. At last sqlite3 makes
+the rows, and the program serves them.
 """
 
 import os
@@ -165,8 +166,8 @@ def changed(file, statements):
 
 
 def second_row(file, parent, is_in_index):
-    """Gives `alpha` a second row, which its primary key forbids: without the key the row is added, and then the key is put back, either
-    over an index that has both rows, or over the one that has the first alone."""
+    """Gives `alpha` a second row, which its primary key forbids: without the key the row is added, and then the key
+    is put back, either over an index that has both rows, or over the one that has the first alone."""
     key, table = "sqlite_autoindex_shelf_1", "CREATE TABLE shelf (name TEXT, parent TEXT) STRICT"
     changed(file, "SELECT 1")
     conn = opened(file)
@@ -219,7 +220,8 @@ UNFIT_SHELVES = (
     ("an empty name", "INSERT INTO shelf VALUES ('', NULL)"),
     ("a group's name that is none, and its team", "INSERT INTO shelf VALUES ('No Group', NULL); UPDATE shelf SET parent = 'No Group' WHERE name = 'gamma'"),
 )  # fmt: skip
-# shelves of a world, with a group that is there, and what the keys of alpha, the group, gamma, delta and common see of `PUBLISHED`
+# shelves of a world, with a group that is there, and what the keys of alpha, the group, gamma, delta and common see of
+# `PUBLISHED`
 FIT_SHELVES = (
     ("the shelves as they are", "SELECT 1", "platform", {"A": "AC", "P": "PC", "M": "PMC", "D": "PC", "C": "C"}),
     ("a team that joined the group", "UPDATE shelf SET parent = 'platform' WHERE name = 'alpha'", "platform", {"A": "APC", "P": "PC", "M": "PMC", "D": "PC", "C": "C"}),

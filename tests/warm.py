@@ -1,7 +1,8 @@
 #!/usr/bin/env python3
-"""deploy/warm, broken and healed: a host that answers from a copy of the store; every answer is compared with the first host's store.
+"""deploy/warm, broken and healed: a host that answers from a copy of the store.
 
-The hosts are network namespaces (lib/hosts.py). The files of deploy/ run as they are, set up by the commands of the pages.
+Every answer is compared with the first host's store. The hosts are network namespaces (lib/hosts.py). The files of
+deploy/ run as they are, set up by the commands of the pages.
 """
 
 import os
@@ -180,7 +181,8 @@ def under_way(suite, company):
 
 
 def sent(company, path, body, is_half, wait, harm):
-    """The status that a publish gets during which harm is done: behind half of it, or this many seconds after all of it was sent."""
+    """The status that a publish gets during which harm is done: behind half of it, or this many seconds after all of
+    it was sent."""
     head = f"module {path}\n".encode()
     text = f"PUT /{path}/@v/v1.0.0 HTTP/1.1\r\nHost: {WARM}\r\nAuthorization: {company.desk.login('pub')}\r\nConnection: close\r\n"
     text += f"Mod-Length: {len(head)}\r\nContent-Length: {len(head + body)}\r\n\r\n"

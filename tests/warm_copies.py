@@ -1,7 +1,8 @@
 #!/usr/bin/env python3
-"""The copies of deploy/warm: cut short, damaged, of another store, under a rush, on full disks; what was served goes on, and all is named.
+"""The copies of deploy/warm: cut short, damaged, of another store, under a rush, on full disks.
 
-The hosts are network namespaces (lib/hosts.py). The files of deploy/ run as they are, set up by the commands of the pages.
+What was served goes on, and all is named. The hosts are network namespaces (lib/hosts.py). The files of deploy/ run as
+they are, set up by the commands of the pages.
 """
 
 import hashlib
@@ -80,7 +81,8 @@ def other_store(folder, *versions):
 
 
 def bad_ones(warm, whole):
-    """Copies that are not to be served, each with its name and with what goshelf-warm says of it. The whole one is good."""
+    """Copies that are not to be served, each with its name and with what goshelf-warm says of it. The whole one is
+    good."""
     with tarfile.open(fileobj=io.BytesIO(whole)) as tar:
         members = {it.name: (it.offset, it.offset_data) for it in tar}
         files = {it: tar.extractfile(it).read() for it in COPY}

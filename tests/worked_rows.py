@@ -1,9 +1,10 @@
 #!/usr/bin/env python3
-"""The worked rows: requests and the bytes of their replies, over a file by runs, in one stream and by `serve`, and over `--mem`.
+"""The worked rows: requests and the bytes of their replies.
 
-A line `# NAME` names the rows below it. A row has a method, the letter of a key and a target; the status and the body of the reply;
-of a PUT also its go.mod, its zip and further lines of its head. A PUT without a go.mod sends `module PATH` and a newline. A stream is
-a row too: its bytes, and each of its replies, with `&` between them. `;` is the end of a line: CR LF in heads and streams, a newline
+They run over a file by runs, in one stream and by `serve`, and over `--mem`. A line `# NAME` names the rows below it. A
+row has a method, the letter of a key and a target; the status and the body of the reply; of a PUT also its go.mod, its
+zip and further lines of its head. A PUT without a go.mod sends `module PATH` and a newline. A stream is a row too: its
+bytes, and each of its replies, with `&` between them. `;` is the end of a line: CR LF in heads and streams, a newline
 in bodies.
 """
 

@@ -1,7 +1,7 @@
 """A company of hosts by deploy/one: one store behind nginx, and caches at two sites.
 
-The files of deploy/ run as they are, set up by the commands of the pages, but a site asks again after 2 seconds, not after a minute,
-who may log in.
+The files of deploy/ run as they are, set up by the commands of the pages, but a site asks again after 2 seconds, not
+after a minute, who may log in.
 """
 
 import random
@@ -104,13 +104,15 @@ class Company:
         return {(user, target): self.own(user, target) for user in users for target in self.targets()}
 
     def differing(self, wanted, fronts=None, failures=()):
-        """The answers of hosts that are not the wanted ones, apart from failures: statuses that a host may give in their place."""
+        """The answers of hosts that are not the wanted ones, apart from failures: statuses that a host may give in
+        their place."""
         told = ((at, *it, self.told(at, it, answer, failures)) for at in fronts or self.fronts for it, answer in wanted.items())
         return [(at, user, target, found[0], found[2][:60], wanted[user, target][0]) for at, user, target, found in told
                 if found != wanted[user, target] and found[0] not in failures]
 
     def told(self, at, asking, answer, failures):
-        """What a host answers. If it fails where it may not, it is asked again: a site waits only 2 seconds for the first host."""
+        """What a host answers. If it fails where it may not, it is asked again: a site waits only 2 seconds for the
+        first host."""
         found = self.desk.ask(at, *asking)
         if found[0] in (502, 504) and found[0] not in (answer[0], *failures):
             print(f"asked again, after {found}: {at} {asking}")
@@ -163,10 +165,11 @@ def equal(suite, company, name, fronts=None, users=READERS):
 
 
 def told_over_reloads(company, at, target="/example.com/lib/@v/v9.9.9.info"):
-    """What three who ask at a host are told while the first host's nginx reloads five times. Who is told of a failure asks again.
+    """What three who ask at a host are told while the first host's nginx reloads five times. Who is told of a failure
+    asks again.
 
-    After a failure nginx sends one request to find out whether the first host is back, and has the others fail until that one is answered.
-    A host that it leaves alone fails for 5 seconds.
+    After a failure nginx sends one request to find out whether the first host is back, and has the others fail until
+    that one is answered. A host that it leaves alone fails for 5 seconds.
     """
     time.sleep(LEFT_ALONE)
     told, ended = set(), threading.Event()

@@ -116,8 +116,8 @@ def start(machine, paths, change=lambda machine: None):
 def settle(client, user="zoe", wanted=200):
     """Waits until nginx has read its maps anew, so that a user gets what is wanted. Returns the seconds that it took.
 
-    The processes of before go on for a moment beside the new ones, so it waits for ten such answers in a row. Strangers who ask
-    often get a 429 in the place of a 401."""
+    The processes of before go on for a moment beside the new ones, so it waits for ten such answers in a row.
+    Strangers who ask often get a 429 in the place of a 401."""
     begun, row = time.time(), 0
     while row < 10:
         status = client.get(f"{AT}/v1.0.0.mod", user)[0]

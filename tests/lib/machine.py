@@ -1,9 +1,9 @@
 """A machine in a folder, on which the commands and files of docs/ and deploy/ run as they are written.
 
-Their absolute names are put below the folder, and ports that are free in place of 443 and 8080. The commands `goshelf`, `nginx`
-and `systemctl` stand in its /usr/local/bin: the first is the built program, the second starts with the machine's configuration, and the
-third starts and stops the program on the machine's store. The public proxy is a port of this host, on which nobody listens
-unless a suite names another.
+Their absolute names are put below the folder, and ports that are free in place of 443 and 8080. The commands `goshelf`,
+`nginx` and `systemctl` stand in its /usr/local/bin: the first is the built program, the second starts with the machine's
+configuration, and the third starts and stops the program on the machine's store. The public proxy is a port of this
+host, on which nobody listens unless a suite names another.
 """
 
 import contextlib
@@ -29,8 +29,8 @@ FOLDERS = (
 AUTHORITIES = "/etc/ssl/certs/ca-certificates.crt"
 SYSTEMCTL = """\
 #!/bin/sh
-# `systemctl stop goshelf` and `systemctl start goshelf`, for a program that a file names by its number, that number, and how often it
-# was restarted; and `systemctl restart nginx`
+# `systemctl stop goshelf` and `systemctl start goshelf`, for a program that a file names by its number, that number, and
+# how often it was restarted; and `systemctl restart nginx`
 case "$*" in *nginx) [ "$1" != restart ] || nginx -s reload 2> /dev/null || nginx; exit ;; esac
 case "$1 ${3-}" in
 "show MainPID") cat "@/serve.pid" ;;

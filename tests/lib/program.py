@@ -13,8 +13,8 @@ PROGRAM = os.path.abspath(os.environ.get("GOSHELF") or os.path.join(ROOT, "crate
 
 
 def run(words, stdin=b"", timeout=120, before=(), **how):
-    """Runs goshelf with these words, and returns its exit status, standard output and standard error, the last as text. The words before
-    are those of a command that runs it, as `NOBODY`."""
+    """Runs goshelf with these words, and returns its exit status, standard output and standard error, the last as
+    text. The words before are those of a command that runs it, as `NOBODY`."""
     ran = subprocess.run([*before, PROGRAM, *words], input=stdin, capture_output=True, timeout=timeout, **how)
     return ran.returncode, ran.stdout, ran.stderr.decode()
 
@@ -62,9 +62,9 @@ def words_of(line):
 def runs_of(table):
     """The runs of a table, each as its line, its words, its input, and the triple that `run` is to return.
 
-    A line has the words; behind `<` the letter of a key and the target that the input asks for; behind `|` the exit status, and the
-    word on standard error where there is one. Indented below it stand the lines that are printed. Of a run that is asked for a
-    target these are one reply: its status and its body."""
+    A line has the words; behind `<` the letter of a key and the target that the input asks for; behind `|` the exit
+    status, and the word on standard error where there is one. Indented below it stand the lines that are printed. Of
+    a run that is asked for a target these are one reply: its status and its body."""
     rows = []
     for line in filter(str.strip, table.split("\n")):
         if line.startswith("    "):

@@ -11,7 +11,8 @@ FOLDER = os.path.join(ROOT, "tests")
 
 @dataclass(frozen=True)
 class Listed:
-    """A suite. Where the machine lacks a command that it needs it is skipped. If `is_long`, it runs whole by `--long` alone."""
+    """A suite. Where the machine lacks a command that it needs it is skipped. If `is_long`, it runs whole by
+    `--long` alone."""
 
     name: str
     needs: tuple = ()

@@ -1,4 +1,4 @@
-"""What the suites of tools/publish and tools/adopt share: repositories with modules and tags, their sums, and a served store."""
+"""What the suites of tools/publish and tools/adopt share: repositories with modules and tags."""
 
 import os
 import re
@@ -80,7 +80,8 @@ class Repository:
         return self.git("rev-parse", "HEAD").decode().strip()
 
     def files(self, commit, folder):
-        """The files that a module in a folder has at a commit: those of folders with a go.mod of their own are left out."""
+        """The files that a module in a folder has at a commit: those of folders with a go.mod of their own are left
+        out."""
         names = self.git("ls-tree", "-r", "--name-only", commit).decode().splitlines()
         front = f"{folder}/" if folder else ""
         inner = [it[: -len("go.mod")] for it in names if it.endswith("/go.mod") and it != f"{front}go.mod" and it.startswith(front)]

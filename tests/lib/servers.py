@@ -23,7 +23,8 @@ class Server:
         self.start()
 
     def start(self):
-        """Starts it, the second time on the port that it had. `line` is what it prints first, and `port` None if it prints nothing."""
+        """Starts it, the second time on the port that it had. `line` is what it prints first, and `port` None if it
+        prints nothing."""
         words = [self.program, "serve", "--db", self.store, "--port", str(self.port), *self.more]
         self.child = subprocess.Popen(words, stdin=subprocess.DEVNULL, stdout=subprocess.PIPE)
         self.line = self.child.stdout.readline().decode()

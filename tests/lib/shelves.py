@@ -49,7 +49,8 @@ def answer(words, requests):
 
 
 class Memory:
-    """Shelves in memory: each run begins with none of what another published, so it first publishes again what was taken before."""
+    """Shelves in memory: each run begins with none of what another published, so it first publishes again what was
+    taken before."""
 
     name, words, reader = "--mem", MEMORY, KEY
 
@@ -66,7 +67,8 @@ class Memory:
 
 
 class File:
-    """A store in a file, made with these groups and shelves, as `new_store` takes them; the first has a reader. Each run opens it."""
+    """A store in a file, made with these groups and shelves, as `new_store` takes them; the first has a reader. Each
+    run opens it."""
 
     name = "--db"
 
@@ -80,13 +82,15 @@ class File:
 
 
 def answer_rows(suite, store, rows):
-    """Adds a row for each name with its requests and the replies to them, in bytes. A row goes on from what those before it published."""
+    """Adds a row for each name with its requests and the replies to them, in bytes. A row goes on from what those
+    before it published."""
     for name, requests, wanted in rows:
         suite.equal(f"{store.name} {name}", store.answer(requests), b"".join(wanted))
 
 
 def run_in_reads(words, pieces, timeout=600):
-    """Runs goshelf as `run` does, on a standard input of which each read gives one piece. A piece is shorter than a read may be."""
+    """Runs goshelf as `run` does, on a standard input of which each read gives one piece. A piece is shorter than a
+    read may be."""
     ours, theirs = socket.socketpair(socket.AF_UNIX, socket.SOCK_SEQPACKET)
     with theirs:
         program = subprocess.Popen([PROGRAM, *words], stdin=theirs, stdout=subprocess.PIPE, stderr=subprocess.PIPE)

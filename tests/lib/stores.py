@@ -4,7 +4,8 @@ from lib.keys import MEMBERS, PLATFORM
 from lib.program import done
 
 def new_store(file, *shelves, groups=()):
-    """Makes a store with these groups, each as `add_group` takes it, and with these shelves, each as `add_shelf` takes it."""
+    """Makes a store with these groups, each as `add_group` takes it, and with these shelves, each as `add_shelf`
+    takes it."""
     done("init", "--db", file)
     for group in groups:
         add_group(file, *group)

@@ -1,13 +1,15 @@
 """How a suite counts and prints its rows.
 
-A suite is a script that makes one `Suite`, adds rows to it and ends by `sys.exit(suite.end())`. It prints a line for each row, and as
-its last line `N passed, N failed`, with `, N skipped` behind where the machine lacks something. The status is 1 where a row failed.
+A suite is a script that makes one `Suite`, adds rows to it and ends by `sys.exit(suite.end())`. It prints a line for
+each row, and as its last line `N passed, N failed`, with `, N skipped` behind where the machine lacks something. The
+status is 1 where a row failed.
 """
 
 from lib.program import run, runs_of
 
 class Suite:
-    """Counts rows and prints them. A row that passed is printed as `ok NAME`, one that failed with what was found and what was wanted."""
+    """Counts rows and prints them. A row that passed is printed as `ok NAME`, one that failed with what was found
+    and what was wanted."""
 
     def __init__(self):
         self.passed = self.failed = self.skipped = 0
@@ -24,7 +26,8 @@ class Suite:
         return bool(is_right)
 
     def runs(self, about, table):
-        """Makes the runs of a table, as `runs_of` reads them, in order. Each is a row: its status, what it prints, and its word."""
+        """Makes the runs of a table, as `runs_of` reads them, in order. Each is a row: its status, what it prints,
+        and its word."""
         for line, words, requests, wanted in runs_of(table):
             self.equal(f"{about}: {line}", run(words, requests), wanted)
 

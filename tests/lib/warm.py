@@ -1,6 +1,7 @@
-"""A host that answers from a copy of the store of the first host, by deploy/warm, which tests/warm.py and tests/warm_copies.py break.
+"""A host that answers from a copy of the store of the first host, by deploy/warm.
 
-A stand-in takes the place of ssh: it runs the command of authorized_keys on the first host, and fails 3 seconds after the line was cut.
+A stand-in takes the place of ssh: it runs the command of authorized_keys on the first host, and fails 3 seconds after
+the line was cut.
 """
 
 import contextlib
@@ -19,7 +20,8 @@ from lib.ports import wait_until
 from lib.scratch import read
 
 WARM, BOTH, PAGE = "warm.example.com", "modules.example.com", "DEPLOYMENTS.md"
-# modules that are not the company's: goshelf has none of them, and nginx answers them as goshelf would, by the second way
+# modules that are not the company's: goshelf has none of them, and nginx answers them as goshelf would, by the second
+# way
 ELSEWHERE = ("/golang.org/x/mod/@v/v0.1.0.mod", "/golang.org/x/mod/@v/list", "/golang.org/x/mod/@latest")
 SECOND_WAY = ("    default $goshelf_public;\n", "    default nowhere;\n")
 HOME, COPY = "var/lib/goshelf", ("shelves.db", "shelves.db-wal")
@@ -70,7 +72,8 @@ class Wire:
                 threading.Thread(target=self.answer, args=(conn,), daemon=True).start()
 
     def answer(self, conn):
-        """Sends what the command of authorized_keys prints, or bytes that are given, and then its status and its errors."""
+        """Sends what the command of authorized_keys prints, or bytes that are given, and then its status and its
+        errors."""
         with conn, contextlib.suppress(OSError):
             word = conn.makefile().readline().strip()
             alive = lambda: conn.sendall(b"%08d" % -1)
@@ -152,7 +155,8 @@ class Warm(Company):
         wait_until(lambda: self.desk.ask(WARM, "ann", "/-/modules")[0] == status)
 
     def alone(self, wanted, copied, kept=()):
-        """The warm host's answers that are not as they have to be while the first host is down, whose nginx may keep some."""
+        """The warm host's answers that are not as they have to be while the first host is down, whose nginx may keep
+        some."""
         wrong = []
         for it, answer in wanted.items():
             found = self.desk.ask(WARM, *it)
@@ -168,7 +172,8 @@ class Warm(Company):
 
 
 def publishes(company, version):
-    """Each shelf publishes a version at the warm host, of a path of its own and of one that all have. Returns what they are told."""
+    """Each shelf publishes a version at the warm host, of a path of its own and of one that all have. Returns what
+    they are told."""
     them = [(user, f"example.com/{path}") for user, path in (("pub", "lib"), ("rob", "lib"), ("com", "base"), ("gil", "!big"))]
     return {company.put(*it, version) for it in [*them, ("com", "example.com/shared"), ("pub", "example.com/own"), ("gil", "example.com/shared/sub")]}
 

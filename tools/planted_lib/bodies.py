@@ -76,7 +76,8 @@ def bodies_of(crate):
 
 
 def rounds_of(bodies, most):
-    """Returns the bodies in rounds of at most this many. No two of a round change one function, and a wide body is alone."""
+    """Returns the bodies in rounds of at most this many. No two of a round change one function, and a wide body is
+    alone."""
     rounds = []
     for body in bodies:
         open_rounds = (it for it in rounds if not it[0].is_wide and len(it) < most)

@@ -53,7 +53,8 @@ def check(folder):
 
 
 def copy(folder, to):
-    """Copies a folder to a path where nothing is. Checked modules are linked, because a check replaces such a file and changes none."""
+    """Copies a folder to a path where nothing is. Checked modules are linked, because a check replaces such a file
+    and changes none."""
 
     def linked(one, other):
         if one.endswith(".oantt"):
@@ -91,7 +92,8 @@ def prove(crate):
 
 
 class Room:
-    """Copies of a crate, of its kept work and of the libraries below, for one round; the crate's own is made anew for each check."""
+    """Copies of a crate, of its kept work and of the libraries below, for one round; the crate's own is made anew
+    for each check."""
 
     def __init__(self, crate, root, keep, number):
         self.crate, self.root, self.keep, self.number, self.checks = crate, root, keep, number, 0
@@ -124,7 +126,8 @@ class Room:
 
 
 class Said:
-    """What a check printed: its messages, each with the path and line, and rattle's name of the function, where it has them."""
+    """What a check printed: its messages, each with the path and line, and rattle's name of the function, where it
+    has them."""
 
     def __init__(self, crate, status, text):
         if STALE.search(text):

@@ -50,7 +50,8 @@ def functions_of(path, text):
 
 
 def body_of(lines, at, indent):
-    """Returns the rows that open and close the body of the function that begins at a row: what stands as deep as its head.
+    """Returns the rows that open and close the body of the function that begins at a row: what stands as deep as its
+    head.
 
     A trait's method without a body ends with its contract, which stands deeper.
     """
@@ -72,7 +73,8 @@ def body_of(lines, at, indent):
 
 
 def holder_of(lines, at, indent):
-    """Returns what rattle calls the impl or trait around a row: a type or a trait, or both as in MapShelvesShelves; else ''."""
+    """Returns what rattle calls the impl or trait around a row: a type or a trait, or both as in MapShelvesShelves;
+    else ''."""
     for row in range(at, -1, -1):
         found = HOLDER.match(lines[row])
         if found and len(lines[row]) - len(lines[row].lstrip()) < len(indent):

@@ -36,10 +36,12 @@ OUTCOME = struct.Struct("=IIQQ")
 TICK = os.sysconf("SC_CLK_TCK")
 QUANTILES = (0.5, 0.99, 0.999)
 NGINX = """
-daemon off; pcre_jit on; worker_processes {workers}; pid {folder}/pid; error_log {folder}/errors crit; worker_rlimit_nofile 16384;
+daemon off; pcre_jit on; worker_processes {workers}; pid {folder}/pid; error_log {folder}/errors crit; \
+worker_rlimit_nofile 16384;
 events {{ worker_connections 4096; }}
 http {{
-    client_body_temp_path {folder}/body; proxy_temp_path {folder}/proxy; fastcgi_temp_path {folder}/fastcgi; uwsgi_temp_path {folder}/uwsgi;
+    client_body_temp_path {folder}/body; proxy_temp_path {folder}/proxy; fastcgi_temp_path {folder}/fastcgi; \
+uwsgi_temp_path {folder}/uwsgi;
     scgi_temp_path {folder}/scgi; keepalive_requests 10000;
     include {folder}/goshelf.conf;
 }}
@@ -315,7 +317,7 @@ def options():
 
 
 def deployments(sizes, count):
-    """Those of a number of stores: the name, whether nginx keeps answers (None: no nginx), the way to public modules."""
+    """Those of a number of stores: the name, whether nginx caches (None: no nginx), the way to public modules."""
     if sizes.public:
         return [(f"{count} behind a cache, {it}", True, it) for it in WAYS]
     behind = [(f"{count} behind nginx", False, ONE), (f"{count} behind a cache", True, ONE)]

@@ -5,14 +5,17 @@ It measures GETs with the socket and without, orders under load, a key revoked, 
 (`./goshelf --version`); cc is on the path. With --program FILE it measures that program. It prints a table for
 bench/RESULTS.md, of five parts, or of those that --only names:
 
-  gets      GETs a second of one `.mod` with `--control` beside those without, in turn, by a client in C, each on a connection of its own, and
-            the server's processor time of one, which other processes on the machine hardly change
-  orders    how long orders take while eight clients ask on and on: keys that are added and revoked, each on the disk before it is told
-  revoke    on a store of a million versions, made by sqlite3: how long a key's revocation takes while eight clients ask with it, and how
-            many requests that began after `done` were answered 200, of which there may be none
-  pings     on a store of 100,000 versions: the server's processor time of the first ping, which counts them, and of later ones
-  copy      `copy --control` of a store of 1 GiB beside `extract` of the same, in turn, and how long a peer waited meanwhile. It is skipped
-            where the program has no such command
+  gets      GETs a second of one `.mod` with `--control` beside those without, in turn, by a client in C, each on a
+            connection of its own, and the server's processor time of one, which other processes on the machine hardly
+            change
+  orders    how long orders take while eight clients ask on and on: keys that are added and revoked, each on the disk
+            before it is told
+  revoke    on a store of a million versions, made by sqlite3: how long a key's revocation takes while eight clients
+            ask with it, and how many requests that began after `done` were answered 200, of which there may be none
+  pings     on a store of 100,000 versions: the server's processor time of the first ping, which counts them, and of
+            later ones
+  copy      `copy --control` of a store of 1 GiB beside `extract` of the same, in turn, and how long a peer waited
+            meanwhile. It is skipped where the program has no such command
 
 STORES names the folder of the stores, 6 GiB for all parts.
 """
@@ -132,7 +135,8 @@ def gets(words, folder, client):
             for at in (number % 2, 1 - number % 2):
                 took[at].append(got(words, client, *both[at], lanes))
         rates, micros = zip(*(zip(*it) for it in took))
-        text = beside(*rates, ",.0f", " a second") + " without; " + beside(*micros, ".1f", " µs of the server's processor")
+        text = beside(*rates, ",.0f", " a second") + " without; "
+        text += beside(*micros, ".1f", " µs of the server's processor")
         rows.append((f"GETs of a `.mod` with `--control`, {clients(lanes)}", text))
     server.stop()
     stopped(plain[0])
@@ -173,7 +177,7 @@ def orders(words, folder, client):
 
 
 def revoke(words, folder, client):
-    """How long a key's revocation takes on a large store, and whether a request that began after it was answered 200."""
+    """How long a key's revocation takes on a large store, and whether a later request was answered 200."""
     file = os.path.join(folder, "large.db")
     store.filled(file, words.versions)
     begun = time.monotonic()

@@ -60,7 +60,7 @@ def is_of(run, number):
 
 
 def looked_at(number, run):
-    """One process as (its start, crate, kind, processor seconds, peak in GiB); None where it is no check, or has ended."""
+    """One process as (start, crate, kind, processor seconds, peak in GiB); None if it is no check or has ended."""
     try:
         words = read(f"/proc/{number}/cmdline").split("\0")
         if not words[0].endswith("/rattle") or "--crate-name" not in words or not is_of(run, number):

@@ -71,7 +71,7 @@ def path(chance):
 
 
 def version(chance):
-    """A version of a path without a major version suffix: half of them releases, then pre-releases and pseudo-versions."""
+    """A version of a path without a major version suffix: half are releases, then come pre- and pseudo-versions."""
     base = f"v{chance.randint(0, 1)}.{chance.randint(0, 40)}.{chance.randint(1, 20)}"
     kind = chance.random()
     if kind < 0.5:

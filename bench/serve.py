@@ -1,10 +1,11 @@
 #!/usr/bin/env python3
 """Requests a second of `goshelf serve`, in turn with nginx over the same bytes as files; `bench/zips.py` has the zips.
 
-Build the program first (`./goshelf --version`); nginx and cc are on the path. With --program FILE it measures that program. nginx has one
-worker, and each request a connection of its own, as it has with `serve`, by a client in C so that it is no bottleneck: its part of the
-processor stands behind each figure. `list` and `@latest` are asked of one path again and again, and of 2,000 paths in turn, all asked before.
---rounds N makes N turns (9); with --quick there are a tenth of the requests.
+Build the program first (`./goshelf --version`); nginx and cc are on the path. With --program FILE it measures that
+program. nginx has one worker, and each request a connection of its own, as it has with `serve`, by a client in C so
+that it is no bottleneck: its part of the processor stands behind each figure. `list` and `@latest` are asked of one
+path again and again, and of 2,000 paths in turn, all asked before. --rounds N makes N turns (9); with --quick there are
+a tenth of the requests.
 """
 
 import argparse

@@ -232,11 +232,13 @@ key-add --db store.db --shelf delta --key D | 0
 key-add --db store.db --shelf common --key C | 0
 publish --db store.db --key R --module example.com/g --version v1.0.0 --mod g.mod --zip one | 1
     403 forbidden
-publish --db store.db --key P --module example.com/g --version v1.0.0 --mod g.mod --zip one --time 2024-01-31T23:59:59Z | 0
+publish --db store.db --key P --module example.com/g --version v1.0.0 --mod g.mod --zip one --time \
+2024-01-31T23:59:59Z | 0
     201 published
 publish --db store.db --key M --module example.com/g --version v1.0.0 --mod g.mod --zip one | 1
     409 conflict
-publish --db store.db --key M --module example.com/g --version v1.0.0 --mod g.mod --zip one --time 2024-01-31T23:59:59Z | 0
+publish --db store.db --key M --module example.com/g --version v1.0.0 --mod g.mod --zip one --time \
+2024-01-31T23:59:59Z | 0
     200 already published
 publish --db store.db --key M --module example.com/h --version v1.0.0 --mod h.mod --zip one | 0
     201 published
@@ -394,13 +396,15 @@ inventory --db store.db --key B | 0
     path,version,shelf,class,time,mod_bytes,zip_bytes
     example.com/x,v1.0.0,common,release,,21,1
     example.com/y,v1.0.0,common,release,,21,1
-publish --db store.db --key A --module example.com/y --version v1.10.0 --mod y.mod --zip none --time 2024-01-31T23:59:59Z | 0
+publish --db store.db --key A --module example.com/y --version v1.10.0 --mod y.mod --zip none --time \
+2024-01-31T23:59:59Z | 0
     201 published
 publish --db store.db --key A --module example.com/y --version v1.9.0 --mod requires.mod --zip none | 0
     201 published
 publish --db store.db --key A --module example.com/y --version v1.10.0-rc.1 --mod y.mod --zip none | 0
     201 published
-publish --db store.db --key A --module example.com/y --version v1.9.1-0.20240102030405-aaaaaaaaaaaa --mod y.mod --zip none | 0
+publish --db store.db --key A --module example.com/y --version v1.9.1-0.20240102030405-aaaaaaaaaaaa --mod y.mod --zip \
+none | 0
     201 published
 inventory --db store.db --key R | 0
     path,version,shelf,class,time,mod_bytes,zip_bytes

@@ -63,22 +63,29 @@ key-add --shelf common --key R --read-only | 0
 # words that no line can carry, and how both end
 UNSAYABLE = [
     (["group-add", "--group", "plat form"], "name"), (["team-add", "--team", "al\npha"], "name"),
-    (["team-add", "--team", "alpha beta", "--group", "platform"], "name"), (["team-add", "--team", "delta", "--group", "plat form"], "no-group"),
-    (["team-add", "--team", "alpha", "--group", "plat form"], "taken"), (["team-add", "--team", "delta", "--group", "g" * 200], "no-group"),
-    (["key-add", "--shelf", "al pha", "--key", KEYS["B"]], "no-team"), (["key-add", "--shelf", "alpha", "--key", KEY + "\n"], "name"),
+    (["team-add", "--team", "alpha beta", "--group", "platform"], "name"),
+    (["team-add", "--team", "delta", "--group", "plat form"], "no-group"),
+    (["team-add", "--team", "alpha", "--group", "plat form"], "taken"),
+    (["team-add", "--team", "delta", "--group", "g" * 200], "no-group"),
+    (["key-add", "--shelf", "al pha", "--key", KEYS["B"]], "no-team"),
+    (["key-add", "--shelf", "alpha", "--key", KEY + "\n"], "name"),
     (["key-add", "--shelf", "al pha", "--key", "short"], "name"), (["key-revoke", "--key", KEY + " "], "no-key"),
     (["key-revoke", "--key", "k" * 200], "no-key"), (["team-add", "--team", "t" * 200], "name"),
 ]  # fmt: skip
 # what is sent before the operator shuts its side, and what is told
 LINES = [
     (b"", b"bad\n"), (b"\n", b"bad\n"), (b"team-add", b"bad\n"), (b"team-add\n", b"bad\n"), (b"team-add \n", b"name\n"),
-    (b"nonsense alpha\n", b"bad\n"), (b"Team-add eta\n", b"bad\n"), (b"team-add eta", b"bad\n"), (b"team-add eta\r\n", b"name\n"),
+    (b"nonsense alpha\n", b"bad\n"), (b"Team-add eta\n", b"bad\n"), (b"team-add eta", b"bad\n"),
+    (b"team-add eta\r\n", b"name\n"),
     (b"team-add eta\nteam-add theta\n", b"bad\n"), (b"team-add eta\n\n", b"bad\n"), (b"team-add  eta\n", b"name\n"),
     (b" team-add eta\n", b"bad\n"), (b"team-add eta platform more\n", b"bad\n"), (b"team-add \xff\n", b"bad\n"),
     (b"team-add eta\0\n", b"name\n"), (b"key-add alpha alphakey0000009\n", b"name\n"), (b"key-add alpha\n", b"bad\n"),
-    (b"key-revoke alphakey0000000", b"bad\n"), (b"key-revoke alphakey00000001 \n", b"bad\n"), (b"reader-add nosuch nosuchkey0000001\n", b"no-team\n"),
-    (b"stop", b"bad\n"), (b"stop \n", b"bad\n"), (b"stop now\n", b"bad\n"), (b"Stop\n", b"bad\n"), (b"stop\nstop\n", b"bad\n"),
-    (b"team-add " + b"a" * 118 + b"\n", b"name\n"), *((b"team-add " + b"a" * (it - 9) + b"\n", b"bad\n") for it in (128, 4_095, 4_096)),
+    (b"key-revoke alphakey0000000", b"bad\n"), (b"key-revoke alphakey00000001 \n", b"bad\n"),
+    (b"reader-add nosuch nosuchkey0000001\n", b"no-team\n"),
+    (b"stop", b"bad\n"), (b"stop \n", b"bad\n"), (b"stop now\n", b"bad\n"), (b"Stop\n", b"bad\n"),
+    (b"stop\nstop\n", b"bad\n"),
+    (b"team-add " + b"a" * 118 + b"\n", b"name\n"),
+    *((b"team-add " + b"a" * (it - 9) + b"\n", b"bad\n") for it in (128, 4_095, 4_096)),
     *((b"a" * it, b"bad\n") for it in (127, 128, 4_095, 4_096, 4_097)), (b"copy \xff\n", b"bad\n"),
 ]  # fmt: skip
 
@@ -328,8 +335,10 @@ def same_bytes(suite):
     new_store("two.db", ("alpha", KEY))
     one, two = Server("one.db", CONTROL), Server("two.db")
     requests = [
-        put("example.com/lib", "v1.0.0", GOMOD, b"zip"), put("example.com/lib", "v1.0.0", GOMOD, b"other"), get(LIST), get(LIST, KEYS["N"]),
-        get("example.com/lib/@v/v1.0.0.zip"), get("example.com/lib/@latest"), get("-/modules"), b"GET /k/control HTTP/1.1\r\n\r\n",
+        put("example.com/lib", "v1.0.0", GOMOD, b"zip"), put("example.com/lib", "v1.0.0", GOMOD, b"other"), get(LIST),
+        get(LIST, KEYS["N"]),
+        get("example.com/lib/@v/v1.0.0.zip"), get("example.com/lib/@latest"), get("-/modules"),
+        b"GET /k/control HTTP/1.1\r\n\r\n",
         b"team-add alpha\n", b"PUT / HTTP/1.1\r\nContent-Length: 17825793\r\n\r\n", b"",
     ]  # fmt: skip
     for request in requests:
@@ -348,7 +357,8 @@ def no_listeners(held):
             it.bind(at)
         return it
 
-    fresh, bound, once, one, datagrams, sender = made(), made(here), made(here), made(), made(here, kind=udp), made(kind=udp)
+    fresh, bound, once, one, datagrams, sender = made(), made(here), made(here), made(), made(here,
+    kind=udp), made(kind=udp)
     local, here_too = made("local", socket.AF_UNIX), held.enter_context(socket.create_server(here))
     for it in (once, local):
         it.listen()
@@ -358,9 +368,12 @@ def no_listeners(held):
     two, pair = held.enter_context(here_too.accept()[0]), [held.enter_context(it) for it in socket.socketpair()]
     write({"file": ""})
     return [
-        ("a file", held.enter_context(open("file", "rb"))), ("a pipe", subprocess.PIPE), ("nothing", subprocess.DEVNULL), ("no descriptor", None),
-        ("a connection", two), ("its other end", one), ("a pair", pair[0]), ("a socket without a port", fresh), ("one that does not listen", bound),
-        ("one that no longer listens", once), ("a socket of UDP", datagrams), ("one with a peer", sender), ("a unix socket that listens", local),
+        ("a file", held.enter_context(open("file", "rb"))), ("a pipe", subprocess.PIPE),
+        ("nothing", subprocess.DEVNULL), ("no descriptor", None),
+        ("a connection", two), ("its other end", one), ("a pair", pair[0]), ("a socket without a port", fresh),
+        ("one that does not listen", bound),
+        ("one that no longer listens", once), ("a socket of UDP", datagrams), ("one with a peer", sender),
+        ("a unix socket that listens", local),
     ]  # fmt: skip
 
 

@@ -157,12 +157,17 @@ def refused(suite):
     before, names = [read(it) for it in files], sorted(os.listdir("."))
     other = Server("other.db", "other")
     rows = [
-        ("text", "not-empty"), ("other.db", "device"), ("made.db", "not-empty"), ("served.db", "not-empty"), ("./served.db", "not-empty"),
-        (os.path.abspath("served.db"), "not-empty"), ("named.db", "not-empty"), ("linked.db", "not-empty"), ("served.db-wal", "device"),
-        ("linked.log", "device"), ("served.db-journal", "device"), ("./served.db-shm", "device"), ("named.db-journal", "device"),
+        ("text", "not-empty"), ("other.db", "device"), ("made.db", "not-empty"), ("served.db", "not-empty"),
+        ("./served.db", "not-empty"),
+        (os.path.abspath("served.db"), "not-empty"), ("named.db", "not-empty"), ("linked.db", "not-empty"),
+        ("served.db-wal", "device"),
+        ("linked.log", "device"), ("served.db-journal", "device"), ("./served.db-shm", "device"),
+        ("named.db-journal", "device"),
         (os.path.abspath("served.db-journal"), "device"), ("other.db-journal", "device"), ("text-wal", "device"),
-        ("folder", "device"), ("none/one.db", "device"), ("nowhere.db", "device"), ("/dev/null", "device"), ("", "device"), (":memory:", "device"),
-        ("file:one.db", "device"), ("a path.db", "name"), ("path\n", "name"), ("p" * SAID, "device"), ("p" * (SAID + 1), "name"),
+        ("folder", "device"), ("none/one.db", "device"), ("nowhere.db", "device"), ("/dev/null", "device"),
+        ("", "device"), (":memory:", "device"),
+        ("file:one.db", "device"), ("a path.db", "name"), ("path\n", "name"), ("p" * SAID, "device"),
+        ("p" * (SAID + 1), "name"),
     ]  # fmt: skip
     for to, word in rows:
         suite.equal(f"a copy to {to[:60]!r}", copy(to), refusal(word))
@@ -170,8 +175,10 @@ def refused(suite):
     suite.equal("the files are as they were", [read(it) for it in files], before)
     # (opening a file that is no store leaves a log beside it)
     suite.equal("and no others", [it for it in sorted(os.listdir(".")) if it not in names], ["other", "text-wal"])
-    for sent, told in ((b"copy\n", b"bad\n"), (b"copy \n", b"device\n"), (b"copy a b\n", b"bad\n"), (b"Copy one.db\n", b"bad\n"),
-                       (b"copy one.db", b"bad\n"), (b"copy one.db\n\n", b"bad\n"), (b"copy " + b"p" * (SAID + 1) + b"\n", b"bad\n")):  # fmt: skip
+    for sent, told in ((b"copy\n", b"bad\n"), (b"copy \n", b"device\n"), (b"copy a b\n", b"bad\n"),
+        (b"Copy one.db\n", b"bad\n"),
+                       (b"copy one.db", b"bad\n"), (b"copy one.db\n\n", b"bad\n"),
+                       (b"copy " + b"p" * (SAID + 1) + b"\n", b"bad\n")):  # fmt: skip
         suite.equal(f"told of {sent[:60]!r}", server.order(sent), told)
     suite.equal("no copy was made", os.path.lexists("one.db"), False)
     other.kill()

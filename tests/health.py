@@ -33,12 +33,17 @@ LONGEST = f"connections={MOST} 2xx={MOST} 4xx={MOST} 5xx={MOST} unanswered={MOST
 LONGEST += f"since=9999-12-31T23:59:59Z versions={MOST}\n".encode()
 # replies that are no health's: nothing of them is printed
 FALSE = [
-    b"", b"done\n", b"bad\n", b"stopping\n", b"ok\n", LINE[:-1], LINE + b"\n", LINE + LINE, b" " + LINE, LINE[:-1] + b" \n", LINE[:-1] + b"\r\n",
+    b"", b"done\n", b"bad\n", b"stopping\n", b"ok\n", LINE[:-1], LINE + b"\n", LINE + LINE, b" " + LINE,
+    LINE[:-1] + b" \n", LINE[:-1] + b"\r\n",
     LINE.replace(b"\n", b" keys=1\n"), LINE.replace(b" 5xx=3", b""), LINE.replace(b"2xx=100 4xx=20", b"4xx=20 2xx=100"),
-    LINE.replace(b" 2xx", b"  2xx"), LINE.replace(b"=124", b"=0124"), LINE.replace(b"=124", b"=+124"), LINE.replace(b"=124", b"=-124"),
-    LINE.replace(b"=124", b"="), LINE.replace(b"=124", b"=18446744073709551616"), LINE.replace(b"=124", b"=1e3"), LINE.replace(b"=124", b"=\xd9\xa1"),
-    LINE.replace(b"=124", b"=124\x1b[2J"), LINE.replace(b"Z", b"+00:00"), LINE.replace(b"18:40", b"24:40"), LINE.replace(b"11-26", b"02-30"),
-    LINE.replace(b"2026", b"12026"), LINE.replace(b"conn", b"Conn"), b"\x1b[2J" + LINE, b"\xff" + LINE, LINE.replace(b" ", b"\t"),
+    LINE.replace(b" 2xx", b"  2xx"), LINE.replace(b"=124", b"=0124"), LINE.replace(b"=124", b"=+124"),
+    LINE.replace(b"=124", b"=-124"),
+    LINE.replace(b"=124", b"="), LINE.replace(b"=124", b"=18446744073709551616"), LINE.replace(b"=124", b"=1e3"),
+    LINE.replace(b"=124", b"=\xd9\xa1"),
+    LINE.replace(b"=124", b"=124\x1b[2J"), LINE.replace(b"Z", b"+00:00"), LINE.replace(b"18:40", b"24:40"),
+    LINE.replace(b"11-26", b"02-30"),
+    LINE.replace(b"2026", b"12026"), LINE.replace(b"conn", b"Conn"), b"\x1b[2J" + LINE, b"\xff" + LINE,
+    LINE.replace(b" ", b"\t"),
     LINE.replace(b" ", b"\0"), b"a" * 300 + b"\n", LINE.replace(b"=124", b"=" + b"0" * 300),
 ]  # fmt: skip
 # the place of each class of statuses among the counts
@@ -83,10 +88,14 @@ def known(suite):
     suite.equal("all else of a server that begins", first[:6] + first[7:], [0, 0, 0, 0, 0, 0, 0])
     wanted, versions = [0, 0, 0, 0, 0], 0
     requests = [
-        (put("example.com/lib", "v1.0.0", GOMOD), 201), (put("example.com/lib", "v1.0.0", GOMOD), 200), (put("example.com/lib", "v1.1.0", GOMOD), 201),
-        (put("example.com/lib", "v1.0.0", GOMOD, key=KEYS["B"]), 201), (put("example.com/lib", "v1.0.0", GOMOD, b"zip"), 409), (get(LIST), 200),
-        (get("example.com/lib/@v/v1.0.0.info"), 200), (get(LIST, KEYS["N"]), 404), (get("example.com/lib/@v/v9.0.0.info"), 404), (b"GET /\r\n\r\n", 400),
-        (b"half a requ", 400), (b"PUT / HTTP/1.1\r\nContent-Length: 17825793\r\n\r\n", 413), (put("example.com/lib", "v2.0.0", GOMOD), 422),
+        (put("example.com/lib", "v1.0.0", GOMOD), 201), (put("example.com/lib", "v1.0.0", GOMOD), 200),
+        (put("example.com/lib", "v1.1.0", GOMOD), 201),
+        (put("example.com/lib", "v1.0.0", GOMOD, key=KEYS["B"]), 201),
+        (put("example.com/lib", "v1.0.0", GOMOD, b"zip"), 409), (get(LIST), 200),
+        (get("example.com/lib/@v/v1.0.0.info"), 200), (get(LIST, KEYS["N"]), 404),
+        (get("example.com/lib/@v/v9.0.0.info"), 404), (b"GET /\r\n\r\n", 400),
+        (b"half a requ", 400), (b"PUT / HTTP/1.1\r\nContent-Length: 17825793\r\n\r\n", 413),
+        (put("example.com/lib", "v2.0.0", GOMOD), 422),
     ]  # fmt: skip
     for request, status in requests:
         got = server.status(request)
@@ -150,7 +159,7 @@ def beside(suite):
 
 
 def loaded(suite):
-    """Pings among requests: each sums up, none falls behind the one before, and the last one counts what the peers saw."""
+    """Pings among requests: each sums up, none falls behind the one before, the last counts what peers saw."""
     new_store("served.db", ("alpha", KEY))
     server = Server("served.db", CONTROL)
     load, told, begun = Load(server, KEY, 4), [], time.monotonic()

@@ -173,7 +173,7 @@ ROOM_UNDER_GROUP = [
 
 
 def over_both(suite):
-    """The rows over each store, of which each table has a new one. The last is over a file that has a full shelf then."""
+    """The rows over each store, a new one for each table. The last is over a file whose shelf is full then."""
     assert [len(filled("example.com/m", size)) for size in (GOMOD - 1, GOMOD, GOMOD + 1)] == [GOMOD - 1, GOMOD, GOMOD + 1]
     alpha, others = ("alpha", KEY, READER, PLATFORM[0]), [shelf for shelf in SHELVES if shelf[0] != "alpha"]
     for number, rows in enumerate((sizes, LONG, STREAM, SHELF)):

@@ -30,7 +30,8 @@ os._exit(0)
 """
 KEY = "racekey000000001"
 # the calls of the system behind which the program is stopped, and for how many microseconds
-CALLS = "openat,close,fcntl,read,pread64,write,pwrite64,unlink,unlinkat,ftruncate,fsync,fdatasync,statx,newfstatat,fstat,lseek"
+CALLS = "openat,close,fcntl,read,pread64,write,pwrite64,unlink,unlinkat,ftruncate,fsync,fdatasync,statx,newfstatat"
+CALLS += ",fstat,lseek"
 PAUSE = 400_000
 # more calls on both files than a run makes
 MOST = 400

@@ -116,7 +116,7 @@ def go_past_a_site(suite, company):
 
 
 def first_reloaded(suite, company):
-    """The first host's nginx reads its files anew, as it does for each new user, while a site is asked without a pause."""
+    """The first host's nginx reads its files anew, as for each new user, while a site is asked without pause."""
     suite.equal("the first host's nginx reloads: the store's answers alone", told_over_reloads(company, SITE), [(404, b"not found\n")])
 
 

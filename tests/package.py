@@ -61,7 +61,8 @@ for it in null zero full random urandom; do touch "dev/$it"; mount --bind "/dev/
 pivot_root . mnt
 cd /
 umount -l mnt
-exec env -i container=other PATH=/usr/sbin:/usr/bin:/sbin:/bin /lib/systemd/systemd --unit=multi-user.target --show-status=no
+exec env -i container=other PATH=/usr/sbin:/usr/bin:/sbin:/bin /lib/systemd/systemd --unit=multi-user.target \
+--show-status=no
 """
 
 
@@ -196,13 +197,14 @@ GATE = """#!/bin/sh
 [ "$1" = ci ] || exec echo a kit
 version=${VERSION:-$(sed -n 's/.*"\\(.*\\)".*/\\1/p' crates/cli/src/version.rt)}
 mkdir -p crates/goshelf/out
-printf '#include <stdio.h>\\nint main(void) { puts("goshelf %s"); }\\n' "$version" | cc -x c -o crates/goshelf/out/goshelf -
+printf '#include <stdio.h>\\nint main(void) { puts("goshelf %s"); }\\n' "$version" | cc -x c -o \
+crates/goshelf/out/goshelf -
 echo $GATE
 """
 
 
 def gated(suite, folder):
-    """Without --program the gate and the suites decide. Here they are scripts, which print what the environment says."""
+    """Without --program the gate and the suites decide. Here they are scripts that print what they are told."""
     clone, path = f"{folder}/clone", f"{folder}/bin:{os.environ['PATH']}"
     subprocess.run(["git", "clone", "-q", ROOT, clone], check=True)
     os.mkdir(f"{folder}/bin")

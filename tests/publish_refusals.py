@@ -79,17 +79,23 @@ def in_repository(room, greet, url):
     words = ["--to", url, "--key-file", f"{room.folder}/key", "--repository", greet.folder]
     fetch = "fetch it by git fetch --tags"
     table = [
-        ("no such tag", "example.com/greet", "v9.9.9", f"{greet.folder} has no tag v9.9.9 for example.com/greet: make it by git tag, or {fetch}"),
-        ("no such branch", "example.com/greet", "nosuch", f"{greet.folder} has no tag, branch or commit nosuch: check the name, or {fetch}"),
-        ("a tag that is no version", "example.com/greet", "v1.1", "v1.1 is not a version: name the tag vMAJOR.MINOR.PATCH"),
+        ("no such tag", "example.com/greet", "v9.9.9",
+        f"{greet.folder} has no tag v9.9.9 for example.com/greet: make it by git tag, or {fetch}"),
+        ("no such branch", "example.com/greet", "nosuch",
+        f"{greet.folder} has no tag, branch or commit nosuch: check the name, or {fetch}"),
+        ("a tag that is no version", "example.com/greet", "v1.1",
+        "v1.1 is not a version: name the tag vMAJOR.MINOR.PATCH"),
         ("a tag of another module", "example.com/greet", "sub/v0.1.0",
-         "the tag sub/v0.1.0 is of a module in sub, not of example.com/greet: name the module of the tag; a folder v2 is no part of one"),
+         "the tag sub/v0.1.0 is of a module in sub, not of example.com/greet: name the module of the tag; "
+         "a folder v2 is no part of one"),
         ("another path", "example.com/hello", "v1.0.0",
          "no go.mod of v1.0.0 names example.com/hello where the path ends with its folder, and capitals count; "
-         + "; ".join(f"{it}go.mod names example.com/greet/{it}".rstrip("/") for it in ("Words/", "", "sub/", "sub/v3/", "v2/"))),
+         + "; ".join(f"{it}go.mod names example.com/greet/{it}".rstrip("/") for it in ("Words/", "", "sub/", "sub/v3/",
+         "v2/"))),
         ("an escaped path", "example.com/greet/!words", "v1.0.0",
          "example.com/greet/!words is not a module path: write it as the go.mod does, with capitals and without !"),
-        ("a path with a space", "example.com/a b", "v1.0.0", "example.com/a b is not a module path: write it as the go.mod does"),
+        ("a path with a space", "example.com/a b", "v1.0.0",
+        "example.com/a b is not a module path: write it as the go.mod does"),
     ]  # fmt: skip
     for name, path, ref, wanted in table:
         refused(room, name, wanted, *words, path, ref)
@@ -331,7 +337,8 @@ def answers(url):
         (200, "", f"{url} answers 200 and is no goshelf: check the URL ()"),
         (200, "<html>\nhello", f"{url} answers 200 and is no goshelf: check the URL (<html>)"),
         (301, "", f"{url} leads to another URL: give that to --to"),
-        (400, "bad mod-length\n", "the header Mod-Length did not arrive: let the server in front of goshelf pass it on"),
+        (400, "bad mod-length\n",
+         "the header Mod-Length did not arrive: let the server in front of goshelf pass it on"),
         (401, "", f"{url} wants a user: give --netrc, and a line of ~/.netrc with the host, the user and its password"),
         (404, "<html>", f"{url} answers 404 and is no goshelf: check the URL (<html>)"),
         (403, "not your path\n",
@@ -342,15 +349,18 @@ def answers(url):
          "publish a new version"),
         (429, "too many requests at once\n", f"{url} gets too many requests at once: run this again in a minute"),
         (413, "", f"{url} takes no body of SIZE bytes: raise client_max_body_size of the server in front"),
-        (422, "major-mismatch\n", "v1.0.0 does not fit the path example.com/greet: version 2 and higher need a path that ends in /v2 and so on"),
+        (422, "major-mismatch\n",
+         "v1.0.0 does not fit the path example.com/greet: version 2 and higher need a path that ends in /v2 and so on"),
         (422, "bad-time\n", f"the time {TIME} does not fit v1.0.0: check the clock of whoever made the commit"),
         (422, "module-path\n", "the go.mod does not name example.com/greet: publish it by the path that it names"),
         (422, "bad-gomod 0\n", "the go.mod has no module line, or is not UTF-8: mend it, and tag a new version"),
         (422, "bad-gomod 1w/nosuch\n", f"{url} answers 422 and is no goshelf: check the URL (bad-gomod 1w/nosuch)"),
         (422, "incompatible-gomod\n",
-         "v1.0.0 is +incompatible, which only a go.mod with a module line alone can be: name the module example.com/greet/v1"),
+         "v1.0.0 is +incompatible, which only a go.mod with a module line alone can be: "
+         "name the module example.com/greet/v1"),
         (502, "", f"{url} answers 502: goshelf behind it is down or busy, so run this again"),
-        (503, "unavailable\n", "the store met a fault and published nothing: run this again, and tell the operator if it stays"),
+        (503, "unavailable\n",
+         "the store met a fault and published nothing: run this again, and tell the operator if it stays"),
         (507, "full\n", "the shelf has 4096 versions of example.com/greet and takes no more: go on under a new path"),
     ]  # fmt: skip
 

@@ -75,10 +75,12 @@ OUTCOMES = f"""\
 201 published            | UTC                               | example.com/lib    v1.1.0 - - 2024-01-31T12:00:00Z
 422 time-mismatch        | another time than the version's   | example.com/lib    {PSEUDO} - - 2024-01-31T12:00:01Z
 201 published            | no time                           | example.com/lib    {PSEUDO} - - -
-422 bad-gomod 2          | a fault in line 2                 | example.com/lib    v1.2.0 module_example.com/lib;no_directive - -
+422 bad-gomod 2          | a fault in line 2                 | example.com/lib    v1.2.0 module_example.com/lib;\
+no_directive - -
 422 module-path          | the go.mod of a fork              | example.com/fork   v1.2.0 module_example.com/lib - -
 201 published            | the go.mod was changed            | example.com/fork   v1.2.0 - - -
-422 incompatible-gomod   | +incompatible and more            | example.com/lib    v3.0.0+incompatible module_example.com/lib;go_1.17 - -
+422 incompatible-gomod   | +incompatible and more            | example.com/lib    v3.0.0+incompatible \
+module_example.com/lib;go_1.17 - -
 201 published            | the go.mod was cut                | example.com/lib    v3.0.0+incompatible - - -
 """
 

@@ -42,7 +42,8 @@ void *calloc(size_t n, size_t m) { return refuse() ? 0 : __libc_calloc(n, m); }
 void *realloc(void *p, size_t n) { return refuse() ? 0 : __libc_realloc(p, n); }
 __attribute__((destructor)) static void tell(void) {
     if (refused == 0 && getenv("COUNT")) { char b[24]; int i = 24; long c = count; b[--i] = 10;
-        do { b[--i] = '0' + c % 10; c /= 10; } while (c); extern long write(int, const void *, unsigned long); write(2, b + i, 24 - i); }
+        do { b[--i] = '0' + c % 10; c /= 10; } while (c); extern long write(int, const void *, unsigned long); \
+write(2, b + i, 24 - i); }
 }
 """
 

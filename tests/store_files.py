@@ -74,7 +74,8 @@ migrate --from good.db --to F | not-empty
 FILL = f"""
 INSERT INTO shelf VALUES ('alpha', 'common');
 INSERT INTO access VALUES ('alphakey00000001', 'alpha', 1);
-INSERT INTO version VALUES (7, 'alpha', 'example.com/lib', 'v1.0.0', NULL, X'6d6f64756c65206578616d706c652e636f6d2f6c69620a', X'{ORDER_KEY}', X'{RANK_KEY}');
+INSERT INTO version VALUES (7, 'alpha', 'example.com/lib', 'v1.0.0', NULL, \
+X'6d6f64756c65206578616d706c652e636f6d2f6c69620a', X'{ORDER_KEY}', X'{RANK_KEY}');
 INSERT INTO piece VALUES (7, 0, X'5A');
 """
 WRONG_KEYS = {
@@ -115,7 +116,7 @@ def zip_of(version, is_other=False):
 
 
 def kept_zips():
-    """Requests for what was published, each with its name and its reply: the zip, the same once more, and another one."""
+    """Requests for what was published, each with its name and reply: the zip, the same again, and another."""
     for version, size in SIZES.items():
         zip_bytes, about = zip_of(version), f"a zip of {size} bytes"
         yield f"{about} is read back", get(f"{PATH}/@v/{version}.zip"), reply(200, zip_bytes, ".zip")

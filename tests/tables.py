@@ -46,7 +46,8 @@ COLUMNS = {
     "shelf": [("name", "TEXT", 1, 1), ("parent", "TEXT", 0, 0)],
     "access": [("token", "TEXT", 1, 1), ("shelf", "TEXT", 1, 0), ("publish", "INTEGER", 1, 0)],
     "version": [
-        ("id", "INTEGER", 0, 1), ("shelf", "TEXT", 1, 0), ("path", "TEXT", 1, 0), ("version", "TEXT", 1, 0), ("time", "TEXT", 0, 0),
+        ("id", "INTEGER", 0, 1), ("shelf", "TEXT", 1, 0), ("path", "TEXT", 1, 0), ("version", "TEXT", 1, 0),
+        ("time", "TEXT", 0, 0),
         ("mod", "BLOB", 1, 0), ("order_key", "BLOB", 1, 0), ("rank_key", "BLOB", 1, 0),
     ],
     "piece": [("version", "INTEGER", 1, 1), ("number", "INTEGER", 1, 2), ("bytes", "BLOB", 1, 0)],
@@ -219,7 +220,7 @@ UNFIT_SHELVES = (
     ("a group's name of 33 bytes", "INSERT INTO shelf VALUES ('a23456789012345678901234567890123', NULL)"),
     ("an empty name", "INSERT INTO shelf VALUES ('', NULL)"),
     ("a group's name that is none, and its team", "INSERT INTO shelf VALUES ('No Group', NULL); UPDATE shelf SET parent = 'No Group' WHERE name = 'gamma'"),
-)  # fmt: skip
+)
 # shelves of a world, with a group that is there, and what the keys of alpha, the group, gamma, delta and common see of
 # `PUBLISHED`
 FIT_SHELVES = (
@@ -229,7 +230,7 @@ FIT_SHELVES = (
     ("a team that became a group", "UPDATE shelf SET parent = NULL WHERE name = 'alpha'; UPDATE shelf SET parent = 'alpha' WHERE name = 'delta'", "alpha", {"A": "AC", "P": "PC", "M": "PMC", "D": "AC", "C": "C"}),
     ("another group, made behind its team", "UPDATE shelf SET parent = 'tools' WHERE name = 'delta'; INSERT INTO shelf VALUES ('tools', NULL)", "tools", {"A": "AC", "P": "PC", "M": "PMC", "D": "C", "C": "C"}),
     ("a group that became a team, since it has none", "UPDATE shelf SET parent = 'common' WHERE parent = 'platform'; UPDATE shelf SET parent = 'common' WHERE name = 'platform'", "", {"A": "AC", "P": "PC", "M": "MC", "D": "C", "C": "C"}),
-)  # fmt: skip
+)
 
 
 def is_refused(suite, cause, file):

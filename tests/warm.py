@@ -254,7 +254,7 @@ def removed(suite, company):
 
 
 def key_revoked(suite, company):
-    """A key that the store alone revoked: the copy answers it until its line is out of the map, or until the next copy."""
+    """A key that the store alone revoked: the copy answers it until its line leaves the map, or the next copy."""
     first, old = company.first, company.key("bob")
     wanted, copied = company.answers(("bob",)), company.copy()
     first.does("systemctl stop goshelf")

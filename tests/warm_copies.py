@@ -32,7 +32,8 @@ case $1 in *shelves.db) ;; *) exit 0 ;; esac
 echo $((left - 1)) > "@/often"
 for it in big small; do
     version=v1.0.$(date +%s%N)
-    curl -sf -o /dev/null -T "@/$it" -H Expect: -H 'Mod-Length: 24' http://127.0.0.1:PORT/k/KEY/example.com/rush/@v/$version
+    curl -sf -o /dev/null -T "@/$it" -H Expect: -H 'Mod-Length: 24' \
+http://127.0.0.1:PORT/k/KEY/example.com/rush/@v/$version
 done
 """
 # On the warm host: goshelf, whose serve ends at once if there is a file `broken`, which it removes.

@@ -63,7 +63,8 @@ GET A example.com/lib%2/@v/v1.0.0.mod | 404 not found;
 # major-versions
 PUT A example.com/lib/@v/v2.0.0 | 422 major-mismatch;
 PUT A example.com/lib/@v/v2.0.0+incompatible | 201 published;
-PUT A example.com/lib/@v/v2.1.0+incompatible | 422 incompatible-gomod; | module example.com/lib;require example.com/x v1.0.0;
+PUT A example.com/lib/@v/v2.1.0+incompatible | 422 incompatible-gomod; | module example.com/lib;require example.com/x \
+v1.0.0;
 GET A example.com/lib/@v/v2.0.0%2Bincompatible.mod | 200 module example.com/lib;
 # prerelease-order
 PUT A example.com/rc/@v/v1.0.0-rc.10 | 201 published;
@@ -100,7 +101,8 @@ PUT A example.com/bad/@v/v1.0.0 | 422 bad-gomod 0; | go 1.21rc1;
 PUT A example.com/bad/@v/v1.0.0 | 422 module-path; | module example.com/lib;
 # modules-of-a-team
 GET B -/modules | 200 example.com/x;example.com/y;
-GET A -/modules | 200 example.com/Lib;example.com/lib;example.com/ps;example.com/ra;example.com/rb;example.com/rc;example.com/rd;example.com/x;example.com/y;
+GET A -/modules | 200 example.com/Lib;example.com/lib;example.com/ps;example.com/ra;example.com/rb;example.com/rc;\
+example.com/rd;example.com/x;example.com/y;
 # unreadable: an empty element, and a version that is not canonical
 PUT A example.com//q/@v/v1.0.0 | 404 not found; | module example.com/q;
 PUT A example.com/q/@v/1.0.0 | 404 not found;
@@ -117,10 +119,12 @@ PUT A example.com/t/@v/v1.0.0 | 409 conflict;
 # time-against-stamp
 PUT A example.com/t/@v/v0.0.0-20240101000000-aaaaaaaaaaaa | 422 time-mismatch; | | | Version-Time: 2024-01-01T00:00:01Z;
 # two times, and an empty one
-PUT A example.com/t/@v/v1.1.0 | 422 bad-time; | | | Version-Time: 2024-01-01T00:00:00Z;version-time: 2024-01-01T00:00:00Z;
+PUT A example.com/t/@v/v1.1.0 | 422 bad-time; | | | Version-Time: 2024-01-01T00:00:00Z;version-time: \
+2024-01-01T00:00:00Z;
 PUT A example.com/t/@v/v1.1.0 | 422 bad-time; | | | Version-Time:;
 # a PUT whose body ends one byte early
-PUT /k/alphakey00000001/example.com/q/@v/v1.0.0 HTTP/1.1;Mod-Length: 21;Content-Length: 21;;module example.com/q | 400 bad request;
+PUT /k/alphakey00000001/example.com/q/@v/v1.0.0 HTTP/1.1;Mod-Length: 21;Content-Length: 21;;module example.com/q | \
+400 bad request;
 """
 
 # on the store that REQUESTS leave, with the group platform and its teams gamma and delta
@@ -202,7 +206,8 @@ GET M example.com/h/@v/list | 200 v1.0.0;
 GET M example.com/l/@latest | 200 {"Version":"v1.10.0"}
 GET A example.com/l/@latest | 200 {"Version":"v1.9.0"}
 GET D example.com/l/@v/v1.2.0.info | 404 not found;
-GET M example.com/l/@v/v0.0.0-20240101000000-aaaaaaaaaaaa.info | 200 {"Time":"2024-01-01T00:00:00Z","Version":"v0.0.0-20240101000000-aaaaaaaaaaaa"}
+GET M example.com/l/@v/v0.0.0-20240101000000-aaaaaaaaaaaa.info | 200 \
+{"Time":"2024-01-01T00:00:00Z","Version":"v0.0.0-20240101000000-aaaaaaaaaaaa"}
 # the group's highest version retracts for its teams
 PUT P example.com/l/@v/v1.11.0 | 201 published; | module example.com/l;retract [v1.10.0, v1.11.0];
 GET P example.com/l/@latest | 200 {"Version":"v1.9.0"}
@@ -226,9 +231,12 @@ GET A example.com/t/@v/v1.5.0.info | 404 not found;
 GET M -/gosum/example.com/t/@v/v1.5.0 | 200 example.com/t v1.5.0/go.mod h1:4dgp24NRz8ybNwCIaamZKrYhbHMjugRv5LSi2una/Ks=;
 GET A -/gosum/example.com/t/@v/v1.5.0 | 404 not found;
 # modules, each once
-GET M -/modules | 200 example.com/g;example.com/h;example.com/l;example.com/r;example.com/s;example.com/t;example.com/x;example.com/y;
-GET D -/modules | 200 example.com/g;example.com/h;example.com/l;example.com/r;example.com/s;example.com/t;example.com/x;example.com/y;
-GET P -/modules | 200 example.com/g;example.com/h;example.com/l;example.com/r;example.com/s;example.com/t;example.com/x;example.com/y;
+GET M -/modules | 200 example.com/g;example.com/h;example.com/l;example.com/r;example.com/s;example.com/t;\
+example.com/x;example.com/y;
+GET D -/modules | 200 example.com/g;example.com/h;example.com/l;example.com/r;example.com/s;example.com/t;\
+example.com/x;example.com/y;
+GET P -/modules | 200 example.com/g;example.com/h;example.com/l;example.com/r;example.com/s;example.com/t;\
+example.com/x;example.com/y;
 GET B -/modules | 200 example.com/h;example.com/l;example.com/r;example.com/x;example.com/y;
 GET C -/modules | 200 example.com/h;example.com/l;example.com/r;example.com/x;example.com/y;
 """
@@ -247,13 +255,18 @@ GET / HTTP/1.1;<65 headers>;GET / HTTP/1.1;; | 400 bad request;
 GET / HTTP/1.1;Content-Length: 17825793;;GET / HTTP/1.1;; | 413 too large;
 GET / HTTP/1.1;Content-Length: 1;Content-Length: 1;;GET / HTTP/1.1;; | 400 bad request;
 # refused-publishes: a body that ends one byte early
-PUT /k/alphakey00000001/example.com/q/@v/v1.0.0 HTTP/1.1;Mod-Length: 23;Content-Length: 23;;module example.com/q; | 400 bad request;
+PUT /k/alphakey00000001/example.com/q/@v/v1.0.0 HTTP/1.1;Mod-Length: 23;Content-Length: 23;;module example.com/q; | \
+400 bad request;
 GET /k/alphakey00000001/example.com/q/@v/v1.0.0.mod HTTP/1.1;; | 404 not found;
 # bad-mod-lengths: absent, doubled, with a leading zero, above the body; each with a message behind it
-PUT /k/alphakey00000001/example.com/q/@v/v1.0.0 HTTP/1.1;Content-Length: 22;;module example.com/q;GET / HTTP/1.1;; | 400 bad mod-length; & 404 not found;
-PUT /k/alphakey00000001/example.com/q/@v/v1.0.0 HTTP/1.1;Mod-Length: 22;Mod-Length: 22;Content-Length: 22;;module example.com/q;GET / HTTP/1.1;; | 400 bad mod-length; & 404 not found;
-PUT /k/alphakey00000001/example.com/q/@v/v1.0.0 HTTP/1.1;Mod-Length: 022;Content-Length: 22;;module example.com/q;GET / HTTP/1.1;; | 400 bad mod-length; & 404 not found;
-PUT /k/alphakey00000001/example.com/q/@v/v1.0.0 HTTP/1.1;Mod-Length: 23;Content-Length: 22;;module example.com/q;GET / HTTP/1.1;; | 400 bad mod-length; & 404 not found;
+PUT /k/alphakey00000001/example.com/q/@v/v1.0.0 HTTP/1.1;Content-Length: 22;;module example.com/q;GET / HTTP/1.1;; | \
+400 bad mod-length; & 404 not found;
+PUT /k/alphakey00000001/example.com/q/@v/v1.0.0 HTTP/1.1;Mod-Length: 22;Mod-Length: 22;Content-Length: 22;;module \
+example.com/q;GET / HTTP/1.1;; | 400 bad mod-length; & 404 not found;
+PUT /k/alphakey00000001/example.com/q/@v/v1.0.0 HTTP/1.1;Mod-Length: 022;Content-Length: 22;;module example.com/q;GET \
+/ HTTP/1.1;; | 400 bad mod-length; & 404 not found;
+PUT /k/alphakey00000001/example.com/q/@v/v1.0.0 HTTP/1.1;Mod-Length: 23;Content-Length: 22;;module example.com/q;GET \
+/ HTTP/1.1;; | 400 bad mod-length; & 404 not found;
 # an empty line behind a message
 GET / HTTP/1.1;;; | 404 not found; & 400 bad request;
 """
@@ -261,11 +274,14 @@ GET / HTTP/1.1;;; | 404 not found; & 400 bad request;
 SUMS = """
 # gosum-line
 PUT A example.com/lib/@v/v1.0.0 | 201 published;
-GET A -/gosum/example.com/lib/@v/v1.0.0 | 200 example.com/lib v1.0.0/go.mod h1:4OAnUP7RpKJ0hg7ydNi+A/luktLxx7xSrw0c+FeAtlc=;
+GET A -/gosum/example.com/lib/@v/v1.0.0 | 200 example.com/lib v1.0.0/go.mod \
+h1:4OAnUP7RpKJ0hg7ydNi+A/luktLxx7xSrw0c+FeAtlc=;
 GET A example.com/lib/@v/v1.0.0.mod | 200 module example.com/lib;
-GET A -/go%73um/example.com%2Flib/%40v/v1.0.0 | 200 example.com/lib v1.0.0/go.mod h1:4OAnUP7RpKJ0hg7ydNi+A/luktLxx7xSrw0c+FeAtlc=;
+GET A -/go%73um/example.com%2Flib/%40v/v1.0.0 | 200 example.com/lib v1.0.0/go.mod \
+h1:4OAnUP7RpKJ0hg7ydNi+A/luktLxx7xSrw0c+FeAtlc=;
 # who gets a sum
-GET R -/gosum/example.com/lib/@v/v1.0.0 | 200 example.com/lib v1.0.0/go.mod h1:4OAnUP7RpKJ0hg7ydNi+A/luktLxx7xSrw0c+FeAtlc=;
+GET R -/gosum/example.com/lib/@v/v1.0.0 | 200 example.com/lib v1.0.0/go.mod \
+h1:4OAnUP7RpKJ0hg7ydNi+A/luktLxx7xSrw0c+FeAtlc=;
 GET B -/gosum/example.com/lib/@v/v1.0.0 | 404 not found;
 PUT C example.com/x/@v/v1.0.0 | 201 published;
 GET B -/gosum/example.com/x/@v/v1.0.0 | 200 example.com/x v1.0.0/go.mod h1:cq1Wlc5Q/3TKMd9Nt+I/D/H5kAJrHbzSCzH20/f7O0w=;
@@ -278,7 +294,8 @@ GET A -/gosum/example.com/lib/@latest | 404 not found;
 PUT A -/gosum/example.com/lib/@v/v1.0.0 | 404 not found; | module example.com/lib;
 # an escaped path, and a version that ends as a file does
 PUT A example.com/!lib/@v/v1.0.0-a.mod | 201 published;
-GET A -/gosum/example.com/!lib/@v/v1.0.0-a.mod | 200 example.com/Lib v1.0.0-a.mod/go.mod h1:QCLwax7NYDdQrhhEO5lFRKWPJgpb1/PsD0HlPYhcfdU=;
+GET A -/gosum/example.com/!lib/@v/v1.0.0-a.mod | 200 example.com/Lib v1.0.0-a.mod/go.mod \
+h1:QCLwax7NYDdQrhhEO5lFRKWPJgpb1/PsD0HlPYhcfdU=;
 GET A -/gosum/example.com/Lib/@v/v1.0.0-a.mod | 404 not found;
 """
 

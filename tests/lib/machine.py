@@ -1,9 +1,9 @@
 """A machine in a folder, on which the commands and files of docs/ and deploy/ run as they are written.
 
-Their absolute names are put below the folder, and ports that are free in place of 443 and 8080. The commands `goshelf`,
-`nginx` and `systemctl` stand in its /usr/local/bin: the first is the built program, the second starts with the machine's
-configuration, and the third starts and stops the program on the machine's store. The public proxy is a port of this
-host, on which nobody listens unless a suite names another.
+Their absolute names are put below the folder, and ports that are free in place of 443 and 8080. The commands
+`goshelf`, `nginx` and `systemctl` stand in its /usr/local/bin: the first is the built program, the second starts with
+the machine's configuration, and the third starts and stops the program on the machine's store. The public proxy is a
+port of this host, on which nobody listens unless a suite names another.
 """
 
 import contextlib
@@ -29,8 +29,8 @@ FOLDERS = (
 AUTHORITIES = "/etc/ssl/certs/ca-certificates.crt"
 SYSTEMCTL = """\
 #!/bin/sh
-# `systemctl stop goshelf` and `systemctl start goshelf`, for a program that a file names by its number, that number, and
-# how often it was restarted; and `systemctl restart nginx`
+# `systemctl stop goshelf` and `systemctl start goshelf`, for a program that a file names by its number, that number,
+# and how often it was restarted; and `systemctl restart nginx`
 case "$*" in *nginx) [ "$1" != restart ] || nginx -s reload 2> /dev/null || nginx; exit ;; esac
 case "$1 ${3-}" in
 "show MainPID") cat "@/serve.pid" ;;
@@ -41,9 +41,11 @@ is-active) exit 3 ;; # (of goshelf.socket, which is not there)
 start)
     rm -f "@/serve.out"
     mkdir -p "@/run/goshelf"
-    goshelf serve --db "@/var/lib/goshelf/shelves.db" --port PORT --control "@/run/goshelf/control" > "@/serve.out" 2> "@/serve.err" < /dev/null &
+    goshelf serve --db "@/var/lib/goshelf/shelves.db" --port PORT --control "@/run/goshelf/control" > "@/serve.out" \
+2> "@/serve.err" < /dev/null &
     echo $! > "@/serve.pid"
-    until grep -qs '^listening on' "@/serve.out"; do kill -0 $! || { cat "@/serve.err" >&2; exit 1; }; sleep 0.05; done ;;
+    until grep -qs '^listening on' "@/serve.out"; do kill -0 $! || { cat "@/serve.err" >&2; exit 1; }; sleep 0.05; \
+done ;;
 stop)
     [ -e "@/serve.pid" ] || exit 0
     kill "$(cat "@/serve.pid")"
@@ -121,7 +123,7 @@ class Machine:
         return text.replace("server proxy.golang.org:443;", f"server 127.0.0.1:{self.public};")
 
     def sh(self, script, **settings):
-        """Runs a script that is written for a whole machine, in `root`. Returns its status, what it prints, and its errors."""
+        """Runs a script that is written for a whole machine, in `root`. Returns its status, output and errors."""
         where = {"PATH": f"{self.folder}/usr/local/bin:{os.environ['PATH']}:/usr/sbin", "HOME": f"{self.folder}/root", **settings}
         words = [*self.within, "sh", "-euc", self.placed(script)]
         how = {"cwd": f"{self.folder}/root", "env": where, "stdin": subprocess.DEVNULL, "timeout": 120}

@@ -31,7 +31,8 @@ def replies(stream):
 
 
 PHRASES = {
-    200: "OK", 201: "Created", 400: "Bad Request", 403: "Forbidden", 404: "Not Found", 409: "Conflict", 413: "Payload Too Large",
+    200: "OK", 201: "Created", 400: "Bad Request", 403: "Forbidden", 404: "Not Found", 409: "Conflict",
+    413: "Payload Too Large",
     422: "Unprocessable Entity", 503: "Service Unavailable", 507: "Insufficient Storage",
 }  # fmt: skip
 KINDS = {".zip": "application/zip", ".info": "application/json", "@latest": "application/json"}

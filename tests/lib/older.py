@@ -82,13 +82,16 @@ def with_log(folder, schema):
 SCHEMA_1 = """
 CREATE TABLE meta (name TEXT PRIMARY KEY, value INTEGER NOT NULL) STRICT;
 CREATE TABLE shelf (name TEXT PRIMARY KEY) STRICT;
-CREATE TABLE access (token TEXT PRIMARY KEY, shelf TEXT NOT NULL REFERENCES shelf (name), publish INTEGER NOT NULL CHECK (publish IN (0, 1))) STRICT;
-CREATE TABLE version (id INTEGER PRIMARY KEY, shelf TEXT NOT NULL REFERENCES shelf (name), path TEXT NOT NULL, version TEXT NOT NULL, time TEXT, mod BLOB NOT NULL, UNIQUE (shelf, path, version)) STRICT;
+CREATE TABLE access (token TEXT PRIMARY KEY, shelf TEXT NOT NULL REFERENCES shelf (name), publish INTEGER NOT NULL \
+CHECK (publish IN (0, 1))) STRICT;
+CREATE TABLE version (id INTEGER PRIMARY KEY, shelf TEXT NOT NULL REFERENCES shelf (name), path TEXT NOT NULL, \
+version TEXT NOT NULL, time TEXT, mod BLOB NOT NULL, UNIQUE (shelf, path, version)) STRICT;
 CREATE TABLE body (id INTEGER PRIMARY KEY REFERENCES version (id), zip BLOB NOT NULL) STRICT;
 INSERT INTO meta VALUES ('schema', 1);
 INSERT INTO shelf VALUES ('common'), ('alpha');
 INSERT INTO access VALUES ('alphakey00000001', 'alpha', 1);
-INSERT INTO version VALUES (7, 'common', 'example.com/lib', 'v1.0.0', NULL, X'6d6f64756c65206578616d706c652e636f6d2f6c69620a');
+INSERT INTO version VALUES (7, 'common', 'example.com/lib', 'v1.0.0', NULL, \
+X'6d6f64756c65206578616d706c652e636f6d2f6c69620a');
 INSERT INTO body VALUES (7, X'5A');
 """
 
@@ -100,12 +103,17 @@ RANK_KEY = "03" + ORDER_KEY
 SCHEMA_2 = f"""
 CREATE TABLE meta (name TEXT PRIMARY KEY, value INTEGER NOT NULL) STRICT;
 CREATE TABLE shelf (name TEXT PRIMARY KEY) STRICT;
-CREATE TABLE access (token TEXT PRIMARY KEY, shelf TEXT NOT NULL REFERENCES shelf (name), publish INTEGER NOT NULL CHECK (publish IN (0, 1))) STRICT;
-CREATE TABLE version (id INTEGER PRIMARY KEY, shelf TEXT NOT NULL REFERENCES shelf (name), path TEXT NOT NULL, version TEXT NOT NULL, time TEXT, mod BLOB NOT NULL, order_key BLOB NOT NULL, rank_key BLOB NOT NULL, UNIQUE (shelf, path, version)) STRICT;
-CREATE TABLE piece (version INTEGER NOT NULL REFERENCES version (id), number INTEGER NOT NULL CHECK (number >= 0), bytes BLOB NOT NULL, PRIMARY KEY (version, number)) STRICT;
+CREATE TABLE access (token TEXT PRIMARY KEY, shelf TEXT NOT NULL REFERENCES shelf (name), publish INTEGER NOT NULL \
+CHECK (publish IN (0, 1))) STRICT;
+CREATE TABLE version (id INTEGER PRIMARY KEY, shelf TEXT NOT NULL REFERENCES shelf (name), path TEXT NOT NULL, \
+version TEXT NOT NULL, time TEXT, mod BLOB NOT NULL, order_key BLOB NOT NULL, rank_key BLOB NOT NULL, UNIQUE (shelf, \
+path, version)) STRICT;
+CREATE TABLE piece (version INTEGER NOT NULL REFERENCES version (id), number INTEGER NOT NULL CHECK (number >= 0), \
+bytes BLOB NOT NULL, PRIMARY KEY (version, number)) STRICT;
 INSERT INTO meta VALUES ('schema', 2);
 INSERT INTO shelf VALUES ('common'), ('alpha');
 INSERT INTO access VALUES ('alphakey00000001', 'alpha', 1);
-INSERT INTO version VALUES (7, 'common', 'example.com/lib', 'v1.0.0', NULL, X'6d6f64756c65206578616d706c652e636f6d2f6c69620a', X'{ORDER_KEY}', X'{RANK_KEY}');
+INSERT INTO version VALUES (7, 'common', 'example.com/lib', 'v1.0.0', NULL, \
+X'6d6f64756c65206578616d706c652e636f6d2f6c69620a', X'{ORDER_KEY}', X'{RANK_KEY}');
 INSERT INTO piece VALUES (7, 0, X'5A');
 """

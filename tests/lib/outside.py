@@ -52,7 +52,7 @@ openssl req -x509 -newkey rsa:2048 -nodes -days 2 -subj /CN=self -keyout self.ke
 
 
 def module(path, version, gomod=None, files=None):
-    """The go.mod, the zip and the go.sum lines of a version. Without files it has one, and a short go.mod without one."""
+    """The go.mod, the zip and the go.sum lines of a version, which has a file and a go.mod where none is given."""
     gomod, files = gomod or f"module {path}\n\ngo 1.17\n", files or {"a.go": "package a\n"}
     whole = zipped(path, version, {"go.mod": gomod, **files})
     of_gomod, of_zip = sums(gomod.encode(), whole)

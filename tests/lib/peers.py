@@ -108,7 +108,7 @@ def by_false_server(words, told):
 
 
 class Load:
-    """Peers who ask on and on with one key, and when each request began and ended and what it got. They may be cut off."""
+    """Peers who ask on and on with one key, and what each request got, from when to when. They may be cut off."""
 
     def __init__(self, server, key, count=4, is_cut=False):
         self.server, self.request, self.stopped, self.seen, self.is_cut = server, get(LIST, key), threading.Event(), [], is_cut

@@ -124,7 +124,7 @@ def greet_of(room):
 
 
 def shell(room, folder, script, replaced, **more):
-    """Runs a block of a page in a folder, with other words in place of some, and returns its status, output and errors."""
+    """Runs a block of a page in a folder, some words replaced, and returns its status, output and errors."""
     for old, new in replaced.items():
         assert old in script, old
         script = script.replace(old, new)

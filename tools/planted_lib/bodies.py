@@ -44,7 +44,7 @@ def read_body(crate, path):
 
 
 def body_with(crate, name, texts):
-    """Returns the body that makes these texts: a pair changes a line in its place, so the numbers of the others stay."""
+    """Returns the body that makes these texts: a pair changes a line in its place, so other numbers stay."""
     lines, functions, is_wide = {}, [], False
     for file, text in texts.items():
         was = read(f"{crate.folder}/{file}")

@@ -80,7 +80,7 @@ def stop(*_):
 
 
 def prove(crate):
-    """Checks the crate in its place, unless its text is what was last seen proved; an exception where it is not proved."""
+    """Checks the crate in its place, unless its text was last seen proved; an exception if it is not proved."""
     kept = [f"{crate.folder}/out/incremental", *[f"{it.folder}/out/rlib/stamp" for it in crate.below]]
     stamp, sum_now = f"{crate.folder}/{STAMP}", crate.sum()
     if all(map(os.path.exists, [*kept, stamp])) and read(stamp) == sum_now + "".join(map(read, kept[1:])):

@@ -91,7 +91,9 @@ def on_one_path(name, versions, count, rest):
     before, _, _, _ = run(made())
     after, memory, _, _ = run(itertools.chain(made(), (ask(rest) for _ in range(count))))
     seconds = max(after - before, 1e-9)
-    print(f"{count:,} {name} of {versions:,} versions: {count / seconds:,.0f} requests/s, peak {memory / 2**20:,.1f} MiB")
+    print(
+        f"{count:,} {name} of {versions:,} versions: {count / seconds:,.0f} requests/s, peak {memory / 2**20:,.1f} MiB"
+    )
 
 
 def in_pieces(length, requests):
@@ -121,7 +123,10 @@ def streams(scale):
         in_pieces(length, itertools.chain([one()], asked(10_000 // scale)))
     short = run(itertools.chain([one()], asked(1_000 // scale)))[1]
     long = run(itertools.chain([one()], asked(100_000 // scale)))[1]
-    print(f"peak memory of {100_000 // scale:,} requests: {long / 2**20:,.1f} MiB; of {1_000 // scale:,}: {short / 2**20:,.1f} MiB")
+    print(
+        f"peak memory of {100_000 // scale:,} requests: {long / 2**20:,.1f} MiB; of {1_000 // scale:,}:"
+        f" {short / 2**20:,.1f} MiB"
+    )
 
 
 def main():

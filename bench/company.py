@@ -96,7 +96,15 @@ class Store:
         run("init", "--db", self.file)
         for shelf in shelves:
             member = ["--group", company.group[shelf]] if shelf in company.group else []
-            run(*(["group-add", "--group", shelf] if shelf in company.groups else ["team-add", "--team", shelf, *member]), "--db", self.file)
+            run(
+                *(
+                    ["group-add", "--group", shelf]
+                    if shelf in company.groups
+                    else ["team-add", "--team", shelf, *member]
+                ),
+                "--db",
+                self.file,
+            )
         for shelf in ("common", *shelves):
             run("key-add", "--db", self.file, "--shelf", shelf, "--key", company.key(shelf))
             run("key-add", "--db", self.file, "--shelf", shelf, "--key", company.reader(shelf), "--read-only")
@@ -111,9 +119,13 @@ class Store:
                 # a version has the same bytes in each store
                 company.random.seed(f"{company.sizes.seed} {path} {version}")
                 headers, body = company.publish(path, version, company.sizes.zip)
-                stream.write(f"PUT /k/{company.key(shelf)}/{path}/@v/{version} HTTP/1.1\r\n".encode() + headers + b"\r\n" + body)
+                stream.write(
+                    f"PUT /k/{company.key(shelf)}/{path}/@v/{version} HTTP/1.1\r\n".encode() + headers + b"\r\n" + body
+                )
             stream.seek(0)
-            told = subprocess.run([PROGRAM, "answer", "--db", self.file], stdin=stream, capture_output=True, check=True).stdout
+            told = subprocess.run(
+                [PROGRAM, "answer", "--db", self.file], stdin=stream, capture_output=True, check=True
+            ).stdout
         company.random.seed(company.sizes.seed)
         if told.count(b"HTTP/1.1 201 ") != told.count(b"HTTP/1.1 "):
             sys.exit(f"a store was not filled: {told[:300]}")
@@ -121,7 +133,9 @@ class Store:
     def start(self):
         for end in ("", "-wal"):
             shutil.copyfile(f"{self.file}{end}.filled", self.file + end)
-        self.child = subprocess.Popen([PROGRAM, "serve", "--db", self.file, "--port", "0"], stdout=subprocess.PIPE, text=True)
+        self.child = subprocess.Popen(
+            [PROGRAM, "serve", "--db", self.file, "--port", "0"], stdout=subprocess.PIPE, text=True
+        )
         self.port = int(self.child.stdout.readline().rsplit(":", 1)[1])
         return self
 
@@ -138,9 +152,16 @@ def config(company, folder, port, stores, is_cached, way, outside):
     """nginx's file by tools/shards, without TLS and limits, for a way to have public modules."""
     write_shards(company, stores, f"{folder}/shards.conf")
     with open(os.path.join(ROOT, "deploy", "nginx", "goshelf.conf"), "rb") as file:
-        told = subprocess.run([os.path.join(ROOT, "tools", "shards"), "conf", f"{folder}/shards.conf"], stdin=file, capture_output=True, check=True).stdout.decode()
+        told = subprocess.run(
+            [os.path.join(ROOT, "tools", "shards"), "conf", f"{folder}/shards.conf"],
+            stdin=file,
+            capture_output=True,
+            check=True,
+        ).stdout.decode()
     text = "\n".join(it for it in told.split("\n") if not re.match(r"\s*(ssl_|limit_)", it))
-    text = text.replace("listen 443 ssl;", f"listen 127.0.0.1:{port} backlog=4096;").replace("/var/log/nginx/", f"{folder}/")
+    text = text.replace("listen 443 ssl;", f"listen 127.0.0.1:{port} backlog=4096;").replace(
+        "/var/log/nginx/", f"{folder}/"
+    )
     text = text.replace("/etc/nginx/goshelf/", f"{folder}/").replace("/var/cache/nginx/goshelf", f"{folder}/cache")
     text = text.replace("server proxy.golang.org:443;", f"server 127.0.0.1:{outside.tls if outside else 9};")
     if way == SECOND:
@@ -161,8 +182,15 @@ def write_shards(company, stores, name):
 
 def maps(company):
     """users.map and keys.map."""
-    users = [(user_of(shelf, right, number), shelf, right) for shelf in company.shelves for right in ("read", "publish") for number in range(company.sizes.users)]
-    lines = "".join(f'"{basic(user)}" "{basic(user).split()[1]} {user} {shelf} {right}";\n' for user, shelf, right in users)
+    users = [
+        (user_of(shelf, right, number), shelf, right)
+        for shelf in company.shelves
+        for right in ("read", "publish")
+        for number in range(company.sizes.users)
+    ]
+    lines = "".join(
+        f'"{basic(user)}" "{basic(user).split()[1]} {user} {shelf} {right}";\n' for user, shelf, right in users
+    )
     keys = "".join(f'"{it} read" {company.reader(it)};\n"{it} publish" {company.key(it)};\n' for it in company.shelves)
     return {"users.map": lines, "keys.map": keys}
 
@@ -183,7 +211,9 @@ class Nginx:
             with open(f"{folder}/{name}", "w", encoding="utf-8") as file:
                 file.write(text)
         command = shutil.which("nginx") or "/usr/sbin/nginx"
-        self.folder, self.child = folder, subprocess.Popen([command, "-c", f"{folder}/nginx.conf", "-e", f"{folder}/start.log"])
+        self.folder, self.child = folder, subprocess.Popen(
+            [command, "-c", f"{folder}/nginx.conf", "-e", f"{folder}/start.log"]
+        )
         for _ in range(600):
             with socket.socket() as probe:
                 if probe.connect_ex(("127.0.0.1", self.listens)) == 0:
@@ -225,7 +255,9 @@ def ask(folder, plan, lanes):
     with open(f"{folder}/plan", "wb") as file:
         file.write(plan.bytes())
     with open(f"{folder}/outcome", "wb") as file:
-        child = subprocess.Popen([f"{folder}/client", f"{folder}/plan", str(lanes)], stdout=file, stderr=subprocess.PIPE)
+        child = subprocess.Popen(
+            [f"{folder}/client", f"{folder}/plan", str(lanes)], stdout=file, stderr=subprocess.PIPE
+        )
         told = child.stderr.read()
         _, status, usage = os.wait4(child.pid, 0)
     if status:
@@ -259,7 +291,9 @@ def measured(sizes, folder, name, stores, is_cached, way, outside):
 
 def others(sizes, front, rate):
     """What other builds of the company ask for."""
-    return Plan(Company(argparse.Namespace(**{**vars(sizes), "seed": sizes.seed + 1, "publishes": 0})), front).fill(rate)
+    return Plan(Company(argparse.Namespace(**{**vars(sizes), "seed": sizes.seed + 1, "publishes": 0})), front).fill(
+        rate
+    )
 
 
 def flat_out(sizes, folder, front, stores, nginx, outside):
@@ -274,7 +308,13 @@ def flat_out(sizes, folder, front, stores, nginx, outside):
     looked = nginx.looked_up()[len(begun) :] if nginx else []
     row["builds"] = sizes.builds / seconds
     row["build"] = (row["goshelf"] + row["nginx"]) * plan.count / sizes.builds
-    return {**row, "rate": plan.count / seconds, "client": own / plan.count * 1e6, "busy": own / seconds, "hits": looked.count("HIT") / max(1, len(looked))}
+    return {
+        **row,
+        "rate": plan.count / seconds,
+        "client": own / plan.count * 1e6,
+        "busy": own / seconds,
+        "hits": looked.count("HIT") / max(1, len(looked)),
+    }
 
 
 def at_load(sizes, folder, front, rate):
@@ -304,13 +344,25 @@ def table(rows, wrong):
 
 def options():
     parser = argparse.ArgumentParser(description=__doc__, formatter_class=argparse.RawDescriptionHelpFormatter)
-    for name, default, text in (("seed", 1, "another one makes another company"), ("teams", 8, "teams"), ("groups", 4, "groups that share them out"), ("modules", 30, "modules of a shelf"),
-                                ("versions", 4, "versions of a module"), ("needs", 30, "modules that a build needs at most"), ("builds", 1_500, "builds"),
-                                ("publishes", 40, "publishes"), ("zip", 8_000, "bytes of a zip, on average"), ("users", 10, "users of each shelf and right"),
-                                ("lanes", 32, "connections at once"), ("workers", 1, "processes of nginx"),
-                                ("public", 0, "of 100 requests of a build those for public modules")):
+    for name, default, text in (
+        ("seed", 1, "another one makes another company"),
+        ("teams", 8, "teams"),
+        ("groups", 4, "groups that share them out"),
+        ("modules", 30, "modules of a shelf"),
+        ("versions", 4, "versions of a module"),
+        ("needs", 30, "modules that a build needs at most"),
+        ("builds", 1_500, "builds"),
+        ("publishes", 40, "publishes"),
+        ("zip", 8_000, "bytes of a zip, on average"),
+        ("users", 10, "users of each shelf and right"),
+        ("lanes", 32, "connections at once"),
+        ("workers", 1, "processes of nginx"),
+        ("public", 0, "of 100 requests of a build those for public modules"),
+    ):
         parser.add_argument(f"--{name}", type=int, default=default, help=f"{text} ({default:,})")
-    parser.add_argument("--load", type=float, default=0.5, help="the share of the highest rate at which latencies are measured (0.5)")
+    parser.add_argument(
+        "--load", type=float, default=0.5, help="the share of the highest rate at which latencies are measured (0.5)"
+    )
     parser.add_argument("--stores", default="1,2,4", help="how many stores to share the teams among (1,2,4)")
     parser.add_argument("--plot", default="company.svg", help="the file of the plot (company.svg)")
     return parser.parse_args()
@@ -328,7 +380,10 @@ def main():
     sizes = options()
     with tempfile.TemporaryDirectory(prefix="goshelf-company-") as folder:
         os.chmod(folder, 0o755)
-        subprocess.run(["cc", "-O2", "-D_GNU_SOURCE", "-o", f"{folder}/client", os.path.join(ROOT, "bench", "company.c")], check=True)
+        subprocess.run(
+            ["cc", "-O2", "-D_GNU_SOURCE", "-o", f"{folder}/client", os.path.join(ROOT, "bench", "company.c")],
+            check=True,
+        )
         rows, wrong, first = [], {}, None
         outside = Outside(tempfile.mkdtemp(dir=folder), sizes.zip) if sizes.public else None
         for count in map(int, sizes.stores.split(",")):
@@ -343,7 +398,10 @@ def main():
         if outside:
             outside.stop()
         # (before the folder goes, which takes a minute where a cache has filled it)
-        print(f"{len(first):,} requests; statuses {({it: sum(one[0] == it for one in first) for it in sorted({one[0] for one in first})})}")
+        print(
+            f"{len(first):,} requests; statuses"
+            f" {({it: sum(one[0] == it for one in first) for it in sorted({one[0] for one in first})})}"
+        )
         print(table(rows, wrong), flush=True)
     with open(sizes.plot, "w", encoding="utf-8") as file:
         file.write(plot([(row["name"], row["latencies"]) for row in rows]))

@@ -25,13 +25,17 @@ class Company:
         # the group of a team; without groups it has none
         self.group = dict(zip(self.teams, itertools.cycle(self.groups)))
         self.shelves = ["common", *self.groups, *self.teams]
-        self.modules = {shelf: [f"example.com/{shelf}/m{number}" for number in range(sizes.modules)] for shelf in self.shelves}
+        self.modules = {
+            shelf: [f"example.com/{shelf}/m{number}" for number in range(sizes.modules)] for shelf in self.shelves
+        }
         self.versions = [f"v1.{number}.0" for number in range(sizes.versions)]
         self.block = self.random.randbytes(1_048_576)
 
     def share(self, count):
         """The groups and teams of each of so many stores. A team is where its group is."""
-        units = [[group, *(team for team in self.teams if self.group[team] == group)] for group in self.groups] or [[team] for team in self.teams]
+        units = [[group, *(team for team in self.teams if self.group[team] == group)] for group in self.groups] or [
+            [team] for team in self.teams
+        ]
         return [list(itertools.chain.from_iterable(units[start::count])) for start in range(count)]
 
     @staticmethod
@@ -68,7 +72,9 @@ class Company:
     def needs(self, team):
         """The versions that a build needs: some modules of its team, some of its group, and most of common."""
         count = self.random.randint(1, max(1, self.sizes.needs // 4))
-        paths = [it for shelf in (team, self.group.get(team)) if shelf for it in self.popular(self.modules[shelf], count)]
+        paths = [
+            it for shelf in (team, self.group.get(team)) if shelf for it in self.popular(self.modules[shelf], count)
+        ]
         paths += self.popular(self.modules["common"], 2 * count)
         return [(path, self.random.choice(self.versions[-2:])) for path in paths]
 
@@ -146,7 +152,9 @@ class Plan:
         path, version = f"example.com/{team}/new{number}", "v1.0.0"
         headers, body = self.company.publish(path, version, self.company.sizes.zip)
         put = self.front.head("PUT", team, f"/{path}/@v/{version}", True) + headers + b"\r\n" + body
-        looks = [self.front.head("GET", team, f"/{path}/@v/{it}", False) + b"\r\n" for it in ("list", f"{version}.info")]
+        looks = [
+            self.front.head("GET", team, f"/{path}/@v/{it}", False) + b"\r\n" for it in ("list", f"{version}.info")
+        ]
         self.list(self.front.port(team), [put, *looks])
 
     def fill(self, rate):

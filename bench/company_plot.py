@@ -30,17 +30,26 @@ def text(x, y, words, more=""):
 
 
 def line(points, colour, width=1.5):
-    return f'<polyline fill="none" stroke="{colour}" stroke-width="{width}" points="{" ".join(f"{x:.1f},{y:.1f}" for x, y in points)}"/>'
+    return (
+        f'<polyline fill="none" stroke="{colour}" stroke-width="{width}"'
+        f' points="{" ".join(f"{x:.1f},{y:.1f}" for x, y in points)}"/>'
+    )
 
 
 def axes(scale):
     parts = []
     for share, label in SHARES:
         x = across(share)
-        parts += [line([(x, TOP), (x, TOP + HEIGHT)], "#ddd", 1), text(x, TOP + HEIGHT + 18, label, 'text-anchor="middle"')]
+        parts += [
+            line([(x, TOP), (x, TOP + HEIGHT)], "#ddd", 1),
+            text(x, TOP + HEIGHT + 18, label, 'text-anchor="middle"'),
+        ]
     for power in range(scale.low, scale.high + 1):
         y = scale.up(10**power)
-        parts += [line([(LEFT, y), (LEFT + WIDTH, y)], "#ddd", 1), text(LEFT - 8, y + 4, f"{10**power:g} ms", 'text-anchor="end"')]
+        parts += [
+            line([(LEFT, y), (LEFT + WIDTH, y)], "#ddd", 1),
+            text(LEFT - 8, y + 4, f"{10**power:g} ms", 'text-anchor="end"'),
+        ]
     return parts
 
 
@@ -57,6 +66,12 @@ def plot(rows):
     parts = [text(LEFT, 18, "Share of the answers that came within so many milliseconds"), *axes(scale)]
     for place, (name, latencies) in enumerate(rows):
         colour = COLOURS[place % len(COLOURS)]
-        parts += [line(curve(latencies, scale), colour), text(LEFT + WIDTH + 12, TOP + 14 + 18 * place, name, f'fill="{colour}"')]
+        parts += [
+            line(curve(latencies, scale), colour),
+            text(LEFT + WIDTH + 12, TOP + 14 + 18 * place, name, f'fill="{colour}"'),
+        ]
     size = f'width="{LEFT + WIDTH + 150}" height="{TOP + HEIGHT + 40}"'
-    return f'<svg xmlns="http://www.w3.org/2000/svg" {size} font-family="sans-serif" font-size="12">\n<rect width="100%" height="100%" fill="#fff"/>\n' + "\n".join(parts) + "\n</svg>\n"
+    return (
+        f'<svg xmlns="http://www.w3.org/2000/svg" {size} font-family="sans-serif" font-size="12">\n<rect width="100%"'
+        ' height="100%" fill="#fff"/>\n' + "\n".join(parts) + "\n</svg>\n"
+    )

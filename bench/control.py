@@ -172,7 +172,9 @@ def orders(words, folder, client):
     load.child.kill()
     load.child.wait()
     server.stop()
-    figures = f"{statistics.median(took):.1f} ms in the median, {in_order(took, 0.99):.1f} at 99 %, {max(took):.1f} at most"
+    figures = (
+        f"{statistics.median(took):.1f} ms in the median, {in_order(took, 0.99):.1f} at 99 %, {max(took):.1f} at most"
+    )
     return [(f"an order while {clients(words.clients)} ask, of {len(took)}", figures)]
 
 
@@ -195,10 +197,14 @@ def revoke(words, folder, client):
         late += [status for at, _, status in outcomes if at > ended]
         early = [status for _, at, status in outcomes if at < begun]
         if {*early} != {200} or not late:
-            sys.exit(f"{len(late)} requests began after a revocation, and those before were answered {sorted({*early})}")
+            sys.exit(
+                f"{len(late)} requests began after a revocation, and those before were answered {sorted({*early})}"
+            )
     server.stop()
     remove(file)
-    name = f"a key is revoked on {words.versions:,} versions ({opened:.0f} s to open) while {clients(words.clients)} ask"
+    name = (
+        f"a key is revoked on {words.versions:,} versions ({opened:.0f} s to open) while {clients(words.clients)} ask"
+    )
     text = f"{middle(took, '.1f', ' ms')}; of {len(late):,} requests after `done`, {late.count(200)} are answered 200"
     return [(name, text)]
 
@@ -220,14 +226,18 @@ def copy(words, folder, client):
     """How long a copy takes beside an extract of the same store, and how long a peer waits meanwhile."""
     if subprocess.run([words.program, "copy", "--help"], capture_output=True, check=False).returncode:
         return [("a copy beside an extract", "skipped: the program has no command `copy`")]
-    served, whole, ours, theirs = (os.path.join(folder, f"{name}.db") for name in ("served", "whole", "copy", "extract"))
+    served, whole, ours, theirs = (
+        os.path.join(folder, f"{name}.db") for name in ("served", "whole", "copy", "extract")
+    )
     large(whole, words.mib)
     shutil.copyfile(whole, served)
     server = Server(words.program, served, f"{folder}/control")
     turns = [copies(words.program, client, server, whole, ours, theirs) for _ in range(words.copies)]
     server.stop()
     took, beside, opening, waited = zip(*turns)
-    ratios = [[one / (other - less) for one, other, less in zip(took, beside, them)] for them in (opening, [0] * len(turns))]
+    ratios = [
+        [one / (other - less) for one, other, less in zip(took, beside, them)] for them in (opening, [0] * len(turns))
+    ]
     size = f"{os.path.getsize(whole) / MIB:,.0f} MiB"
     rows = [
         (f"`copy --control` of {size}", f"{middle(took)}, {middle(ratios[1], unit=' times')} the time of `extract`"),
@@ -286,7 +296,9 @@ def remove(*files):
 
 
 def table(rows):
-    commit = subprocess.run(["git", "-C", ROOT, "rev-parse", "--short", "HEAD"], capture_output=True, text=True, check=False).stdout.strip()
+    commit = subprocess.run(
+        ["git", "-C", ROOT, "rev-parse", "--short", "HEAD"], capture_output=True, text=True, check=False
+    ).stdout.strip()
     lines = [("what", "figure", "program", "command"), ("---",) * 4]
     lines += [(*it, f"`{commit}`", "`bench/control.py`") for it in rows]
     return "\n".join(f"| {' | '.join(it)} |" for it in lines)
@@ -296,10 +308,16 @@ def options():
     parser = argparse.ArgumentParser(description=__doc__, formatter_class=argparse.RawDescriptionHelpFormatter)
     parser.add_argument("--program", default=PROGRAM)
     parser.add_argument("--only", help=f"parts, of {','.join(PARTS)}", default=",".join(PARTS))
-    for name, default, text in (("rounds", 9, "turns of gets, and revocations"), ("gets", 20_000, "GETs of a turn"), ("orders", 200, "orders under load"),
-                                ("clients", 8, "clients at once"), ("versions", 1_000_000, "versions of the store where keys are revoked"),
-                                ("pinged", 100_000, "versions of the store that is pinged"),
-                                ("mib", 1_024, "zips of 1 MiB in the store that is copied"), ("copies", 5, "turns of the copy")):
+    for name, default, text in (
+        ("rounds", 9, "turns of gets, and revocations"),
+        ("gets", 20_000, "GETs of a turn"),
+        ("orders", 200, "orders under load"),
+        ("clients", 8, "clients at once"),
+        ("versions", 1_000_000, "versions of the store where keys are revoked"),
+        ("pinged", 100_000, "versions of the store that is pinged"),
+        ("mib", 1_024, "zips of 1 MiB in the store that is copied"),
+        ("copies", 5, "turns of the copy"),
+    ):
         parser.add_argument(f"--{name}", type=int, default=default, help=f"{text} ({default:,})")
     return parser.parse_args()
 
@@ -314,7 +332,9 @@ def main():
         client = client_in(folder)
         for name in words.only.split(","):
             begun = time.monotonic()
-            rows += {"gets": gets, "orders": orders, "revoke": revoke, "pings": pings, "copy": copy}[name](words, folder, client)
+            rows += {"gets": gets, "orders": orders, "revoke": revoke, "pings": pings, "copy": copy}[name](
+                words, folder, client
+            )
             print(f"{name}: {time.monotonic() - begun:.0f} s", file=sys.stderr, flush=True)
     print(table(rows))
 

@@ -64,7 +64,10 @@ def made(program, folder):
 
 def of_a_get(program, rest, words):
     """How many instructions a GET takes of a store with one version. `words` gives the words of each run."""
-    few, many = (instructions(program, stream_of(publish(PATH, VERSION), *(ask(rest) for _ in range(n))), words=words()) for n in (1_000, 2_000))
+    few, many = (
+        instructions(program, stream_of(publish(PATH, VERSION), *(ask(rest) for _ in range(n))), words=words())
+        for n in (1_000, 2_000)
+    )
     return (many - few) // 1_000
 
 
@@ -107,7 +110,9 @@ def byte_by_byte(program, stream):
 def reads(program, source):
     """How often the program reads its input."""
     with tempfile.NamedTemporaryFile() as told:
-        subprocess.run(["strace", "-e", "trace=read", "-o", told.name, program, *WORDS], stdin=source, stdout=subprocess.DEVNULL)
+        subprocess.run(
+            ["strace", "-e", "trace=read", "-o", told.name, program, *WORDS], stdin=source, stdout=subprocess.DEVNULL
+        )
         return sum(line.startswith(b"read(0,") for line in told)
 
 
@@ -150,7 +155,9 @@ def changes(program, folder):
 
     yield "an opening and a closing", run()
     yield "a publish of a new path", each(lambda number: publish(f"example.com/new{number}", VERSION))
-    yield "a first GET of a path that is not there", each(lambda number: ask(f"example.org/public{number}/@v/v1.0.0.mod"))
+    yield "a first GET of a path that is not there", each(
+        lambda number: ask(f"example.org/public{number}/@v/v1.0.0.mod")
+    )
 
 
 def main():
@@ -171,7 +178,10 @@ def main():
     nothing = instructions(program, stream_of())
     for name, head in long_heads():
         whole = instructions(program, stream_of([head])) - nothing
-        print(f"a head of {len(head):,} bytes, {name}: {whole:,} instructions at once, {byte_by_byte(program, head) - nothing:,} byte by byte")
+        print(
+            f"a head of {len(head):,} bytes, {name}: {whole:,} instructions at once,"
+            f" {byte_by_byte(program, head) - nothing:,} byte by byte"
+        )
     print(f"a first PUT with a zip of 16 MiB: {reads(program, stream_of(put())):,} reads")
     for name, requests in {
         "a first PUT": [put()],

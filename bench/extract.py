@@ -34,7 +34,10 @@ COPY = (
     "INSERT INTO shelf SELECT name, parent FROM whole.shelf WHERE name = ?1",
     "INSERT INTO access SELECT * FROM whole.access WHERE shelf IN ('common', ?1)",
     "INSERT INTO version SELECT * FROM whole.version WHERE shelf IN ('common', ?1)",
-    "INSERT INTO piece SELECT piece.* FROM whole.version JOIN whole.piece ON piece.version = version.id WHERE shelf IN ('common', ?1)",
+    (
+        "INSERT INTO piece SELECT piece.* FROM whole.version JOIN whole.piece ON piece.version = version.id WHERE shelf"
+        " IN ('common', ?1)"
+    ),
 )
 
 
@@ -59,7 +62,9 @@ def filled(file, entries):
         team, place = TEAMS[n % len(TEAMS)], n // len(TEAMS)
         path, version = f"example.com/m{place // OF_A_PATH}", f"v1.0.{place % OF_A_PATH}"
         row = (team, path, version, gomod(path), *keys(version))
-        number = conn.execute("INSERT INTO version (shelf, path, version, mod, order_key, rank_key) VALUES (?, ?, ?, ?, ?, ?)", row).lastrowid
+        number = conn.execute(
+            "INSERT INTO version (shelf, path, version, mod, order_key, rank_key) VALUES (?, ?, ?, ?, ?, ?)", row
+        ).lastrowid
         conn.execute("INSERT INTO piece VALUES (?, 0, ?)", (number, BLOCK))
     conn.execute("COMMIT")
     conn.close()
@@ -100,7 +105,24 @@ def traced(whole, part):
     removed(part)
     trace = part + ".trace"
     extract = [PROGRAM, "extract", "--db", whole, "--team", TEAM, "--to", part]
-    subprocess.run(["strace", "-f", "--seccomp-bpf", "-y", "-ttt", "-T", "-s", "4096", "-e", "trace=" + TRACED, "-o", trace, *extract], check=True)
+    subprocess.run(
+        [
+            "strace",
+            "-f",
+            "--seccomp-bpf",
+            "-y",
+            "-ttt",
+            "-T",
+            "-s",
+            "4096",
+            "-e",
+            "trace=" + TRACED,
+            "-o",
+            trace,
+            *extract,
+        ],
+        check=True,
+    )
     with open(trace) as lines:
         return parts_of(lines.read().splitlines(), whole, part)
 
@@ -129,7 +151,10 @@ def rows(file):
         "SELECT * FROM shelf ORDER BY name",
         "SELECT * FROM access ORDER BY token",
         "SELECT shelf, path, version, time, mod, order_key, rank_key FROM version ORDER BY shelf, path, version",
-        "SELECT shelf, path, v.version, number, bytes FROM piece JOIN version v ON v.id = piece.version ORDER BY shelf, path, v.version, number",
+        (
+            "SELECT shelf, path, v.version, number, bytes FROM piece JOIN version v ON v.id = piece.version ORDER BY"
+            " shelf, path, v.version, number"
+        ),
     )
     found = [conn.execute(query).fetchall() for query in queries]
     conn.close()
@@ -153,12 +178,14 @@ def spread(values, form):
 def tell(turns, part):
     """Prints the times of the turns."""
     print(
-        f"{part}, medians of {len(turns)} turns: the whole is opened in {spread((it.opening for it in turns), '.2f')} s, and the part made in "
-        f"{spread((it.making for it in turns), '.3f')} s; sqlite3 copies it in {spread((it.beside for it in turns), '.3f')} s"
+        f"{part}, medians of {len(turns)} turns: the whole is opened in"
+        f" {spread((it.opening for it in turns), '.2f')} s, and the part made in"
+        f" {spread((it.making for it in turns), '.3f')} s; sqlite3 copies it in"
+        f" {spread((it.beside for it in turns), '.3f')} s"
     )
     print(
-        f"  making it takes {spread((it.making / it.beside for it in turns), '.2f')} times sqlite3's time; without strace all takes "
-        f"{spread((it.seconds for it in turns), '.2f')} s"
+        f"  making it takes {spread((it.making / it.beside for it in turns), '.2f')} times sqlite3's time; without"
+        f" strace all takes {spread((it.seconds for it in turns), '.2f')} s"
     )
 
 
@@ -169,10 +196,18 @@ def main():
     if shutil.which("strace") is None:
         sys.exit("strace is wanted")
     with tempfile.TemporaryDirectory(dir=os.environ.get("STORES")) as folder:
-        whole, ours, theirs = (os.path.join(os.path.realpath(folder), name) for name in ("whole.db", "ours.db", "theirs.db"))
+        whole, ours, theirs = (
+            os.path.join(os.path.realpath(folder), name) for name in ("whole.db", "ours.db", "theirs.db")
+        )
         filled(whole, entries)
         turns = [turn(whole, ours, theirs) for _ in range(ROUNDS)]
-        tell(turns, f"a part of {entries // len(TEAMS):,} versions out of {entries:,} ({os.path.getsize(whole) / 2**20:,.0f} MiB)")
+        tell(
+            turns,
+            (
+                f"a part of {entries // len(TEAMS):,} versions out of"
+                f" {entries:,} ({os.path.getsize(whole) / 2**20:,.0f} MiB)"
+            ),
+        )
         # before this process grows: a child's peak begins at its parent's
         _, opened = answered(whole, [])
         _, opened_part = answered(ours, [])

@@ -32,7 +32,9 @@ def filled(file, count, length):
         for n in range(count):
             version = f"v1.{minor}.{n}"
             row = (shelf, PATH, version, text, *keys(version))
-            conn.execute("INSERT INTO version (shelf, path, version, mod, order_key, rank_key) VALUES (?, ?, ?, ?, ?, ?)", row)
+            conn.execute(
+                "INSERT INTO version (shelf, path, version, mod, order_key, rank_key) VALUES (?, ?, ?, ?, ?, ?)", row
+            )
     conn.execute("COMMIT")
     conn.close()
 
@@ -49,10 +51,16 @@ def main():
         file = os.path.join(folder, "shelves.db")
         filled(file, count, length)
         seconds, opened = answered(file, [])
-        print(f"{count:,} versions on each of two shelves, go.mod files of {length:,} bytes: {os.path.getsize(file) / MIB:,.0f} MiB, opened in {seconds:.2f} s with {opened:,.1f} MiB")
+        print(
+            f"{count:,} versions on each of two shelves, go.mod files of {length:,} bytes:"
+            f" {os.path.getsize(file) / MIB:,.0f} MiB, opened in {seconds:.2f} s with {opened:,.1f} MiB"
+        )
         for name, rest in (("list", "@v/list"), ("latest version", "@latest")):
             took, peak = answered(file, [ask(rest)])
-            print(f"the {name}: {took - seconds:.3f} s more, {peak:,.1f} MiB, {(peak - opened) * MIB / length:+.1f} go.mod files beside the opened store")
+            print(
+                f"the {name}: {took - seconds:.3f} s more, {peak:,.1f} MiB,"
+                f" {(peak - opened) * MIB / length:+.1f} go.mod files beside the opened store"
+            )
 
 
 if __name__ == "__main__":

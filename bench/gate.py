@@ -35,7 +35,9 @@ def gate(is_kept):
     """The words that run the gate: a kit that keeps proofs runs from nothing by `--anew`, and one that keeps none
     has no such word."""
     # (its status is 2)
-    told = subprocess.run(["rt", "help"], stdout=subprocess.PIPE, stderr=subprocess.STDOUT, text=True, check=False).stdout
+    told = subprocess.run(
+        ["rt", "help"], stdout=subprocess.PIPE, stderr=subprocess.STDOUT, text=True, check=False
+    ).stdout
     keeps = "--anew" in told
     if is_kept and not keeps:
         sys.exit("--kept: this kit keeps no proofs, so each run is from nothing")
@@ -100,7 +102,9 @@ def table(seen):
     print(f"| crate | {', s | '.join(KINDS)}, s | peak, GiB |")
     print(f"|---|{'---|' * (len(KINDS) + 1)}")
     for crate, row in sorted(rows.items(), key=lambda it: -sum(it[1].values())):
-        print(f"| `{crate}` | {' | '.join(f'{row[it]:,.0f}' if row[it] else '' for it in KINDS)} | {peaks[crate]:.1f} |")
+        print(
+            f"| `{crate}` | {' | '.join(f'{row[it]:,.0f}' if row[it] else '' for it in KINDS)} | {peaks[crate]:.1f} |"
+        )
     return collections.Counter({it: sum(row[it] for row in rows.values()) for it in KINDS})
 
 
@@ -110,7 +114,9 @@ def main():
     words.add_argument("--kept", action="store_true")
     said = words.parse_args()
     command = gate(said.kept)
-    commit = subprocess.run(["git", "-C", ROOT, "rev-parse", "--short", said.commit], capture_output=True, text=True, check=True).stdout.strip()
+    commit = subprocess.run(
+        ["git", "-C", ROOT, "rev-parse", "--short", said.commit], capture_output=True, text=True, check=True
+    ).stdout.strip()
     folder = tempfile.mkdtemp(prefix="gate-")
     print(f"{commit} in {folder}", flush=True)
     subprocess.run(["git", "clone", "-q", ROOT, f"{folder}/goshelf"], check=True)
@@ -119,12 +125,17 @@ def main():
     sampler.start()
     with open(f"{folder}/gate.log", "w", encoding="utf-8") as log:
         settings = dict(os.environ, PYTHONUNBUFFERED="1")
-        status = subprocess.run(command, cwd=f"{folder}/goshelf", env=settings, stdin=subprocess.DEVNULL, stdout=log, stderr=log).returncode
+        status = subprocess.run(
+            command, cwd=f"{folder}/goshelf", env=settings, stdin=subprocess.DEVNULL, stdout=log, stderr=log
+        ).returncode
     sampler.ends.set()
     wall, took = (time.monotonic() - start) / 60, resource.getrusage(resource.RUSAGE_CHILDREN)
     sums = table(sampler.seen.values())
     print(f"{', '.join(f'{it} {sums[it] / 60:.0f}' for it in KINDS)} minutes by the sample")
-    print(f"{(took.ru_utime + took.ru_stime) / 60:.0f} minutes of processor time in all, {wall:.0f} of the clock, {sampler.used:.1f} GiB of the machine in use at the most")
+    print(
+        f"{(took.ru_utime + took.ru_stime) / 60:.0f} minutes of processor time in all, {wall:.0f} of the clock,"
+        f" {sampler.used:.1f} GiB of the machine in use at the most"
+    )
     print(read(f"{folder}/gate.log").rstrip("\n").rpartition("\n")[2])
     return status
 

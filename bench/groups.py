@@ -18,7 +18,12 @@ import tempfile
 sys.path.insert(0, os.path.dirname(os.path.abspath(__file__)))
 from cost import PROGRAM, instructions, stream_of
 
-KEYS = {"alpha": "alphakey00000001", "gamma": "gammakey00000001", "platform": "platformkey00001", "common": "commonkey0000001"}
+KEYS = {
+    "alpha": "alphakey00000001",
+    "gamma": "gammakey00000001",
+    "platform": "platformkey00001",
+    "common": "commonkey0000001",
+}
 PATHS, VERSIONS = 20, 4
 ZIP = bytes(1024)
 
@@ -29,7 +34,10 @@ def get(shelf, rest):
 
 def put(shelf, path, version):
     gomod = f"module {path}\n".encode()
-    head = f"PUT /k/{KEYS[shelf]}/{path}/@v/{version} HTTP/1.1\r\nMod-Length: {len(gomod)}\r\nContent-Length: {len(gomod) + len(ZIP)}\r\n\r\n"
+    head = (
+        f"PUT /k/{KEYS[shelf]}/{path}/@v/{version} HTTP/1.1\r\nMod-Length: {len(gomod)}\r\nContent-Length:"
+        f" {len(gomod) + len(ZIP)}\r\n\r\n"
+    )
     yield head.encode() + gomod + ZIP
 
 
@@ -46,7 +54,11 @@ def answered(program, file, requests):
     """Sends requests, each of which has to be answered 200 or 201."""
     with stream_of(*requests) as source:
         ran = subprocess.run([program, "answer", "--db", file], stdin=source, stdout=subprocess.PIPE, check=True)
-    bad = [line for line in ran.stdout.split(b"\r\n") if line.startswith(b"HTTP/1.1 ") and line[9:12] not in (b"200", b"201")]
+    bad = [
+        line
+        for line in ran.stdout.split(b"\r\n")
+        if line.startswith(b"HTTP/1.1 ") and line[9:12] not in (b"200", b"201")
+    ]
     assert not bad, bad[0]
 
 
@@ -68,7 +80,16 @@ def made(program, file, groups):
     shelves = KEYS if groups else ("alpha", "common")
     for shelf in shelves:
         done(program, "key-add", "--db", file, "--shelf", shelf, "--key", KEYS[shelf])
-    answered(program, file, (put(shelf, path_of(shelf, n), f"v1.{v}.0") for shelf in shelves for n in range(PATHS) for v in range(VERSIONS)))
+    answered(
+        program,
+        file,
+        (
+            put(shelf, path_of(shelf, n), f"v1.{v}.0")
+            for shelf in shelves
+            for n in range(PATHS)
+            for v in range(VERSIONS)
+        ),
+    )
     copied_in(file)
 
 
@@ -166,7 +187,11 @@ def beside_another(program, other, folder):
     files = [os.path.join(folder, name) for name in ("ours.db", "theirs.db")]
     for it, file in zip((program, other), files):
         made(it, file, False)
-    asked = [(f"{name}, {'own' if at == 'alpha' else 'on common'}", *rest) for at in ("alpha", "common") for name, *rest in questions("alpha", at)]
+    asked = [
+        (f"{name}, {'own' if at == 'alpha' else 'on common'}", *rest)
+        for at in ("alpha", "common")
+        for name, *rest in questions("alpha", at)
+    ]
     for name, count, request in [*asked, *publishes("alpha")]:
         found = [cost(it, file, count, request) for it, file in zip((program, other), files)]
         told(name, *found, "before")
@@ -183,7 +208,11 @@ def beside_no_group(program, folder):
         where = {"gamma": "own", "common": "on common", "platform": "on the group, beside one on common"}[at]
         pairs = zip(questions("gamma", at), questions("alpha", beside))
         for (name, count, of_member), (_, _, of_alone) in pairs:
-            told(f"{name}, {where}", *(cost(program, file, count, it) for it in (of_member, of_alone)), "by a team in no group")
+            told(
+                f"{name}, {where}",
+                *(cost(program, file, count, it) for it in (of_member, of_alone)),
+                "by a team in no group",
+            )
     for (name, count, of_member), (_, _, of_alone) in zip(publishes("gamma"), publishes("alpha")):
         told(name, *(cost(program, file, count, it) for it in (of_member, of_alone)), "by a team in no group")
 

@@ -30,7 +30,10 @@ LETTERS = "abcdefghijklmnopqrstuvwxyzABCDEFGHIJKLMNOPQRSTUVWXYZ"
 
 
 def put(path, version, gomod, size):
-    head = f"PUT /k/{KEYS['alpha']}/{path}/@v/{version} HTTP/1.1\r\nMod-Length: {len(gomod)}\r\nContent-Length: {len(gomod) + size}\r\n\r\n"
+    head = (
+        f"PUT /k/{KEYS['alpha']}/{path}/@v/{version} HTTP/1.1\r\nMod-Length: {len(gomod)}\r\nContent-Length:"
+        f" {len(gomod) + size}\r\n\r\n"
+    )
     yield head.encode() + gomod + bytes(size)
 
 
@@ -73,7 +76,9 @@ def gomods():
     yield "intervals that meet", "retract", map(interval, itertools.count()), release
     yield "wide intervals", "retract", (f"[v0.0.{n % 50},v0.0.{4_050 + n % 46}]" for n in itertools.count()), release
     yield "versions in no order", "retract", shuffled(release), release
-    yield "the versions of the path, again and again", "retract", map(release, random.Random(1).choices(range(VERSIONS), k=GOMOD)), release
+    yield "the versions of the path, again and again", "retract", map(
+        release, random.Random(1).choices(range(VERSIONS), k=GOMOD)
+    ), release
     yield "pre-releases in no order", "retract", shuffled(pre), pre
     yield "pre-releases that begin alike, in no order", "retract", shuffled(alike), alike
     yield "requirements of pre-releases", "require", (f"a {pre(n)}" for n in itertools.count()), None
@@ -114,7 +119,10 @@ def asked(program, file, rests, times, before):
 def told(program, file, what, rests, before=()):
     """Prints what one of these questions costs that is asked first, and what one that is asked again."""
     opening, once, again = (asked(program, file, tuple(rests), times, tuple(before)) for times in (0, 1, 2))
-    print(f"{what}: {(once - opening) // len(rests):,} instructions at first, {(again - once) // len(rests):,} again", flush=True)
+    print(
+        f"{what}: {(once - opening) // len(rests):,} instructions at first, {(again - once) // len(rests):,} again",
+        flush=True,
+    )
 
 
 def processor_ms(program, file, requests):
@@ -152,14 +160,31 @@ def main():
         told(program, file, "`@latest`, with the most retractions", [f"{WORST}/@latest"])
         path = f"example.com/z{ZIPS[0]}"
         for rest in ("@v/v1.0.0.mod", "@v/v1.0.0.info", "@v/list", "@latest"):
-            told(program, file, f"`{rest.rpartition('/')[2]}` of a path with one version", [f"{path}/{rest}"], [f"{WORST}/@v/v1.0.0.mod"])
+            told(
+                program,
+                file,
+                f"`{rest.rpartition('/')[2]}` of a path with one version",
+                [f"{path}/{rest}"],
+                [f"{WORST}/@v/v1.0.0.mod"],
+            )
         for size in ZIPS:
-            told(program, file, f"a `.zip` of {size:,} bytes", [f"example.com/z{size}/@v/v1.0.0.zip"], [f"{WORST}/@v/v1.0.0.zip"])
+            told(
+                program,
+                file,
+                f"a `.zip` of {size:,} bytes",
+                [f"example.com/z{size}/@v/v1.0.0.zip"],
+                [f"{WORST}/@v/v1.0.0.zip"],
+            )
         file = os.path.join(folder, "lists.db")
         made(program, file, (small(f"example.com/p{n}") for n in range(PATHS)))
         for name, rest in (("list", "@v/list"), ("@latest", "@latest")):
             for paths in (200, PATHS):
-                told(program, file, f"`{name}`, of {paths:,} paths in turn", [f"example.com/p{n}/{rest}" for n in range(paths)])
+                told(
+                    program,
+                    file,
+                    f"`{name}`, of {paths:,} paths in turn",
+                    [f"example.com/p{n}/{rest}" for n in range(paths)],
+                )
 
 
 if __name__ == "__main__":

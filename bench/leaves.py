@@ -21,7 +21,9 @@ from kept import VERSIONS, gomod_of, gomods
 ROOT = os.path.dirname(os.path.dirname(os.path.abspath(__file__)))
 PROGRAM = os.path.join(ROOT, "crates", "bench_leaves", "out", "bench_leaves")
 HOSTS = ["github.com", "github.com", "github.com", "golang.org/x", "google.golang.org", "gitlab.com", "k8s.io"]
-WORDS = "api auth cloud client config core data event go grpc http kit log metrics net proto sdk Store test tools".split()
+WORDS = (
+    "api auth cloud client config core data event go grpc http kit log metrics net proto sdk Store test tools".split()
+)
 TWICE_COSTS_AT_MOST = 2.5
 
 
@@ -49,8 +51,7 @@ def rounds_of(what, *texts):
         plans.append((text, idle, rounds))
     turns = [[run(what, rounds, text) for text, _, rounds in plans] for _ in range(5)]
     return [
-        ((min(runs)[0] - idle) / rounds, runs[0][1] / rounds)
-        for (_, idle, rounds), runs in zip(plans, zip(*turns))
+        ((min(runs)[0] - idle) / rounds, runs[0][1] / rounds) for (_, idle, rounds), runs in zip(plans, zip(*turns))
     ]
 
 

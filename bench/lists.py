@@ -33,7 +33,9 @@ def filled(file, paths, zip_length):
     for n in range(paths):
         path = f"example.com/team/module{n}"
         row = ("alpha", path, VERSION, gomod(path), order, rank)
-        number = conn.execute("INSERT INTO version (shelf, path, version, mod, order_key, rank_key) VALUES (?, ?, ?, ?, ?, ?)", row).lastrowid
+        number = conn.execute(
+            "INSERT INTO version (shelf, path, version, mod, order_key, rank_key) VALUES (?, ?, ?, ?, ?, ?)", row
+        ).lastrowid
         for at in range(0, len(zip), PIECE):
             conn.execute("INSERT INTO piece VALUES (?, ?, ?)", (number, at // PIECE, zip[at : at + PIECE]))
     conn.execute("COMMIT")
@@ -72,7 +74,10 @@ def measured(program, file, counts):
             opening = seconds, peak, count
             print(f"  opening: {seconds:.3f} s, {peak:.1f} MiB")
             continue
-        told = f"  {name}, {size:,.0f} bytes: {seconds - opening[0]:.3f} s more, {peak:.1f} MiB, {peak - opening[1]:.1f} more"
+        told = (
+            f"  {name}, {size:,.0f} bytes: {seconds - opening[0]:.3f} s more, {peak:.1f} MiB,"
+            f" {peak - opening[1]:.1f} more"
+        )
         print(told + (f", {count - opening[2]:,} instructions" if counts else ""), flush=True)
 
 

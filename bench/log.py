@@ -71,7 +71,9 @@ def middle(values, digits):
 
 def main():
     words = sys.argv[1:]
-    programs = [os.path.abspath(it) for at, it in enumerate(words) if at and words[at - 1] == "--program"] or [store.PROGRAM]
+    programs = [os.path.abspath(it) for at, it in enumerate(words) if at and words[at - 1] == "--program"] or [
+        store.PROGRAM
+    ]
     with tempfile.TemporaryDirectory(dir=os.environ.get("STORES")) as folder:
         rows = {}
         for _ in range(ROUNDS):
@@ -80,7 +82,13 @@ def main():
                     rows.setdefault((name, store.PROGRAM), []).append(round_of(folder, count, size))
         for (name, program), of in rows.items():
             took, log, opened, copy = zip(*of)
-            print(f"{name}, {program}: {middle(took, 2)} ms a publish; a log of {max(log):.1f} MiB, opened in {middle(opened, 2)} s, copied in {middle(copy, 2)} s", flush=True)
+            print(
+                (
+                    f"{name}, {program}: {middle(took, 2)} ms a publish; a log of {max(log):.1f} MiB, opened in"
+                    f" {middle(opened, 2)} s, copied in {middle(copy, 2)} s"
+                ),
+                flush=True,
+            )
         files = []
         for at, store.PROGRAM in enumerate(programs):
             files.append(os.path.join(folder, f"longest{at}.db"))
@@ -90,7 +98,10 @@ def main():
             for at, store.PROGRAM in enumerate(programs):
                 took[at].append(store.answered(files[at], [])[0])
         for file, program, of in zip(files, programs, took):
-            print(f"{VERSIONS:,} versions with a log of {log_of(file):.1f} MiB, {program}: opened in {middle(of, 2)} s", flush=True)
+            print(
+                f"{VERSIONS:,} versions with a log of {log_of(file):.1f} MiB, {program}: opened in {middle(of, 2)} s",
+                flush=True,
+            )
 
 
 if __name__ == "__main__":

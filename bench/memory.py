@@ -42,7 +42,9 @@ def zip_of(n):
 
 def held(file, setting):
     """The MiB that `serve` holds once it has opened a store, with these settings of the C library."""
-    child = subprocess.Popen([PROGRAM, "serve", "--db", file, "--port", "0"], stdout=subprocess.PIPE, env={**os.environ, **setting})
+    child = subprocess.Popen(
+        [PROGRAM, "serve", "--db", file, "--port", "0"], stdout=subprocess.PIPE, env={**os.environ, **setting}
+    )
     child.stdout.readline()
     with open(f"/proc/{child.pid}/status", encoding="ascii") as status:
         kib = int(re.search(r"VmRSS:\s+(\d+)", status.read())[1])
@@ -64,9 +66,9 @@ def main():
                 plain, returned = held(file, {}), held(file, SETTING)
                 _, published = answered(file, [publish(count, LARGEST), get(0)])
                 print(
-                    f"{count:,} versions with zips of {zip_length:,} bytes, {mib:,.0f} MiB: opened in {seconds:.2f} s with {opened:,.0f} MiB; "
-                    f"{fetched:,.0f} MiB to fetch a zip, {published:,.0f} MiB to publish one of 16 MiB; "
-                    f"serve holds {plain:,.0f} MiB, and {returned:,.0f} MiB as the unit starts it"
+                    f"{count:,} versions with zips of {zip_length:,} bytes, {mib:,.0f} MiB: opened in {seconds:.2f} s"
+                    f" with {opened:,.0f} MiB; {fetched:,.0f} MiB to fetch a zip, {published:,.0f} MiB to publish one"
+                    f" of 16 MiB; serve holds {plain:,.0f} MiB, and {returned:,.0f} MiB as the unit starts it"
                 )
 
 

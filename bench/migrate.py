@@ -93,7 +93,9 @@ def copied(old, new, schema):
         conn.execute("INSERT INTO piece SELECT * FROM old.piece")
     else:
         whole = sqlite3.connect(old)
-        for *row, zip in whole.execute("SELECT v.id, shelf, path, version, time, mod, zip FROM version v JOIN body b ON b.id = v.id"):
+        for *row, zip in whole.execute(
+            "SELECT v.id, shelf, path, version, time, mod, zip FROM version v JOIN body b ON b.id = v.id"
+        ):
             conn.execute("INSERT INTO version VALUES (?, ?, ?, ?, ?, ?, ?, ?)", (*row, *keys(row[3])))
             pieces = ((row[0], at // PIECE, zip[at : at + PIECE]) for at in range(0, len(zip), PIECE))
             conn.executemany("INSERT INTO piece VALUES (?, ?, ?)", pieces)
@@ -109,19 +111,39 @@ def main(words):
     rounds = int(words[words.index("--rounds") + 1]) if "--rounds" in words else 5
     with tempfile.TemporaryDirectory(prefix="goshelf-migrate-") as folder:
         for schema in (1, 2):
-            old, ours, theirs, other = (os.path.join(folder, f"{name}{schema}.db") for name in ("old", "ours", "theirs", "other"))
+            old, ours, theirs, other = (
+                os.path.join(folder, f"{name}{schema}.db") for name in ("old", "ours", "theirs", "other")
+            )
             filled(old, schema, entries)
             turns = [(*migrated(old, ours), *copied(old, theirs, schema)) for _ in range(rounds)]
             if rows(ours) != rows(theirs):
                 sys.exit("the program and sqlite3 do not make the same rows")
             seconds, used, peaks, beside, used_beside = zip(*turns)
-            print(f"schema {schema}, {entries:,} versions, {os.path.getsize(old) >> 20} MiB, medians of {rounds} turns: migrated in {spread(seconds, '.2f')} s,", end=" ")
-            print(f"by sqlite3 in {spread(beside, '.2f')} s, {spread([one / other for one, other in zip(seconds, beside)], '.2f')} times its time")
+            print(
+                (
+                    f"schema {schema}, {entries:,} versions, {os.path.getsize(old) >> 20} MiB, medians of"
+                    f" {rounds} turns: migrated in {spread(seconds, '.2f')} s,"
+                ),
+                end=" ",
+            )
+            print(
+                f"by sqlite3 in {spread(beside, '.2f')} s,"
+                f" {spread([one / other for one, other in zip(seconds, beside)], '.2f')} times its time"
+            )
             print(f"    of the processor {spread(used, '.2f')} s and {spread(used_beside, '.2f')} s", end=", ")
             print(f"{spread([one / other for one, other in zip(used, used_beside)], '.2f')} times as much")
             subprocess.run([PROGRAM, "team-add", "--db", other, "--team", "alpha"], check=True)
-            alone = ran(1, "migrate", "--from", old, "--to", other)[2], ran(1, "key-revoke", "--db", ours, "--key", "nosuchkey0000001")[2]
-            print(f"    peak {max(peaks):.1f} MiB; opening the old store alone {alone[0]:.1f} MiB, the new one alone {alone[1]:.1f} MiB;", end=" ")
+            alone = (
+                ran(1, "migrate", "--from", old, "--to", other)[2],
+                ran(1, "key-revoke", "--db", ours, "--key", "nosuchkey0000001")[2],
+            )
+            print(
+                (
+                    f"    peak {max(peaks):.1f} MiB; opening the old store alone {alone[0]:.1f} MiB, the new one alone"
+                    f" {alone[1]:.1f} MiB;"
+                ),
+                end=" ",
+            )
             print("three entries of the largest size are 51 MiB", flush=True)
             for name in (old, ours, theirs, other):
                 removed(name)

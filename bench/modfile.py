@@ -37,14 +37,19 @@ def main():
     text, count = requirements(20_000)
     with tempfile.TemporaryDirectory() as room:
         program = os.path.join(room, "modfile")
-        settings = dict(os.environ, GO111MODULE="off", GOPATH="/usr/share/gocode", GOFLAGS="", GOCACHE=os.path.join(room, "cache"))
+        settings = dict(
+            os.environ, GO111MODULE="off", GOPATH="/usr/share/gocode", GOFLAGS="", GOCACHE=os.path.join(room, "cache")
+        )
         subprocess.run(["go", "build", "-o", program, SOURCE], check=True, env=settings)
         sides = {
             "gomod": ([PROGRAM, "gomod"], 100, None),
             "modfile": ([program], 20, None),
             "modfile on one processor": ([program], 20, dict(os.environ, GOMAXPROCS="1")),
         }
-        idle = {name: min(processor_seconds([*words, "0"], text, env)[0] for _ in range(3)) for name, (words, _, env) in sides.items()}
+        idle = {
+            name: min(processor_seconds([*words, "0"], text, env)[0] for _ in range(3))
+            for name, (words, _, env) in sides.items()
+        }
         took = {name: [] for name in sides}
         for _ in range(RUNS):
             for name, (words, rounds, env) in sides.items():
@@ -57,7 +62,10 @@ def main():
         told = f"{name}: {min(runs) * 1e3:.2f} ms at best, {statistics.median(runs) * 1e3:.2f} in the median"
         if name != "gomod":
             times = sorted(it / ours for it, ours in zip(runs, took["gomod"]))
-            told += f"; {min(runs) / min(took['gomod']):.2f} times ours by the best, {statistics.median(times):.2f} in the median run by run"
+            told += (
+                f"; {min(runs) / min(took['gomod']):.2f} times ours by the best, {statistics.median(times):.2f} in the"
+                " median run by run"
+            )
             told += f" ({times[0]:.2f} to {times[-1]:.2f})"
         print(told)
 

@@ -73,7 +73,9 @@ def start_nginx(folder):
     port = free_port()
     with open(os.path.join(folder, "nginx.conf"), "w", encoding="utf-8") as file:
         file.write(CONFIG.format(folder=folder, port=port))
-    child = subprocess.Popen([shutil.which("nginx") or "/usr/sbin/nginx", "-c", f"{folder}/nginx.conf", "-e", f"{folder}/errors"])
+    child = subprocess.Popen(
+        [shutil.which("nginx") or "/usr/sbin/nginx", "-c", f"{folder}/nginx.conf", "-e", f"{folder}/errors"]
+    )
     for _ in range(100):
         with socket.socket() as probe:
             if probe.connect_ex(("127.0.0.1", port)) == 0:
@@ -90,7 +92,9 @@ def start_goshelf(program, folder):
     for n in range(PATHS):
         for version in (f"v1.0.{at}" for at in range(VERSIONS)):
             row = ("alpha", path_of(n), version, store.gomod(path_of(n)), *store.keys(version))
-            conn.execute("INSERT INTO version (shelf, path, version, mod, order_key, rank_key) VALUES (?, ?, ?, ?, ?, ?)", row)
+            conn.execute(
+                "INSERT INTO version (shelf, path, version, mod, order_key, rank_key) VALUES (?, ?, ?, ?, ?, ?)", row
+            )
     conn.execute("COMMIT")
     conn.close()
     child, port = started(program, file)
@@ -144,7 +148,9 @@ def client_in(folder):
 
 def fetched(client, port, targets, lanes=1):
     """The seconds in which each target is answered 200, and the client's seconds of processor time."""
-    told = subprocess.run([client, str(port), str(lanes)], input="\n".join(targets), capture_output=True, text=True, check=False)
+    told = subprocess.run(
+        [client, str(port), str(lanes)], input="\n".join(targets), capture_output=True, text=True, check=False
+    )
     if told.returncode:
         sys.exit(f"the client failed: {told.stderr}")
     seconds, _, own = map(float, told.stdout.split())
@@ -161,7 +167,13 @@ def compare(client, ports, name, targets, lanes, rounds):
     ours, theirs = ([len(targets) / it[at][0] for it in took] for at in (0, 1))
     ratio = statistics.median(one / other for one, other in zip(ours, theirs))
     busy = statistics.median(own / seconds for one in took for seconds, own in one)
-    print(f"{name}, {lanes} at once: goshelf {spread(ours)} a second, nginx {spread(theirs)}: {ratio:.2f} times; client busy {busy:.0%}", flush=True)
+    print(
+        (
+            f"{name}, {lanes} at once: goshelf {spread(ours)} a second, nginx {spread(theirs)}: {ratio:.2f} times;"
+            f" client busy {busy:.0%}"
+        ),
+        flush=True,
+    )
 
 
 def questions(scale):
@@ -199,7 +211,11 @@ def main():
             for name, targets in questions(10 if words.quick else 1):
                 for lanes in (1, 8):
                     compare(client, (our_port, their_port), name, targets, lanes, words.rounds)
-            print("memory of goshelf: {:.0f} MiB, {:.0f} at the most; of nginx's first process: {:.0f} MiB".format(*resident(ours), resident(theirs)[0]))
+            print(
+                "memory of goshelf: {:.0f} MiB, {:.0f} at the most; of nginx's first process: {:.0f} MiB".format(
+                    *resident(ours), resident(theirs)[0]
+                )
+            )
         finally:
             stopped(ours)
             stopped(theirs)

@@ -22,13 +22,21 @@ ROUNDS = 5
 def tool(folder, command):
     """The seconds that tools/shards takes, and its last line."""
     begun = time.monotonic()
-    told = subprocess.run([os.path.join(ROOT, "tools", "shards"), command, f"{folder}/shards.conf", f"{folder}/keys.map"], capture_output=True, text=True)
+    told = subprocess.run(
+        [os.path.join(ROOT, "tools", "shards"), command, f"{folder}/shards.conf", f"{folder}/keys.map"],
+        capture_output=True,
+        text=True,
+    )
     return time.monotonic() - begun, (told.stdout or told.stderr).splitlines()[-1]
 
 
 def write_files(folder, company, stores):
     write_shards(company, stores, f"{folder}/shards.conf")
-    keys = [f'"{it} {right}" {key};' for it in company.shelves for right, key in (("read", company.reader(it)), ("publish", company.key(it)))]
+    keys = [
+        f'"{it} {right}" {key};'
+        for it in company.shelves
+        for right, key in (("read", company.reader(it)), ("publish", company.key(it)))
+    ]
     with open(f"{folder}/keys.map", "w", encoding="utf-8") as file:
         file.write("\n".join(keys) + "\n")
 

@@ -56,7 +56,10 @@ def gomod(path):
 
 def publish_of(version, zip_length, path=place(0)[0]):
     length = len(gomod(path)) + zip_length
-    head = f"PUT /k/{KEY}/{path}/@v/{version} HTTP/1.1\r\nMod-Length: {len(gomod(path))}\r\nContent-Length: {length}\r\n\r\n"
+    head = (
+        f"PUT /k/{KEY}/{path}/@v/{version} HTTP/1.1\r\nMod-Length: {len(gomod(path))}\r\nContent-Length:"
+        f" {length}\r\n\r\n"
+    )
     return head.encode() + gomod(path) + BLOCK * (zip_length // len(BLOCK))
 
 
@@ -81,7 +84,9 @@ def made(file):
 def insert(conn, n, zip_length):
     path, version = place(n)
     row = ("alpha", path, version, gomod(path), *keys(version))
-    number = conn.execute("INSERT INTO version (shelf, path, version, mod, order_key, rank_key) VALUES (?, ?, ?, ?, ?, ?)", row).lastrowid
+    number = conn.execute(
+        "INSERT INTO version (shelf, path, version, mod, order_key, rank_key) VALUES (?, ?, ?, ?, ?, ?)", row
+    ).lastrowid
     zip = BLOCK * (zip_length // len(BLOCK))
     for at in range(0, len(zip), PIECE):
         conn.execute("INSERT INTO piece VALUES (?, ?, ?)", (number, at // PIECE, zip[at : at + PIECE]))
@@ -146,8 +151,11 @@ def publishes(folder, count, zip_length, name):
     ours, theirs, memory = zip(*turns)
     ratios = [one / other for one, other in zip(ours, theirs)]
     print(
-        f"publishes with {name} zips, medians of {ROUNDS} turns of {count:,}: {middle(ours)} ms, {1000 / statistics.median(ours):,.0f} a second, "
-        f"peak {max(memory):,.1f} MiB; sqlite3 {middle(theirs)} ms: {middle(ratios)} times its time",
+        (
+            f"publishes with {name} zips, medians of {ROUNDS} turns of {count:,}: {middle(ours)} ms,"
+            f" {1000 / statistics.median(ours):,.0f} a second, peak {max(memory):,.1f} MiB; sqlite3"
+            f" {middle(theirs)} ms: {middle(ratios)} times its time"
+        ),
         flush=True,
     )
 
@@ -163,8 +171,10 @@ def filled_file(folder, entries):
     filled(file, entries)
     seconds, peaks = zip(*(answered(file, []) for _ in range(ROUNDS)))
     print(
-        f"a store of {entries:,} versions ({os.path.getsize(file) / 2**20:,.1f} MiB): opened in {middle(seconds)} s with "
-        f"{max(peaks):,.1f} MiB at the peak",
+        (
+            f"a store of {entries:,} versions ({os.path.getsize(file) / 2**20:,.1f} MiB): opened in {middle(seconds)} s"
+            f" with {max(peaks):,.1f} MiB at the peak"
+        ),
         flush=True,
     )
     return file
@@ -185,11 +195,14 @@ def fetches(folder, few, many, gets):
     rounds = [{entries: fetching(file, entries, gets) for entries, file in files.items()} for _ in range(ROUNDS)]
     least = {entries: min(it[entries] for it in rounds) for entries in files}
     for entries, seconds in least.items():
-        print(f"{gets:,} GETs of a .mod from {entries:,} versions: {gets / seconds:,.0f} a second, the best of {ROUNDS} runs")
+        print(
+            f"{gets:,} GETs of a .mod from {entries:,} versions: {gets / seconds:,.0f} a second, the best of"
+            f" {ROUNDS} runs"
+        )
     ratios = sorted(it[many] / it[few] for it in rounds)
     print(
-        f"  a GET from the larger store costs {least[many] / least[few]:.2f} times one from the smaller by the best runs; "
-        f"run by run {ratios[0]:.2f} to {ratios[-1]:.2f}, {ratios[ROUNDS // 2]:.2f} in the median"
+        f"  a GET from the larger store costs {least[many] / least[few]:.2f} times one from the smaller by the best"
+        f" runs; run by run {ratios[0]:.2f} to {ratios[-1]:.2f}, {ratios[ROUNDS // 2]:.2f} in the median"
     )
 
 
@@ -208,8 +221,8 @@ def on_one_path(folder, versions, asks, publishes):
         plain = answered(file, (put() for _ in range(publishes)))[0]
         between = answered(file, itertools.chain.from_iterable((put(), ask(rest)) for _ in range(publishes)))[0]
         print(
-            f"the {name} of {versions:,} versions: {1000 * again / asks:,.2f} ms asked again, the best of {ROUNDS} runs of {asks:,}; "
-            f"{1000 * (between - plain) / publishes:,.2f} ms after a publish to the path"
+            f"the {name} of {versions:,} versions: {1000 * again / asks:,.2f} ms asked again, the best of {ROUNDS} runs"
+            f" of {asks:,}; {1000 * (between - plain) / publishes:,.2f} ms after a publish to the path"
         )
 
 

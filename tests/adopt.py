@@ -69,12 +69,22 @@ def caches(room, tree, sums):
     os.mkdir(f"{room.folder}/user")
     for path, version, _ in VERSIONS:
         ran = room.go("user", f"file://{tree}", "mod", "download", "-json", f"{path}@{version}")
-        SUITE.holds(f"the go command takes {path} {version}", ran.returncode == 0 and sums[path, version] in ran.stdout, ran.stdout)
+        SUITE.holds(
+            f"the go command takes {path} {version}",
+            ran.returncode == 0 and sums[path, version] in ran.stdout,
+            ran.stdout,
+        )
     cache = f"{room.folder}/user-path/pkg/mod"
     found, status, errors, _ = list_of(room, cache)
-    SUITE.equal("the module cache: header and status", (found[0], status), (["path", "version", "time", "mod", "zip"], 0))
+    SUITE.equal(
+        "the module cache: header and status", (found[0], status), (["path", "version", "time", "mod", "zip"], 0)
+    )
     SUITE.equal("the module cache: versions", sorted(times(found)), sorted(WANTED))
-    SUITE.holds("the module cache: times", all(stamp in ("", WANTED[it]) for it, stamp in times(found).items()), (times(found), errors))
+    SUITE.holds(
+        "the module cache: times",
+        all(stamp in ("", WANTED[it]) for it, stamp in times(found).items()),
+        (times(found), errors),
+    )
     return cache
 
 
@@ -94,8 +104,12 @@ def imports(room, name, text, sums):
     """Imports a list into a new store, and downloads each version from it."""
     new_store(f"{room.folder}/{name}.db", ("alpha", KEY, READER))
     write({f"{room.folder}/{name}.csv": text})
-    status, printed, told = run(["import", "--db", f"{room.folder}/{name}.db", "--key", KEY, "--list", f"{room.folder}/{name}.csv"])
-    SUITE.holds(f"{name}: import", status == 0 and printed.decode().count(" 201 published\n") == len(sums), (printed, told))
+    status, printed, told = run(
+        ["import", "--db", f"{room.folder}/{name}.db", "--key", KEY, "--list", f"{room.folder}/{name}.csv"]
+    )
+    SUITE.holds(
+        f"{name}: import", status == 0 and printed.decode().count(" 201 published\n") == len(sums), (printed, told)
+    )
     fetches(room, name, sums)
 
 
@@ -114,9 +128,17 @@ def static(room, tree, sums):
     """The folder of a static proxy: each version with its time; paths choose among them."""
     found, status, errors, text = list_of(room, tree)
     SUITE.equal("a static proxy", (status, times(found)), (0, WANTED))
-    SUITE.equal("a static proxy: no time", errors, "adopt: 1 versions have no time: `go get -u` cannot compare them with pseudo-versions\n")
+    SUITE.equal(
+        "a static proxy: no time",
+        errors,
+        "adopt: 1 versions have no time: `go get -u` cannot compare them with pseudo-versions\n",
+    )
     few, status, _, _ = list_of(room, tree, "example.com/greet", "example.com/gree")
-    SUITE.equal("the paths that are named", (status, {it[0] for it in few[1:]}), (0, {"example.com/greet", "example.com/greet/v2"}))
+    SUITE.equal(
+        "the paths that are named",
+        (status, {it[0] for it in few[1:]}),
+        (0, {"example.com/greet", "example.com/greet/v2"}),
+    )
     return found
 
 
@@ -129,7 +151,9 @@ def athens(room, found, sums):
         shutil.copy(zip_file, f"{folder}/source.zip")
         write({f"{folder}/{version}.info": '{"Version":"%s","Time":"2024-01-31T14:00:00.5+02:00"}' % version})
     got, status, errors, text = list_of(room, f"{room.folder}/athens")
-    SUITE.equal("an Athens", (status, errors, times(got)), (0, "", {it: "" if "2024" in it[1] else TIME for it in WANTED}))
+    SUITE.equal(
+        "an Athens", (status, errors, times(got)), (0, "", {it: "" if "2024" in it[1] else TIME for it in WANTED})
+    )
     imports(room, "moved", text, sums)
 
 
@@ -140,16 +164,35 @@ def of_folders(room):
     good = zipped("example.com/x", "v1.0.0", {"go.mod": "module example.com/x\n"})
     stray = zipped("example.com/y", "v1.1.0", {"go.mod": "module example.com/x\n"})
     entry = zipped("example.com/x", "v1.2.0", {"go.mod": "module example.com/x\n", "sub/": ""})
-    for version, content in (("v1.0.0", good), ("v1.1.0", stray), ("v1.2.0", entry), ("v1.3.0", b"rubbish"), ("v1.4.0", bytes(16 * MIB + 1))):
+    for version, content in (
+        ("v1.0.0", good),
+        ("v1.1.0", stray),
+        ("v1.2.0", entry),
+        ("v1.3.0", b"rubbish"),
+        ("v1.4.0", bytes(16 * MIB + 1)),
+    ):
         write({f"{tree}/{version}.zip": content, f"{tree}/{version}.mod": "module example.com/x\n"})
     write({f"{tree}/v1.5.0.zip": good, f"{tree}/v1.6.0.mod": "module example.com/x\n", f"{tree}/list": "v1.0.0\n"})
     got, status, errors, _ = list_of(room, f"{room.folder}/tree")
-    SUITE.equal("what is left out: the list", (status, got[1:]), (1, [["example.com/x", "v1.0.0", "", f"{tree}/v1.0.0.mod", f"{tree}/v1.0.0.zip"]]))
-    named = [f"left out example.com/x v1.{it}.0: " for it in (1, 2, 3, 4, 5)] + ["1 versions have a go.mod and no zip", "1 versions have no time"]
+    SUITE.equal(
+        "what is left out: the list",
+        (status, got[1:]),
+        (1, [["example.com/x", "v1.0.0", "", f"{tree}/v1.0.0.mod", f"{tree}/v1.0.0.zip"]]),
+    )
+    named = [f"left out example.com/x v1.{it}.0: " for it in (1, 2, 3, 4, 5)] + [
+        "1 versions have a go.mod and no zip",
+        "1 versions have no time",
+    ]
     SUITE.holds("what is left out: why", all(it in errors for it in named) and errors.count("\n") == len(named), errors)
     os.mkdir(f"{room.folder}/empty")
-    SUITE.equal("an empty folder", list_of(room, f"{room.folder}/empty")[1:3], (1, f"adopt: {room.folder}/empty has no version to list\n"))
-    SUITE.equal("no folder", list_of(room, f"{room.folder}/nosuch")[1:3], (1, f"adopt: {room.folder}/nosuch is not a folder\n"))
+    SUITE.equal(
+        "an empty folder",
+        list_of(room, f"{room.folder}/empty")[1:3],
+        (1, f"adopt: {room.folder}/empty has no version to list\n"),
+    )
+    SUITE.equal(
+        "no folder", list_of(room, f"{room.folder}/nosuch")[1:3], (1, f"adopt: {room.folder}/nosuch is not a folder\n")
+    )
     SUITE.equal("adopt without words", list_of(room)[1], 2)
 
 

@@ -59,8 +59,12 @@ def strangers(suite, client):
         status, body = client.ask("GET", target, header)
         suite.holds(f"{name}: 401, in plain text", status == 401 and body.startswith(b"log in: "), (status, body))
         time.sleep(0.21)  # (nginx lets strangers ask five times a second)
-    suite.equal("a stranger's publish", client.ask("PUT", f"{AT}/v8.0.0", None, GOMOD, {"Mod-Length": str(len(GOMOD))})[0], 401)
-    suite.equal("a key in the URL is no login", client.ask("GET", f"/k/{keys_of(client.machine)[0]}{AT}/list", None)[0], 401)
+    suite.equal(
+        "a stranger's publish", client.ask("PUT", f"{AT}/v8.0.0", None, GOMOD, {"Mod-Length": str(len(GOMOD))})[0], 401
+    )
+    suite.equal(
+        "a key in the URL is no login", client.ask("GET", f"/k/{keys_of(client.machine)[0]}{AT}/list", None)[0], 401
+    )
     suite.equal("nor is it with a login", client.get(f"/k/{keys_of(client.machine)[0]}{AT}/list")[0], 404)
 
 
@@ -69,8 +73,15 @@ def rights(suite, client):
     suite.equal("a publish", client.put("v1.0.0", GOMOD + ZIP), (201, b"published\n"))
     suite.equal("a publish by a user who reads", client.put("v1.9.0", GOMOD, "ann"), (403, b"forbidden\n"))
     for file, body in (("v1.0.0.zip", ZIP), ("v1.0.0.mod", GOMOD), ("list", b"v1.0.0\n")):
-        suite.holds(f"{file}, for both who read and for who publishes", {client.get(f"{AT}/{file}", it) for it in ("ann", "ann-b", "pub")} == {(200, body)})
-        suite.equal(f"{file}, for other teams", {client.get(f"{AT}/{file}", it) for it in ("bob", "zoe")}, {(404, b"not found\n")})
+        suite.holds(
+            f"{file}, for both who read and for who publishes",
+            {client.get(f"{AT}/{file}", it) for it in ("ann", "ann-b", "pub")} == {(200, body)},
+        )
+        suite.equal(
+            f"{file}, for other teams",
+            {client.get(f"{AT}/{file}", it) for it in ("bob", "zoe")},
+            {(404, b"not found\n")},
+        )
     other = GOMOD + b"other"
     suite.equal("another team publishes the same name", client.put("v1.0.0", other, "bob"), (201, b"published\n"))
     found = [client.get(f"{AT}/v1.0.0.zip", it)[1] for it in ("bob", "ann", "bob", "pub")]
@@ -83,8 +94,16 @@ def rights(suite, client):
 
 def spellings(suite, client):
     """Targets that look to nginx as what never changes, and to goshelf as what does."""
-    targets = [f"{AT}/x/../list", f"{AT}/list?/@v/v1.0.0.info", f"{LIB}/@latest?x=/@v/v1.0.0.mod", "/-/gosum/../modules", "/-/modules?/-/gosum/", f"{AT}/%6cist",
-               f"{AT}/list%3f.info", f"{AT}/list#.info"]
+    targets = [
+        f"{AT}/x/../list",
+        f"{AT}/list?/@v/v1.0.0.info",
+        f"{LIB}/@latest?x=/@v/v1.0.0.mod",
+        "/-/gosum/../modules",
+        "/-/modules?/-/gosum/",
+        f"{AT}/%6cist",
+        f"{AT}/list%3f.info",
+        f"{AT}/list#.info",
+    ]
     before = [client.get(it) for it in targets]
     client.put("v1.0.1", GOMOD)
     after = [client.get(it) for it in targets]
@@ -96,8 +115,15 @@ def spellings(suite, client):
 def sizes(suite, client):
     """Bodies that are too large, for goshelf and for nginx; a chunked one; a client that waits for a 100."""
     suite.equal("one byte more than goshelf takes", client.put("v7.0.0", bytes(17_825_793)), (413, b"too large\n"))
-    suite.equal("more than nginx takes, in plain text", client.put("v7.0.0", bytes(18 * 1_048_576 + 1)), (413, b"too large\n"))
-    with client.begin(client.head("PUT", f"{AT}/v1.0.2", "pub", f"Mod-Length: {len(GOMOD)}", "Transfer-Encoding: chunked", "Connection: close") + b"\r\n") as held:
+    suite.equal(
+        "more than nginx takes, in plain text", client.put("v7.0.0", bytes(18 * 1_048_576 + 1)), (413, b"too large\n")
+    )
+    with client.begin(
+        client.head(
+            "PUT", f"{AT}/v1.0.2", "pub", f"Mod-Length: {len(GOMOD)}", "Transfer-Encoding: chunked", "Connection: close"
+        )
+        + b"\r\n"
+    ) as held:
         held.sendall(b"%x\r\n%s\r\n0\r\n\r\n" % (len(GOMOD), GOMOD))
         suite.holds("nginx reads a chunked body", rest_of(held).startswith(b"HTTP/1.1 201 "))
 
@@ -107,7 +133,11 @@ def hold(suite, client, name, clients):
     time.sleep(1)
     begun = time.time()
     status = client.get(f"{AT}/list")[0]
-    suite.holds(f"{len(clients)} clients that {name} hold nobody", status == 200 and time.time() - begun < 5, (status, time.time() - begun))
+    suite.holds(
+        f"{len(clients)} clients that {name} hold nobody",
+        status == 200 and time.time() - begun < 5,
+        (status, time.time() - begun),
+    )
 
 
 def slow_clients(suite, client):
@@ -115,10 +145,15 @@ def slow_clients(suite, client):
     suite.equal("a publish of the largest zip", client.put("v1.2.0", GOMOD + LARGEST_ZIP)[0], 201)
     heads = [client.begin(client.head("GET", f"{AT}/list", "ann")) for _ in range(4)]
     hold(suite, client, "send half of a head", heads)
-    head = client.head("PUT", f"{AT}/v9.0.0", "pub", f"Mod-Length: {len(GOMOD)}", f"Content-Length: {len(GOMOD + ZIP)}") + b"\r\n"
+    head = (
+        client.head("PUT", f"{AT}/v9.0.0", "pub", f"Mod-Length: {len(GOMOD)}", f"Content-Length: {len(GOMOD + ZIP)}")
+        + b"\r\n"
+    )
     bodies = [client.begin(head + GOMOD + ZIP[: len(ZIP) // 2]) for _ in range(4)]
     hold(suite, client, "send half of a body", bodies)
-    head = [client.head("GET", f"{AT}/v1.2.0.zip", it, "Connection: close") + b"\r\n" for it in ("ann", "pub", "ann", "pub")]
+    head = [
+        client.head("GET", f"{AT}/v1.2.0.zip", it, "Connection: close") + b"\r\n" for it in ("ann", "pub", "ann", "pub")
+    ]
     readers = [client.begin(it, 4096) for it in head]
     hold(suite, client, "read nothing of a zip", readers)
     with ThreadPoolExecutor(len(readers)) as pool:
@@ -142,7 +177,11 @@ def cached(suite, client):
     suite.holds("a zip is there while goshelf is stopped, for each user of the shelf", told == {(200, ZIP)})
     suite.equal("what another team had asked for is not", client.get(f"{AT}/v1.2.0.zip", "bob")[0], 502)
     status, body = client.get(f"{AT}/list")
-    suite.holds("a list is not, and the text is plain", status == 502 and body.startswith(b"goshelf does not answer"), (status, body))
+    suite.holds(
+        "a list is not, and the text is plain",
+        status == 502 and body.startswith(b"goshelf does not answer"),
+        (status, body),
+    )
     suite.equal("goshelf is not alive", client.ask("GET", "/healthz", None)[0], 502)
     suite.equal("a stranger gets nothing of the cache", client.ask("GET", f"{AT}/v1.0.0.zip", None)[0], 401)
     machine.does("systemctl start goshelf")
@@ -157,13 +196,20 @@ def stalled(suite, client):
     finally:
         os.kill(number, signal.SIGCONT)
     took = time.time() - begun
-    suite.holds("health of a goshelf that stands still is a 504, after 15 seconds", told[0] == 504 and told[1].startswith(b"goshelf does not answer") and 14 < took < 30, (told, took))
+    suite.holds(
+        "health of a goshelf that stands still is a 504, after 15 seconds",
+        told[0] == 504 and told[1].startswith(b"goshelf does not answer") and 14 < took < 30,
+        (told, took),
+    )
 
 
 def revoked(suite, client):
     """A user who is removed by the page's commands gets nothing from then on, cached or not, on a new connection or
     an old one."""
-    suite.holds("before: what is cached, and a list", [client.get(f"{AT}/{it}")[0] for it in ("v1.0.0.zip", "list")] == [200, 200])
+    suite.holds(
+        "before: what is cached, and a list",
+        [client.get(f"{AT}/{it}")[0] for it in ("v1.0.0.zip", "list")] == [200, 200],
+    )
     held = http.client.HTTPSConnection("localhost", client.machine.front, timeout=60, context=client.context)
     held.request("GET", f"{AT}/v1.0.0.mod", headers={"Authorization": client.login("ann")})
     assert held.getresponse().read() == GOMOD
@@ -181,7 +227,10 @@ def revoked(suite, client):
     suite.equal("a user whose name begins alike still reads", client.get(f"{AT}/v1.0.0.zip", "ann-b"), (200, ZIP))
     suite.equal("others still publish", client.put("v1.3.0", GOMOD)[0], 201)
     client.add("ann", "alpha", "read")
-    suite.holds("added again, with another password", settle(client, "ann") < 20 and client.get(f"{AT}/v1.0.0.zip") == (200, ZIP))
+    suite.holds(
+        "added again, with another password",
+        settle(client, "ann") < 20 and client.get(f"{AT}/v1.0.0.zip") == (200, ZIP),
+    )
 
 
 def too_many(suite, client):
@@ -196,7 +245,10 @@ def too_many(suite, client):
 def at_once(suite, client):
     """A user has 200 requests at a time and no more; another user is answered meanwhile, and the first again once
     some have ended."""
-    head = client.head("PUT", f"{AT}/v9.1.0", "bob", f"Mod-Length: {len(GOMOD)}", f"Content-Length: {len(GOMOD)}") + b"\r\n"
+    head = (
+        client.head("PUT", f"{AT}/v9.1.0", "bob", f"Mod-Length: {len(GOMOD)}", f"Content-Length: {len(GOMOD)}")
+        + b"\r\n"
+    )
     held = [client.begin(head) for _ in range(200)]
     wait_until(lambda: client.get(f"{AT}/list", "bob")[0] == 429)
     suite.equal("the 201st request of a user", client.get(f"{AT}/list", "bob"), (429, b"too many requests at once\n"))
@@ -260,12 +312,17 @@ def logs(suite, client):
     secrets = [*keys_of(machine), *client.passwords.values(), *(client.login(it).split()[1] for it in client.passwords)]
     text = "".join(machine.read(f"var/log/nginx/{it}") for it in names)
     suite.holds("no key and no password is in a log", not any(it in text for it in secrets))
-    audit = machine.does(block("sh", "awk '$5 == \"PUT\"")).splitlines()
-    suite.holds("who published what, and when", any(re.fullmatch(rf"20\S+ pub alpha {AT}/v1.0.0", it) for it in audit), audit)
+    audit = machine.does(block("sh", 'awk \'$5 == "PUT"')).splitlines()
+    suite.holds(
+        "who published what, and when", any(re.fullmatch(rf"20\S+ pub alpha {AT}/v1.0.0", it) for it in audit), audit
+    )
     suite.holds("and the other team", any(re.fullmatch(rf"20\S+ bob beta {AT}/v1.0.0", it) for it in audit), audit)
     of_trouble(suite, machine)
     suite.holds("a stranger is logged as `-`", re.search(rf"^20\S+ 127.0.0.1 - - GET {AT}/list 401 ", text, re.M))
-    suite.holds("what came from the cache is marked", re.search(rf"^20\S+ 127.0.0.1 ann alpha GET {AT}/v1.0.0.zip 200 \d+ \S+ HIT$", text, re.M))
+    suite.holds(
+        "what came from the cache is marked",
+        re.search(rf"^20\S+ 127.0.0.1 ann alpha GET {AT}/v1.0.0.zip 200 \d+ \S+ HIT$", text, re.M),
+    )
 
 
 def unwritable_cache(suite, client):
@@ -298,9 +355,19 @@ def go(client, behind, netrc, *words):
             with open(f"{folder}/{name}", "w", encoding="utf-8") as file:
                 file.write(text)
         clean = {name: text for name, text in os.environ.items() if not name.startswith("GO") and name != "NETRC"}
-        own = {"HOME": folder, "GOPATH": f"{folder}/go", "GOFLAGS": "-modcacherw", "GOPROXY": proxies, "GONOSUMDB": "example.com", "GOTOOLCHAIN": "local",
-               "CGO_ENABLED": "0", "SSL_CERT_FILE": client.pem}
-        ran = subprocess.run(["go", *words], cwd=folder, env={**clean, **own}, capture_output=True, text=True, timeout=300)
+        own = {
+            "HOME": folder,
+            "GOPATH": f"{folder}/go",
+            "GOFLAGS": "-modcacherw",
+            "GOPROXY": proxies,
+            "GONOSUMDB": "example.com",
+            "GOTOOLCHAIN": "local",
+            "CGO_ENABLED": "0",
+            "SSL_CERT_FILE": client.pem,
+        }
+        ran = subprocess.run(
+            ["go", *words], cwd=folder, env={**clean, **own}, capture_output=True, text=True, timeout=300
+        )
     return ran.returncode == 0, ran.stdout + ran.stderr, list(behind.asked)
 
 
@@ -308,14 +375,20 @@ def go_command(suite, client):
     """The go command logs in by ~/.netrc, and a 401 ends it before it asks the public proxy."""
     behind = NoModules()
     gomod = "module example.com/greet\n"
-    zip_bytes = zipped("example.com/greet", "v1.0.0", {"go.mod": gomod, "greet.go": "package greet\n\nconst Text = 1\n"})
+    zip_bytes = zipped(
+        "example.com/greet", "v1.0.0", {"go.mod": gomod, "greet.go": "package greet\n\nconst Text = 1\n"}
+    )
     with tempfile.TemporaryDirectory(prefix="goshelf-put-") as folder:
         with open(f"{folder}/go.mod", "w", encoding="utf-8") as file:
             file.write(gomod)
         with open(f"{folder}/body", "wb") as file:
             file.write(gomod.encode() + zip_bytes)
         client.machine.write("root/.netrc", f"machine localhost login pub password {client.passwords['pub']}\n")
-        publish = block("sh", "curl --netrc --fail-with-body").replace("curl ", "curl -sS --cacert /etc/ssl/goshelf.pem ").replace("shelf.example.com", f"localhost:{client.machine.front}")
+        publish = (
+            block("sh", "curl --netrc --fail-with-body")
+            .replace("curl ", "curl -sS --cacert /etc/ssl/goshelf.pem ")
+            .replace("shelf.example.com", f"localhost:{client.machine.front}")
+        )
         settings = {"module": "example.com/greet", "version": "v1.0.0", "time": "2024-01-31T12:00:00Z"}
         told = client.machine.does(f"cd {folder}\n{publish}", **settings)
     suite.equal("curl publishes by ~/.netrc", told, "published\n")
@@ -323,12 +396,23 @@ def go_command(suite, client):
     good, wrong = line.format(client.passwords["ann"]), line.format("wrong")
     ended, told, asked = go(client, behind, good, "run", "-mod=mod", ".")
     suite.equal("a build by ~/.netrc", (ended, told.splitlines()[-1:], asked), (True, ["1"], []))
-    suite.holds("no secret is in what the go command says", not any(it in told for it in (*client.passwords.values(), *keys_of(client.machine))))
+    suite.holds(
+        "no secret is in what the go command says",
+        not any(it in told for it in (*client.passwords.values(), *keys_of(client.machine))),
+    )
     for name, netrc in (("no ~/.netrc", ""), ("a wrong password", wrong)):
         ended, told, asked = go(client, behind, netrc, "get", "example.com/greet@v1.0.0")
-        suite.holds(f"{name}: the go command ends with a 401 and asks nobody else", not ended and "401" in told and "log in: " in told and not asked, (told, asked))
+        suite.holds(
+            f"{name}: the go command ends with a 401 and asks nobody else",
+            not ended and "401" in told and "log in: " in told and not asked,
+            (told, asked),
+        )
     ended, told, asked = go(client, behind, good, "get", "example.com/nosuch@v1.0.0")
-    suite.holds("a name that the shelf does not see is asked for at the next proxy", not ended and any("nosuch" in it for it in asked), (told, asked))
+    suite.holds(
+        "a name that the shelf does not see is asked for at the next proxy",
+        not ended and any("nosuch" in it for it in asked),
+        (told, asked),
+    )
     behind.shutdown()
 
 
@@ -336,27 +420,43 @@ def three_modules(suite, client):
     """A user publishes the tutorial's repository of three modules by the page's commands, and another, who only
     reads, builds with them."""
     made, uses = (block("sh run", it, "TUTORIAL.md") for it in ("mkdir -p team/log", 'import "example.com/team/log"'))
-    publish, wanted = block("sh", "--netrc --repository team"), block("output", "published example.com/team v1.0.0", "TUTORIAL.md")
+    publish, wanted = block("sh", "--netrc --repository team"), block(
+        "output", "published example.com/team v1.0.0", "TUTORIAL.md"
+    )
     url = f"https://localhost:{client.machine.front}"
     settings = "chmod 600 ~/.netrc\n" + block("sh", "needed only where GOPRIVATE is set")
     publish, settings = (it.replace("https://shelf.example.com", url) for it in (publish, settings))
     with tempfile.TemporaryDirectory(prefix="goshelf-team-") as folder:
-        clean = {name: text for name, text in os.environ.items() if not name.startswith(("GO", "GIT_")) and name != "NETRC"}
+        clean = {
+            name: text for name, text in os.environ.items() if not name.startswith(("GO", "GIT_")) and name != "NETRC"
+        }
         os.symlink(os.path.join(ROOT, "tools"), f"{folder}/tools")
 
         def user(name, script):
             os.mkdir(f"{folder}/{name}")
             with open(f"{folder}/{name}/.netrc", "w", encoding="utf-8") as file:
                 file.write(f"machine localhost login {name} password {client.passwords[name]}\n")
-            own = {"HOME": f"{folder}/{name}", "GOPATH": f"{folder}/{name}/go", "GOFLAGS": "-modcacherw", "GOTOOLCHAIN": "local", "CGO_ENABLED": "0"}
+            own = {
+                "HOME": f"{folder}/{name}",
+                "GOPATH": f"{folder}/{name}/go",
+                "GOFLAGS": "-modcacherw",
+                "GOTOOLCHAIN": "local",
+                "CGO_ENABLED": "0",
+            }
             env = {**clean, **own, "SSL_CERT_FILE": client.pem, "CURL_CA_BUNDLE": client.pem}
-            return subprocess.run(["sh", "-euc", script], cwd=folder, env=env, capture_output=True, text=True, timeout=300)
+            return subprocess.run(
+                ["sh", "-euc", script], cwd=folder, env=env, capture_output=True, text=True, timeout=300
+            )
 
         begun = time.time()
         ran = user("pub", made + publish)
-        suite.equal("three modules are published by ~/.netrc", (ran.stdout, ran.returncode), (wanted, 0)) or print(ran.stderr)
+        suite.equal("three modules are published by ~/.netrc", (ran.stdout, ran.returncode), (wanted, 0)) or print(
+            ran.stderr
+        )
         ran = user("ann", settings + f"mkdir hello\ncd hello\ngo mod init example.com/hello\ncd ..\n{uses}")
-        suite.equal("a consumer builds with them by ~/.netrc", (ran.stdout, ran.returncode), ("log and team 2\n", 0)) or print(ran.stderr)
+        suite.equal(
+            "a consumer builds with them by ~/.netrc", (ran.stdout, ran.returncode), ("log and team 2\n", 0)
+        ) or print(ran.stderr)
         suite.holds("both take less than five minutes", time.time() - begun < 300, time.time() - begun)
 
 

@@ -218,7 +218,13 @@ key-add --db store.db --shelf platform --key shortkey1234567 | 1 name
 key-add --db store.db --shelf platform --key A | 1 taken
 key-add --db store.db --shelf Platform --key A | 1 no-team
 """
-GROUP_FILES = {"g.mod": "module example.com/g\n", "h.mod": "module example.com/h\n", "one": "X", "two": "YY", "three": "ZZZ"}
+GROUP_FILES = {
+    "g.mod": "module example.com/g\n",
+    "h.mod": "module example.com/h\n",
+    "one": "X",
+    "two": "YY",
+    "three": "ZZZ",
+}
 # the shelf column of the inventory names a group; a key of a group reads or publishes as those of other shelves do
 GROUP_KEYS = """
 group-add --db store.db --group lib-32-bytes-long-12345678901234 | 0
@@ -305,11 +311,15 @@ LISTS = {
     "two.csv": HEADER + "example.com/i,v1.0.0,,i.mod,i.zip\nexample.com/i,v1.1.0,2024-01-01T00:00:00Z,i.mod,i.zip\n",
     "one.csv": HEADER + "example.com/i,v1.0.0,,i.mod,i.zip\n",
     "no-mod.csv": HEADER + "example.com/i,v1.2.0,,none,i.zip\n",
-    "four.csv": HEADER + "example.com/i,v1.2.0,,i.mod,none\nexample.com//i,v1.2.0,,none,none\n"
-    "example.com/i,1.2.0,,none,none\nexample.com/i,v1.2.0,2024-01-01,i.mod,i.zip\n",
+    "four.csv": (
+        HEADER + "example.com/i,v1.2.0,,i.mod,none\nexample.com//i,v1.2.0,,none,none\n"
+        "example.com/i,1.2.0,,none,none\nexample.com/i,v1.2.0,2024-01-01,i.mod,i.zip\n"
+    ),
     # the empty line is no row
-    "three.csv": HEADER + "example.com/i,v1.3.0,,bad.mod,i.zip\nexample.com/i,v1.3.0,,long.mod,i.zip\n\n"
-    "example.com/i,v1.0.0,,i.mod,one.zip\n",
+    "three.csv": (
+        HEADER + "example.com/i,v1.3.0,,bad.mod,i.zip\nexample.com/i,v1.3.0,,long.mod,i.zip\n\n"
+        "example.com/i,v1.0.0,,i.mod,one.zip\n"
+    ),
     "header.csv": HEADER,
     "empty.csv": "",
     "short-header.csv": "path,version,time,mod\n",
@@ -318,7 +328,13 @@ LISTS = {
     "row-of-six.csv": HEADER + "example.com/i,v1.5.0,,i.mod,i.zip,more\n",
     "no-text.csv": HEADER.encode() + b"\xff,v1.0.0,,m,z\n",
 }
-LISTED = {"i.mod": "module example.com/i\n", "bad.mod": "modul example.com/i\n", "long.mod": b" " * 1_048_577, "i.zip": "", "one.zip": "X"}
+LISTED = {
+    "i.mod": "module example.com/i\n",
+    "bad.mod": "modul example.com/i\n",
+    "long.mod": b" " * 1_048_577,
+    "i.zip": "",
+    "one.zip": "X",
+}
 IMPORTS = """
 team-add --db store.db --team alpha | 0
 key-add --db store.db --shelf alpha --key A | 0
@@ -373,7 +389,9 @@ import --db new.db --key A --list none.csv | 1 io
 SEEN_FILES = {
     "x.mod": "module example.com/x\n",
     "y.mod": "module example.com/y\n",
-    "requires.mod": "module example.com/y\nrequire (\nexample.com/z v0.2.0\nexample.com/x v1.0.0\n)\nrequire mymod v0.0.0\n",
+    "requires.mod": (
+        "module example.com/y\nrequire (\nexample.com/z v0.2.0\nexample.com/x v1.0.0\n)\nrequire mymod v0.0.0\n"
+    ),
     "one": "X",
     "none": "",
 }
@@ -503,20 +521,32 @@ def new_store_told(suite):
         suite.equal(f"serve on {name}", (status, told), (0, NEW_STORE))
         status, _, told = run(serve.format(name).split())
         suite.equal(f"serve on {name} again", (status, told), (0, ""))
-    suite.equal("serve on bytes that are no store", run(serve.format("bad.db").split()), (1, b"", "goshelf: bad-schema\n"))
+    suite.equal(
+        "serve on bytes that are no store", run(serve.format("bad.db").split()), (1, b"", "goshelf: bad-schema\n")
+    )
     suite.equal("serve on a folder", run(serve.format(".").split()), (1, b"", "goshelf: device\n"))
-    suite.equal("serve in a folder that is missing", run(serve.format("none/none.db").split()), (1, b"", NEW_STORE + "goshelf: device\n"))
+    suite.equal(
+        "serve in a folder that is missing",
+        run(serve.format("none/none.db").split()),
+        (1, b"", NEW_STORE + "goshelf: device\n"),
+    )
     suite.equal("team-add on a missing file", run("team-add --db team.db --team alpha".split()), (0, b"", ""))
     with socket.create_server(("127.0.0.1", 0)) as taken:
         words = f"serve --db other.db --port {taken.getsockname()[1]} --connections 0"
-        suite.equal("serve on a missing file and a port that is taken", run(words.split()), (1, b"", NEW_STORE + "goshelf: io\n"))
+        suite.equal(
+            "serve on a missing file and a port that is taken",
+            run(words.split()),
+            (1, b"", NEW_STORE + "goshelf: io\n"),
+        )
 
 
 def at_terminal(words):
     """Runs goshelf with a terminal as standard error, and returns its status, its output, and what it printed there."""
     ours, theirs = pty.openpty()
     tty.setraw(theirs)
-    ran = subprocess.run([PROGRAM, *words], stdin=subprocess.DEVNULL, stdout=subprocess.PIPE, stderr=theirs, timeout=120)
+    ran = subprocess.run(
+        [PROGRAM, *words], stdin=subprocess.DEVNULL, stdout=subprocess.PIPE, stderr=theirs, timeout=120
+    )
     os.write(theirs, b".")
     told = b""
     while not told.endswith(b"."):
@@ -528,7 +558,13 @@ def at_terminal(words):
 
 def new_file_told(suite):
     """At a terminal, a command that writes to a store says so if the store is new."""
-    write({"go.mod": "module example.com/lib\n", "empty": "", "list.csv": "path,version,time,mod,zip\nexample.com/lib,v1.0.0,,go.mod,empty\n"})
+    write(
+        {
+            "go.mod": "module example.com/lib\n",
+            "empty": "",
+            "list.csv": "path,version,time,mod,zip\nexample.com/lib,v1.0.0,,go.mod,empty\n",
+        }
+    )
     for name, begun in (("none{}.db", None), ("empty{}.db", b"")):
         for turn, (line, words, _, (status, output, told)) in enumerate(runs_of(WRITES)):
             file = name.format(turn)
@@ -537,8 +573,17 @@ def new_file_told(suite):
             words = [word.format(file) for word in words]
             suite.equal(f"{line}, of {file}", at_terminal(words), (status, output, NEW_FILE + told))
             suite.holds(f"{line}, of {file} again", NEW_FILE not in at_terminal(words)[2])
-    suite.equal("a missing folder", at_terminal("team-add --db none/a.db --team alpha".split()), (1, b"", NEW_FILE + "goshelf: device\n"))
-    for words in ("init --db init.db", "inventory --db none.db --key C", "answer --db none.db", "team-add --db init.db --team alpha"):
+    suite.equal(
+        "a missing folder",
+        at_terminal("team-add --db none/a.db --team alpha".split()),
+        (1, b"", NEW_FILE + "goshelf: device\n"),
+    )
+    for words in (
+        "init --db init.db",
+        "inventory --db none.db --key C",
+        "answer --db none.db",
+        "team-add --db init.db --team alpha",
+    ):
         suite.holds(f"{words} says nothing of it", "new store" not in at_terminal(words.split())[2])
 
 
@@ -548,7 +593,9 @@ def reads_of_none(suite):
     os.symlink("none/store.db", "nowhere")
     before = sorted(os.listdir(".")), os.listdir("away")
     suite.runs("a missing file", READS)
-    told = run(["answer", "--db", "none.db"], put("example.com/lib", "v1.0.0", b"module example.com/lib\n") + get("-/modules"))
+    told = run(
+        ["answer", "--db", "none.db"], put("example.com/lib", "v1.0.0", b"module example.com/lib\n") + get("-/modules")
+    )
     suite.equal("a publish to a missing file", told, (0, reply(404, b"not found\n") * 2, ""))
     suite.equal("no file is left", (sorted(os.listdir(".")), os.listdir("away")), before)
     if can_be_nobody():
@@ -582,11 +629,17 @@ def address(suite):
     suite.runs("a new store", "init --db store.db | 0")
     server = Server("store.db", None, "--connections", "1")
     request = get("example.com/lib/@v/list")
-    suite.equal("serve does not listen at another address of the machine", told_at("127.0.0.2", server.port, request), "refused")
+    suite.equal(
+        "serve does not listen at another address of the machine", told_at("127.0.0.2", server.port, request), "refused"
+    )
     suite.equal("serve answers at 127.0.0.1", told_at("127.0.0.1", server.port, request), reply(404, b"not found\n"))
     suite.equal("serve of one connection ends well", server.child.wait(60), 0)
 
 
 if __name__ == "__main__":
     told = (new_store_told, new_file_told, reads_of_none)
-    sys.exit(in_new_folders(Suite(), quick_start, names, bad_usage, helped, one_store, imports, seen, groups, *told, serve, address))
+    sys.exit(
+        in_new_folders(
+            Suite(), quick_start, names, bad_usage, helped, one_store, imports, seen, groups, *told, serve, address
+        )
+    )

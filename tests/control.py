@@ -108,8 +108,12 @@ def orders(suite):
     told = [server.told(get(LIST, KEYS[it])) for it in "ARMPCN"]
     suite.equal("the keys answer", {*told}, {reply(404, b"not found\n")})
     suite.equal("a key that was added publishes", server.status(put("example.com/lib", "v1.0.0", GOMOD)), 201)
-    suite.equal("one that only reads does not", server.status(put("example.com/lib", "v1.0.0", GOMOD, key=KEYS["R"])), 403)
-    suite.equal("the store is held meanwhile", run(["team-add", "--db", "served.db", "--team", "eta"])[2], "goshelf: device\n")
+    suite.equal(
+        "one that only reads does not", server.status(put("example.com/lib", "v1.0.0", GOMOD, key=KEYS["R"])), 403
+    )
+    suite.equal(
+        "the store is held meanwhile", run(["team-add", "--db", "served.db", "--team", "eta"])[2], "goshelf: device\n"
+    )
     server.kill()
     for key, status in (("A", 0), ("R", 0), ("M", 0), ("P", 0), ("C", 0), ("B", 1), ("N", 1)):
         told = [run(["inventory", "--db", store, "--key", KEYS[key]])[0] for store in ("served.db", "other.db")]
@@ -128,7 +132,9 @@ def lines(suite):
         suite.equal(f"told of a line of {len(sent)} bytes", cut_off(server, sent), b"bad\n")
     suite.equal("nothing was changed", (read("served.db-wal"), read("served.db")), before)
     with server.operator() as held:
-        suite.equal("told before the operator shuts its side", told_of(held, b"key-revoke nosuchkey0000001\n"), b"no-key\n")
+        suite.equal(
+            "told before the operator shuts its side", told_of(held, b"key-revoke nosuchkey0000001\n"), b"no-key\n"
+        )
     with server.operator() as held:
         told = [held.sendall(bytes([byte])) or time.sleep(0.01) for byte in b"team-add eta\n"] and rest(held)
         suite.equal("told of a line that comes byte by byte", told, b"done\n")
@@ -202,7 +208,9 @@ def refused(suite):
         words = ["serve", "--db", "served.db", "--port", "0", "--connections", "0", "--control", name]
         suite.equal(f"serve refuses a socket {name[:20]!r}", run(words), (1, b"", "goshelf: io\n"))
     suite.equal("the store is as it was", (read("served.db-wal"), read("served.db")), before)
-    suite.equal("the files are as they were", (read("file"), os.listdir("folder"), os.readlink("link")), (b"text\n", [], "file"))
+    suite.equal(
+        "the files are as they were", (read("file"), os.listdir("folder"), os.readlink("link")), (b"text\n", [], "file")
+    )
     suite.equal("the live server is", (live.order(b"team-add beta\n"), live.status(get(LIST))), (b"done\n", 404))
     with socket.create_server(("127.0.0.1", 0)) as taken:
         words = ["serve", "--db", "served.db", "--port", str(taken.getsockname()[1]), "--control", "left"]
@@ -210,7 +218,11 @@ def refused(suite):
     suite.equal("leaves no socket", os.path.lexists("left"), False)
     live.kill()
     suite.equal("a killed server leaves its socket", stat.S_ISSOCK(os.lstat("live").st_mode), True)
-    suite.equal("where nobody listens any more", run(["team-add", "--control", "live", "--team", "gamma"])[::2], (1, "goshelf: device\n"))
+    suite.equal(
+        "where nobody listens any more",
+        run(["team-add", "--control", "live", "--team", "gamma"])[::2],
+        (1, "goshelf: device\n"),
+    )
     server = Server("live.db", "live", "--connections", "1")
     suite.equal("which the next one takes over", server.order(b"team-add gamma\n"), b"done\n")
     suite.equal("for its own user alone", stat.S_IMODE(os.lstat("live").st_mode), 0o600)
@@ -221,7 +233,11 @@ def refused(suite):
     server = Server("live.db", longest)
     suite.equal("a name of 107 bytes", server.order(b"team-add delta\n"), b"done\n")
     os.unlink(longest)
-    suite.equal("a socket that is removed: nobody listens", run(["team-add", "--control", longest, "--team", "eta"])[::2], (1, "goshelf: device\n"))
+    suite.equal(
+        "a socket that is removed: nobody listens",
+        run(["team-add", "--control", longest, "--team", "eta"])[::2],
+        (1, "goshelf: device\n"),
+    )
     suite.equal("and peers are answered", server.status(get(LIST)), 404)
     server.kill()
 
@@ -234,8 +250,14 @@ def untold(suite):
     for name in ("none", "file", "folder", "none/control", "s" * 108, ""):
         suite.equal(f"nobody listens at {name[:20]!r}", run([*words, name]), (1, b"", "goshelf: device\n"))
     for told in (b"", b"d", b"done", b"gone\n", b"done\ndone\n", b"\xff\n", b"d" * 200 + b"\n"):
-        suite.equal(f"a server that tells {told[:20]!r}", by_false_server(words, told), ((1, b"", "goshelf: io\n"), f"key-revoke {KEY}\n".encode()))
-    suite.equal("one that tells done", by_false_server(words, b"done\n"), ((0, b"", ""), f"key-revoke {KEY}\n".encode()))
+        suite.equal(
+            f"a server that tells {told[:20]!r}",
+            by_false_server(words, told),
+            ((1, b"", "goshelf: io\n"), f"key-revoke {KEY}\n".encode()),
+        )
+    suite.equal(
+        "one that tells done", by_false_server(words, b"done\n"), ((0, b"", ""), f"key-revoke {KEY}\n".encode())
+    )
     new_store("served.db", ("alpha", KEY))
     if can_be_nobody():
         os.chmod(".", 0o755)
@@ -248,7 +270,11 @@ def untold(suite):
         for name in (CONTROL, "new"):
             words = ["serve", "--db", "other/own.db", "--port", "0", "--connections", "0", "--control", name]
             suite.equal(f"is not served with the socket {name}", run(words, before=NOBODY), (1, b"", "goshelf: io\n"))
-        suite.equal("nor is a socket made or taken", (os.path.lexists("new"), server.order(b"team-add beta\n")), (False, b"done\n"))
+        suite.equal(
+            "nor is a socket made or taken",
+            (os.path.lexists("new"), server.order(b"team-add beta\n")),
+            (False, b"done\n"),
+        )
         server.kill()
     else:
         suite.skip("another user", "this needs root to become nobody")
@@ -286,7 +312,10 @@ def at_once(suite):
     new_store("served.db", ("alpha", KEY))
     server = Server("served.db", CONTROL)
     load, told = Load(server, KEY, 2), []
-    threads = [threading.Thread(target=lambda at=at: told.append(server.order(f"key-add alpha key{at:013}\n".encode()))) for at in range(200)]
+    threads = [
+        threading.Thread(target=lambda at=at: told.append(server.order(f"key-add alpha key{at:013}\n".encode())))
+        for at in range(200)
+    ]
     for thread in threads:
         thread.start()
     for thread in threads:
@@ -303,8 +332,14 @@ def stopped(suite):
     new_store("served.db", ("alpha", KEY))
     words = ["stop", "--control", CONTROL]
     suite.equal("stop where nobody listens", run(words), (1, b"", "goshelf: device\n"))
-    for told, wanted in ((b"done\n", (1, b"", "goshelf: io\n")), (b"", (1, b"", "goshelf: io\n")), (b"stopping\n", (0, b"", ""))):
-        suite.equal(f"stop of a server that tells {told}", by_false_server(["stop", "--control"], told), (wanted, b"stop\n"))
+    for told, wanted in (
+        (b"done\n", (1, b"", "goshelf: io\n")),
+        (b"", (1, b"", "goshelf: io\n")),
+        (b"stopping\n", (0, b"", "")),
+    ):
+        suite.equal(
+            f"stop of a server that tells {told}", by_false_server(["stop", "--control"], told), (wanted, b"stop\n")
+        )
     server = Server("served.db", CONTROL)
     with server.connected() as held:
         held.sendall(put("example.com/lib", "v1.0.0", GOMOD)[:-5])
@@ -357,8 +392,14 @@ def no_listeners(held):
             it.bind(at)
         return it
 
-    fresh, bound, once, one, datagrams, sender = made(), made(here), made(here), made(), made(here,
-    kind=udp), made(kind=udp)
+    fresh, bound, once, one, datagrams, sender = (
+        made(),
+        made(here),
+        made(here),
+        made(),
+        made(here, kind=udp),
+        made(kind=udp),
+    )
     local, here_too = made("local", socket.AF_UNIX), held.enter_context(socket.create_server(here))
     for it in (once, local):
         it.listen()
@@ -386,15 +427,24 @@ def from_input(suite):
         for name, taken in no_listeners(held):
             for way in ([], ["--control", CONTROL]):
                 closes = (lambda: os.close(0)) if taken is None else None
-                ran = subprocess.run([PROGRAM, *serve, *way], stdin=taken, capture_output=True, timeout=60, preexec_fn=closes)
-                suite.equal(f"--stdin of {' '.join([name, *way])}", (ran.returncode, ran.stdout, ran.stderr), (1, b"", b"goshelf: io\n"))
+                ran = subprocess.run(
+                    [PROGRAM, *serve, *way], stdin=taken, capture_output=True, timeout=60, preexec_fn=closes
+                )
+                suite.equal(
+                    f"--stdin of {' '.join([name, *way])}",
+                    (ran.returncode, ran.stdout, ran.stderr),
+                    (1, b"", b"goshelf: io\n"),
+                )
     suite.equal("no socket is left", os.path.lexists(CONTROL), False)
     suite.equal("and the store is as it was", (read("served.db-wal"), read("served.db")), before)
     suite.equal("--stdin and --port", run([*serve, "--port", "0"])[0], 2)
     if socket.has_ipv6:
         with socket.create_server(("::1", 0), family=socket.AF_INET6) as listener:
             ran = subprocess.Popen([PROGRAM, *serve, "--connections", "1"], stdin=listener, stdout=subprocess.PIPE)
-            told = asked_by(lambda: socket.create_connection(listener.getsockname()[:2], timeout=60), get(LIST)), ran.communicate(timeout=60)[0]
+            told = (
+                asked_by(lambda: socket.create_connection(listener.getsockname()[:2], timeout=60), get(LIST)),
+                ran.communicate(timeout=60)[0],
+            )
         suite.equal("--stdin of a socket of IPv6", told, (reply(404, b"not found\n"), b"listening on standard input\n"))
     with socket.create_server(("127.0.0.1", 0)) as listener:
         answered, failed, stopped = [], [], threading.Event()

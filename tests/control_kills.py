@@ -79,7 +79,10 @@ def killed(suite):
             said = said or wrong
     sums = [sum(len(them) for them in of) for of in zip(*((it.published, it.kept, it.gone) for it in stores))]
     suite.holds("some publishes, keys and revoked keys were acknowledged", all(sums))
-    print(f"{count} kills over {len(stores)} stores: {sums[0]} publishes, {sums[1]} keys and {sums[2]} revoked keys acknowledged")
+    print(
+        f"{count} kills over {len(stores)} stores: {sums[0]} publishes, {sums[1]} keys and {sums[2]} revoked keys"
+        " acknowledged"
+    )
 
 
 if __name__ == "__main__":

@@ -76,7 +76,9 @@ def whole(suite):
     suite.equal("and to one of 4,088", copy(longest + "g"), refusal("device"))
     server.kill()
     suite.equal("the third copy sees what the store sees", inventories("three.db"), inventories("served.db"))
-    suite.equal("and answers so", zips_in("three.db", [*range(VERSIONS), 100]), zips_in("served.db", [*range(VERSIONS), 100]))
+    suite.equal(
+        "and answers so", zips_in("three.db", [*range(VERSIONS), 100]), zips_in("served.db", [*range(VERSIONS), 100])
+    )
     suite.equal("the second has the publish", zips_in("two.db", [100]), zips_in("served.db", [100]))
     suite.equal("and not the key", run(["inventory", "--db", "two.db", "--key", "newkey0000000001"])[0], 1)
     suite.equal("the first has not the publish", {status for status, _ in zips_in("one.db", [100])}, {404})
@@ -135,8 +137,13 @@ def loaded(suite):
         late = [it for it, at, _ in publishes.seen if at > ended and is_there[it]]
         suite.equal(f"copy {number} has what was acknowledged before it, and nothing of later", (lost, late), ([], []))
         kept = [*range(VERSIONS), *(it for it in is_there if is_there[it])]
-        suite.holds(f"with the bytes of {len(kept)} versions", zips_in(f"copy{number}.db", kept) == zips_in("served.db", kept))
-    print(f"a copy of {len(publishes.seen) + VERSIONS} versions under load takes {max(ended - begun for begun, ended in made):.2f} s at most")
+        suite.holds(
+            f"with the bytes of {len(kept)} versions", zips_in(f"copy{number}.db", kept) == zips_in("served.db", kept)
+        )
+    print(
+        f"a copy of {len(publishes.seen) + VERSIONS} versions under load takes"
+        f" {max(ended - begun for begun, ended in made):.2f} s at most"
+    )
 
 
 def refused(suite):
@@ -186,7 +193,11 @@ def refused(suite):
     server.kill()
     for name in ("linked.db", "linked.log"):
         os.unlink(name)
-    suite.equal("the store is whole", run(["inventory", "--db", "served.db", "--key", KEY])[:2], run(["inventory", "--db", "made.db", "--key", KEY])[:2])
+    suite.equal(
+        "the store is whole",
+        run(["inventory", "--db", "served.db", "--key", KEY])[:2],
+        run(["inventory", "--db", "made.db", "--key", KEY])[:2],
+    )
     new_store("odd-wal", ("alpha", KEY))
     server = Server("odd-wal", CONTROL)
     suite.equal("a copy whose log would be the store", copy("odd"), refusal("device"))
@@ -194,10 +205,22 @@ def refused(suite):
     suite.equal("and answers on", server.status(put("example.com/lib", "v1.0.0", GOMOD)), 201)
     server.kill()
     words = ["copy", "--to", "one.db", "--control"]
-    for told, word in ((b"", "io"), (b"bad\n", "io"), (b"stopping\n", "io"), (b"not-empty\n", "not-empty"), (b"device\n", "device"), (b"memory\n", "memory")):
+    for told, word in (
+        (b"", "io"),
+        (b"bad\n", "io"),
+        (b"stopping\n", "io"),
+        (b"not-empty\n", "not-empty"),
+        (b"device\n", "device"),
+        (b"memory\n", "memory"),
+    ):
         suite.equal(f"a server that tells {told}", by_false_server(words, told), (refusal(word), b"copy one.db\n"))
     suite.equal("one that tells done", by_false_server(words, b"done\n"), (DONE, b"copy one.db\n"))
-    for words in (["copy"], ["copy", "--control", "S"], ["copy", "--to", "G"], ["copy", "--db", "F", "--control", "S", "--to", "G"]):
+    for words in (
+        ["copy"],
+        ["copy", "--control", "S"],
+        ["copy", "--to", "G"],
+        ["copy", "--db", "F", "--control", "S", "--to", "G"],
+    ):
         suite.equal(f"bad usage: {words}", run(words)[0], 2)
 
 
@@ -246,7 +269,10 @@ def killed(suite):
         server.kill()
         seen = inventories(to)
         is_whole, is_empty = seen == wanted, all(status == 1 for status, _, _ in seen)
-        suite.counts(f"kill {turn}: the copy is whole or empty", None if is_whole or (is_empty and told != DONE) else (told, seen))
+        suite.counts(
+            f"kill {turn}: the copy is whole or empty",
+            None if is_whole or (is_empty and told != DONE) else (told, seen),
+        )
         whole_ones += is_whole
     suite.equal("the store is as it was", inventories("served.db"), wanted)
     print(f"{turn + 1} kills, after which {whole_ones} copies were whole")

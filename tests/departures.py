@@ -53,15 +53,25 @@ ROWS = [
     ("a comment that is not UTF-8", "gomod", r"module example.com/x // <FF>\n"),
     ("a required path with a reserved name", "gomod", r"module example.com/x\nrequire example.com/con v1.0.0\n"),
     ("a required path with a plus sign", "gomod", r"module example.com/x\nrequire a+b v1.0.0\n"),
-    ("a replacement by a path without a dot in its first element", "gomod",
-     r"module example.com/x\nreplace example.com/y => mymod v1.0.0\n"),
-    ("a replacement by a version of another major", "gomod", r"module example.com/x\nreplace example.com/y => example.com/z v2.0.0\n"),
+    (
+        "a replacement by a path without a dot in its first element",
+        "gomod",
+        r"module example.com/x\nreplace example.com/y => mymod v1.0.0\n",
+    ),
+    (
+        "a replacement by a version of another major",
+        "gomod",
+        r"module example.com/x\nreplace example.com/y => example.com/z v2.0.0\n",
+    ),
     ("a replacement by `..`", "gomod", r"module example.com/x\nreplace example.com/y => ..\n"),
     ("`go` with a release candidate", "gomod", r"module example.com/x\ngo 1.21rc1\n"),
     ("a no-break space in a file path", "gomod", r"module example.com/x\nreplace example.com/y => ./a<C2 A0>b\n"),
     ("a zero-width space in a file path", "gomod", r"module example.com/x\nreplace example.com/y => ./a<E2 80 8B>b\n"),
-    ("a required path without a dot in its first element", "gomod",
-     r"module example.com/x\nrequire mymod v0.0.0\nreplace mymod => ./mymod\n"),
+    (
+        "a required path without a dot in its first element",
+        "gomod",
+        r"module example.com/x\nrequire mymod v0.0.0\nreplace mymod => ./mymod\n",
+    ),
 ]
 
 
@@ -70,7 +80,9 @@ def go_says(rows):
     with tempfile.TemporaryDirectory() as room:
         program = os.path.join(room, "departures")
         source = os.path.join(ROOT, "tests", "departures.go")
-        settings = dict(os.environ, GO111MODULE="off", GOPATH="/usr/share/gocode", GOFLAGS="", GOCACHE=os.path.join(room, "cache"))
+        settings = dict(
+            os.environ, GO111MODULE="off", GOPATH="/usr/share/gocode", GOFLAGS="", GOCACHE=os.path.join(room, "cache")
+        )
         subprocess.run(["go", "build", "-o", program, source], check=True, env=settings)
         text = "".join("\t".join(row[1:]) + "\n" for row in rows)
         return subprocess.run([program], input=text, capture_output=True, text=True, check=True).stdout.splitlines()
@@ -78,7 +90,9 @@ def go_says(rows):
 
 def unwritten(text):
     """The bytes of a go.mod, as a row writes it."""
-    return re.sub(rb"<([0-9A-F ]+)>", lambda named: bytes.fromhex(named[1].decode()), text.encode().replace(rb"\n", b"\n"))
+    return re.sub(
+        rb"<([0-9A-F ]+)>", lambda named: bytes.fromhex(named[1].decode()), text.encode().replace(rb"\n", b"\n")
+    )
 
 
 def put(row):
@@ -91,7 +105,10 @@ def put(row):
         version = rest[1] if kind == "version" else "v2.0.0" if path.startswith("gopkg.in/") else "v1.0.0"
         gomod = f"module {path}\n".encode()
     body = gomod + b"zip"
-    head = f"PUT /k/{KEY}/{escaped(path)}/@v/{escaped(version)} HTTP/1.1\r\nMod-Length: {len(gomod)}\r\nContent-Length: {len(body)}\r\n\r\n"
+    head = (
+        f"PUT /k/{KEY}/{escaped(path)}/@v/{escaped(version)} HTTP/1.1\r\nMod-Length: {len(gomod)}\r\nContent-Length:"
+        f" {len(body)}\r\n\r\n"
+    )
     return head.encode() + body
 
 

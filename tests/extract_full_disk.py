@@ -37,7 +37,10 @@ def filled(file):
 def fetched(file):
     """What a store answers for each version, by each key."""
     numbers = (*range(VERSIONS), *range(100, 100 + VERSIONS))
-    return answered(["--db", file], [fetch(number, kind, key) for key in (KEY, OTHER_KEY) for number in numbers for kind in ("mod", "zip")])
+    return answered(
+        ["--db", file],
+        [fetch(number, kind, key) for key in (KEY, OTHER_KEY) for number in numbers for kind in ("mod", "zip")],
+    )
 
 
 def files_at(file):

@@ -241,21 +241,33 @@ def group_part(suite):
     suite.runs("a part with a group", GROUP_PART)
     suite.holds("the whole has its bytes after them", [read(f"whole.db{end}") for end in ("", "-wal")] == before)
     for letter, status, body in OF_PART:
-        suite.equal(f"extract-gamma: h by {letter}", answered(["--db", "part.db"], [get("example.com/h/@v/v1.0.0.zip", KEYS[letter])]), [(status, body)])
+        suite.equal(
+            f"extract-gamma: h by {letter}",
+            answered(["--db", "part.db"], [get("example.com/h/@v/v1.0.0.zip", KEYS[letter])]),
+            [(status, body)],
+        )
     alike(suite, "whole.db", "part.db", "MPC")
     alike(suite, "part.db", "again.db", "MPCDA")
     alike(suite, "whole.db", "alpha.db")
     alike(suite, "whole.db", "two.db", "MDPC")
     not_found = reply(404, b"not found\n")
     for letter in "DABR":
-        suite.equal(f"the part finds nothing for {letter}", [it for it in seen_by("part.db", letter) if it[1] != not_found], [])
+        suite.equal(
+            f"the part finds nothing for {letter}", [it for it in seen_by("part.db", letter) if it[1] != not_found], []
+        )
     suite.runs("the shelves of a part", IN_PART)
     of_group = [("common", None), ("delta", "platform"), ("eps", "platform"), ("gamma", "platform"), ("platform", None)]
     of_two = [("common", None), ("delta", "platform"), ("gamma", "platform"), ("platform", None)]
     suite.equal("the shelves of gamma's part and two more", shelves("part.db"), of_group)
-    suite.equal("the shelves of its part", shelves("again.db"), [("common", None), ("gamma", "platform"), ("platform", None)])
+    suite.equal(
+        "the shelves of its part", shelves("again.db"), [("common", None), ("gamma", "platform"), ("platform", None)]
+    )
     suite.equal("the shelves of the part of two teams", shelves("two.db"), of_two)
-    suite.equal("the shelves of alpha's part and a group", shelves("alpha.db"), [("alpha", "common"), ("common", None), ("platform", None)])
+    suite.equal(
+        "the shelves of alpha's part and a group",
+        shelves("alpha.db"),
+        [("alpha", "common"), ("common", None), ("platform", None)],
+    )
 
 
 def another_team_of_the_group(suite):

@@ -40,26 +40,50 @@ def two_contents(server, alpha, beta):
     """A version that `common` publishes after a team did: the team keeps its own, and a go.sum of one fails at the
     other."""
     path = "example.com/shared"
-    of_alpha, of_common, next_one = module(path, "v1.5.0"), module(path, "v1.5.0", more="// of common\n"), module(path, "v1.5.1")
-    told = [server.put(key, *it)[0] for key, it in ((ALPHA, of_alpha), (COMMON, of_common), (COMMON, next_one), (ALPHA, module(path, "v1.5.1", more="// of alpha\n")))]
-    SUITE.holds("common publishes what alpha has, and alpha can't publish what common has", told == [201, 201, 201, 409], told)
+    of_alpha, of_common, next_one = (
+        module(path, "v1.5.0"),
+        module(path, "v1.5.0", more="// of common\n"),
+        module(path, "v1.5.1"),
+    )
+    told = [
+        server.put(key, *it)[0]
+        for key, it in (
+            (ALPHA, of_alpha),
+            (COMMON, of_common),
+            (COMMON, next_one),
+            (ALPHA, module(path, "v1.5.1", more="// of alpha\n")),
+        )
+    ]
+    SUITE.holds(
+        "common publishes what alpha has, and alpha can't publish what common has", told == [201, 201, 201, 409], told
+    )
     downloads(alpha, [of_alpha, next_one])
     downloads(beta, [of_common, next_one])
     mod_sum, zip_sum = sums(*of_alpha[2:])
     lines = f"{path} v1.5.0 {zip_sum}\n{path} v1.5.0/go.mod {mod_sum}\n"
     for client, name, wanted in ((alpha, "same", True), (beta, "other", False)):
-        client.module(name, f"module example.com/{name}\n\ngo 1.17\n\nrequire {path} v1.5.0\n", f'package main\n\nimport _ "{path}"\n\nfunc main() {{}}\n')
+        client.module(
+            name,
+            f"module example.com/{name}\n\ngo 1.17\n\nrequire {path} v1.5.0\n",
+            f'package main\n\nimport _ "{path}"\n\nfunc main() {{}}\n',
+        )
         with open(os.path.join(client.folder, name, "go.sum"), "w") as held:
             held.write(lines)
         status, _, errors = client.go("build", at=name)
         said = "checksum mismatch" in errors and "SECURITY ERROR" in errors
-        SUITE.holds(f"alpha's go.sum, by {client.key}", (status == 0, said) == (wanted, not wanted), f"{status} {errors}")
+        SUITE.holds(
+            f"alpha's go.sum, by {client.key}", (status == 0, said) == (wanted, not wanted), f"{status} {errors}"
+        )
         client.go("mod", "edit", f"-require={path}@v1.5.1", at=name)
         os.remove(os.path.join(client.folder, name, "go.sum"))
         status, _, errors = client.go("mod", "tidy", at=name)
         with open(os.path.join(client.folder, name, "go.sum")) as held:
             text = held.read()
-        SUITE.holds(f"the next version, by {client.key}", status == 0 and "v1.5.1 h1:" in text and "v1.5.0" not in text, f"{text} {errors}")
+        SUITE.holds(
+            f"the next version, by {client.key}",
+            status == 0 and "v1.5.1 h1:" in text and "v1.5.0" not in text,
+            f"{text} {errors}",
+        )
 
 
 def group(server, member, of_group, alpha):
@@ -67,7 +91,10 @@ def group(server, member, of_group, alpha):
     another team sees neither."""
     path = "example.com/tools"
     first, second, own = module(path, "v1.0.0"), module(path, "v1.1.0"), module(path, "v1.2.0")
-    told = [server.put(key, *it)[0] for key, it in ((GROUP, first), (GROUP, second), (MEMBER, own), (MEMBER, (*first[:3], b"other bytes")))]
+    told = [
+        server.put(key, *it)[0]
+        for key, it in ((GROUP, first), (GROUP, second), (MEMBER, own), (MEMBER, (*first[:3], b"other bytes")))
+    ]
     SUITE.holds("a group and its team publish", told == [201, 201, 201, 409], told)
     downloads(member, [first, second, own, *ON_COMMON])
     downloads(of_group, [first, second, *ON_COMMON])
@@ -87,7 +114,9 @@ def publishes(server):
     SUITE.holds("publish again", server.put(ALPHA, *GREET[0])[0] == 200)
     SUITE.holds("publish other bytes", server.put(ALPHA, *GREET[0][:3], b"other")[0] == 409)
     SUITE.holds("publish with a key that reads", server.put(READER, *GREET[0])[0] == 403)
-    SUITE.holds("publish a path that is not the go.mod's", server.put(ALPHA, "example.com/greeT", *GREET[0][1:])[0] == 422)
+    SUITE.holds(
+        "publish a path that is not the go.mod's", server.put(ALPHA, "example.com/greeT", *GREET[0][1:])[0] == 422
+    )
     SUITE.holds("publish too much", server.put(ALPHA, *GREET[0][:3], bytes(18_874_368))[0] == 413)
 
 
@@ -101,7 +130,14 @@ def started(store):
 def filled(folder):
     """A store with two teams, a group and its team, and their keys."""
     store = os.path.join(folder, "shelves.db")
-    new_store(store, ("alpha", ALPHA, READER), ("beta", BETA), ("common", COMMON), ("gamma", MEMBER, "", "platform"), groups=[("platform", GROUP)])
+    new_store(
+        store,
+        ("alpha", ALPHA, READER),
+        ("beta", BETA),
+        ("common", COMMON),
+        ("gamma", MEMBER, "", "platform"),
+        groups=[("platform", GROUP)],
+    )
     return store
 
 
@@ -120,7 +156,12 @@ def session(folder):
     builds(alpha)
     teams(alpha, beta)
     two_contents(server, alpha, beta)
-    group(server, Client(SUITE, server, os.path.join(folder, "gamma"), MEMBER), Client(SUITE, server, os.path.join(folder, "platform"), GROUP), alpha)
+    group(
+        server,
+        Client(SUITE, server, os.path.join(folder, "gamma"), MEMBER),
+        Client(SUITE, server, os.path.join(folder, "platform"), GROUP),
+        alpha,
+    )
     server.stop()
     done("key-revoke", "--db", store, "--key", READER)
     server = started(store)

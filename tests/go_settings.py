@@ -23,7 +23,11 @@ from lib.suite import Suite
 
 READER = "alphareader00001"
 AT = "example.com/greet@v1.0.0"
-FILES = {"go.mod": "module example.com/greet\n", "greet.go": "package greet\n\nconst Text = 1\n", "sub/sub.go": "package sub\n\nconst Text = 1\n"}
+FILES = {
+    "go.mod": "module example.com/greet\n",
+    "greet.go": "package greet\n\nconst Text = 1\n",
+    "sub/sub.go": "package sub\n\nconst Text = 1\n",
+}
 
 
 def filled(folder):
@@ -31,7 +35,21 @@ def filled(folder):
     new_store(store, ("alpha", KEY, READER))
     path, version, gomod, zip_file = *AT.split("@"), f"{folder}/go.mod", f"{folder}/greet.zip"
     write({gomod: FILES["go.mod"], zip_file: zipped(path, version, FILES)})
-    done("publish", "--db", store, "--key", KEY, "--module", path, "--version", version, "--mod", gomod, "--zip", zip_file)
+    done(
+        "publish",
+        "--db",
+        store,
+        "--key",
+        KEY,
+        "--module",
+        path,
+        "--version",
+        version,
+        "--mod",
+        gomod,
+        "--zip",
+        zip_file,
+    )
     return store
 
 
@@ -44,9 +62,17 @@ def go_asks(behind, proxies, imported, *words, **settings):
             file.write("module example.com/hello\n\ngo 1.19\n")
         with open(f"{folder}/main.go", "w", encoding="utf-8") as file:
             file.write(f'package main\n\nimport it "{imported}"\n\nfunc main() {{ println(it.Text) }}\n')
-        own = {"HOME": folder, "GOPATH": f"{folder}/go", "GOFLAGS": "-modcacherw", "GOPROXY": proxies, "GONOSUMDB": "example.com"}
+        own = {
+            "HOME": folder,
+            "GOPATH": f"{folder}/go",
+            "GOFLAGS": "-modcacherw",
+            "GOPROXY": proxies,
+            "GONOSUMDB": "example.com",
+        }
         clean = {name: text for name, text in os.environ.items() if not name.startswith("GO")}
-        ran = subprocess.run(["go", *words], cwd=folder, env={**clean, **own, **settings}, capture_output=True, timeout=120)
+        ran = subprocess.run(
+            ["go", *words], cwd=folder, env={**clean, **own, **settings}, capture_output=True, timeout=120
+        )
     return ran.returncode == 0, {it.split("/@v/")[0].strip("/") for it in behind.asked}
 
 
@@ -59,11 +85,21 @@ def of_pages(suite):
         clean = {name: text for name, text in os.environ.items() if not name.startswith("GO")}
 
         def after(script):
-            ran = subprocess.run(["sh", "-euc", f"{script}\ngo env {' '.join(names)}"], env={**clean, "HOME": folder}, capture_output=True, text=True)
+            ran = subprocess.run(
+                ["sh", "-euc", f"{script}\ngo env {' '.join(names)}"],
+                env={**clean, "HOME": folder},
+                capture_output=True,
+                text=True,
+            )
             return ran.stdout.splitlines() or ran.stderr
 
         before = after("")
-        found = [it for page in ("README.md", "docs/NGINX.md") for it in blocks(page, "sh", "go env -w GOPROXY=") if "tools/" not in it]
+        found = [
+            it
+            for page in ("README.md", "docs/NGINX.md")
+            for it in blocks(page, "sh", "go env -w GOPROXY=")
+            if "tools/" not in it
+        ]
         suite.equal("blocks that set the go command", len(found), 3)
         for script in found:
             proxies = re.search("GOPROXY=(.*)", script)[1]
@@ -82,10 +118,22 @@ def main():
             ("a module that the shelf sees", go_asks(behind, proxies, greet, "get", AT), (True, set())),
             ("a package below it", go_asks(behind, proxies, f"{greet}/sub", "mod", "tidy"), (True, set())),
             ("a package that it has not", go_asks(behind, proxies, f"{greet}/nosub", "mod", "tidy"), (False, set())),
-            ("an import that no module fits", go_asks(behind, proxies, "example.com/nosuch/pkg", "mod", "tidy"), (False, fronts)),
-            ("a version that is not there", go_asks(behind, proxies, greet, "get", f"{greet}@v9.9.9"), (False, {"example.com", greet})),
+            (
+                "an import that no module fits",
+                go_asks(behind, proxies, "example.com/nosuch/pkg", "mod", "tidy"),
+                (False, fronts),
+            ),
+            (
+                "a version that is not there",
+                go_asks(behind, proxies, greet, "get", f"{greet}@v9.9.9"),
+                (False, {"example.com", greet}),
+            ),
             ("the shelf alone", go_asks(behind, shelf, "example.com/nosuch/pkg", "mod", "tidy"), (False, set())),
-            ("GOPRIVATE and GONOPROXY=none", go_asks(behind, proxies, greet, "get", AT, GOPRIVATE="example.com", GONOPROXY="none", GONOSUMDB=""), (True, set())),
+            (
+                "GOPRIVATE and GONOPROXY=none",
+                go_asks(behind, proxies, greet, "get", AT, GOPRIVATE="example.com", GONOPROXY="none", GONOSUMDB=""),
+                (True, set()),
+            ),
         ]
         server.stop()
     suite = Suite()

@@ -102,7 +102,9 @@ def known(suite):
         wanted[0] += 1
         wanted[CLASSES.index(status // 100)] += 1
         versions += status == 201
-        suite.equal(f"{request[:40]} gets {status}, and is counted", (got, counts(), health()[7]), (status, wanted, versions))
+        suite.equal(
+            f"{request[:40]} gets {status}, and is counted", (got, counts(), health()[7]), (status, wanted, versions)
+        )
     suite.equal("the time of the begin stays", health()[6], first[6])
     server.kill()
 
@@ -141,8 +143,17 @@ def beside(suite):
     before = read("served.db-wal"), read("served.db"), health()
     for _ in range(100):
         server.order(b"ping\n")
-    suite.equal("100 pings change nothing, and are not counted", (read("served.db-wal"), read("served.db"), health()), before)
-    orders = [b"team-add beta\n", b"team-add beta\n", b"nonsense\n", b"ping now\n", b"ping", b"key-revoke nosuchkey0000001\n"]
+    suite.equal(
+        "100 pings change nothing, and are not counted", (read("served.db-wal"), read("served.db"), health()), before
+    )
+    orders = [
+        b"team-add beta\n",
+        b"team-add beta\n",
+        b"nonsense\n",
+        b"ping now\n",
+        b"ping",
+        b"key-revoke nosuchkey0000001\n",
+    ]
     told = [server.order(order) for order in orders]
     suite.equal("what orders are told", told, [b"done\n", b"taken\n", b"bad\n", b"bad\n", b"bad\n", b"no-key\n"])
     server.operator().close()
@@ -150,10 +161,18 @@ def beside(suite):
     with server.operator() as held:
         told = [held.sendall(bytes([byte])) or time.sleep(0.01) for byte in b"ping\n"] and rest(held)
         suite.holds("a ping that comes byte by byte", FORM.fullmatch(told), told)
-    suite.equal("no key and no path is told", [it for it in (KEY, "example.com", "alpha") if it.encode() in server.order(b"ping\n")], [])
+    suite.equal(
+        "no key and no path is told",
+        [it for it in (KEY, "example.com", "alpha") if it.encode() in server.order(b"ping\n")],
+        [],
+    )
     server.kill()
     last = Server("served.db", CONTROL, "--connections", "1")
-    suite.equal("the next server begins anew, with the versions of the store", health()[:6] + health()[7:], [0, 0, 0, 0, 0, 0, 1])
+    suite.equal(
+        "the next server begins anew, with the versions of the store",
+        health()[:6] + health()[7:],
+        [0, 0, 0, 0, 0, 0, 1],
+    )
     last.status(get(LIST))
     suite.equal("a server whose connections are used up", (last.child.wait(60), run(PING)), (0, refusal("device")))
 
@@ -166,7 +185,9 @@ def loaded(suite):
     while time.monotonic() - begun < 3:
         told.append(counts())
     load.stop()
-    suite.equal(f"{len(told)} pings under load: each connection has one class", [it for it in told if it[0] != sum(it[1:])], [])
+    suite.equal(
+        f"{len(told)} pings under load: each connection has one class", [it for it in told if it[0] != sum(it[1:])], []
+    )
     suite.equal("and no count falls", [it for it in zip(told, told[1:]) if any(b < a for a, b in zip(*it))], [])
     suite.equal(f"{len(load.seen)} requests are counted", counts(), [len(load.seen), 0, len(load.seen), 0, 0])
     server.kill()
@@ -199,7 +220,11 @@ def false(suite):
     for told in FALSE:
         suite.equal(f"a server that tells {told[:60]!r}", by_false_server(PING[:-1], told), (refusal("io"), b"ping\n"))
     for word in ("device", "memory"):
-        suite.equal(f"one whose store tells {word}", by_false_server(PING[:-1], f"{word}\n".encode()), (refusal(word), b"ping\n"))
+        suite.equal(
+            f"one whose store tells {word}",
+            by_false_server(PING[:-1], f"{word}\n".encode()),
+            (refusal(word), b"ping\n"),
+        )
     with open("/dev/full", "wb") as full:
         new_store("served.db")
         server = Server("served.db", CONTROL)

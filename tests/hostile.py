@@ -91,7 +91,11 @@ FRONTS = [
     ("64 headers", head_of(*["a: b"] * 64), [NOT_FOUND, NOT_FOUND]),
     ("65 headers", head_of(*["a: b"] * 65), [BAD]),
     ("after all these nothing stands", SEEN, [NOTHING]),
-    ("and the right publish is taken", front(MOD, "Content-Length: 23")[:1] + [get("-/modules")], [PUBLISHED, reply(200, b"example.com/lib\n")]),
+    (
+        "and the right publish is taken",
+        front(MOD, "Content-Length: 23")[:1] + [get("-/modules")],
+        [PUBLISHED, reply(200, b"example.com/lib\n")],
+    ),
 ]
 
 PATH = "example.com/p"
@@ -123,9 +127,18 @@ def publish(version, zip_bytes):
 
 
 PIECES = [
-    *[(f"a zip of {len(zip_bytes)} bytes", [publish(version, zip_bytes)], [PUBLISHED]) for version, zip_bytes in ZIPS.items()],
-    *[(f"comes back, {len(zip_bytes)} bytes", [get(f"{PATH}/@v/{version}.zip")], [zipped(zip_bytes)]) for version, zip_bytes in ZIPS.items()],
-    *[(f"is the same again, {len(zip_bytes)} bytes", [publish(version, zip_bytes)], [AGAIN]) for version, zip_bytes in ZIPS.items()],
+    *[
+        (f"a zip of {len(zip_bytes)} bytes", [publish(version, zip_bytes)], [PUBLISHED])
+        for version, zip_bytes in ZIPS.items()
+    ],
+    *[
+        (f"comes back, {len(zip_bytes)} bytes", [get(f"{PATH}/@v/{version}.zip")], [zipped(zip_bytes)])
+        for version, zip_bytes in ZIPS.items()
+    ],
+    *[
+        (f"is the same again, {len(zip_bytes)} bytes", [publish(version, zip_bytes)], [AGAIN])
+        for version, zip_bytes in ZIPS.items()
+    ],
     *[(f"conflicts: {what}", [publish(version, zip_bytes)], [CONFLICT]) for what, version, zip_bytes in OTHER_ZIPS],
 ]
 
@@ -167,7 +180,11 @@ def rights(shelf, key, reader):
         by_both("sees no zip", f"{OWN}/@v/v1.0.0.zip", keys, NOT_FOUND),
         by_both("sees no list", f"{OWN}/@v/list", keys, NOT_FOUND),
         by_both("sees no module", "-/modules", keys, NO_MODULE),
-        ("the reader publishes nothing", [own("v1.0.0", reader, zip_bytes), get(f"{OWN}/@v/v1.0.0.mod", key)], [FORBIDDEN, NOT_FOUND]),
+        (
+            "the reader publishes nothing",
+            [own("v1.0.0", reader, zip_bytes), get(f"{OWN}/@v/v1.0.0.mod", key)],
+            [FORBIDDEN, NOT_FOUND],
+        ),
         ("publishes a release", [own("v1.0.0", key, zip_bytes)], [PUBLISHED]),
         ("publishes it again", [own("v1.0.0", key, zip_bytes)], [AGAIN]),
         ("publishes another zip", [own("v1.0.0", key, b"another zip")], [CONFLICT]),
@@ -196,22 +213,55 @@ COMMON, COMMON_READER = TOP[1:]
 # once common has published too, each shelf goes on seeing its own; of two teams that came last, each with a key of 64
 # bytes, `late` sees common, and `member`, which is of the group, sees the group
 AFTER = [
-    *[by_both(f"{shelf}: still sees its own", f"{OWN}/@v/v1.0.0.zip", keys, zipped(keys[0].encode())) for shelf, *keys in SHELVES],
+    *[
+        by_both(f"{shelf}: still sees its own", f"{OWN}/@v/v1.0.0.zip", keys, zipped(keys[0].encode()))
+        for shelf, *keys in SHELVES
+    ],
     ("beta: sees its own list", [get(f"{OWN}/@v/list", BETA_READER)], [LIST]),
     ("beta: sees its own latest", [get(f"{OWN}/@latest", BETA_READER)], [LATEST]),
     ("beta: sees one module", [get("-/modules", BETA_READER)], [MODULES]),
-    ("late: sees common", [get(f"{OWN}/@v/v1.0.0.zip", LATE), get(f"{OWN}/@v/list", LATE)], [zipped(COMMON.encode()), LIST]),
+    (
+        "late: sees common",
+        [get(f"{OWN}/@v/v1.0.0.zip", LATE), get(f"{OWN}/@v/list", LATE)],
+        [zipped(COMMON.encode()), LIST],
+    ),
     ("late: conflicts with common", [own("v1.0.0", LATE, b"another zip")], [CONFLICT]),
     ("late: repeats what common has", [own("v1.0.0", LATE, COMMON.encode())], [AGAIN]),
-    ("late: publishes its own", [own("v1.0.1", LATE, b"Z"), get(f"{OWN}/@v/v1.0.1.zip", LATE)], [PUBLISHED, zipped(b"Z")]),
-    by_both("late: the others do not see it", f"{OWN}/@v/v1.0.1.zip", (BETA, COMMON, COMMON_READER, GAMMA, PLATFORM, MEMBER), NOT_FOUND),
-    ("member: sees the group", [get(f"{OWN}/@v/v1.0.0.zip", MEMBER), get(f"{OWN}/@v/list", MEMBER)], [zipped(PLATFORM.encode()), LIST]),
+    (
+        "late: publishes its own",
+        [own("v1.0.1", LATE, b"Z"), get(f"{OWN}/@v/v1.0.1.zip", LATE)],
+        [PUBLISHED, zipped(b"Z")],
+    ),
+    by_both(
+        "late: the others do not see it",
+        f"{OWN}/@v/v1.0.1.zip",
+        (BETA, COMMON, COMMON_READER, GAMMA, PLATFORM, MEMBER),
+        NOT_FOUND,
+    ),
+    (
+        "member: sees the group",
+        [get(f"{OWN}/@v/v1.0.0.zip", MEMBER), get(f"{OWN}/@v/list", MEMBER)],
+        [zipped(PLATFORM.encode()), LIST],
+    ),
     ("member: conflicts with the group", [own("v1.0.0", MEMBER, b"another zip")], [CONFLICT]),
     ("member: conflicts with the group, by common's zip", [own("v1.0.0", MEMBER, COMMON.encode())], [CONFLICT]),
     ("member: repeats what the group has", [own("v1.0.0", MEMBER, PLATFORM.encode())], [AGAIN]),
-    ("member: publishes its own", [own("v1.0.1", MEMBER, b"M"), get(f"{OWN}/@v/v1.0.1.zip", MEMBER)], [PUBLISHED, zipped(b"M")]),
-    by_both("member: the others do not see it", f"{OWN}/@v/v1.0.1.zip", (BETA, COMMON, GAMMA, GAMMA_READER, PLATFORM, PLATFORM_READER), NOT_FOUND),
-    ("member: the group publishes it too", [own("v1.0.1", PLATFORM, b"P"), get(f"{OWN}/@v/v1.0.1.zip", MEMBER)], [PUBLISHED, zipped(b"M")]),
+    (
+        "member: publishes its own",
+        [own("v1.0.1", MEMBER, b"M"), get(f"{OWN}/@v/v1.0.1.zip", MEMBER)],
+        [PUBLISHED, zipped(b"M")],
+    ),
+    by_both(
+        "member: the others do not see it",
+        f"{OWN}/@v/v1.0.1.zip",
+        (BETA, COMMON, GAMMA, GAMMA_READER, PLATFORM, PLATFORM_READER),
+        NOT_FOUND,
+    ),
+    (
+        "member: the group publishes it too",
+        [own("v1.0.1", PLATFORM, b"P"), get(f"{OWN}/@v/v1.0.1.zip", MEMBER)],
+        [PUBLISHED, zipped(b"M")],
+    ),
     by_both("gamma: sees the group's", f"{OWN}/@v/v1.0.1.zip", (GAMMA, GAMMA_READER, PLATFORM_READER), zipped(b"P")),
     ("gamma: the reader publishes nothing", [own("v1.0.2", GAMMA_READER)], [FORBIDDEN]),
     by_both("beta: does not", f"{OWN}/@v/v1.0.1.zip", (BETA, BETA_READER, COMMON), NOT_FOUND),
@@ -227,7 +277,9 @@ def many(suite, store):
     wanted = AGAIN + reply(200, GOMOD) + NOT_FOUND + info("v1.0.0") + reply(200, b"v1.0.0\n")
     status, written, told = run_in_reads(["answer", *store.words], [first, *five * 20_000])
     suite.equal(f"{store.name} 100,001 messages, each in a read of its own: the end", (status, told), (0, ""))
-    suite.equal(f"{store.name} 100,001 messages, each in a read of its own: the replies", written, PUBLISHED + wanted * 20_000)
+    suite.equal(
+        f"{store.name} 100,001 messages, each in a read of its own: the replies", written, PUBLISHED + wanted * 20_000
+    )
 
 
 def over_both(suite):

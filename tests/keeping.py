@@ -124,7 +124,9 @@ def restores(suite, machine):
     suite.holds("while another has the lock", told[0] == 1 and BUSY in told[2], told)
     told = machine.sh("goshelf-restore last < yes")
     is_right = told[0] == 0 and f"{OLDER[-1]} lacks 0 versions:" in told[1] and runs(machine)
-    suite.holds("the keys of a store that has lost all are not kept", f"The keys are those of {OLDER[-1]}. " in told[1], told)
+    suite.holds(
+        "the keys of a store that has lost all are not kept", f"The keys are those of {OLDER[-1]}. " in told[1], told
+    )
     suite.holds("the last backup is put back", is_right, told)
     aside = [it for it in os.listdir(home) if it.startswith("aside-")]
     suite.equal("the old store is set aside", [read(f"{home}/{it}/shelves.db") for it in aside], [before])
@@ -175,10 +177,16 @@ def older_one(suite, machine):
     machine.does(KEYS_SINCE)
     told = machine.sh(f"goshelf-restore --yes {OLDER[0]}")
     lacks = f"\n{OLDER[0]} lacks a shelf and its keys: omega\n"
-    suite.holds("a shelf that an older backup lacks is named", lacks in told[1] and "The keys are those" not in told[1], told)
+    suite.holds(
+        "a shelf that an older backup lacks is named", lacks in told[1] and "The keys are those" not in told[1], told
+    )
     ask = "curl -s -o /dev/null -w '%{http_code}' http://127.0.0.1:8080/k/{}/-/modules"
     statuses = [machine.does(ask.replace("{}", it)) for it in (ALPHA, READER, NEW_KEY, OMEGA)]
-    suite.equal("keys stay as they are: one of ever, one revoked, one added, one of a lost shelf", statuses, ["200", "404", "200", "404"])
+    suite.equal(
+        "keys stay as they are: one of ever, one revoked, one added, one of a lost shelf",
+        statuses,
+        ["200", "404", "200", "404"],
+    )
     is_right = told[0] == 0 and f"{OLDER[0]} lacks 1 versions:\n{lost}\n" in told[1]
     suite.holds("what an older backup lacks is named", is_right, told)
     suite.equal("the lost version is gone", late(machine), "not found\n")

@@ -74,7 +74,9 @@ def read_reply(pipe):
 
 def start_answer(store):
     """The program on a pipe; it is ready once it answers a first request."""
-    child = subprocess.Popen([PROGRAM, "answer", "--db", store], stdin=subprocess.PIPE, stdout=subprocess.PIPE, bufsize=0)
+    child = subprocess.Popen(
+        [PROGRAM, "answer", "--db", store], stdin=subprocess.PIPE, stdout=subprocess.PIPE, bufsize=0
+    )
 
     def send(request):
         child.stdin.write(request)
@@ -112,7 +114,9 @@ def kills(suite, folder, count):
             store, stores, acknowledged, next_number = new_store(folder, f"kills{stores}.db"), stores + 1, [], 0
         start = (start_answer, start_serve)[turn % 2]
         numbers = range(next_number, next_number + 50)
-        done, refused = killed(start, store, numbers, random.choice((0.005, 0.02, 0.06)) * random.random(), turn % 5 == 4)
+        done, refused = killed(
+            start, store, numbers, random.choice((0.005, 0.02, 0.06)) * random.random(), turn % 5 == 4
+        )
         next_number += len(done)
         acknowledged += done
         publishes += len(done)
@@ -165,7 +169,9 @@ def only_read(suite, folder):
     at = os.path.join(folder, "fixed")
     os.mkdir(at)
     store = new_store(at, "fixed.db")
-    suite.equal("a publish before", [status for status, _ in replies(run(["answer", "--db", store], publish(0))[1])], [201])
+    suite.equal(
+        "a publish before", [status for status, _ in replies(run(["answer", "--db", store], publish(0))[1])], [201]
+    )
     os.chmod(folder, 0o755)
     for name, place, mode in (("file", store, 0o444), ("folder", at, 0o555)):
         os.chmod(place, mode)

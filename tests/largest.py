@@ -52,7 +52,11 @@ def sizes(reader):
     mod, modules = get(f"{path}/@v/v1.0.0.mod"), get("-/modules")
     small = f"module {path}\n".encode()
     return [
-        ("a go.mod of one byte too many", [put(path, "v1.0.0", filled(path, GOMOD + 1)), mod, modules], [TOO_LARGE, NOT_FOUND, NO_MODULE]),
+        (
+            "a go.mod of one byte too many",
+            [put(path, "v1.0.0", filled(path, GOMOD + 1)), mod, modules],
+            [TOO_LARGE, NOT_FOUND, NO_MODULE],
+        ),
         (
             "a go.mod of one byte too many and a zip of one less than the most",
             [put(path, "v1.0.0", filled(path, GOMOD + 1), zip_of(ZIP - 1)), modules],
@@ -63,9 +67,17 @@ def sizes(reader):
             [put(path, "v1.0.0", filled(path, GOMOD - 1), zip_of(ZIP + 1)), modules],
             [TOO_LARGE, NO_MODULE],
         ),
-        ("both, and one byte too many, which ends the stream", [put(path, "v1.0.0", gomod, zip_of(ZIP + 1)), modules], [TOO_LARGE]),
+        (
+            "both, and one byte too many, which ends the stream",
+            [put(path, "v1.0.0", gomod, zip_of(ZIP + 1)), modules],
+            [TOO_LARGE],
+        ),
         ("after all these nothing stands", [modules, mod], [NO_MODULE, NOT_FOUND]),
-        ("the largest go.mod and the largest zip", [put(path, "v1.0.0", gomod, zip_bytes), modules], [PUBLISHED, reply(200, f"{path}\n".encode())]),
+        (
+            "the largest go.mod and the largest zip",
+            [put(path, "v1.0.0", gomod, zip_bytes), modules],
+            [PUBLISHED, reply(200, f"{path}\n".encode())],
+        ),
         ("the go.mod comes back", [mod], [reply(200, gomod)]),
         ("the zip comes back", [get(f"{path}/@v/v1.0.0.zip", reader)], [zipped(zip_bytes)]),
         ("they are the same again", [put(path, "v1.0.0", gomod, zip_bytes)], [AGAIN]),
@@ -93,7 +105,11 @@ def bad_row(name, text, line):
     """A publish whose go.mod does not read. Nothing stands then."""
     path = "example.com/t"
     gomod = f"module {path}\n".encode() + text
-    return name, [put(path, "v1.0.0", gomod), get(f"{path}/@v/v1.0.0.mod"), get(f"{path}/@v/list")], [bad(line), NOT_FOUND, NOT_FOUND]
+    return (
+        name,
+        [put(path, "v1.0.0", gomod), get(f"{path}/@v/v1.0.0.mod"), get(f"{path}/@v/list")],
+        [bad(line), NOT_FOUND, NOT_FOUND],
+    )
 
 
 R, S = "example.com/r", "example.com/s"
@@ -105,17 +121,29 @@ RANGES = block(S, "retract", [b"\t[v1.%d.0, v1.%d.9]\n" % (n + 2, n + 2) for n i
 # go.mod files of very many lines and words
 LONG = [
     ("20,000 requirements", [put(R, "v1.0.0", SAME)], [PUBLISHED]),
-    ("20,000 requirements come back", [get(f"{R}/@v/v1.0.0.mod"), get(f"{R}/@latest")], [reply(200, SAME), info("v1.0.0")]),
+    (
+        "20,000 requirements come back",
+        [get(f"{R}/@v/v1.0.0.mod"), get(f"{R}/@latest")],
+        [reply(200, SAME), info("v1.0.0")],
+    ),
     ("the last of 20,000 is wrong", [put(R, "v1.1.0", WRONG), get(f"{R}/@v/v1.1.0.mod")], [bad(20_002), NOT_FOUND]),
     ("20,000 requirements of as many paths", [put(R, "v1.2.0", EACH)], [PUBLISHED]),
     ("a version that is retracted later", [put(S, "v1.0.9", f"module {S}\n".encode())], [PUBLISHED]),
     ("100,000 retractions, its own too", [put(S, "v1.1.0", RETRACTED)], [PUBLISHED]),
-    ("100,000 retractions come back", [get(f"{S}/@v/v1.1.0.mod"), get(f"{S}/@latest")], [reply(200, RETRACTED), info("v1.0.9")]),
+    (
+        "100,000 retractions come back",
+        [get(f"{S}/@v/v1.1.0.mod"), get(f"{S}/@latest")],
+        [reply(200, RETRACTED), info("v1.0.9")],
+    ),
     ("40,000 retracted ranges", [put(S, "v1.1.1", RANGES)], [PUBLISHED]),
     bad_row("a line of 100,000 words", b"require " + b"a " * 100_000 + b"\n", 2),
     bad_row("a line of 100,000 brackets", b"require " + b"(" * 100_000 + b"\n", 2),
     bad_row("a line of 100,000 brackets with spaces", b"require " + b"( " * 100_000 + b"\n", 2),
-    bad_row("a line of 100,000 words behind one that reads, in a block", b"require (\nexample.com/x v1.0.0\n" + b"a " * 100_000 + b"\n", 4),
+    bad_row(
+        "a line of 100,000 words behind one that reads, in a block",
+        b"require (\nexample.com/x v1.0.0\n" + b"a " * 100_000 + b"\n",
+        4,
+    ),
     bad_row("80,000 nested blocks", b"require (\n" * 80_000, 3),
     bad_row("a quotation of 1,000,000 bytes that stays open", b'"' + b"a" * 1_000_000 + b"\n", 2),
     ("what was refused stands nowhere", [get("-/modules")], [reply(200, f"{R}\n{S}\n".encode())]),
@@ -142,7 +170,11 @@ def file_of(name, key=KEY):
 SHELF = [
     ("4,096 versions of a path", [f(patch) for patch in range(4096)], [PUBLISHED] * 4096),
     ("the next is refused", [f(4096), file_of("v1.0.4096.mod")], [FULL, NOT_FOUND]),
-    ("the last stands", [get(f"{F}/@latest"), file_of("v1.0.4095.mod")], [info("v1.0.4095"), reply(200, f"module {F}\n".encode())]),
+    (
+        "the last stands",
+        [get(f"{F}/@latest"), file_of("v1.0.4095.mod")],
+        [info("v1.0.4095"), reply(200, f"module {F}\n".encode())],
+    ),
     ("another path has room", [f(4096, path="example.com/g")], [PUBLISHED]),
     ("one of them again", [f(0)], [AGAIN]),
     ("one of them with another zip", [f(0, b"a")], [CONFLICT]),
@@ -150,13 +182,21 @@ SHELF = [
 # over a file alone, since shelves in memory have one team with one key
 SHELF_AMONG_OTHERS = [
     ("beta has room", [f(4096, b"b", BETA)], [PUBLISHED]),
-    ("common has room, and alpha sees it", [f(4096, b"c", COMMON), file_of("v1.0.4096.zip")], [PUBLISHED, zipped(b"c")]),
+    (
+        "common has room, and alpha sees it",
+        [f(4096, b"c", COMMON), file_of("v1.0.4096.zip")],
+        [PUBLISHED, zipped(b"c")],
+    ),
     ("full, with another zip than common", [f(4096, b"a")], [CONFLICT]),
     ("full, with the zip of common", [f(4096, b"c")], [AGAIN]),
     ("each sees its own", [file_of("v1.0.4096.zip"), file_of("v1.0.4096.zip", BETA)], [zipped(b"c"), zipped(b"b")]),
     ("the latest is that of common", [get(f"{F}/@latest")], [info("v1.0.4096")]),
     ("full, with one that nobody has", [f(4097), file_of("v1.0.4097.mod")], [FULL, NOT_FOUND]),
-    ("alpha's group has room, and alpha sees it", [f(4097, b"p", GROUP), file_of("v1.0.4097.zip")], [PUBLISHED, zipped(b"p")]),
+    (
+        "alpha's group has room, and alpha sees it",
+        [f(4097, b"p", GROUP), file_of("v1.0.4097.zip")],
+        [PUBLISHED, zipped(b"p")],
+    ),
     ("full, with another zip than the group", [f(4097, b"a")], [CONFLICT]),
     ("full, with the zip of the group", [f(4097, b"p")], [AGAIN]),
     ("the latest is that of the group", [get(f"{F}/@latest")], [info("v1.0.4097")]),
@@ -164,17 +204,33 @@ SHELF_AMONG_OTHERS = [
 ]
 # alpha has room where its group is full
 ROOM_UNDER_GROUP = [
-    ("4,096 versions of a path on the group's shelf", [f(patch, key=GROUP) for patch in range(4096)], [PUBLISHED] * 4096),
+    (
+        "4,096 versions of a path on the group's shelf",
+        [f(patch, key=GROUP) for patch in range(4096)],
+        [PUBLISHED] * 4096,
+    ),
     ("the group's next is refused", [f(4096, key=GROUP)], [FULL]),
-    ("alpha has room", [f(4096), file_of("v1.0.4096.mod"), file_of("v1.0.4096.mod", GROUP)], [PUBLISHED, reply(200, f"module {F}\n".encode()), NOT_FOUND]),
+    (
+        "alpha has room",
+        [f(4096), file_of("v1.0.4096.mod"), file_of("v1.0.4096.mod", GROUP)],
+        [PUBLISHED, reply(200, f"module {F}\n".encode()), NOT_FOUND],
+    ),
     ("alpha repeats the group's last", [f(4095)], [AGAIN]),
-    ("the latest is alpha's own", [get(f"{F}/@latest"), get(f"{F}/@latest", GROUP)], [info("v1.0.4096"), info("v1.0.4095")]),
+    (
+        "the latest is alpha's own",
+        [get(f"{F}/@latest"), get(f"{F}/@latest", GROUP)],
+        [info("v1.0.4096"), info("v1.0.4095")],
+    ),
 ]
 
 
 def over_both(suite):
     """The rows over each store, a new one for each table. The last is over a file whose shelf is full then."""
-    assert [len(filled("example.com/m", size)) for size in (GOMOD - 1, GOMOD, GOMOD + 1)] == [GOMOD - 1, GOMOD, GOMOD + 1]
+    assert [len(filled("example.com/m", size)) for size in (GOMOD - 1, GOMOD, GOMOD + 1)] == [
+        GOMOD - 1,
+        GOMOD,
+        GOMOD + 1,
+    ]
     alpha, others = ("alpha", KEY, READER, PLATFORM[0]), [shelf for shelf in SHELVES if shelf[0] != "alpha"]
     for number, rows in enumerate((sizes, LONG, STREAM, SHELF)):
         for store in (Memory(), File(f"{number}.db", alpha, *others, groups=[PLATFORM])):

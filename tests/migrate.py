@@ -43,16 +43,36 @@ def migrated(suite):
         old, new = f"old{schema}.db", f"new{schema}.db"
         older(old, schema)
         before = read(old)
-        suite.equal(f"schema {schema} alone is refused, and how is told", run(["inventory", "--db", old, "--key", KEYS["B"]]), (1, b"", "goshelf: bad-schema\n"))
+        suite.equal(
+            f"schema {schema} alone is refused, and how is told",
+            run(["inventory", "--db", old, "--key", KEYS["B"]]),
+            (1, b"", "goshelf: bad-schema\n"),
+        )
         suite.equal(f"schema {schema} migrates", run(["migrate", "--from", old, "--to", new]), (0, b"", ""))
         suite.holds(f"schema {schema}: the old file has its bytes", read(old) == before)
-        suite.equal(f"schema {schema}: each reply is as it was", [at for at, (one, other) in enumerate(zip(answers_of(new), wanted)) if one != other], [])
-        suite.equal(f"schema {schema}: the inventory of beta", run(["inventory", "--db", new, "--key", KEYS["B"]]), (0, INVENTORY_OF_BETA, ""))
+        suite.equal(
+            f"schema {schema}: each reply is as it was",
+            [at for at, (one, other) in enumerate(zip(answers_of(new), wanted)) if one != other],
+            [],
+        )
+        suite.equal(
+            f"schema {schema}: the inventory of beta",
+            run(["inventory", "--db", new, "--key", KEYS["B"]]),
+            (0, INVENTORY_OF_BETA, ""),
+        )
         suite.holds(f"schema {schema}: the tables are those of the whole store", rows_of(new) == whole)
         after = read(new)
-        suite.equal(f"schema {schema}: a second run", run(["migrate", "--from", old, "--to", new]), (1, b"", "goshelf: not-empty\n"))
+        suite.equal(
+            f"schema {schema}: a second run",
+            run(["migrate", "--from", old, "--to", new]),
+            (1, b"", "goshelf: not-empty\n"),
+        )
         suite.holds(f"schema {schema}: both files are unchanged", (read(old), read(new)) == (before, after))
-        suite.equal(f"schema {schema}: teams have no group", run(["team-add", "--db", new, "--team", "gamma", "--group", "alpha"]), (1, b"", "goshelf: no-group\n"))
+        suite.equal(
+            f"schema {schema}: teams have no group",
+            run(["team-add", "--db", new, "--team", "gamma", "--group", "alpha"]),
+            (1, b"", "goshelf: no-group\n"),
+        )
         told = run(["answer", "--db", new], put("example.com/q", "v1.0.0", b"module example.com/q\n", key=KEYS["R"]))
         suite.equal(f"schema {schema}: a key that reads only reads", told[1].split()[1], b"403")
 
@@ -82,11 +102,23 @@ SPOILT = (
     ((1,), "a version that is none", f"UPDATE version SET version = 'v1.0' WHERE id = {OF_RELEASE}"),
     ((2,), "a gap in the pieces", f"UPDATE piece SET number = 2 WHERE number = 1 AND version = {OF_LONG}"),
     ((2,), "no first piece", f"DELETE FROM piece WHERE number = 0 AND version = {OF_LONG}"),
-    ((2,), "a short piece before another", f"UPDATE piece SET bytes = substr(bytes, 2) WHERE number = 0 AND version = {OF_LONG}"),
+    (
+        (2,),
+        "a short piece before another",
+        f"UPDATE piece SET bytes = substr(bytes, 2) WHERE number = 0 AND version = {OF_LONG}",
+    ),
     ((2,), "an empty piece", f"INSERT INTO piece VALUES ({OF_RELEASE}, 0, X'')"),
     ((2,), "a piece of no version", "INSERT INTO piece VALUES (999, 0, X'5A')"),
-    ((2,), "a key of order of another version", f"UPDATE version SET order_key = X'{order_key('v1.0.4').hex()}' WHERE id = {OF_RELEASE}"),
-    ((2,), "a key of rank that is the key of order", f"UPDATE version SET rank_key = order_key WHERE id = {OF_RELEASE}"),
+    (
+        (2,),
+        "a key of order of another version",
+        f"UPDATE version SET order_key = X'{order_key('v1.0.4').hex()}' WHERE id = {OF_RELEASE}",
+    ),
+    (
+        (2,),
+        "a key of rank that is the key of order",
+        f"UPDATE version SET rank_key = order_key WHERE id = {OF_RELEASE}",
+    ),
 )
 
 
@@ -95,7 +127,12 @@ def too_many(conn, schema):
     conn.execute("BEGIN")
     for number in range(4_097):
         version, gomod = f"v1.0.{number}", b"module example.com/many\n"
-        put_entry(conn, schema, (10_000 + number, "alpha", "example.com/many", version, None, gomod, order_key(version), rank_key(version)), b"")
+        put_entry(
+            conn,
+            schema,
+            (10_000 + number, "alpha", "example.com/many", version, None, gomod, order_key(version), rank_key(version)),
+            b"",
+        )
     conn.execute("COMMIT")
 
 
@@ -116,9 +153,15 @@ def refused(suite):
 def is_refused(suite, about, good):
     """Adds the rows of a file that is refused: it stays as it was, and the fresh one is taken afterwards."""
     before = read("bad.db")
-    suite.equal(about, run(["migrate", "--from", "bad.db", "--to", "fresh.db"], timeout=600), (1, b"", "goshelf: bad-schema\n"))
+    suite.equal(
+        about, run(["migrate", "--from", "bad.db", "--to", "fresh.db"], timeout=600), (1, b"", "goshelf: bad-schema\n")
+    )
     suite.holds(f"{about}: the file has its bytes", read("bad.db") == before)
-    suite.equal(f"{about}: what is left of the fresh store is taken", run(["migrate", "--from", good, "--to", "fresh.db"]), (0, b"", ""))
+    suite.equal(
+        f"{about}: what is left of the fresh store is taken",
+        run(["migrate", "--from", good, "--to", "fresh.db"]),
+        (0, b"", ""),
+    )
     for name in ("fresh.db", "fresh.db-wal", "bad.db", "bad.db-wal"):
         if os.path.exists(name):
             os.remove(name)
@@ -182,8 +225,12 @@ def faults(suite):
     older("old.db", 2)
     older("first.db", 2)
     os.link("first.db", "second.db")
-    for words in (["init", "--db", "blank.db"], ["team-add", "--db", "team.db", "--team", "alpha"], ["group-add", "--db", "group.db", "--group", "alpha"],
-                  ["key-add", "--db", "key.db", "--shelf", "common", "--key", KEYS["C"]]):
+    for words in (
+        ["init", "--db", "blank.db"],
+        ["team-add", "--db", "team.db", "--team", "alpha"],
+        ["group-add", "--db", "group.db", "--group", "alpha"],
+        ["key-add", "--db", "key.db", "--shelf", "common", "--key", KEYS["C"]],
+    ):
         assert run(words)[0] == 0
     names = ("old.db", "whole.db", "text", "foreign", "empty", "first.db", "team.db", "group.db", "key.db")
     before = {name: read(name) for name in names}
@@ -193,7 +240,11 @@ def faults(suite):
     suite.holds("a file that is missing is not made", not os.path.exists("missing.db"))
     unmade = ("old.db-journal", "old.db-shm", "missing.db-journal", "whole.db-journal")
     suite.equal("no file is made where SQLite has a use for it", [it for it in unmade if os.path.lexists(it)], [])
-    suite.equal("no log is left beside a file that was read", [it for it in ("old.db-wal", "foreign-wal", "empty-wal", "first.db-wal") if os.path.exists(it)], [])
+    suite.equal(
+        "no log is left beside a file that was read",
+        [it for it in ("old.db-wal", "foreign-wal", "empty-wal", "first.db-wal") if os.path.exists(it)],
+        [],
+    )
 
 
 def logs(suite):
@@ -204,7 +255,11 @@ def logs(suite):
         with_log(folder, schema)
         before = files_of(folder)
         suite.holds(f"schema {schema}: the log has bytes", len(before["old.db-wal"]) > 1000)
-        suite.equal(f"schema {schema}: it migrates", run(["migrate", "--from", f"{folder}/old.db", "--to", f"log{schema}.db"]), (0, b"", ""))
+        suite.equal(
+            f"schema {schema}: it migrates",
+            run(["migrate", "--from", f"{folder}/old.db", "--to", f"log{schema}.db"]),
+            (0, b"", ""),
+        )
         suite.holds(f"schema {schema}: its folder is as it was", files_of(folder) == before)
         told = run(["inventory", "--db", f"log{schema}.db", "--key", "latekey000000001"])
         suite.equal(f"schema {schema}: the key of the log reads", told, (0, INVENTORY_OF_BETA, ""))
@@ -228,7 +283,11 @@ def full_disk(suite):
                 told = run(["migrate", "--from", "kept/old.db", "--to", "small/new.db"])
                 suite.equal(f"no room for a copy of {what}, beside {kind} file", told, (1, b"", "goshelf: device\n"))
                 left = files_of("kept"), files_of("small")
-                suite.holds(f"no room for a copy of {what}, beside {kind} file: all is as it was", left == before, [sorted(it) for it in left])
+                suite.holds(
+                    f"no room for a copy of {what}, beside {kind} file: all is as it was",
+                    left == before,
+                    [sorted(it) for it in left],
+                )
         finally:
             subprocess.run(["umount", "small"], check=True)
 
@@ -243,7 +302,11 @@ def held(suite):
         before = files_of()
         with open("old.db", "r+b") as file:
             fcntl.lockf(file, fcntl.LOCK_EX, 512, 1 << 30)
-            suite.equal(f"another program has it open, with {name}", run(["migrate", "--from", "old.db", "--to", "new.db"]), (1, b"", "goshelf: device\n"))
+            suite.equal(
+                f"another program has it open, with {name}",
+                run(["migrate", "--from", "old.db", "--to", "new.db"]),
+                (1, b"", "goshelf: device\n"),
+            )
         suite.holds(f"with {name}: the files are as they were", files_of() == before, sorted(files_of()))
 
 
@@ -259,7 +322,14 @@ def read_only(suite):
     older("plain.db", 2)
     turn = 0
     for kind in ("no log", "a log"):
-        for mode, of_file, owner in ((0o555, 0o444, 0), (0o755, 0o444, 0), (0o755, 0o444, 65534), (0o555, 0o644, 65534), (0o555, 0o444, 65534), (0o777, 0o666, 0)):
+        for mode, of_file, owner in (
+            (0o555, 0o444, 0),
+            (0o755, 0o444, 0),
+            (0o755, 0o444, 65534),
+            (0o555, 0o644, 65534),
+            (0o555, 0o444, 65534),
+            (0o777, 0o666, 0),
+        ):
             turn += 1
             folder, new = f"fixed{turn}", f"room/new{turn}.db"
             if kind == "a log":
@@ -273,9 +343,17 @@ def read_only(suite):
                 os.chmod(f"{folder}/{name}", of_file if name else mode)
             about = f"{kind}, a file {of_file:o} in a folder {mode:o} of {'root' if owner == 0 else 'nobody'}"
             before = files_of(folder)
-            suite.equal(f"{about}: it migrates", run(["migrate", "--from", f"{folder}/old.db", "--to", new], before=NOBODY), (0, b"", ""))
+            suite.equal(
+                f"{about}: it migrates",
+                run(["migrate", "--from", f"{folder}/old.db", "--to", new], before=NOBODY),
+                (0, b"", ""),
+            )
             suite.holds(f"{about}: the folder is as it was", files_of(folder) == before, sorted(files_of(folder)))
-            suite.equal(f"{about}: nothing is left beside the new store", [it for it in os.listdir("room") if it.startswith("goshelf-")], [])
+            suite.equal(
+                f"{about}: nothing is left beside the new store",
+                [it for it in os.listdir("room") if it.startswith("goshelf-")],
+                [],
+            )
             suite.holds(f"{about}: each reply is as it was", answers_of(new) == wanted)
     suite.equal("root too", run(["migrate", "--from", "fixed1/old.db", "--to", "root.db"]), (0, b"", ""))
     os.chmod("fixed1/old.db", 0o400)
@@ -294,7 +372,11 @@ def read_only(suite):
     told = run(["migrate", "--from", "fixed1/old.db", "--to", "room/journal.db"], before=NOBODY)
     suite.equal("a read-only file with a journal that is not played back", told, (1, b"", "goshelf: device\n"))
     os.remove("fixed1/old.db-journal")
-    suite.equal("and nothing is left beside the new store", [it for it in os.listdir("room") if it.startswith("goshelf-") or "locked" in it], [])
+    suite.equal(
+        "and nothing is left beside the new store",
+        [it for it in os.listdir("room") if it.startswith("goshelf-") or "locked" in it],
+        [],
+    )
 
 
 if __name__ == "__main__":

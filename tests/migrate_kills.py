@@ -21,6 +21,7 @@ from lib.scratch import files_of, in_new_folders, mounted
 from lib.suite import Suite
 from lib.tables import connected, order_key, rank_key, rows_of, settled
 
+
 def small_zips(file, count=60):
     """Makes a store of schema 2 with this many versions of 40,000 bytes, and returns the requests for all of them."""
     conn = connected(file)
@@ -72,14 +73,21 @@ def full_disks(suite):
             shutil.copytree("small", "left")
             suite.holds(f"{on}: what is left has common alone", is_common_alone("left/new.db"))
             shutil.rmtree("left")
-            suite.equal(f"{on}: with more room it is taken", run(["migrate", "--from", "old.db", "--to", new]), (0, b"", ""))
+            suite.equal(
+                f"{on}: with more room it is taken", run(["migrate", "--from", "old.db", "--to", new]), (0, b"", "")
+            )
             suite.holds(f"{on}: and is whole", len(rows_of(new)[2]) == 60)
         finally:
             subprocess.run(["umount", "small"], check=True)
         pages, disks = pages + random.randrange(1, 120), disks + 1
     if is_mounted:
         suite.holds("some disks were full", disks > 2)
-        suite.holds("a disk with room has all", wanted[0] == 0 and len(raw_replies(wanted[1])) == 62 and {it.split()[1] for it in raw_replies(wanted[1])} == {b"200"})
+        suite.holds(
+            "a disk with room has all",
+            wanted[0] == 0
+            and len(raw_replies(wanted[1])) == 62
+            and {it.split()[1] for it in raw_replies(wanted[1])} == {b"200"},
+        )
     else:
         suite.skip("full disks", "no tmpfs can be mounted")
 
@@ -132,7 +140,10 @@ def kills(suite):
         for end in ("", "-wal"):
             if os.path.exists(f"{turn}.db{end}"):
                 os.remove(f"{turn}.db{end}")
-    print(f"{count} kills: the new store was missing {ends['none']} times, not whole and taken {ends['common']} times, whole {ends['whole']} times; {ends['copy']} copies were left")
+    print(
+        f"{count} kills: the new store was missing {ends['none']} times, not whole and taken {ends['common']} times,"
+        f" whole {ends['whole']} times; {ends['copy']} copies were left"
+    )
     suite.holds("some kills left a store that is taken", ends["common"] > 0)
 
 

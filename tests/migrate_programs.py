@@ -39,6 +39,7 @@ from lib.servers import Server
 from lib.suite import Suite
 from lib.worked import FILES, everything
 
+
 class Recorder(socketserver.ThreadingTCPServer):
     """Passes connections on to a server, and keeps the request and the reply of each."""
 
@@ -90,7 +91,9 @@ def made_by(program, file, shelves):
         if shelf != "common":
             told_done(program, "team-add", "--db", file, "--team", shelf)
         for at, key in enumerate(keys):
-            told_done(program, "key-add", "--db", file, "--shelf", shelf, "--key", key, *(["--read-only"] if at else []))
+            told_done(
+                program, "key-add", "--db", file, "--shelf", shelf, "--key", key, *(["--read-only"] if at else [])
+            )
 
 
 def publishes():
@@ -112,11 +115,17 @@ def replied(program, file, requests):
 def is_as_before(suite, about, program, old, new, requests):
     """Migrates the store of an older program, and compares what both answer."""
     wanted, before = replied(program, old, requests), read(old)
-    suite.holds(f"{about}: there is something to ask", len(wanted) > 20 and any(it.split()[1] == b"200" for it in wanted))
+    suite.holds(
+        f"{about}: there is something to ask", len(wanted) > 20 and any(it.split()[1] == b"200" for it in wanted)
+    )
     suite.equal(f"{about}: it migrates", run(["migrate", "--from", old, "--to", new]), (0, b"", ""))
     suite.holds(f"{about}: the old file has its bytes", read(old) == before)
     found = replied(PROGRAM, new, requests)
-    suite.equal(f"{about}: each of {len(wanted)} replies is as the old program wrote it", [at for at, pair in enumerate(zip(found, wanted)) if pair[0] != pair[1]], [])
+    suite.equal(
+        f"{about}: each of {len(wanted)} replies is as the old program wrote it",
+        [at for at, pair in enumerate(zip(found, wanted)) if pair[0] != pair[1]],
+        [],
+    )
     suite.equal(f"{about}: and there are as many", len(found), len(wanted))
 
 
@@ -126,7 +135,9 @@ def of_go(suite, program, file):
     assert {it.split()[1] for it in replied(program, file, [publishes()])} == {b"201"}
     serving = Server(file, program=program)
     recorder = Recorder(serving.port)
-    alpha, beta = (Client(suite, recorder, os.path.abspath(name), key) for name, key in (("alpha", READER), ("beta", BETA)))
+    alpha, beta = (
+        Client(suite, recorder, os.path.abspath(name), key) for name, key in (("alpha", READER), ("beta", BETA))
+    )
     downloads(alpha, [*ON_ALPHA, *ON_COMMON])
     lists(alpha)
     gets(alpha)
@@ -150,7 +161,14 @@ def by_programs(suite):
         for letter, lines in (("B", "beta.csv"), ("A", "alpha.csv"), ("C", "common.csv")):
             told_done(two, "import", "--db", "two.db", "--key", KEYS[letter], "--list", lines)
         targets = everything()
-        is_as_before(suite, "schema 2", two, "two.db", "two-new.db", [get(it, KEYS[letter]) for letter in "ARBCN" for it in targets])
+        is_as_before(
+            suite,
+            "schema 2",
+            two,
+            "two.db",
+            "two-new.db",
+            [get(it, KEYS[letter]) for letter in "ARBCN" for it in targets],
+        )
         if not shutil.which("go"):
             suite.skip("the go command's traffic", "there is no go command")
         else:
@@ -168,8 +186,16 @@ def by_programs(suite):
         made_by(one, "one.db", OF_GO)
         assert {it.split()[1] for it in replied(one, "one.db", [publishes()])} == {b"201"}
         paths = [(escaped(path), escaped(version)) for _, entries in PUBLISHED for path, version, _, _ in entries]
-        targets = sorted({f"{path}/{it}".format(version) for path, version in paths for it in ("@v/list", "@v/{}.info", "@v/{}.mod", "@v/{}.zip", "@latest")})
-        asked_of_it = [get(it, key) for key in (ALPHA, READER, BETA, COMMON, KEYS["N"]) for it in (*targets, "-/modules")]
+        targets = sorted(
+            {
+                f"{path}/{it}".format(version)
+                for path, version in paths
+                for it in ("@v/list", "@v/{}.info", "@v/{}.mod", "@v/{}.zip", "@latest")
+            }
+        )
+        asked_of_it = [
+            get(it, key) for key in (ALPHA, READER, BETA, COMMON, KEYS["N"]) for it in (*targets, "-/modules")
+        ]
         is_as_before(suite, "schema 1", one, "one.db", "one-new.db", [*asked_of_it, *(request for request, _ in kept)])
 
 

@@ -153,7 +153,11 @@ def behind_the_commit(suite):
     filled(suite)
     with_a_log("logged")
     log = read("logged/old.db-wal")
-    for name, more in (("frames", log[32:]), ("a part of a frame", log[32:800]), ("other bytes", bytes(range(256)) * 40)):
+    for name, more in (
+        ("frames", log[32:]),
+        ("a part of a frame", log[32:800]),
+        ("other bytes", bytes(range(256)) * 40),
+    ):
         shutil.copytree("logged", "two")
         with open("two/old.db-wal", "ab") as file:
             file.write(more)

@@ -33,17 +33,25 @@ from lib.scratch import fill, mounted, play
 from lib.suite import Suite
 
 
-
 def alike(suite, company):
     """Asked twice, so that the second answers come from caches; each shelf has one entry for a file."""
-    for user, path in (("pub", "example.com/lib"), ("rob", "example.com/lib"), ("com", "example.com/base"), ("gil", "example.com/!big")):
+    for user, path in (
+        ("pub", "example.com/lib"),
+        ("rob", "example.com/lib"),
+        ("com", "example.com/base"),
+        ("gil", "example.com/!big"),
+    ):
         for version in ("v1.0.0", "v1.1.0-rc.1"):
-            suite.equal(f"{user} publishes {path} {version} at a site", company.put(user, path, version), (201, b"published\n"))
+            suite.equal(
+                f"{user} publishes {path} {version} at a site", company.put(user, path, version), (201, b"published\n")
+            )
     suite.equal("who reads may not publish", company.put("ann", "example.com/lib", "v2.0.0")[0], 403)
     suite.equal("other bytes of a version", company.put("pub", "example.com/lib", "v1.0.0")[0], 409)
     wanted = equal(suite, company, "empty caches")
     equal(suite, company, "warm caches")
-    kept = {(user, target) for (user, target), (status, _, _) in wanted.items() if status == 200 and KEPT.search(target)}
+    kept = {
+        (user, target) for (user, target), (status, _, _) in wanted.items() if status == 200 and KEPT.search(target)
+    }
     entries = {("alpha" if user == "pub" else user, target) for user, target in kept if user != "ann"}
     for at in FRONTS:
         suite.equal(f"{at} has one entry for a shelf and a file", len(cache_files(company.hosts[at])), len(entries))
@@ -51,7 +59,11 @@ def alike(suite, company):
     company.desk.ask(SITE, "pub", "/example.com/lib/@v/v1.0.0.zip")
     behind = [it for it in company.lines(FIRST, begun) if "/login" not in it]
     suite.equal("what ann asked for at a site is there for another of her shelf", behind, [])
-    strangers = {company.desk.ask(at, None, target)[0] for at in FRONTS for target in ("/example.com/lib/@v/v1.0.0.zip", "/example.com/lib/@v/list", "/login")}
+    strangers = {
+        company.desk.ask(at, None, target)[0]
+        for at in FRONTS
+        for target in ("/example.com/lib/@v/v1.0.0.zip", "/example.com/lib/@v/list", "/login")
+    }
     suite.holds("a stranger gets nothing", strangers <= {401, 404}, strangers)
 
 
@@ -65,10 +77,20 @@ def no_secrets(suite, company):
     keys = [company.key(user) for user, _, _ in USERS]
     for at in (SITE, OTHER):
         folder = company.hosts[at].folder
-        texts = [read(os.path.join(above, it)) for above, _, names in os.walk(folder) for it in names if "/root/" not in above and not os.path.islink(os.path.join(above, it))]
+        texts = [
+            read(os.path.join(above, it))
+            for above, _, names in os.walk(folder)
+            for it in names
+            if "/root/" not in above and not os.path.islink(os.path.join(above, it))
+        ]
         suite.holds(f"{at} has no key", not any(key.encode() in text for key in keys for text in texts))
         logins = [company.desk.login(user).split()[1].encode() for user in READERS]
-        texts = [read(os.path.join(above, it)) for part in ("var", "etc") for above, _, names in os.walk(f"{folder}/{part}") for it in names]
+        texts = [
+            read(os.path.join(above, it))
+            for part in ("var", "etc")
+            for above, _, names in os.walk(f"{folder}/{part}")
+            for it in names
+        ]
         suite.holds(f"no disk of {at} has a login", not any(login in text for login in logins for text in texts))
 
 
@@ -109,23 +131,44 @@ def go_past_a_site(suite, company):
     desk.write("root/.netrc", lines)
     with open(f"{desk.folder}/etc/ssl/hosts.pem", "w", encoding="utf-8") as file:
         file.write("".join(company.hosts[name].read("etc/ssl/goshelf.pem") for name in FRONTS))
-    settings = {"GOPROXY": proxies, "GONOSUMDB": "*", "GOFLAGS": "-modcacherw", "GOPATH": f"{desk.folder}/go", "GOCACHE": f"{desk.folder}/cache",
-                "GOTOOLCHAIN": "local", "SSL_CERT_FILE": f"{desk.folder}/etc/ssl/hosts.pem"}
+    settings = {
+        "GOPROXY": proxies,
+        "GONOSUMDB": "*",
+        "GOFLAGS": "-modcacherw",
+        "GOPATH": f"{desk.folder}/go",
+        "GOCACHE": f"{desk.folder}/cache",
+        "GOTOOLCHAIN": "local",
+        "SSL_CERT_FILE": f"{desk.folder}/etc/ssl/hosts.pem",
+    }
     status, printed, errors = desk.sh("go list -m -versions example.com/lib", **settings)
-    suite.equal("the go command asks the first host", (status, printed.split()[:1]), (0, ["example.com/lib"])) or print(errors)
+    suite.equal("the go command asks the first host", (status, printed.split()[:1]), (0, ["example.com/lib"])) or print(
+        errors
+    )
 
 
 def first_reloaded(suite, company):
     """The first host's nginx reads its files anew, as for each new user, while a site is asked without pause."""
-    suite.equal("the first host's nginx reloads: the store's answers alone", told_over_reloads(company, SITE), [(404, b"not found\n")])
+    suite.equal(
+        "the first host's nginx reloads: the store's answers alone",
+        told_over_reloads(company, SITE),
+        [(404, b"not found\n")],
+    )
 
 
 def store_down(suite, company):
     """goshelf is stopped, and then the first host is cut off: what is kept is answered, and nothing wrong is."""
     wanted = company.answers()
     company.first.does("systemctl stop goshelf")
-    suite.equal("the store is down: what is answered is the store's, all else is a 502", company.differing(wanted, failures=(502, 504)), [])
-    missing = [it for it, (status, _, _) in wanted.items() if status == 200 and KEPT.search(it[1]) and company.desk.ask(SITE, *it) != wanted[it]]
+    suite.equal(
+        "the store is down: what is answered is the store's, all else is a 502",
+        company.differing(wanted, failures=(502, 504)),
+        [],
+    )
+    missing = [
+        it
+        for it, (status, _, _) in wanted.items()
+        if status == 200 and KEPT.search(it[1]) and company.desk.ask(SITE, *it) != wanted[it]
+    ]
     suite.equal("all that a site keeps is answered", missing, [])
     company.first.does("systemctl start goshelf")
     equal(suite, company, "the store is back")
@@ -133,12 +176,18 @@ def store_down(suite, company):
     company.forget()
     begun = time.time()
     kept = {it: answer for it, answer in wanted.items() if answer[0] == 200 and KEPT.search(it[1]) and it[0] == "ann"}
-    suite.equal("the first host is cut off: a site goes on with what it keeps", company.differing(kept, (SITE, OTHER)), [])
+    suite.equal(
+        "the first host is cut off: a site goes on with what it keeps", company.differing(kept, (SITE, OTHER)), []
+    )
     suite.holds("and soon, though it looks for the first host", time.time() - begun < 40, time.time() - begun)
     told = company.desk.ask(SITE, "ann", "/example.com/lib/@v/list")
     suite.holds("a list fails in plain text", told[0] in (502, 504) and told[2].startswith(b"no answer from"), told)
-    suite.holds("a stranger gets nothing", company.desk.ask(SITE, None, "/example.com/lib/@v/v1.0.0.zip")[0] in (401, 502))
-    suite.equal("nor does who has not logged in before", company.desk.ask(SITE, "rob", "/example.com/lib/@v/v1.0.0.zip")[0], 502)
+    suite.holds(
+        "a stranger gets nothing", company.desk.ask(SITE, None, "/example.com/lib/@v/v1.0.0.zip")[0] in (401, 502)
+    )
+    suite.equal(
+        "nor does who has not logged in before", company.desk.ask(SITE, "rob", "/example.com/lib/@v/v1.0.0.zip")[0], 502
+    )
     suite.holds("a publish fails", company.put("pub", "example.com/lib", "v1.4.0")[0] in (502, 504))
     company.first.link(True)
     company.back()
@@ -157,8 +206,12 @@ def cut_publish(suite, company):
         company.hosts[SITE].link(True)
     company.back()
     suite.equal("half of a publish leaves nothing", company.own("ann", "/example.com/cut/@v/v1.0.0.mod")[0], 404)
-    suite.equal("it is published again", company.put("pub", "example.com/cut", "v1.0.0", body=body), (201, b"published\n"))
-    suite.equal("and again", company.put("pub", "example.com/cut", "v1.0.0", body=body, at=OTHER), (200, b"already published\n"))
+    suite.equal(
+        "it is published again", company.put("pub", "example.com/cut", "v1.0.0", body=body), (201, b"published\n")
+    )
+    suite.equal(
+        "and again", company.put("pub", "example.com/cut", "v1.0.0", body=body, at=OTHER), (200, b"already published\n")
+    )
     equal(suite, company, "a publish that was cut")
 
 
@@ -174,19 +227,29 @@ def revoked(suite, company):
     suite.equal("removed: at the first host", company.desk.ask(FIRST, "tom", zip_file)[0], 401)
     suite.equal("what changes, at a site", company.desk.ask(SITE, "tom", "/example.com/lib/@v/list")[0], 401)
     company.forget()
-    suite.equal("what is kept, at a site, once it asks again", [company.desk.ask(at, "tom", zip_file)[0] for at in (SITE, OTHER)], [401] * 2)
+    suite.equal(
+        "what is kept, at a site, once it asks again",
+        [company.desk.ask(at, "tom", zip_file)[0] for at in (SITE, OTHER)],
+        [401] * 2,
+    )
     company.desk.ask(SITE, "ann", zip_file)
     company.first.link(False)
     company.forget()
-    suite.equal("a site that was told so holds to it when it is cut off", company.desk.ask(SITE, "tom", zip_file)[0], 401)
+    suite.equal(
+        "a site that was told so holds to it when it is cut off", company.desk.ask(SITE, "tom", zip_file)[0], 401
+    )
     company.first.does(remove)
     company.first.reload()
-    suite.equal("removed while sites are cut off: what is kept is answered", company.desk.ask(SITE, "ann", zip_file)[0], 200)
+    suite.equal(
+        "removed while sites are cut off: what is kept is answered", company.desk.ask(SITE, "ann", zip_file)[0], 200
+    )
     company.first.link(True)
     company.back(401)
     time.sleep(LEFT_ALONE)
     company.forget()
-    suite.equal("and refused once they are back", [company.desk.ask(at, "ann", zip_file)[0] for at in FRONTS], [401] * 3)
+    suite.equal(
+        "and refused once they are back", [company.desk.ask(at, "ann", zip_file)[0] for at in FRONTS], [401] * 3
+    )
     company.desk.add(company.first, "ann", "alpha", "read")
     company.first.reload()
     company.forget()
@@ -285,7 +348,11 @@ def day_old(suite, company):
     for end in ("", "-wal"):
         shutil.copyfile(f"{first.folder}/copy{end}", first.store + end)
     first.does("systemctl start goshelf")
-    suite.equal("each cache still has what was published since", [company.desk.ask(at, "ann", zip_file)[0] for at in FRONTS], [200] * 3)
+    suite.equal(
+        "each cache still has what was published since",
+        [company.desk.ask(at, "ann", zip_file)[0] for at in FRONTS],
+        [200] * 3,
+    )
     first.does("goshelf-uncache")
     first.reload()
     company.forget()

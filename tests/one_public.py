@@ -87,9 +87,16 @@ def not_kept(suite, company):
     files[f"/{LIB}/@v/master.info"] = JSON, b'{"Version":"v1.0.0"}'
     files["/pub.example/odd/@v/v1.0.0.mod"] = HTML
     company.outside.how["/pub.example/short/"] = lambda handler, _: (
-        handler.head(200, ("Content-Type", TEXT), ("Connection", "close")), handler.wfile.write(b"module"))
-    for target in (f"/{LIB}/@v/master.info", f"/{LIB}/@v/list", f"/{LIB}/@latest", "/pub.example/odd/@v/v1.0.0.mod",
-                   "/pub.example/short/@v/v1.0.0.mod"):
+        handler.head(200, ("Content-Type", TEXT), ("Connection", "close")),
+        handler.wfile.write(b"module"),
+    )
+    for target in (
+        f"/{LIB}/@v/master.info",
+        f"/{LIB}/@v/list",
+        f"/{LIB}/@latest",
+        "/pub.example/odd/@v/v1.0.0.mod",
+        "/pub.example/short/@v/v1.0.0.mod",
+    ):
         told = [company.asks(target) for _ in range(2)]
         suite.equal(f"{target} is asked twice", [(it[0], it[2]) for it in told], [(200, False)] * 2)
     told = [company.asks("/pub.example/none/@v/v1.0.0.mod") for _ in range(2)]

@@ -34,33 +34,55 @@ def fill(company):
     """What is public, the bait, and what the company publishes."""
     fill_public(company)
     ours = {"a.go": 'package core\n\nconst V = "ours"\n', "deep/d.go": "package deep\n"}
-    for path, version in ((CORE, "v1.0.0"), (CORE, "v0.9.0"), (CORE, OUR_PSEUDO), (f"{CORE}/v2", "v2.0.0"),
-                          (f"{CORE}/nested", "v0.1.0")):
+    for path, version in (
+        (CORE, "v1.0.0"),
+        (CORE, "v0.9.0"),
+        (CORE, OUR_PSEUDO),
+        (f"{CORE}/v2", "v2.0.0"),
+        (f"{CORE}/nested", "v0.1.0"),
+    ):
         company.publish("pat", path, version, files=ours)
     company.publish("pat", CORE, "v1.1.0", GO_MOD.format(CORE) + "\nretract v1.1.0 // ours\n", ours)
     requires = f"\nrequire (\n\t{CORE} v1.0.0\n\tpub.example/lib v1.0.0\n)\n"
     main = f'import (\n\t"{CORE}"\n\t"pub.example/lib"\n)\n\nfunc main() {{ println(core.V, lib.V) }}\n'
-    company.publish("pat", "example.com/alpha/app", "v1.0.0", GO_MOD.format("example.com/alpha/app") + requires,
-                    {"main.go": f"package main\n\n{main}"})
+    company.publish(
+        "pat",
+        "example.com/alpha/app",
+        "v1.0.0",
+        GO_MOD.format("example.com/alpha/app") + requires,
+        {"main.go": f"package main\n\n{main}"},
+    )
 
 
 def fill_public(company):
     add = company.outside.add
     for version in ("v1.0.0", "v1.1.0", "v1.2.0"):
         retract = "\nretract v1.1.0 // wrong\n" if version == "v1.2.0" else ""
-        add("pub.example/lib", version, GO_MOD.format("pub.example/lib") + retract,
-            {"a.go": f'package lib\n\nconst V = "{version}"\n', "pkg/p.go": "package pkg\n"})
+        add(
+            "pub.example/lib",
+            version,
+            GO_MOD.format("pub.example/lib") + retract,
+            {"a.go": f'package lib\n\nconst V = "{version}"\n', "pkg/p.go": "package pkg\n"},
+        )
     add("pub.example/lib", PSEUDO, is_listed=False)
     files = company.outside.files
     files["/pub.example/lib/@v/master.info"] = files[f"/pub.example/lib/@v/{PSEUDO}.info"]
-    for path, version in (("pub.example/lib/sub", "v0.1.0"), ("pub.example/lib/v2", "v2.0.0"),
-                          ("pub.example/BurntSushi/Toml", "v1.0.0"), TOOLCHAIN):
+    for path, version in (
+        ("pub.example/lib/sub", "v0.1.0"),
+        ("pub.example/lib/v2", "v2.0.0"),
+        ("pub.example/BurntSushi/Toml", "v1.0.0"),
+        TOOLCHAIN,
+    ):
         add(path, version)
     add("pub.example/old", "v2.0.0+incompatible", "module pub.example/old\n")
     add("pub.example/tool", "v1.0.0", files={"main.go": "package main\n\nfunc main() {}\n"})
     add("pub.example/lies", "v1.0.0", is_true=False)
-    add("pub.example/needs", "v1.0.0", GO_MOD.format("pub.example/needs") + f"\nrequire {CORE} v1.0.0\n",
-        {"a.go": f'package needs\n\nimport _ "{CORE}"\n'})
+    add(
+        "pub.example/needs",
+        "v1.0.0",
+        GO_MOD.format("pub.example/needs") + f"\nrequire {CORE} v1.0.0\n",
+        {"a.go": f'package needs\n\nimport _ "{CORE}"\n'},
+    )
     add("pub.example/newer", "v1.0.0", "module pub.example/newer\n\ngo 1.21\n\ntoolchain go1.21.0\n")
     for path in (CORE, "example.com/alpha/absent", "forge.example/corp/secret"):
         for version in ("v1.0.0", "v1.9.9"):
@@ -140,8 +162,13 @@ def between(suite, company):
     with open(f"{cache}/{CORE}@v1.0.0/a.go", encoding="utf-8") as file:
         suite.holds("gets our bytes", "ours" in file.read())
     begun = company.asked_outside()
-    for it in ("example.com/alpha/absent", "example.com/nosuch/pkg", f"{CORE}/none", "forge.example/corp/secret",
-               "forge.example/Corp/Secret"):
+    for it in (
+        "example.com/alpha/absent",
+        "example.com/nosuch/pkg",
+        f"{CORE}/none",
+        "forge.example/corp/secret",
+        "forge.example/Corp/Secret",
+    ):
         ended, _, said = tidy(it)
         suite.holds(f"a package of ours in no module, {it}", not ended and "BAIT" not in said, said)
     told = company.outside.targets(begun)
@@ -194,8 +221,7 @@ def attacks(suite, company):
     ends = ("/@v/v1.9.9.mod", "/@v/v1.9.9.zip", "/@v/list", "/@latest", "@v1.9.9")
     targets = [f"{it}{end}" for it in ways for end in ends]
     queries = ("?", "?x=/@v/v1.0.0.mod", "?a=1#/@v/list", "#/@v/list", "%3f/@v/list", "%0d%0aX:%201/@v/list")
-    targets += [f"/{path}{end}" for path in (f"{CORE}/@v/v1.9.9.mod", "pub.example/lib/@v/list")
-                for end in queries]
+    targets += [f"/{path}{end}" for path in (f"{CORE}/@v/v1.9.9.mod", "pub.example/lib/@v/list") for end in queries]
     targets += [f"{it}/{CORE}/@v/list" for it in ("https://pub.example", "http://proxy.golang.org")]
     told = [(it, *company.ask(it)) for it in targets]
     baited = [it for it in told if BAIT in it[2] or b"v1.9.9" in it[2] and b"not found" not in it[2]]
@@ -208,8 +234,15 @@ def attacks(suite, company):
 def neighbours(suite, company):
     """Paths beside ours are public, and go out without anything that the user sent."""
     begun = company.asked_outside()
-    paths = ["example.comx/alpha", "example.com.evil/alpha", "xexample.com/alpha", "example.co/m/alpha",
-             "forge.example/corporate/x", "forge.example/cor/p", "sub.example.com/alpha"]
+    paths = [
+        "example.comx/alpha",
+        "example.com.evil/alpha",
+        "xexample.com/alpha",
+        "example.co/m/alpha",
+        "forge.example/corporate/x",
+        "forge.example/cor/p",
+        "sub.example.com/alpha",
+    ]
     for it in (*paths, "example-com/alpha"):
         company.ask(f"/{it}/@v/list")
     suite.equal("neighbours of our paths", company.outside.targets(begun), [f"/{it}/@v/list" for it in paths])
@@ -217,8 +250,14 @@ def neighbours(suite, company):
     told = {company.ask(f"{it}/@v/list")[0] for it in long}
     suite.holds("very long paths", told <= {400, 404, 414}, told)
     begun = company.asked_outside()
-    headers = {"Cookie": "s=1", "X-Forwarded-For": "10.0.0.1", "User-Agent": "me", "Referer": "https://in.example.com",
-               "Proxy-Authorization": "Basic x", "Range": "bytes=0-1"}
+    headers = {
+        "Cookie": "s=1",
+        "X-Forwarded-For": "10.0.0.1",
+        "User-Agent": "me",
+        "Referer": "https://in.example.com",
+        "Proxy-Authorization": "Basic x",
+        "Range": "bytes=0-1",
+    }
     company.ask("/pub.example/head/@v/list", body=b"a body with secrets", headers=headers)
     _, sent, body = company.outside.asked[begun]
     suite.equal("no header and no body of the user goes out", (sent, body), ({"Host": "proxy.golang.org"}, b""))

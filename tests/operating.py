@@ -23,7 +23,6 @@ from lib.suite import Suite
 from lib.tables import change, reordered
 
 
-
 PAGES = "".join(map(read_page, OPERATORS))
 
 
@@ -48,14 +47,18 @@ def keys(suite, machine):
     machine.does("systemctl stop goshelf")
     found = [answers_of(machine.store, "-/modules", key=it)[0][0] for it in (made, ALPHA, more)]
     suite.equal("the store has it so: a revoked key, one as before, and one of a new team", found, [404, 200, 200])
-    suite.equal("and nobody listens", machine.sh(f"goshelf key-revoke {control} --key {more}"), (1, "", "goshelf: device\n"))
+    suite.equal(
+        "and nobody listens", machine.sh(f"goshelf key-revoke {control} --key {more}"), (1, "", "goshelf: device\n")
+    )
     machine.does("systemctl start goshelf")
     machine.does(f"goshelf key-revoke {control} --key {more}")
 
 
 def cron_lines(machine):
     """The lines of the files that the blocks for cron write, run once or twice."""
-    return [line for it in ("backup", "watch", "metrics") for line in machine.read(f"etc/cron.d/goshelf-{it}").splitlines()]
+    return [
+        line for it in ("backup", "watch", "metrics") for line in machine.read(f"etc/cron.d/goshelf-{it}").splitlines()
+    ]
 
 
 def cron(suite, machine):
@@ -63,7 +66,13 @@ def cron(suite, machine):
     lines = cron_lines(machine)
     wanted = [["root", f"{machine.folder}/usr/local/bin/goshelf-{it}"] for it in ("backup", "watch", "metrics")]
     suite.equal("the lines for cron", [it.split()[5:7] for it in lines], wanted)
-    ran = subprocess.run(["sh", "-c", lines[0].split()[6]], env={"PATH": "/usr/bin:/bin", "HOME": "/root"}, cwd="/", capture_output=True, text=True)
+    ran = subprocess.run(
+        ["sh", "-c", lines[0].split()[6]],
+        env={"PATH": "/usr/bin:/bin", "HOME": "/root"},
+        cwd="/",
+        capture_output=True,
+        text=True,
+    )
     suite.equal("a backup by cron", (ran.returncode, ran.stdout, ran.stderr, len(copies(machine))), (0, "", "", 1))
     shutil.rmtree(f"{machine.folder}/var/backups/goshelf")
 
@@ -79,8 +88,12 @@ def by_hand(suite, machine):
         status, _, told = machine.sh(way.replace("F", machine.store, 1).replace("COPY", copy))
         suite.equal(f"{way}: fails while goshelf runs", (status == 0, "database is locked" in told), (False, True))
         suite.holds(f"{way}: leaves an empty copy", os.path.getsize(copy) == 0)
-        suite.equal(f"{way}: sqlite3 calls that copy good", machine.does(f"sqlite3 {copy} 'PRAGMA integrity_check'"), "ok\n")
-        suite.equal(f"{way}: an inventory does not", machine.sh(listed.replace("COPY", copy)), (1, "", "goshelf: no-key\n"))
+        suite.equal(
+            f"{way}: sqlite3 calls that copy good", machine.does(f"sqlite3 {copy} 'PRAGMA integrity_check'"), "ok\n"
+        )
+        suite.equal(
+            f"{way}: an inventory does not", machine.sh(listed.replace("COPY", copy)), (1, "", "goshelf: no-key\n")
+        )
     machine.does(block("sh", "goshelf copy --control"))
     machine.does("systemctl stop goshelf")
     wanted = machine.does(listed.replace("COPY", machine.store))
@@ -99,7 +112,11 @@ def backups(suite, machine):
     suite.equal("a backup prints nothing", machine.sh("goshelf-backup"), (0, "", ""))
     suite.holds("and goshelf runs on", runs(machine))
     by_copy = copies(machine)[0]
-    suite.equal("nothing is left beside the store", sorted(os.listdir(f"{machine.folder}/var/lib/goshelf")), ["shelves.db", "shelves.db-wal"])
+    suite.equal(
+        "nothing is left beside the store",
+        sorted(os.listdir(f"{machine.folder}/var/lib/goshelf")),
+        ["shelves.db", "shelves.db-wal"],
+    )
     os.rename(f"{at}/{by_copy}", f"{machine.folder}/root/by-copy")
     suite.equal("a backup that stops goshelf prints nothing", machine.sh("goshelf-backup stop"), (0, "", ""))
     suite.holds("and goshelf runs again", runs(machine))
@@ -109,11 +126,25 @@ def backups(suite, machine):
     os.rename(f"{machine.folder}/root/by-copy", f"{at}/{by_copy}")
     first = copies(machine)
     suite.equal("there is one copy", len(first), 1)
-    suite.equal("only root may read it", {os.stat(f"{at}/{it}").st_mode & 0o077 for it in (".", first[0], f"{first[0]}/shelves.db")}, {0})
-    suite.equal("its versions", read(f"{at}/{first[0]}/versions").decode().splitlines(), sorted(
-        f"{shelf}|{path}|{version}|2024-01-31T12:00:00Z" for (_, path, version, _), shelf in zip(PUBLISHED, ["alpha"] * 3 + ["beta", "common"])))
+    suite.equal(
+        "only root may read it",
+        {os.stat(f"{at}/{it}").st_mode & 0o077 for it in (".", first[0], f"{first[0]}/shelves.db")},
+        {0},
+    )
+    suite.equal(
+        "its versions",
+        read(f"{at}/{first[0]}/versions").decode().splitlines(),
+        sorted(
+            f"{shelf}|{path}|{version}|2024-01-31T12:00:00Z"
+            for (_, path, version, _), shelf in zip(PUBLISHED, ["alpha"] * 3 + ["beta", "common"])
+        ),
+    )
     shutil.copytree(f"{at}/{first[0]}", f"{machine.folder}/root/copy")
-    suite.equal("it is a store", answers_of(f"{machine.folder}/root/copy/shelves.db", "example.com/lib/@v/v1.1.0.zip"), [(200, SECRET)])
+    suite.equal(
+        "it is a store",
+        answers_of(f"{machine.folder}/root/copy/shelves.db", "example.com/lib/@v/v1.1.0.zip"),
+        [(200, SECRET)],
+    )
     for day in range(20):
         shutil.copytree(f"{at}/{first[0]}", f"{at}/2020-01-{day + 1:02}T031500Z")
     os.rename(f"{at}/{first[0]}", f"{at}/2020-02-01T031500Z")
@@ -122,17 +153,31 @@ def backups(suite, machine):
     machine.does("systemctl stop goshelf")
     os.rename(machine.store, f"{machine.store}.aside")
     shutil.copy(machine.store + ".aside", machine.store)
-    machine.does("sqlite3 /var/lib/goshelf/shelves.db \"DELETE FROM piece WHERE version = 1; DELETE FROM version WHERE id = 1\"; systemctl start goshelf")
+    machine.does(
+        'sqlite3 /var/lib/goshelf/shelves.db "DELETE FROM piece WHERE version = 1; DELETE FROM version WHERE id = 1";'
+        " systemctl start goshelf"
+    )
     status, told, _ = machine.sh("goshelf-backup")
-    suite.holds("a copy that lacks a version is none", status == 1 and "alpha|example.com/lib|v1.0.0|" in told and len(copies(machine)) == 14, (status, told))
-    machine.does("systemctl stop goshelf; rm /var/lib/goshelf/shelves.db*; cp /dev/null /var/lib/goshelf/shelves.db; systemctl start goshelf")
+    suite.holds(
+        "a copy that lacks a version is none",
+        status == 1 and "alpha|example.com/lib|v1.0.0|" in told and len(copies(machine)) == 14,
+        (status, told),
+    )
+    machine.does(
+        "systemctl stop goshelf; rm /var/lib/goshelf/shelves.db*; cp /dev/null /var/lib/goshelf/shelves.db; systemctl"
+        " start goshelf"
+    )
     status, _, told = machine.sh("goshelf-backup")
     suite.holds("an empty copy is none", status != 0 and len(copies(machine)) == 14, (status, told))
     suite.holds("and goshelf runs all the same", runs(machine))
     machine.write("root/yes", "yes\n")
     machine.does(beginning("goshelf-restore\n").replace("goshelf-restore last", "goshelf-restore last < yes"))
     machine.does("systemctl stop goshelf")
-    suite.equal("a restored store", answers_of(machine.store, "example.com/lib/@v/v1.1.0.zip", "example.com/lib/@v/list"), [(200, SECRET), (200, b"v1.0.0\nv1.1.0\nv1.2.0\n")])
+    suite.equal(
+        "a restored store",
+        answers_of(machine.store, "example.com/lib/@v/v1.1.0.zip", "example.com/lib/@v/list"),
+        [(200, SECRET), (200, b"v1.0.0\nv1.1.0\nv1.2.0\n")],
+    )
     machine.does("systemctl start goshelf")
 
 
@@ -140,14 +185,39 @@ def queries(suite, machine):
     """What sqlite3 prints of a copy."""
     copy = f"{machine.folder}/root/copy/shelves.db"
     for first, words in (
-        ("ORDER BY id DESC LIMIT 20", [["common", "example.com/base", "v0.1.0"], ["beta", "example.com/lib", "v1.1.0"]]),
-        ("AS zip_bytes", [["common", "1", "24", "200000"], ["alpha", "3", "69", str(3 + len(SECRET) + 5)], ["beta", "1", "23", "10"]]),
-        ("substr(token, 1, 4)", [["alpha", "publish", "alph"], ["alpha", "read", "alph"], ["beta", "publish", "beta"], ["common", "publish", "comm"], ["gamma", "publish", "gamm"]]),
+        (
+            "ORDER BY id DESC LIMIT 20",
+            [["common", "example.com/base", "v0.1.0"], ["beta", "example.com/lib", "v1.1.0"]],
+        ),
+        (
+            "AS zip_bytes",
+            [
+                ["common", "1", "24", "200000"],
+                ["alpha", "3", "69", str(3 + len(SECRET) + 5)],
+                ["beta", "1", "23", "10"],
+            ],
+        ),
+        (
+            "substr(token, 1, 4)",
+            [
+                ["alpha", "publish", "alph"],
+                ["alpha", "read", "alph"],
+                ["beta", "publish", "beta"],
+                ["common", "publish", "comm"],
+                ["gamma", "publish", "gamm"],
+            ],
+        ),
         ("AS in_group", [["platform", "gamma"]]),
     ):
         printed = machine.does(block("sh", first).replace("COPY", copy))
-        rows = [[it.strip() for it in line.strip("│\n").split("│")] for line in printed.splitlines() if line.startswith("│")]
-        suite.holds(first, all(row[: len(want)] == want for row, want in zip(rows[1:], words)) and len(rows) > len(words), printed)
+        rows = [
+            [it.strip() for it in line.strip("│\n").split("│")] for line in printed.splitlines() if line.startswith("│")
+        ]
+        suite.holds(
+            first,
+            all(row[: len(want)] == want for row, want in zip(rows[1:], words)) and len(rows) > len(words),
+            printed,
+        )
     printed = machine.does(block("sh", "/versions | head"))
     suite.holds("the first backup that has a version", printed.endswith("/2020-01-09T031500Z/versions\n"), printed)
     printed = machine.does(block("sh", "/versions | sort -u"))
@@ -187,7 +257,11 @@ def watch(suite, machine):
     suite.equal("the page writes two settings", settings, wanted)
     machine.does(CERTIFICATE.format(days=30))
     told = machine.sh("goshelf-watch")[1].splitlines()
-    suite.equal("a log that nginx has not made, or another file", [it for it in told if "5xx" in it or "goshelf.log" in it], [f"goshelf: there is no {machine.folder}/var/log/nginx/goshelf.log"])
+    suite.equal(
+        "a log that nginx has not made, or another file",
+        [it for it in told if "5xx" in it or "goshelf.log" in it],
+        [f"goshelf: there is no {machine.folder}/var/log/nginx/goshelf.log"],
+    )
     lacking = machine.sh("rm /etc/default/goshelf; goshelf-watch")
     names = re.findall(r"has no GOSHELF_(\w+)\n", lacking[1])
     suite.equal("settings that are missing are problems", (lacking[0], names), (1, ["HOST", "CERTIFICATE"]))
@@ -198,7 +272,12 @@ def watch(suite, machine):
 
     def says(name, wanted):
         status, told, errors = machine.sh("goshelf-watch")
-        suite.holds(name, (status, errors) == (1 if wanted else 0, "") and re.fullmatch(f"goshelf: .*{wanted}.*\n" if wanted else "", told), (status, told, errors))
+        suite.holds(
+            name,
+            (status, errors) == (1 if wanted else 0, "")
+            and re.fullmatch(f"goshelf: .*{wanted}.*\n" if wanted else "", told),
+            (status, told, errors),
+        )
 
     machine.command("df", FULL.format(10))  # (however full the disk of this machine is)
     machine.write("var/log/nginx/goshelf.log", old * 50 + good * 300 + bad * 3)
@@ -214,7 +293,10 @@ def watch(suite, machine):
     says("it was not restarted again", "")
     program = f"{machine.folder}/usr/local/bin/goshelf"
     os.rename(program, f"{program}.aside")
-    machine.command("goshelf", '#!/bin/sh\n[ "$*" = "ping --control @/run/goshelf/control" ] && echo "2xx=1 store-failures=3 versions=1"\n')
+    machine.command(
+        "goshelf",
+        '#!/bin/sh\n[ "$*" = "ping --control @/run/goshelf/control" ] && echo "2xx=1 store-failures=3 versions=1"\n',
+    )
     says("the disk of the store failed", "3 times")
     says("it did not fail again", "")
     os.rename(f"{program}.aside", program)
@@ -308,13 +390,21 @@ def older(suite, machine, schema, tables):
             os.remove(name)
     change(machine.store, *([statement] for statement in filter(str.strip, tables.split(";"))))
     before = read(machine.store)
-    suite.equal(f"a store of schema {schema} is none", run(["inventory", "--db", machine.store, "--key", ALPHA])[2], "goshelf: bad-schema\n")
+    suite.equal(
+        f"a store of schema {schema} is none",
+        run(["inventory", "--db", machine.store, "--key", ALPHA])[2],
+        "goshelf: bad-schema\n",
+    )
     printed = machine.does(block("sh", "goshelf migrate").replace("KEY", ALPHA))
     suite.holds("goshelf runs after the upgrade", runs(machine))
     machine.does("systemctl stop goshelf")
     wanted = "path,version,shelf,class,time,mod_bytes,zip_bytes\nexample.com/lib,v1.0.0,common,release,,23,1\n"
     suite.equal("its versions are there", printed, wanted)
-    suite.equal("a team of it is no group", run(["team-add", "--db", machine.store, "--team", "eps", "--group", "alpha"])[2], "goshelf: no-group\n")
+    suite.equal(
+        "a team of it is no group",
+        run(["team-add", "--db", machine.store, "--team", "eps", "--group", "alpha"])[2],
+        "goshelf: no-group\n",
+    )
     suite.holds("the old store has its bytes", read(f"{machine.folder}/var/lib/goshelf/older/shelves.db") == before)
     shutil.rmtree(f"{machine.folder}/var/lib/goshelf/older")
     machine.does("systemctl start goshelf")
@@ -324,24 +414,41 @@ def tables(suite, machine):
     """What sqlite3 does with the tables: a zip is read, rows are taken over from other tables, and the highest row
     number is moved."""
     machine.does("systemctl stop goshelf")
-    script = block("sh", "xxd -r -p", "REFERENCE.md").rstrip().replace("'P'", "'example.com/base'").replace("'V'", "'v0.1.0'").replace("'alpha'", "'common'")
+    script = (
+        block("sh", "xxd -r -p", "REFERENCE.md")
+        .rstrip()
+        .replace("'P'", "'example.com/base'")
+        .replace("'V'", "'v0.1.0'")
+        .replace("'alpha'", "'common'")
+    )
     machine.does(f"{script.replace(' F ', f' {machine.store} ')} > zip.out")
     suite.holds("a zip is read", read(f"{machine.folder}/root/zip.out") == b"four" * 50_000)
     other, new = (f"{machine.folder}/root/{it}.db" for it in ("other", "taken"))
     machine.does(f"sqlite3 {machine.store} 'PRAGMA wal_checkpoint(TRUNCATE)'")
     reordered(other, machine.store)
-    suite.equal("tables in another order are no store", run(["inventory", "--db", other, "--key", ALPHA])[2], "goshelf: bad-schema\n")
+    suite.equal(
+        "tables in another order are no store",
+        run(["inventory", "--db", other, "--key", ALPHA])[2],
+        "goshelf: bad-schema\n",
+    )
     machine.does(block("sh", "goshelf init --db NEW", "REFERENCE.md").replace("NEW", new).replace("'F'", f"'{other}'"))
     lists = [run(["inventory", "--db", it, "--key", ALPHA]) for it in (new, machine.store)]
     suite.holds("their rows are taken over", lists[0] == lists[1] and lists[0][0] == 0, lists)
-    suite.equal("a group is taken over", run(["team-add", "--db", new, "--team", "eps", "--group", "platform"]), (0, b"", ""))
-    ends = "UPDATE version SET id = {0} WHERE id = (SELECT {1}(id) FROM version); UPDATE piece SET version = {0} WHERE version = (SELECT {1}(version) FROM piece)"
+    suite.equal(
+        "a group is taken over", run(["team-add", "--db", new, "--team", "eps", "--group", "platform"]), (0, b"", "")
+    )
+    ends = (
+        "UPDATE version SET id = {0} WHERE id = (SELECT {1}(id) FROM version); UPDATE piece SET version = {0} WHERE"
+        " version = (SELECT {1}(version) FROM piece)"
+    )
     for number, which in ((2**63 - 1, "max"), (-(2**63), "min")):
         machine.does(f'sqlite3 {new} "{ends.format(number, which)}"')
     lowest = publish(machine, ALPHA, "example.com/lib", "v1.4.0", b"last", new)
     machine.does(block("sh", "UPDATE version SET id = 0", "REFERENCE.md").replace(" F ", f" {new} "))
     found = lowest, publish(machine, ALPHA, "example.com/lib", "v1.4.0", b"last", new)
-    suite.equal("a publish without a row number, and with one that was freed", found, ("503 unavailable", "201 published"))
+    suite.equal(
+        "a publish without a row number, and with one that was freed", found, ("503 unavailable", "201 published")
+    )
     machine.does("systemctl start goshelf")
 
 

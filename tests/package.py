@@ -27,14 +27,31 @@ RELEASE = os.path.join(ROOT, "tools", "release")
 VERSION = os.path.join(ROOT, "crates", "cli", "src", "version.rt")
 UNIT = os.path.join(ROOT, "deploy", "systemd", "goshelf.service")
 # files that a release has among others
-WANTED = {"README.md", "copyright", "docs/OPERATING.md", "docs/TROUBLE.md", "docs/REFERENCE.md", "bench/RESULTS.md", "deploy/systemd/goshelf.service", "deploy/warm/goshelf-warm",
-          "deploy/goshelf-paths", "deploy/nginx/paths.map", "deploy/nginx/elsewhere.conf", "deploy/nginx/public.conf"}
+WANTED = {
+    "README.md",
+    "copyright",
+    "docs/OPERATING.md",
+    "docs/TROUBLE.md",
+    "docs/REFERENCE.md",
+    "bench/RESULTS.md",
+    "deploy/systemd/goshelf.service",
+    "deploy/warm/goshelf-warm",
+    "deploy/goshelf-paths",
+    "deploy/nginx/paths.map",
+    "deploy/nginx/elsewhere.conf",
+    "deploy/nginx/public.conf",
+}
 # the commands that the package installs
 DEPLOY = os.path.join(ROOT, "deploy")
 SCRIPTS = [it for at in ("", "warm") for it in os.listdir(os.path.join(DEPLOY, at)) if it.startswith("goshelf-")]
 COMMANDS = sorted(["goshelf", *SCRIPTS])
 # the settings of a command on the copy
-SETTINGS = ["PATH=/usr/local/sbin:/usr/local/bin:/usr/sbin:/usr/bin:/sbin:/bin", "DEBIAN_FRONTEND=noninteractive", "LC_ALL=C", "HOME=/root"]
+SETTINGS = [
+    "PATH=/usr/local/sbin:/usr/local/bin:/usr/sbin:/usr/bin:/sbin:/bin",
+    "DEBIAN_FRONTEND=noninteractive",
+    "LC_ALL=C",
+    "HOME=/root",
+]
 # the rating of systemd-analyze below which the unit has to stay
 SAFE = 2.5
 UNPROVED = "this program was built unproved, with a sanitizer"
@@ -77,10 +94,26 @@ class Copy:
 
     def __init__(self, folder, groups):
         self.group = os.path.join(groups, os.path.basename(folder))
-        words = ["unshare", "--mount", "--pid", "--uts", "--ipc", "--net", "--cgroup", "--fork", "--kill-child", "sh", "-euc", BOOT, folder]
+        words = [
+            "unshare",
+            "--mount",
+            "--pid",
+            "--uts",
+            "--ipc",
+            "--net",
+            "--cgroup",
+            "--fork",
+            "--kill-child",
+            "sh",
+            "-euc",
+            BOOT,
+            folder,
+        ]
         join = ["sh", "-euc", 'mkdir "$0"; echo $$ > "$0/cgroup.procs"; exec "$@"', self.group]
         self.log = tempfile.TemporaryFile()
-        self.child = subprocess.Popen([*join, *words], stdin=subprocess.DEVNULL, stdout=self.log, stderr=self.log, start_new_session=True)
+        self.child = subprocess.Popen(
+            [*join, *words], stdin=subprocess.DEVNULL, stdout=self.log, stderr=self.log, start_new_session=True
+        )
         self.first = None
 
     def starts(self):
@@ -102,7 +135,9 @@ class Copy:
         spaces = ["--mount", "--pid", "--uts", "--ipc", "--net", "--cgroup", "--root", "--wd"]
         env = ["env", "-i", "--chdir=/", *SETTINGS, *(f"{name}={value}" for name, value in settings.items())]
         words = ["nsenter", "--target", self.first, *spaces, *env, "sh", "-euc", script]
-        ran = subprocess.run(words, stdin=subprocess.DEVNULL, capture_output=True, text=True, errors="replace", timeout=120)
+        ran = subprocess.run(
+            words, stdin=subprocess.DEVNULL, capture_output=True, text=True, errors="replace", timeout=120
+        )
         return ran.returncode, ran.stdout, ran.stderr
 
     def prints(self, script):
@@ -145,11 +180,15 @@ def released(suite, folder):
         ran = subprocess.run([RELEASE, "--program", PROGRAM, "--to", f"{folder}/{way}"], capture_output=True, text=True)
         if not suite.holds(f"a release is made ({way})", ran.returncode == 0, ran.stderr):
             return None
-        names[way] = {it: hashlib.sha256(read(f"{folder}/{way}/{it}")).hexdigest() for it in sorted(os.listdir(f"{folder}/{way}"))}
+        names[way] = {
+            it: hashlib.sha256(read(f"{folder}/{way}/{it}")).hexdigest() for it in sorted(os.listdir(f"{folder}/{way}"))
+        }
     suite.equal("a second one has the same bytes", names["two"], names["one"])
     sums = "".join(f"{names['one'][it]}  {it}\n" for it in sorted(names["one"]) if it != "SHA256SUMS")
     suite.equal("SHA256SUMS has the sum of each file", read(f"{folder}/one/SHA256SUMS").decode(), sums)
-    tar, package = (next(f"{folder}/one/{it}" for it in names["one"] if it.endswith(end)) for end in (".tar.gz", ".deb"))
+    tar, package = (
+        next(f"{folder}/one/{it}" for it in names["one"] if it.endswith(end)) for end in (".tar.gz", ".deb")
+    )
     return tar, package
 
 
@@ -162,7 +201,9 @@ def unpacked(suite, tar, folder):
     at = f"{folder}/tar/{top}"
     suite.equal("it unpacks into one folder", [it.name for it in members if it.name.split("/")[0] != top], [])
     suite.equal("its files are root's", {(it.uid, it.gid, it.mode & 0o22) for it in members}, {(0, 0, 0)})
-    suite.equal("its sums are right", subprocess.run(["sha256sum", "--quiet", "-c", "SHA256SUMS"], cwd=at).returncode, 0)
+    suite.equal(
+        "its sums are right", subprocess.run(["sha256sum", "--quiet", "-c", "SHA256SUMS"], cwd=at).returncode, 0
+    )
     summed = {line.split("  ./", 1)[1] for line in read(f"{at}/SHA256SUMS").decode().splitlines()}
     files = {os.path.relpath(os.path.join(where, it), at) for where, _, them in os.walk(at) for it in them}
     suite.equal("each file has a sum", files - summed, {"SHA256SUMS"})
@@ -215,8 +256,17 @@ def gated(suite, folder):
         shutil.copy2(it, f"{clone}/{os.path.relpath(it, ROOT)}")
 
     def release(*words, **settings):
-        env = {**os.environ, "PATH": path, "LC_ALL": "C", "GATE": "59 passed, 0 failed", "SUITES": "9 passed, 0 failed, 1 skipped", **settings}
-        ran = subprocess.run([f"{clone}/tools/release", *words], cwd=clone, capture_output=True, text=True, timeout=300, env=env)
+        env = {
+            **os.environ,
+            "PATH": path,
+            "LC_ALL": "C",
+            "GATE": "59 passed, 0 failed",
+            "SUITES": "9 passed, 0 failed, 1 skipped",
+            **settings,
+        }
+        ran = subprocess.run(
+            [f"{clone}/tools/release", *words], cwd=clone, capture_output=True, text=True, timeout=300, env=env
+        )
         return ran.returncode, ran.stderr
 
     differs = "files differ from the commit: commit or remove them first"
@@ -230,7 +280,12 @@ def gated(suite, folder):
         ("a gate that failed", [], {"GATE": "58 passed, 1 failed"}, "tools/release: no release: rt ci\n"),
         ("a suite that failed", [], {"SUITES": "8 passed, 1 failed"}, "tools/release: no release: tests/all\n"),
         ("a gate that says nothing", [], {"GATE": ""}, "tools/release: no release: rt ci\n"),
-        ("a suite that changes a file", [], {"WHILE": "echo >> README.md"}, "tools/release: the gate or the suites changed files\n"),
+        (
+            "a suite that changes a file",
+            [],
+            {"WHILE": "echo >> README.md"},
+            "tools/release: the gate or the suites changed files\n",
+        ),
         ("a program of another version", [], {"VERSION": "0.1.0"}, "tools/release: the program has another version\n"),
     ):
         suite.equal(f"a release with {name}", release(*words, **settings), (1, said))
@@ -253,7 +308,9 @@ def gated(suite, folder):
 
 def rated(suite):
     """systemd-analyze rates the unit as safe."""
-    ran = subprocess.run(["systemd-analyze", "security", "--offline=true", "--no-pager", UNIT], capture_output=True, text=True)
+    ran = subprocess.run(
+        ["systemd-analyze", "security", "--offline=true", "--no-pager", UNIT], capture_output=True, text=True
+    )
     found = re.search(r"exposure level for goshelf.service: ([\d.]+)", ran.stdout)
     suite.holds(f"the unit is rated below {SAFE}", found and float(found[1]) < SAFE, ran.stdout[-200:] + ran.stderr)
 
@@ -264,13 +321,21 @@ def later(package, folder):
     control = read(f"{folder}/later/DEBIAN/control").decode()
     with open(f"{folder}/later/DEBIAN/control", "w", encoding="utf-8") as file:
         file.write(re.sub(r"(?m)^Version: .*$", r"\g<0>.later", control))
-    subprocess.run(["dpkg-deb", "-Znone", "--root-owner-group", "--build", f"{folder}/later", f"{folder}/later.deb"], check=True, capture_output=True)
+    subprocess.run(
+        ["dpkg-deb", "-Znone", "--root-owner-group", "--build", f"{folder}/later", f"{folder}/later.deb"],
+        check=True,
+        capture_output=True,
+    )
     return f"{folder}/later.deb"
 
 
 def commands(first):
     """The shell commands of docs/OPERATING.md of the block that has these words."""
-    found = [it for it in re.findall(r"```sh\n(.*?)```", read(os.path.join(ROOT, "docs", "OPERATING.md")).decode(), re.S) if first in it]
+    found = [
+        it
+        for it in re.findall(r"```sh\n(.*?)```", read(os.path.join(ROOT, "docs", "OPERATING.md")).decode(), re.S)
+        if first in it
+    ]
     assert len(found) == 1, (first, len(found))
     return found[0]
 
@@ -301,8 +366,14 @@ def installed(suite, copy, package, version):
     suite.holds("it installs by apt", status == 0, errors)
     suite.equal("dpkg knows its version", copy.prints("dpkg-query -W goshelf"), f"goshelf {version}")
     suite.equal("its user", copy.prints("getent passwd goshelf | cut -d: -f 6,7"), "/var/lib/goshelf:/usr/sbin/nologin")
-    suite.equal("its folder", copy.prints("stat -c '%a %U %G' /var/lib/goshelf; ls -A /var/lib/goshelf"), "700 goshelf goshelf")
-    suite.equal("nothing starts, now or at boot", copy.prints("systemctl is-active goshelf; systemctl is-enabled goshelf"), "inactive disabled")
+    suite.equal(
+        "its folder", copy.prints("stat -c '%a %U %G' /var/lib/goshelf; ls -A /var/lib/goshelf"), "700 goshelf goshelf"
+    )
+    suite.equal(
+        "nothing starts, now or at boot",
+        copy.prints("systemctl is-active goshelf; systemctl is-enabled goshelf"),
+        "inactive disabled",
+    )
     suite.equal("the unit is right", copy.sh("systemd-analyze verify goshelf.service"), (0, "", ""))
     there = copy.prints(f"for it in {' '.join(COMMANDS)}; do command -v $it; done")
     suite.equal("its commands are there", there.split(), [f"/usr/bin/{it}" for it in COMMANDS])
@@ -326,7 +397,11 @@ def started(suite, copy):
     suite.equal("root gives it orders", copy.sh(order), (1, "", "goshelf: no-key\n"))
     suite.equal("and its own user", copy.sh(f"runuser -u goshelf -- {order}"), (1, "", "goshelf: no-key\n"))
     suite.equal("nobody else", copy.sh(f"setpriv --reuid=65534 --clear-groups {order}"), (1, "", "goshelf: device\n"))
-    suite.equal("its socket", copy.prints("stat -c '%F %a %U' /run/goshelf/control /run/goshelf"), "socket 600 goshelf directory 700 goshelf")
+    suite.equal(
+        "its socket",
+        copy.prints("stat -c '%F %a %U' /run/goshelf/control /run/goshelf"),
+        "socket 600 goshelf directory 700 goshelf",
+    )
     suite.equal("its files are its own", copy.prints("stat -c %U /var/lib/goshelf/* | sort -u"), "goshelf")
     suite.equal("nobody else sees them", copy.sh("setpriv --reuid=65534 --clear-groups ls /var/lib/goshelf")[0], 2)
 
@@ -359,7 +434,7 @@ def doctor(suite, copy):
     told = copy.sh("touch /var/lib/goshelf/shelves.db-wal; chown root /var/lib/goshelf/shelves.db-wal; goshelf-doctor")
     suite.holds("of one with a log of root", told[0] == 1 and "shelves.db-wal belongs to root" in told[1], told)
     copy.sh("echo GOSHELF_PORT=22222 >> /etc/default/goshelf")
-    listen = "IO::Socket::INET->new(Listen => 1, LocalAddr => \"127.0.0.1:22222\")"
+    listen = 'IO::Socket::INET->new(Listen => 1, LocalAddr => "127.0.0.1:22222")'
     told = copy.sh(f"perl -MIO::Socket -e '$s = {listen}; sleep 5' & sleep 1; goshelf-doctor")
     suite.holds("of one whose port is taken", "io: port 22222 is taken\n" in told[1], told)
     copy.sh("sed -i '$d' /etc/default/goshelf; systemctl start goshelf")
@@ -373,11 +448,16 @@ def restarted(suite, copy):
     copy.sh(f"while [ $(systemctl show -P MainPID goshelf) = {before} ]; do sleep 0.1; done")
     suite.equal("a killed one is started again, and has the version", ask(copy, f"{AT}/list"), "v1.0.0 200")
     copy.sh("systemctl stop goshelf")
-    added = copy.sh("runuser -u goshelf -- goshelf key-add --db /var/lib/goshelf/shelves.db --shelf alpha --key alphareader00001 --read-only")
+    added = copy.sh(
+        "runuser -u goshelf -- goshelf key-add --db /var/lib/goshelf/shelves.db --shelf alpha --key alphareader00001"
+        " --read-only"
+    )
     suite.equal("a command by the user goshelf, while it is stopped", added, (0, "", ""))
     copy.sh("chown root:root /var/lib/goshelf/*; chmod 600 /var/lib/goshelf/*")
     copy.sh("echo GOSHELF_PORT=8181 > /etc/default/goshelf; systemctl start goshelf")
-    suite.equal("it starts over files of root, on the port of its settings", ask(copy, f"{AT}/list", 8181), "v1.0.0 200")
+    suite.equal(
+        "it starts over files of root, on the port of its settings", ask(copy, f"{AT}/list", 8181), "v1.0.0 200"
+    )
 
 
 def by_socket(suite, copy):
@@ -387,14 +467,22 @@ def by_socket(suite, copy):
     suite.equal("it answers there", ask(copy, f"{AT}/list"), "v1.0.0 200")
     url = f"http://127.0.0.1:8080/k/{KEY}/{AT}/list"
     restarts = "(for it in 1 2 3 4; do sleep 0.5; systemctl restart goshelf; done) &"
-    asking = f"while kill -0 $! 2> /dev/null; do curl -s -m 60 -o /dev/null -w '%{{http_code}}' {url}; echo \" $?\"; done"
+    asking = (
+        f"while kill -0 $! 2> /dev/null; do curl -s -m 60 -o /dev/null -w '%{{http_code}}' {url}; echo \" $?\"; done"
+    )
     told = copy.sh(f"set +e\n{restarts}\n{asking}")[1].splitlines()
     suite.holds(f"{len(told)} requests around four restarts", told.count("200 0") > 8, told[:20])
     suite.holds("none is refused", not any(it.endswith(" 7") for it in told), sorted({*told}))
     suite.holds("at most those in hand are lost", len(told) - told.count("200 0") <= 4, sorted({*told}))
     stopped(suite, copy)
-    undo = "systemctl disable --now goshelf.socket; systemctl stop goshelf; rm -r /etc/systemd/system/goshelf.s*; systemctl daemon-reload"
-    suite.holds("and it is undone", copy.sh(f"{undo}; systemctl enable --now goshelf")[0] == 0 and ask(copy, f"{AT}/list") == "v1.0.0 200")
+    undo = (
+        "systemctl disable --now goshelf.socket; systemctl stop goshelf; rm -r /etc/systemd/system/goshelf.s*;"
+        " systemctl daemon-reload"
+    )
+    suite.holds(
+        "and it is undone",
+        copy.sh(f"{undo}; systemctl enable --now goshelf")[0] == 0 and ask(copy, f"{AT}/list") == "v1.0.0 200",
+    )
 
 
 # Takes the place of `cp`: a connection comes before each copy, and what then runs is noted.
@@ -423,37 +511,69 @@ def stopped(suite, copy):
     connect = "curl -s http://127.0.0.1:8080/ || echo $?"
     for name, script in (("that word", word), ("a removal", "/var/lib/dpkg/info/goshelf.prerm remove")):
         status, printed, errors = copy.sh(f"{script}\n{connect}")
-        suite.equal(f"{name} stops both, and a connection starts neither", (status, printed, errors, copy.prints(are)), (0, "7\n", "", "inactive inactive"))
-        suite.equal(f"a start after {name} starts both", (copy.sh("systemctl start goshelf"), copy.prints(are), ask(copy, f"{AT}/list")), ((0, "", ""), "active active", "v1.0.0 200"))
+        suite.equal(
+            f"{name} stops both, and a connection starts neither",
+            (status, printed, errors, copy.prints(are)),
+            (0, "7\n", "", "inactive inactive"),
+        )
+        suite.equal(
+            f"a start after {name} starts both",
+            (copy.sh("systemctl start goshelf"), copy.prints(are), ask(copy, f"{AT}/list")),
+            ((0, "", ""), "active active", "v1.0.0 200"),
+        )
     copy.sh(COPYING)
     suite.equal("a backup that stops goshelf prints nothing", copy.sh("goshelf-backup stop"), (0, "", ""))
-    suite.equal("no connection starts it while files are copied", copy.prints("cat /root/during"), " ".join(["7 inactive inactive"] * 2))
+    suite.equal(
+        "no connection starts it while files are copied",
+        copy.prints("cat /root/during"),
+        " ".join(["7 inactive inactive"] * 2),
+    )
     suite.equal("and then both run again", (copy.prints(are), ask(copy, f"{AT}/list")), ("active active", "v1.0.0 200"))
     copy.sh("rm /usr/local/bin/cp")
     told = copy.sh("goshelf-restore --yes last")
     suite.holds("a restore ends well", told[0] == 0 and "lacks 0 versions" in told[1], told)
     suite.equal("its files are goshelf's", copy.prints("stat -c '%U %a' /var/lib/goshelf/shelves.db"), "goshelf 600")
-    suite.equal("and both run again after it", (copy.prints(are), ask(copy, f"{AT}/list")), ("active active", "v1.0.0 200"))
+    suite.equal(
+        "and both run again after it", (copy.prints(are), ask(copy, f"{AT}/list")), ("active active", "v1.0.0 200")
+    )
     told = copy.sh("goshelf-forget --yes alpha example.com/lib v9.9.9")
     suite.holds("nothing to take out", told[0] == 1 and "Nothing was taken out" in told[2], told)
-    suite.equal("and both run again after that", (copy.prints(are), ask(copy, f"{AT}/list")), ("active active", "v1.0.0 200"))
+    suite.equal(
+        "and both run again after that", (copy.prints(are), ask(copy, f"{AT}/list")), ("active active", "v1.0.0 200")
+    )
     copy.sh("rm -r /var/backups/goshelf /var/lib/goshelf/aside-*")
 
 
 def second(suite, copy):
     """A second shard beside the first, by the commands of docs/DEPLOYMENTS.md."""
-    store = f"goshelf init --db second.db; goshelf team-add --db second.db --team delta; goshelf key-add --db second.db --shelf delta --key {KEY}"
-    status, _, errors = copy.sh(f"cd /usr/share/goshelf\n{store}\n{block('sh', 'goshelf-second.service', 'DEPLOYMENTS.md')}")
+    store = (
+        "goshelf init --db second.db; goshelf team-add --db second.db --team delta; goshelf key-add --db second.db"
+        f" --shelf delta --key {KEY}"
+    )
+    status, _, errors = copy.sh(
+        f"cd /usr/share/goshelf\n{store}\n{block('sh', 'goshelf-second.service', 'DEPLOYMENTS.md')}"
+    )
     suite.holds("a second shard: the commands of the page end well", status == 0, errors)
     suite.equal("the second unit is right", copy.sh("systemd-analyze verify goshelf-second.service"), (0, "", ""))
-    suite.equal("each answers for its own store", (ask(copy, f"{AT}/list"), ask(copy, f"{AT}/list", 8081)), ("v1.0.0 200", "not found 404"))
+    suite.equal(
+        "each answers for its own store",
+        (ask(copy, f"{AT}/list"), ask(copy, f"{AT}/list", 8081)),
+        ("v1.0.0 200", "not found 404"),
+    )
     copy.sh("systemctl stop goshelf")
     ping = "goshelf ping --control /run/goshelf-second/control"
     suite.equal("the second does without the first", (copy.sh(ping)[0], ask(copy, "-/modules", 8081)), (0, "200"))
     told = copy.sh("export GOSHELF_UNIT=goshelf-second; goshelf-backup; goshelf-backup stop; ls /var/backups")
     suite.equal("a backup of its own", told, (0, "goshelf-second\n", ""))
-    suite.equal("both run", (copy.sh("systemctl start goshelf")[0], ask(copy, f"{AT}/list"), ask(copy, "-/modules", 8081)), (0, "v1.0.0 200", "200"))
-    copy.sh("systemctl disable --now goshelf-second; rm -r /etc/systemd/system/goshelf-second.service /etc/default/goshelf-second /var/lib/goshelf-second /var/backups/goshelf-second; systemctl daemon-reload")
+    suite.equal(
+        "both run",
+        (copy.sh("systemctl start goshelf")[0], ask(copy, f"{AT}/list"), ask(copy, "-/modules", 8081)),
+        (0, "v1.0.0 200", "200"),
+    )
+    copy.sh(
+        "systemctl disable --now goshelf-second; rm -r /etc/systemd/system/goshelf-second.service"
+        " /etc/default/goshelf-second /var/lib/goshelf-second /var/backups/goshelf-second; systemctl daemon-reload"
+    )
 
 
 def confined(suite, copy):
@@ -462,16 +582,28 @@ def confined(suite, copy):
     status = lines_of(copy.sh(f"tr '\\t' ' ' < {at}/status")[1])
     user = copy.prints("id -u goshelf")
     suite.equal("it runs as its user", status["Uid"].split(), [user] * 4)
-    suite.equal("it has no rights of root", (status["CapBnd"], status["CapEff"], status["NoNewPrivs"]), ("0" * 16, "0" * 16, "1"))
+    suite.equal(
+        "it has no rights of root",
+        (status["CapBnd"], status["CapEff"], status["NoNewPrivs"]),
+        ("0" * 16, "0" * 16, "1"),
+    )
     suite.equal("its system calls are filtered", status["Seccomp"], "2")
     suite.equal("it leaves no core", copy.prints(f"grep 'Max core' {at}/limits").split()[4:6], ["0", "0"])
-    suite.equal("freed memory returns", copy.prints(f"tr '\\0' '\\n' < {at}/environ | grep MALLOC"), "MALLOC_MMAP_THRESHOLD_=32768")
+    suite.equal(
+        "freed memory returns",
+        copy.prints(f"tr '\\0' '\\n' < {at}/environ | grep MALLOC"),
+        "MALLOC_MMAP_THRESHOLD_=32768",
+    )
 
 
 def edited(suite, copy):
     """`systemctl edit` changes a choice of the unit. It wants a terminal."""
-    copy.sh("printf '#!/bin/sh\\necho [Service] > $1\\necho RestartSec=7 >> $1\\n' > /root/editor; chmod 755 /root/editor")
-    suite.equal("an edit ends well", copy.sh("script -qec 'SYSTEMD_EDITOR=/root/editor systemctl edit goshelf' /dev/null")[0], 0)
+    copy.sh(
+        "printf '#!/bin/sh\\necho [Service] > $1\\necho RestartSec=7 >> $1\\n' > /root/editor; chmod 755 /root/editor"
+    )
+    suite.equal(
+        "an edit ends well", copy.sh("script -qec 'SYSTEMD_EDITOR=/root/editor systemctl edit goshelf' /dev/null")[0], 0
+    )
     suite.equal("it changes a choice", copy.prints("systemctl show -P RestartUSec goshelf"), "7s")
     copy.sh("systemctl revert goshelf")
 
@@ -484,20 +616,38 @@ def upgraded(suite, copy, first, second, version):
     tries, over, back = (commands(it) for it in ("dpkg-deb -x", "apt install -y ./goshelf_NEW", "--allow-downgrades"))
     copy.sh("systemctl stop goshelf; cp /var/lib/goshelf/shelves.db* /root; systemctl start goshelf")
     copied = tries.replace("COPY", "/root/shelves.db").replace("KEY", KEY)
-    for name, script, wanted in (("a try", copied, version), ("an upgrade", over, f"{version}.later"), ("the way back", back, version)):
+    for name, script, wanted in (
+        ("a try", copied, version),
+        ("an upgrade", over, f"{version}.later"),
+        ("the way back", back, version),
+    ):
         before = first_process(copy)
         for word, file in names.items():
             script = script.replace(word, file)
         status, printed, errors = copy.sh(f"cd /root\n{script}")
-        suite.holds(f"{name}: the commands of the page end well", status == 0 and "error" not in errors.lower(), (status, errors))
+        suite.holds(
+            f"{name}: the commands of the page end well",
+            status == 0 and "error" not in errors.lower(),
+            (status, errors),
+        )
         suite.equal(f"{name}: the version", copy.prints("dpkg-query -W -f '${Version}' goshelf"), wanted)
         suite.equal(f"{name} restarts it", first_process(copy) not in (before, "0"), name != "a try")
         suite.equal(f"{name} keeps settings and store", ask(copy, f"{AT}/list", 8181), "v1.0.0 200")
-        suite.holds(f"{name}: what the new program sees", name != "a try" or "example.com/lib,v1.0.0,alpha," in printed, printed)
-    suite.equal("the backup is there", copy.prints("cut -d'|' -f 1-3 /var/backups/goshelf/2*/versions"), "alpha|example.com/lib|v1.0.0")
+        suite.holds(
+            f"{name}: what the new program sees", name != "a try" or "example.com/lib,v1.0.0,alpha," in printed, printed
+        )
+    suite.equal(
+        "the backup is there",
+        copy.prints("cut -d'|' -f 1-3 /var/backups/goshelf/2*/versions"),
+        "alpha|example.com/lib|v1.0.0",
+    )
     copy.sh("systemctl stop goshelf")
     copy.sh(f"dpkg -i {old}")
-    suite.equal("one that was stopped stays so", copy.prints("systemctl is-active goshelf; systemctl is-enabled goshelf"), "inactive enabled")
+    suite.equal(
+        "one that was stopped stays so",
+        copy.prints("systemctl is-active goshelf; systemctl is-enabled goshelf"),
+        "inactive enabled",
+    )
     copy.sh("systemctl start goshelf; rm -r /var/backups/goshelf")
 
 
@@ -515,12 +665,19 @@ def removed(suite, copy, package):
     suite.equal("nothing starts at boot", copy.prints("find /etc/systemd /run/systemd -name 'goshelf*'"), "")
     suite.equal("the store and the settings stay", copy.prints("ls /var/lib/goshelf /etc/default/goshelf"), LEFT)
     suite.equal("a purge says what it keeps", by_apt(copy, "purge"), (0, KEPT))
-    suite.equal("the store and its user stay", copy.prints("stat -c %U /var/lib/goshelf /var/lib/goshelf/shelves.db"), "goshelf goshelf")
+    suite.equal(
+        "the store and its user stay",
+        copy.prints("stat -c %U /var/lib/goshelf /var/lib/goshelf/shelves.db"),
+        "goshelf goshelf",
+    )
     suite.equal("the settings go", copy.prints("ls /etc/default | grep goshelf"), "")
     copy.sh(f"dpkg -i {copy.put(package)}; systemctl start goshelf")
     suite.equal("installed again, it has the version", ask(copy, f"{AT}/list"), "v1.0.0 200")
     suite.equal("a purge with the data ends without a word", by_apt(copy, "purge", GOSHELF_REMOVE_DATA="yes"), (0, ""))
-    found = copy.prints("getent passwd goshelf; getent group goshelf; find /etc /usr /var /run -xdev -path /etc/netns -prune -o -name '*goshelf*' -print")
+    found = copy.prints(
+        "getent passwd goshelf; getent group goshelf; find /etc /usr /var /run -xdev -path /etc/netns -prune -o -name"
+        " '*goshelf*' -print"
+    )
     suite.equal("it leaves nothing", found, "")
 
 
@@ -535,9 +692,15 @@ def by_hand(suite, copy, tar, version):
     suite.equal("the tar file: the unit is right", copy.sh("systemd-analyze verify goshelf.service"), (0, "", ""))
     copy.sh("\n".join(commands("goshelf_VERSION_amd64.deb").replace("KEY", KEY).splitlines()[1:]))
     suite.equal("the tar file: goshelf answers", ask(copy, "-/modules"), "200")
-    before, kept = first_process(copy), "cat /usr/local/bin/goshelf | sha256sum; cat /usr/share/goshelf/BUILD | sha256sum"
+    before, kept = (
+        first_process(copy),
+        "cat /usr/local/bin/goshelf | sha256sum; cat /usr/share/goshelf/BUILD | sha256sum",
+    )
     files = copy.prints(kept)
-    copy.sh("echo other > /usr/share/goshelf/BUILD; echo '#!/bin/sh' > goshelf.other; install goshelf.other /usr/local/bin/goshelf")
+    copy.sh(
+        "echo other > /usr/share/goshelf/BUILD; echo '#!/bin/sh' > goshelf.other; install goshelf.other"
+        " /usr/local/bin/goshelf"
+    )
     told = copy.sh("cd /root\n" + commands("tar -xzf").replace("VERSION", version) + "systemctl restart goshelf")
     suite.equal("the tar file, over another: the commands end well", (told[0], told[2]), (0, ""))
     found = copy.prints(kept), ask(copy, "-/modules"), first_process(copy) not in (before, "0")

@@ -82,7 +82,11 @@ def bad_links(page, text):
 def bad_commits(text):
     """The commits that a page cites and git does not have."""
     cited = [code for code in codes(text) if COMMIT.fullmatch(code)]
-    return [it for it in cited if subprocess.run(["git", "cat-file", "-e", it + "^{commit}"], cwd=ROOT, capture_output=True).returncode]
+    return [
+        it
+        for it in cited
+        if subprocess.run(["git", "cat-file", "-e", it + "^{commit}"], cwd=ROOT, capture_output=True).returncode
+    ]
 
 
 def is_there(name):
@@ -170,20 +174,33 @@ def ran(script):
         for name in ("bin", "work"):
             os.mkdir(f"{room}/{name}")
         os.symlink(os.path.abspath(PROGRAM), f"{room}/bin/goshelf")
-        settings = dict(os.environ, HOME=room, TMPDIR=room, PATH=f"{room}/bin:{ROOT}/tools:{os.environ['PATH']}", goshelf="goshelf")
+        settings = dict(
+            os.environ, HOME=room, TMPDIR=room, PATH=f"{room}/bin:{ROOT}/tools:{os.environ['PATH']}", goshelf="goshelf"
+        )
         settings.update(GOPATH=f"{room}/go", GOCACHE=f"{room}/cache", GOFLAGS="-modcacherw", GOTOOLCHAIN="local")
         told = f"{room}/printed", f"{room}/errors"
         with open(told[0], "wb") as printed, open(told[1], "wb") as errors:
             words = ["bash", "-euc", script]
-            status = ended(subprocess.Popen(words, cwd=f"{room}/work", env=settings, start_new_session=True,
-                                            stdin=subprocess.DEVNULL, stdout=printed, stderr=errors))
+            status = ended(
+                subprocess.Popen(
+                    words,
+                    cwd=f"{room}/work",
+                    env=settings,
+                    start_new_session=True,
+                    stdin=subprocess.DEVNULL,
+                    stdout=printed,
+                    stderr=errors,
+                )
+            )
         return status, *map(read, told)
 
 
 def run_blocks(suite, page, found):
     """Adds a row for each block of a page that runs."""
     script = "".join(f"{body}printf '%s\\n' '{MARK}'\n" for body, _ in found)
-    missing = [it for it in ("curl", "git", "go", "python3") if re.search(rf"^{it} ", script, re.M) and not shutil.which(it)]
+    missing = [
+        it for it in ("curl", "git", "go", "python3") if re.search(rf"^{it} ", script, re.M) and not shutil.which(it)
+    ]
     if missing:
         suite.skip(f"{page}: blocks", f"{missing[0]} is not installed")
         return

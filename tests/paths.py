@@ -15,13 +15,13 @@ from lib.suite import Suite
 SCRIPT = os.path.join(ROOT, "deploy", "goshelf-paths")
 USAGE = "goshelf-paths: usage: goshelf-paths check [PATHS [KEYS]] | conflicts COPY [PATHS]; --help says more\n"
 KEYS_MAP = '"alpha read" 00112233;\n"alpha publish" 00112234;\n"beta publish" 00112235;\n"common publish" 00112236;\n'
-GOOD = '''# ours
+GOOD = """# ours
 "example.com"              "common";
 "example.com/alpha"\t"alpha beta"; # two teams
 
 "example.com/alpha/Big~x/a.b/c_d/v2" "beta";
   "forge-1.example/corp"   "-";
-'''
+"""
 FORM = 'not of the form "PATH" "SHELF ..";'
 # a line that stands alone, and what is said of it
 WRONG_LINES = {

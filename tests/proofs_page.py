@@ -13,6 +13,7 @@ import sys
 from lib.program import ROOT
 from lib.suite import Suite
 
+
 def tool(name):
     """A tool of tools/ as a module."""
     loader = importlib.machinery.SourceFileLoader(name, os.path.join(ROOT, "tools", name))
@@ -30,8 +31,12 @@ def check_refusals(suite, proofs):
         ("a crate that is gone", "older::laws::answers", "elder::answers", "`elder::answers` promises nothing"),
         ("what has no clause", "store::laws::restart", "cli::VERSION", "`cli::VERSION` promises nothing"),
         ("a clause that is gone", "as_far", "as_near", "no function of its row has the clause `as_near`"),
-        ("a page that lacks a sheet", "theorems/latest", "theorems/machine",
-         "no row links docs/theorems/latest.md to `engine::laws::latest_version`"),
+        (
+            "a page that lacks a sheet",
+            "theorems/latest",
+            "theorems/machine",
+            "no row links docs/theorems/latest.md to `engine::laws::latest_version`",
+        ),
     ):
         found = list(proofs.faults(page.replace(old, new), sheets, known))
         suite.holds(f"it refuses {what}", f"docs/PROOFS.md: {wanted}" in found, found)

@@ -166,7 +166,9 @@ def certificates(suite, company):
         outside.add("pub.example/tls", f"v1.0.0-{name}")
         begun = company.asked_outside()
         told = company.ask(f"/pub.example/tls/@v/v1.0.0-{name}.mod")[0]
-        suite.equal(f"the certificate `{name}`", (told, company.asked_outside() - begun), (wanted, 1 if wanted == 200 else 0))
+        suite.equal(
+            f"the certificate `{name}`", (told, company.asked_outside() - begun), (wanted, 1 if wanted == 200 else 0)
+        )
     suite.equal("it is asked by its name", set(outside.names), {NAME, STORE})
 
 

@@ -74,7 +74,15 @@ def ways(room, server, greet):
     stdin = KEY.encode() + b"\r\n"
     piped = ["--to", server.url, "--key-file", "-", "--repository", greet.folder, *words]
     SUITE.equal("a key on standard input", room.publish(*piped, stdin=stdin), told)
-    subs = ["--to", server.url, "--key-file", f"{room.folder}/key", "--repository", greet.folder, "example.com/greet/sub"]
+    subs = [
+        "--to",
+        server.url,
+        "--key-file",
+        f"{room.folder}/key",
+        "--repository",
+        greet.folder,
+        "example.com/greet/sub",
+    ]
     told = 0, "already published " + greet.lines("example.com/greet/sub", "v0.1.0", greet.first, "sub"), ""
     SUITE.equal("a version in place of a tag", room.publish(*subs, "v0.1.0"), told)
     pseudo = f"v0.1.1-0.20240131120000-{greet.last[:12]}"
@@ -117,10 +125,19 @@ def of_users(room):
 def from_host(room, server):
     """Without a clone, the go command fetches from the host of the path, here by the insteadOf of a user."""
     hosted = Repository(room, "hosted")
-    hosted.first = hosted.commit({**module("github.com/acme/tool"), **module("github.com/acme/tool/sub", "sub")}, "v1.0.0", "sub/v0.1.0")
-    settings = {"GIT_CONFIG_COUNT": "1", "GIT_CONFIG_KEY_0": f"url.{hosted.folder}.insteadOf", "GIT_CONFIG_VALUE_0": "https://github.com/acme/tool"}
+    hosted.first = hosted.commit(
+        {**module("github.com/acme/tool"), **module("github.com/acme/tool/sub", "sub")}, "v1.0.0", "sub/v0.1.0"
+    )
+    settings = {
+        "GIT_CONFIG_COUNT": "1",
+        "GIT_CONFIG_KEY_0": f"url.{hosted.folder}.insteadOf",
+        "GIT_CONFIG_VALUE_0": "https://github.com/acme/tool",
+    }
     words = ["--to", server.url, "--key-file", f"{room.folder}/key"]
-    for path, ref, version, folder in (("github.com/acme/tool", "v1.0.0", "v1.0.0", ""), ("github.com/acme/tool/sub", "sub/v0.1.0", "v0.1.0", "sub")):
+    for path, ref, version, folder in (
+        ("github.com/acme/tool", "v1.0.0", "v1.0.0", ""),
+        ("github.com/acme/tool/sub", "sub/v0.1.0", "v0.1.0", "sub"),
+    ):
         wanted = 0, "published " + hosted.lines(path, version, hosted.first, folder), ""
         SUITE.equal(f"from its host: {path}", room.publish(*words, path, ref, **settings), wanted)
         told = f"publish: takes {path} from its host: give --repository . to take it from the clone that you are in\n"
@@ -137,11 +154,19 @@ def consumes(room, server, rows):
         told = room.go("user", proxies, "mod", "download", "-json", f"{path}@{version}").stdout
         sums = [re.search(rf'"{it}": "(.*)"', told) for it in ("Sum", "GoModSum")]
         wanted = repository.lines(path, version, commit, folder)
-        got = f"{path} {version}\n" + "".join(f"{path} {version}{at} {it and it[1]}\n" for at, it in zip(("", "/go.mod"), sums))
+        got = f"{path} {version}\n" + "".join(
+            f"{path} {version}{at} {it and it[1]}\n" for at, it in zip(("", "/go.mod"), sums)
+        )
         SUITE.equal(f"the go command's {path} {version}", got, wanted)
     paths = (("one", "example.com/greet"), ("two", "example.com/greet/v2"), ("three", "example.com/greet/Words"))
     uses = "".join(f'import {name} "{path}"\n' for name, path in paths)
-    write({f"{room.folder}/user/main.go": f"package main\n\n{uses}\nfunc main() {{ print(one.Name, two.Name, three.Name) }}\n"})
+    write(
+        {
+            f"{room.folder}/user/main.go": (
+                f"package main\n\n{uses}\nfunc main() {{ print(one.Name, two.Name, three.Name) }}\n"
+            )
+        }
+    )
     write({f"{room.folder}/user/go.mod": "module example.com/user\n\ngo 1.17\n"})
     for words in (["mod", "tidy"], ["mod", "verify"], ["build", "-o", "user"]):
         ran = room.go("user", proxies, *words)
@@ -160,8 +185,14 @@ def readme(room, server, greet):
 def jobs(room, server):
     """The two jobs of docs/CI.md, each run on a clone of a tag of a repository with three modules."""
     team = Repository(room, "team")
-    shutil.copytree(os.path.join(ROOT, "tools"), f"{team.folder}/tools", ignore=lambda _, names: set(names) - {"publish"})
-    files = {**module("example.com/team"), **module("example.com/team/one", "one"), **module("example.com/team/two", "two")}
+    shutil.copytree(
+        os.path.join(ROOT, "tools"), f"{team.folder}/tools", ignore=lambda _, names: set(names) - {"publish"}
+    )
+    files = {
+        **module("example.com/team"),
+        **module("example.com/team/one", "one"),
+        **module("example.com/team/two", "two"),
+    }
     team.first = team.commit(files, "v1.0.0", "one/v0.1.0", "two/v0.2.0")
     last = team.commit({"one/one.go": code("one", "\n// changed\n")}, "1.8.0", "nightly", "one/1.8.0")
     found = blocks("docs/CI.md", "yaml")
@@ -209,7 +240,11 @@ def script_of(text):
 
 
 def unchanged(repository):
-    return repository.git("status", "--porcelain", "--ignored"), repository.git("for-each-ref"), repository.git("config", "-l", "--local")
+    return (
+        repository.git("status", "--porcelain", "--ignored"),
+        repository.git("for-each-ref"),
+        repository.git("config", "-l", "--local"),
+    )
 
 
 def session(folder):
@@ -241,7 +276,11 @@ def published(rows):
     """Each path and version that was published."""
     found = {(path, version) for path, _, version, *_ in rows}
     found |= {("github.com/acme/tool", "v1.0.0"), ("github.com/acme/tool/sub", "v0.1.0")}
-    return found | {("example.com/team", "v1.0.0"), ("example.com/team/one", "v0.1.0"), ("example.com/team/two", "v0.2.0")}
+    return found | {
+        ("example.com/team", "v1.0.0"),
+        ("example.com/team/one", "v0.1.0"),
+        ("example.com/team/two", "v0.2.0"),
+    }
 
 
 def main():

@@ -87,16 +87,24 @@ def checked(texts, folder):
         with open(name, "wb") as file:
             file.write(text)
     env = {**os.environ, "GO111MODULE": "off", "GOFLAGS": "", "GOCACHE": f"{folder}/cache"}
-    SUITE.equal("its layout is gofmt's", subprocess.run(["gofmt", "-l", f"{folder}/check.go"], capture_output=True).stdout, b"")
+    SUITE.equal(
+        "its layout is gofmt's", subprocess.run(["gofmt", "-l", f"{folder}/check.go"], capture_output=True).stdout, b""
+    )
     subprocess.run(["go", "build", "-o", f"{folder}/check", f"{folder}/check.go"], env=env, check=True)
-    return subprocess.run([f"{folder}/check", *names], capture_output=True, text=True, check=True).stdout.split("\n")[:-1]
+    return subprocess.run([f"{folder}/check", *names], capture_output=True, text=True, check=True).stdout.split("\n")[
+        :-1
+    ]
 
 
 def main():
     texts = [gomod() for _ in range(COUNT)]
     with tempfile.TemporaryDirectory(prefix="goshelf-gomod-") as folder:
         found, wanted = checked(texts, folder), published(texts)
-    SUITE.holds("faults and valid files are among them", COUNT // 2 < len(list(filter(None, wanted))) < COUNT * 4 // 5, wanted.count(""))
+    SUITE.holds(
+        "faults and valid files are among them",
+        COUNT // 2 < len(list(filter(None, wanted))) < COUNT * 4 // 5,
+        wanted.count(""),
+    )
     wrong = [it for it in zip(texts, found, wanted, strict=True) if it[1] != it[2]]
     SUITE.holds(f"the same line of {COUNT} go.mods", not wrong, wrong[:3])
     return SUITE.end()

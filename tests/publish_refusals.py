@@ -58,7 +58,9 @@ class Answers(http.server.BaseHTTPRequestHandler):
 def words_of_children(parent):
     """The command lines of the processes below one, all as one text each."""
     found = []
-    for child in subprocess.run(["ps", "-o", "pid=", "--ppid", str(parent)], capture_output=True, text=True).stdout.split():
+    for child in subprocess.run(
+        ["ps", "-o", "pid=", "--ppid", str(parent)], capture_output=True, text=True
+    ).stdout.split():
         try:
             with open(f"/proc/{child}/cmdline", "rb") as file:
                 found.append(file.read().replace(b"\0", b" ").decode())
@@ -105,7 +107,11 @@ def in_repository(room, greet, url):
         refused(room, f"a branch of {path}", told, *words, path, "main")
         refused(room, f"a check of a branch of {path}", told, "--check", *words[4:], path, "main")
     told = room.publish(*words, "example.com/greet/words", "v1.0.0")
-    SUITE.holds("other capitals", told[:2] == (1, "") and "names example.com/greet/words" in told[2] and "capitals count" in told[2], told)
+    SUITE.holds(
+        "other capitals",
+        told[:2] == (1, "") and "names example.com/greet/words" in told[2] and "capitals count" in told[2],
+        told,
+    )
     write({f"{greet.folder}/greet.go": "package greet\n"})
     wanted = f"{greet.folder} has changes that no commit has, and a version holds commits: commit or stash them (%s)"
     refused(room, "a dirty tree", wanted % "greet.go", *words, "example.com/greet", "v1.0.0")
@@ -113,9 +119,19 @@ def in_repository(room, greet, url):
     write({f"{greet.folder}/new.go": "package greet\n"})
     refused(room, "a new file", wanted % "new.go", *words, "example.com/greet", "v1.0.0")
     os.remove(f"{greet.folder}/new.go")
-    wanted = f"{room.folder} is not a git repository that can be read: not a git repository (or any of the parent directories): .git"
+    wanted = (
+        f"{room.folder} is not a git repository that can be read: not a git repository (or any of the parent"
+        " directories): .git"
+    )
     refused(room, "no repository", wanted, *words[:4], "--repository", room.folder, "example.com/greet", "v1.0.0")
-    refused(room, "nobody listens", f"nobody listens at {url}: check the URL, and that goshelf serves", *words, "example.com/greet", "v1.0.0")
+    refused(
+        room,
+        "nobody listens",
+        f"nobody listens at {url}: check the URL, and that goshelf serves",
+        *words,
+        "example.com/greet",
+        "v1.0.0",
+    )
 
 
 def of_shape(room, url):
@@ -129,23 +145,43 @@ def of_shape(room, url):
     odd.commit({"elsewhere/go.mod": gomod("example.com/odd/inner")}, "v1.0.3", "v2.0.0")
     words = ["--to", url, "--key-file", f"{room.folder}/key", "--repository", odd.folder, "example.com/odd"]
     told = room.publish(*words, "v1.0.0")
-    size = re.search(r"the zip has (\d+) bytes, and goshelf takes 16777216: move large files to a folder with a go.mod of its own\n$", told[2])
+    size = re.search(
+        (
+            r"the zip has (\d+) bytes, and goshelf takes 16777216: move large files to a folder with a go.mod of its"
+            r" own\n$"
+        ),
+        told[2],
+    )
     SUITE.holds("a zip over 16 MiB", told[:2] == (1, "") and size and int(size[1]) > 17 * MIB, told)
     told = room.publish(*words, "v1.0.1")
-    SUITE.holds("a go.mod over 1 MiB", told[:2] == (1, "") and "bytes, and goshelf takes 1048576: shorten it" in told[2], told)
+    SUITE.holds(
+        "a go.mod over 1 MiB", told[:2] == (1, "") and "bytes, and goshelf takes 1048576: shorten it" in told[2], told
+    )
     told = room.publish(*words, "v1.0.2")
     begins = told[2].startswith("publish: the go command makes no zip of example.com/odd at v1.0.2:")
     SUITE.holds("a name that no zip may have", told[:2] == (1, "") and begins and told[2].count("\n") == 1, told)
     told = room.publish(*words, "v2.0.0")
-    SUITE.holds("a major version without its path", told[:2] == (1, "") and "example.com/odd" in told[2] and told[2].count("\n") == 1, told)
+    SUITE.holds(
+        "a major version without its path",
+        told[:2] == (1, "") and "example.com/odd" in told[2] and told[2].count("\n") == 1,
+        told,
+    )
     told = room.publish(*words[:-1], "example.com/odd/inner", "main")
-    SUITE.holds("a folder that the path lacks", told[:2] == (1, "") and "elsewhere/go.mod names example.com/odd/inner" in told[2], told)
+    SUITE.holds(
+        "a folder that the path lacks",
+        told[:2] == (1, "") and "elsewhere/go.mod names example.com/odd/inner" in told[2],
+        told,
+    )
     shallow(room, odd, words)
 
 
 def shallow(room, odd, words):
     """A clone without its history has tags, but no version for a commit."""
-    subprocess.run(["git", "clone", "-q", "--depth", "1", f"file://{odd.folder}", f"{room.folder}/shallow"], env=room.env, check=True)
+    subprocess.run(
+        ["git", "clone", "-q", "--depth", "1", f"file://{odd.folder}", f"{room.folder}/shallow"],
+        env=room.env,
+        check=True,
+    )
     few = ["--check", "--repository", f"{room.folder}/shallow", "example.com/odd"]
     commit = odd.git("rev-parse", "v1.0.3").decode().strip()
     told = 0, "checked " + odd.lines("example.com/odd", "v1.0.3", commit), UNASKED
@@ -183,16 +219,34 @@ def of_keys(room, server, greet):
     wanted = "the key only reads: use a key that was added without --read-only"
     refused(room, "a key that only reads", wanted, *words, "--key-file", f"{room.folder}/reader")
     refused(room, "a check of a key that only reads", wanted, "--check", *words, "--key-file", f"{room.folder}/reader")
-    unknown = f"{server.url} has no such key, or takes no such path or version: check the key and the URL, then example.com/greet v1.0.0"
+    unknown = (
+        f"{server.url} has no such key, or takes no such path or version: check the key and the URL, then"
+        " example.com/greet v1.0.0"
+    )
     refused(room, "a key of nobody", unknown, *words, "--key-file", f"{room.folder}/nobody")
     refused(room, "a check of a key of nobody", unknown, "--check", *words, "--key-file", f"{room.folder}/nobody")
-    refused(room, "no file of a key", "--key-file names no file that can be read: put the key into a file, and name it", *words, "--key-file", KEY)
+    refused(
+        room,
+        "no file of a key",
+        "--key-file names no file that can be read: put the key into a file, and name it",
+        *words,
+        "--key-file",
+        KEY,
+    )
     wanted = "the file of the key does not hold one key: a key is 16 to 64 characters of a-z and 0-9"
     refused(room, "a file without a key", wanted, *words, "--key-file", "/dev/null")
     refused(room, "two keys", wanted, *words, "--key-file", "-", stdin=f"{KEY}\n{READER}\n".encode())
     secret = "a URL with a key or a password shows it to every user of this machine: use --key-file or --netrc"
     refused(room, "a key in the URL", secret, "--to", f"{server.url}/k/{KEY}", "--netrc", *words[2:])
-    refused(room, "no URL", "shelf.example.com is not a URL: it begins with http:// or https://", "--to", "shelf.example.com", "--netrc", *words[2:])
+    refused(
+        room,
+        "no URL",
+        "shelf.example.com is not a URL: it begins with http:// or https://",
+        "--to",
+        "shelf.example.com",
+        "--netrc",
+        *words[2:],
+    )
 
 
 def of_use(room):
@@ -201,7 +255,11 @@ def of_use(room):
     lines += ["--check --wait x a b", "--check --to http://x a b", "--check --key-file x a b", "--check --netrc a b"]
     for words in map(str.split, lines):
         status, output, errors = room.publish(*words)
-        SUITE.holds(f"usage: {words}", (status, output) == (2, "") and "usage: tools/publish" in errors, (status, output, errors))
+        SUITE.holds(
+            f"usage: {words}",
+            (status, output) == (2, "") and "usage: tools/publish" in errors,
+            (status, output, errors),
+        )
     status, output, errors = room.publish("--help")
     right = output.startswith("publish: publishes a version") and output.endswith("changes nothing in DIR.\n")
     SUITE.holds("help", (status, errors) == (0, "") and right, (status, output, errors))
@@ -222,15 +280,25 @@ def conflicts(room, server):
         told = server.put(KEY, path, version, text, zip_bytes, stamp)
         assert told[0] == 201, (version, told)
     words = ["--to", server.url, "--key-file", f"{room.folder}/key", "--repository", other.folder, path]
-    told = 0, "already published " + other.lines(path, "v1.0.0", first), "publish: the zip there has other bytes, but the same files and sums\n"
+    told = (
+        0,
+        "already published " + other.lines(path, "v1.0.0", first),
+        "publish: the zip there has other bytes, but the same files and sums\n",
+    )
     SUITE.equal("the same files in another zip", room.publish(*words, "v1.0.0"), told)
     there = h1([(f"{path}@v1.1.0/{name}", it) for name, it in changed.items()])
     _, here, mod = other.lines(path, "v1.1.0", first).splitlines()
-    front = "{} {} is there with other bytes, which never change: publish a new version\nthere: {} {} {}\nthere: {}\nhere:  {}\nhere:  {}"
+    front = (
+        "{} {} is there with other bytes, which never change: publish a new version\nthere: {} {} {}\nthere: {}\nhere: "
+        " {}\nhere:  {}"
+    )
     other_files = front.format(path, "v1.1.0", path, "v1.1.0", there, mod, here, mod)
     refused(room, "other files", other_files, *words, "v1.1.0")
     refused(room, "a check of other files", other_files, "--check", *words, "v1.1.0")
-    times = f"{path} v1.2.0 is there with the same sums and the time 2024-02-01T12:00:00Z, not {TIME}: leave it, it never changes"
+    times = (
+        f"{path} v1.2.0 is there with the same sums and the time 2024-02-01T12:00:00Z, not {TIME}: leave it, it never"
+        " changes"
+    )
     refused(room, "another time", times, *words, "v1.2.0")
     refused(room, "a check of another time", times, "--check", *words, "v1.2.0")
     _, here, mod = other.lines(path, "v1.3.0", first).splitlines()
@@ -317,15 +385,29 @@ def from_host(room, url):
     hosted = Repository(room, "hosted")
     hosted.commit(module("github.com/acme/tool"), "v1.0.0")
     hosted.commit({"tool.go": "package tool\n"})
-    settings = {"GIT_CONFIG_COUNT": "1", "GIT_CONFIG_KEY_0": f"url.{hosted.folder}.insteadOf", "GIT_CONFIG_VALUE_0": "https://github.com/acme/wrong"}
+    settings = {
+        "GIT_CONFIG_COUNT": "1",
+        "GIT_CONFIG_KEY_0": f"url.{hosted.folder}.insteadOf",
+        "GIT_CONFIG_VALUE_0": "https://github.com/acme/wrong",
+    }
     words = ["--to", url, "--key-file", f"{room.folder}/key", "github.com/acme/wrong"]
-    sentence = "the go.mod at v1.0.0 names github.com/acme/tool, not github.com/acme/wrong: publish it by that path; capitals count"
+    sentence = (
+        "the go.mod at v1.0.0 names github.com/acme/tool, not github.com/acme/wrong: publish it by that path; capitals"
+        " count"
+    )
     refused(room, "from its host: another path", sentence, *words, "v1.0.0", **settings)
     begins = "main is not a version: make a tag vMAJOR.MINOR.PATCH and give that, or give --pseudo to publish v1.0.1-0."
     own = {**settings, "GIT_CONFIG_VALUE_0": "https://github.com/acme/tool"}
     told = room.publish(*words[:-1], "github.com/acme/tool", "main", **own)
     SUITE.holds("from its host: a branch", told[:2] == (1, "") and told[2].startswith(f"publish: {begins}"), told)
-    refused(room, "from its host: no version", "v1.0 is not a version: name the tag vMAJOR.MINOR.PATCH", *words, "v1.0", **settings)
+    refused(
+        room,
+        "from its host: no version",
+        "v1.0 is not a version: name the tag vMAJOR.MINOR.PATCH",
+        *words,
+        "v1.0",
+        **settings,
+    )
     told = room.publish(*words, "v9.9.9", **settings)
     begins = told[2].startswith("publish: the go command makes no zip of github.com/acme/wrong at v9.9.9:")
     SUITE.holds("from its host: no tag", told[:2] == (1, "") and begins, told)
@@ -370,7 +452,16 @@ def of_others(room, greet):
     behind = http.server.ThreadingHTTPServer(("127.0.0.1", 0), Answers)
     threading.Thread(target=behind.serve_forever, daemon=True).start()
     url = f"http://127.0.0.1:{behind.server_port}"
-    words = ["--to", url, "--key-file", f"{room.folder}/key", "--repository", greet.folder, "example.com/greet", "v1.0.0"]
+    words = [
+        "--to",
+        url,
+        "--key-file",
+        f"{room.folder}/key",
+        "--repository",
+        greet.folder,
+        "example.com/greet",
+        "v1.0.0",
+    ]
     for status, body, wanted in answers(url):
         Answers.answer = status, body.encode()
         code, output, errors = room.publish(*words)
@@ -385,7 +476,11 @@ def of_others(room, greet):
     keys = [it for it in Answers.words if any(key in it for key in KEYS.values())]
     SUITE.holds("no key among the words of a process", Answers.words and not keys, keys)
     told = room.publish("--to", url.replace("http", "https"), *words[2:])
-    SUITE.holds("no TLS", told[:2] == (1, "") and told[2].startswith(f"publish: no TLS with {url.replace('http', 'https')}: "), told)
+    SUITE.holds(
+        "no TLS",
+        told[:2] == (1, "") and told[2].startswith(f"publish: no TLS with {url.replace('http', 'https')}: "),
+        told,
+    )
     by_netrc(room, url, [*words[:2], *words[4:]])
     behind.shutdown()
 
@@ -397,7 +492,11 @@ def by_netrc(room, url, words):
     Answers.answer, Answers.asked = (201, b"published\n"), []
     status, output, errors = room.publish(*words, "--netrc", NETRC=f"{room.folder}/netrc")
     user = "Basic " + base64.b64encode(f"alpha:{KEY}".encode()).decode()
-    SUITE.holds("a user", (status, errors) == (0, "") and output.startswith("published example.com/greet v1.0.0\n"), (status, output, errors))
+    SUITE.holds(
+        "a user",
+        (status, errors) == (0, "") and output.startswith("published example.com/greet v1.0.0\n"),
+        (status, output, errors),
+    )
     SUITE.equal("what the server is asked", Answers.asked, [("PUT", "/example.com/greet/@v/v1.0.0", user)])
     netrc = {"NETRC": f"{room.folder}/netrc"}
     wanted = f"{netrc['NETRC']} logs in as a user who only reads: ask the operator of {url} for the right to publish"
@@ -409,9 +508,23 @@ def by_netrc(room, url, words):
     refused(room, "a user whose key is revoked", f"{wanted}then ask the operator", *words, "--netrc", **netrc)
     Answers.answer = 401, b""
     netrc = f"{room.folder}/netrc"
-    refused(room, "another user", f"{url} knows no such user: mend the line for its host in {netrc}", *words, "--netrc", NETRC=netrc)
+    refused(
+        room,
+        "another user",
+        f"{url} knows no such user: mend the line for its host in {netrc}",
+        *words,
+        "--netrc",
+        NETRC=netrc,
+    )
     missing = f"{room.folder}/nosuch"
-    refused(room, "no netrc", f"{missing} cannot be read: make it, with a line for the host of {url}", *words, "--netrc", NETRC=missing)
+    refused(
+        room,
+        "no netrc",
+        f"{missing} cannot be read: make it, with a line for the host of {url}",
+        *words,
+        "--netrc",
+        NETRC=missing,
+    )
 
 
 def of_transfers(room, greet):
@@ -424,27 +537,49 @@ def of_transfers(room, greet):
     refused(room, "a server that does not answer", wanted, "--to", url, "--wait", "2", *words)
     wanted = f"{url} did not answer within 2 seconds: run this again"
     refused(room, "a check of a server that does not answer", wanted, "--check", "--to", url, "--wait", "2", *words)
-    child = subprocess.Popen([SHELL, PUBLISH, "--to", url, *words], env=room.env, stdout=subprocess.PIPE, stderr=subprocess.PIPE,
-                             start_new_session=True)
+    child = subprocess.Popen(
+        [SHELL, PUBLISH, "--to", url, *words],
+        env=room.env,
+        stdout=subprocess.PIPE,
+        stderr=subprocess.PIPE,
+        start_new_session=True,
+    )
     for _ in range(3):
         held.accept()
     os.killpg(child.pid, signal.SIGTERM)
     child.communicate(timeout=60)
-    SUITE.equal("a run that is stopped: its status, and its temporary files", (child.returncode, os.listdir(room.tmp)), (143, []))
+    SUITE.equal(
+        "a run that is stopped: its status, and its temporary files",
+        (child.returncode, os.listdir(room.tmp)),
+        (143, []),
+    )
     held.close()
     url, proxy = "http://shelf.example", "http://nosuch.invalid:3128"
     wanted = f"no host has the name of the proxy by which to ask {url}: mend http_proxy and https_proxy, "
     wanted += "or name the host in no_proxy"
     refused(room, "a proxy that is not", wanted, "--to", url, *words, http_proxy=proxy)
-    refused(room, "a host that is not", "no host has the name in http://nosuch.invalid: check the URL", "--to", "http://nosuch.invalid", *words)
+    refused(
+        room,
+        "a host that is not",
+        "no host has the name in http://nosuch.invalid: check the URL",
+        "--to",
+        "http://nosuch.invalid",
+        *words,
+    )
 
 
 def hangs_up(room, greet):
     with socket.create_server(("127.0.0.1", 0)) as held:
         threading.Thread(target=lambda: held.accept()[0].close(), daemon=True).start()
         url = f"http://127.0.0.1:{held.getsockname()[1]}"
-        told = room.publish("--to", url, "--key-file", f"{room.folder}/key", "--repository", greet.folder, "example.com/greet", "v1.0.0")
-        SUITE.holds("a server that hangs up", told[:2] == (1, "") and "closed the connection, so it may or may not have published" in told[2], told)
+        told = room.publish(
+            "--to", url, "--key-file", f"{room.folder}/key", "--repository", greet.folder, "example.com/greet", "v1.0.0"
+        )
+        SUITE.holds(
+            "a server that hangs up",
+            told[:2] == (1, "") and "closed the connection, so it may or may not have published" in told[2],
+            told,
+        )
 
 
 def table_of_pages(room):
@@ -455,9 +590,16 @@ def table_of_pages(room):
     printed = "".join(room.said)
     missing = [it for it in phrases if not all(word in printed for word in re.split(r"\b[A-Z]{2,}\b(?!-)", it))]
     SUITE.holds("the table of refusals: each was printed", len(phrases) > 15 and not missing, (len(phrases), missing))
-    unlisted = [it for it in printed.splitlines() if it.startswith("publish: ") and not any(is_of(it, row) for row in phrases)]
+    unlisted = [
+        it for it in printed.splitlines() if it.startswith("publish: ") and not any(is_of(it, row) for row in phrases)
+    ]
     notes = ("there: ", "here: ", "the zip there has other bytes", "not checked without", f"{room.served} accepts the")
-    unlisted = [it for it in unlisted if not it[9:].startswith(notes) and not re.search(r"needed|lacks|too many|no option|takes a number|need --to", it)]
+    unlisted = [
+        it
+        for it in unlisted
+        if not it[9:].startswith(notes)
+        and not re.search(r"needed|lacks|too many|no option|takes a number|need --to", it)
+    ]
     SUITE.holds("the table of refusals: none lacks", not unlisted, unlisted)
 
 
@@ -487,7 +629,11 @@ def session(folder):
     hangs_up(room, greet)
     of_use(room)
     found = csv.reader(io.StringIO(run(["inventory", "--db", store, "--key", KEY])[1].decode()))
-    SUITE.equal("nothing was published but by hand", [it[:2] for it in list(found)[1:]], [["example.com/other", f"v1.{it}.0"] for it in range(4)])
+    SUITE.equal(
+        "nothing was published but by hand",
+        [it[:2] for it in list(found)[1:]],
+        [["example.com/other", f"v1.{it}.0"] for it in range(4)],
+    )
     table_of_pages(room)
 
 

@@ -17,7 +17,9 @@ from lib.suite import Suite
 BLOCK = re.compile(r"^```sh try\n(.*?)^```$", re.M | re.S)
 # what a stand-in prints as its last line, and with which status it ends
 GATE, SUITES = ("72 passed, 0 failed", 0), ("5788 passed, 0 failed, 2 skipped", 0)
-STAND_IN = "#!/bin/sh\necho \"$(basename \"$0\") $*\" >> '{calls}'\necho 'a line before'\necho '{last}'\nexit {status}\n"
+STAND_IN = (
+    "#!/bin/sh\necho \"$(basename \"$0\") $*\" >> '{calls}'\necho 'a line before'\necho '{last}'\nexit {status}\n"
+)
 
 
 def read(name):
@@ -41,7 +43,9 @@ def run_line(line, folder, path=""):
     """Runs a line of the page in a shell, and returns its exit status, standard output and standard error."""
     settings = dict(os.environ, PATH=f"{path}:{os.environ['PATH']}" if path else os.environ["PATH"])
     settings.pop("GOSHELF", None)
-    ran = subprocess.run(["bash", "-euc", line], cwd=folder, env=settings, stdin=subprocess.DEVNULL, capture_output=True, timeout=1_000)
+    ran = subprocess.run(
+        ["bash", "-euc", line], cwd=folder, env=settings, stdin=subprocess.DEVNULL, capture_output=True, timeout=1_000
+    )
     return ran.returncode, ran.stdout, ran.stderr.decode(errors="replace")
 
 
@@ -55,7 +59,9 @@ def packages_of_suites():
 def check_main_job(suite, line, clone, before):
     status, printed, errors = run_line(line, clone)
     wanted = read("examples/first-publish.replies").encode()
-    suite.equal(f"{line}: what it writes", (status, printed.replace(b"\r\n", b"\n")), (0, wanted.replace(b"\r\n", b"\n")))
+    suite.equal(
+        f"{line}: what it writes", (status, printed.replace(b"\r\n", b"\n")), (0, wanted.replace(b"\r\n", b"\n"))
+    )
     suite.holds("it says that it is not proved", errors.startswith("goshelf: not proved."), errors[:200])
     suite.equal("it keeps nothing in the clone", git("status", "--porcelain", folder=clone), before)
 
@@ -77,7 +83,11 @@ def run_tests(line, clone, gate, suites):
 def check_tests(suite, line, clone):
     install = " --install" if os.geteuid() == 0 else ""
     calls = ["rt ci", f"python3 tests/all{install}"]
-    suite.equal(f"{line}: the gate, then the suites", run_tests(line, clone, GATE, SUITES), (0, "5860 passed, 0 failed, 2 skipped", calls))
+    suite.equal(
+        f"{line}: the gate, then the suites",
+        run_tests(line, clone, GATE, SUITES),
+        (0, "5860 passed, 0 failed, 2 skipped", calls),
+    )
     for what, gate, suites, last in (
         ("a gate that failed", ("71 passed, 1 failed", 1), SUITES, "5859 passed, 1 failed, 2 skipped"),
         ("a gate with no closing line", ("Killed", 1), SUITES, "5788 passed, 1 failed, 2 skipped"),

@@ -30,9 +30,16 @@ from lib.worked import HEADER
 
 ROW = f"--key {KEY} --module example.com/lib --version v1.0.0"
 
+
 def word(line, *more, before=(), output=subprocess.PIPE):
     """The word that a command ends with; nothing where it ends with 0."""
-    ran = subprocess.run([*before, PROGRAM, *line.split(), *more], stdin=subprocess.DEVNULL, stdout=output, stderr=subprocess.PIPE, timeout=120)
+    ran = subprocess.run(
+        [*before, PROGRAM, *line.split(), *more],
+        stdin=subprocess.DEVNULL,
+        stdout=output,
+        stderr=subprocess.PIPE,
+        timeout=120,
+    )
     told = ran.stderr.decode()
     if ran.returncode == 0 and told == "":
         return ""
@@ -89,8 +96,19 @@ def publish_of(words):
     """The request of a row of OUTCOMES."""
     path, version, gomod, zipped, time, letter = [*words.split(), "A"][:6]
     plain = path.replace("!l", "L")
-    text = f"module {plain}" if gomod == "-" else gomod.replace("_", " ").replace(";", "\n").replace("LARGE", "/" * 1_048_577)
-    return put(path, version, f"{text}\n".encode(), b"zip" if zipped == "-" else zipped.encode(), KEYS[letter], "" if time == "-" else time)
+    text = (
+        f"module {plain}"
+        if gomod == "-"
+        else gomod.replace("_", " ").replace(";", "\n").replace("LARGE", "/" * 1_048_577)
+    )
+    return put(
+        path,
+        version,
+        f"{text}\n".encode(),
+        b"zip" if zipped == "-" else zipped.encode(),
+        KEYS[letter],
+        "" if time == "-" else time,
+    )
 
 
 DOCTOR = os.path.join(ROOT, "deploy", "goshelf-doctor")
@@ -130,7 +148,10 @@ TAKE_OVER = (
     "BEGIN",
     "INSERT INTO shelf SELECT name, parent FROM f.shelf WHERE name <> 'common'",
     "INSERT INTO access (token, shelf, publish) SELECT token, shelf, publish FROM f.access",
-    "INSERT INTO version (id, shelf, path, version, time, mod, order_key, rank_key) SELECT id, shelf, path, version, time, mod, order_key, rank_key FROM f.version",
+    (
+        "INSERT INTO version (id, shelf, path, version, time, mod, order_key, rank_key) SELECT id, shelf, path,"
+        " version, time, mod, order_key, rank_key FROM f.version"
+    ),
     "INSERT INTO piece (version, number, bytes) SELECT version, number, bytes FROM f.piece",
     "COMMIT",
 )
@@ -179,7 +200,9 @@ def device(suite):
     left.close()
     suite.wants("the journal was played back", "", word("team-add --db d.db --team epsilon"))
     for name in ("d.db-journal", "d.db-wal", "d.db-shm"):
-        suite.wants(f"SQLite's name {name} for a new store", "device", word(f"extract --db d.db --team beta --to {name}"))
+        suite.wants(
+            f"SQLite's name {name} for a new store", "device", word(f"extract --db d.db --team beta --to {name}")
+        )
     suite.wants("another name", "", word("extract --db d.db --team beta --to beta.db"))
     os.rename("d.db", "away.db")
     suite.wants("a log whose file is gone", "device", word("team-add --db d.db --team zeta"))
@@ -209,7 +232,9 @@ def rights(suite):
     os.mkdir("theirs")
     new_store("theirs/r.db")
     os.chown("theirs", 65534, 65534)
-    suite.wants("a file that may not be written", "device", word("team-add --db theirs/r.db --team beta", before=NOBODY))
+    suite.wants(
+        "a file that may not be written", "device", word("team-add --db theirs/r.db --team beta", before=NOBODY)
+    )
     for it in ("theirs/r.db", "theirs/r.db-wal"):
         os.chown(it, 65534, 65534)
         os.chmod("theirs/r.db-wal", 0o600)
@@ -271,7 +296,11 @@ def bad_schema(suite):
     suite.finds("bad-schema: tables.db has other tables", "--db", "tables.db")
     rows = "the rows do not describe shelves: "
     for cause, statement, said in (
-        ("a row that means no shelf", "INSERT INTO shelf VALUES ('No Team', 'common')", f"{rows}'No Team' is not a name"),
+        (
+            "a row that means no shelf",
+            "INSERT INTO shelf VALUES ('No Team', 'common')",
+            f"{rows}'No Team' is not a name",
+        ),
         ("a parent that is no group", "INSERT INTO shelf VALUES ('beta', 'alpha')", f"{rows}the parent of beta"),
         ("a key of no shelf", "INSERT INTO access VALUES ('nokey00000000001', 'none', 1)", f"{rows}a row of access"),
         ("another schema", "UPDATE meta SET value = 4", "rows.db has schema 4"),
@@ -310,7 +339,13 @@ def numbers(suite):
     open("n.mod", "wb").write(mod)
 
     def add(number, version):
-        row = ["INSERT INTO version VALUES (?, 'alpha', 'example.com/n', ?, NULL, ?, ?, ?)", number, version, mod, *keys(version)]
+        row = [
+            "INSERT INTO version VALUES (?, 'alpha', 'example.com/n', ?, NULL, ?, ?, ?)",
+            number,
+            version,
+            mod,
+            *keys(version),
+        ]
         change("v.db", row, ["INSERT INTO piece VALUES (?, 0, X'5A')", number])
 
     def published(version):
@@ -321,7 +356,13 @@ def numbers(suite):
     suite.wants("a row has the last number", "201 published", published("v1.1.0"))
     add(first, "v1.2.0")
     suite.wants("one has the first number too", "503 unavailable", published("v1.3.0"))
-    change("v.db", *([f"UPDATE {table} SET {column} = 0 WHERE {column} = ?", last] for table, column in (("version", "id"), ("piece", "version"))))
+    change(
+        "v.db",
+        *(
+            [f"UPDATE {table} SET {column} = 0 WHERE {column} = ?", last]
+            for table, column in (("version", "id"), ("piece", "version"))
+        ),
+    )
     suite.wants("the last number was changed to 0", "201 published", published("v1.3.0"))
 
 
@@ -334,7 +375,9 @@ def files(suite):
     suite.wants("a zip that can't be read", "io", word(f"publish --db f.db {ROW} --mod go.mod --zip none"))
     suite.wants("a list that can't be read", "io", word(f"import --db f.db --key {KEY} --list none"))
     with open("/dev/full", "wb") as full:
-        suite.wants("an output that fails", "io", word(f"publish --db f.db {ROW} --mod go.mod --zip lib.zip", output=full))
+        suite.wants(
+            "an output that fails", "io", word(f"publish --db f.db {ROW} --mod go.mod --zip lib.zip", output=full)
+        )
     taken = socket.socket()
     taken.bind(("127.0.0.1", 0))
     taken.listen()
@@ -348,7 +391,9 @@ def files(suite):
         suite.wants(cause, "bad-row", word(f"import --db f.db --key {KEY} --list list.csv"))
     open("list.csv", "wb").write(HEADER.encode() + b"example.com/lib,v1.0.1,,go.mod,\xff\n")
     suite.wants("a row that is no text", "bad-row", word(f"import --db f.db --key {KEY} --list list.csv"))
-    open("list.csv", "w").write(HEADER + "example.com/lib,v1.0.0,,go.mod,lib.zip\nexample.com/lib,v1.0.1,,go.mod,lib.zip\n")
+    open("list.csv", "w").write(
+        HEADER + "example.com/lib,v1.0.0,,go.mod,lib.zip\nexample.com/lib,v1.0.1,,go.mod,lib.zip\n"
+    )
     told = run(f"import --db f.db --key {KEY} --list list.csv".split())[1]
     suite.equal("the list was mended", told, b"1 200 already published\n2 201 published\n")
 
@@ -382,15 +427,34 @@ def outcomes(suite):
     add_platform("o.db")
     rows = [[it.strip() for it in line.split("|")] for line in OUTCOMES.splitlines()]
     more = [
-        ("400 bad mod-length", "none", f"PUT /k/{KEY}/example.com/lib/@v/v1.2.0 HTTP/1.1\r\nContent-Length: 3\r\n\r\nzip"),
-        ("400 bad mod-length", "more than the body", f"PUT /k/{KEY}/example.com/lib/@v/v1.2.0 HTTP/1.1\r\nMod-Length: 4\r\nContent-Length: 3\r\n\r\nzip"),
-        ("400 bad request", "a chunked body", f"PUT /k/{KEY}/example.com/lib/@v/v1.2.0 HTTP/1.1\r\nTransfer-Encoding: chunked\r\n\r\n3\r\nzip\r\n0\r\n\r\n"),
+        (
+            "400 bad mod-length",
+            "none",
+            f"PUT /k/{KEY}/example.com/lib/@v/v1.2.0 HTTP/1.1\r\nContent-Length: 3\r\n\r\nzip",
+        ),
+        (
+            "400 bad mod-length",
+            "more than the body",
+            f"PUT /k/{KEY}/example.com/lib/@v/v1.2.0 HTTP/1.1\r\nMod-Length: 4\r\nContent-Length: 3\r\n\r\nzip",
+        ),
+        (
+            "400 bad request",
+            "a chunked body",
+            (
+                f"PUT /k/{KEY}/example.com/lib/@v/v1.2.0 HTTP/1.1\r\nTransfer-Encoding:"
+                " chunked\r\n\r\n3\r\nzip\r\n0\r\n\r\n"
+            ),
+        ),
     ]
-    told = answered(["--db", "o.db"], [*(publish_of(words) for _, _, words in rows), *(text.encode() for _, _, text in more)])
+    told = answered(
+        ["--db", "o.db"], [*(publish_of(words) for _, _, words in rows), *(text.encode() for _, _, text in more)]
+    )
     for (wanted, cause, _), (status, body) in zip([*rows, *more], told, strict=True):
         suite.equal(f"a publish, {wanted}: {cause}", f"{status} {body.decode().strip()}", wanted)
     with open(os.path.join(ROOT, "docs", "REFERENCE.md"), encoding="utf-8") as page:
-        listed = re.findall(r"^\| (\d{3}) `([a-z -]+)(?: LINE)?` \|", page.read().partition("| outcome | cause |")[2], re.M)
+        listed = re.findall(
+            r"^\| (\d{3}) `([a-z -]+)(?: LINE)?` \|", page.read().partition("| outcome | cause |")[2], re.M
+        )
     made = {tuple(re.sub(r" \d+$", "", wanted).split(" ", 1)) for wanted, *_ in [*rows, *more]} - {("201", "published")}
     # (tests/largest.py fills a shelf, and tests/refused_allocation.py makes memory run out)
     suite.equal("the page lists these outcomes", set(listed), made | {("507", "full"), ("503", "unavailable")})
@@ -398,7 +462,12 @@ def outcomes(suite):
 
 def names(suite):
     new_store("n.db")
-    for cause, team in (("an upper-case letter", "Alpha"), ("a digit first", "1team"), ("33 bytes", "a" * 33), ("common", "common")):
+    for cause, team in (
+        ("an upper-case letter", "Alpha"),
+        ("a digit first", "1team"),
+        ("33 bytes", "a" * 33),
+        ("common", "common"),
+    ):
         suite.wants(f"a team: {cause}", "name", word(f"team-add --db n.db --team {team}"))
         suite.wants(f"a group: {cause}", "name", word(f"group-add --db n.db --group {team}"))
     for cause, key in (("15 bytes", "a" * 15), ("65 bytes", "a" * 65), ("a dash", "alpha-key-000000001")):
@@ -462,7 +531,11 @@ def memory(suite):
     new_store("m.db")
     change(
         "m.db",
-        ["INSERT INTO version VALUES (1, 'alpha', 'example.com/big', 'v1.0.0', NULL, ?, ?, ?)", b"module example.com/big\n", *keys("v1.0.0")],
+        [
+            "INSERT INTO version VALUES (1, 'alpha', 'example.com/big', 'v1.0.0', NULL, ?, ?, ?)",
+            b"module example.com/big\n",
+            *keys("v1.0.0"),
+        ],
         *(["INSERT INTO piece VALUES (1, ?, ?)", number, os.urandom(PIECE)] for number in range(244)),
     )
     suite.wants("the system gave no memory", "memory", word("team-add --db m.db --team beta", before=limit))

@@ -139,7 +139,11 @@ def judge(n, runs):
 def sweep(suite, name, runs, share):
     """Adds a row for each allocation that is refused: one in this many."""
     status, output, errors = runs.run(REQUESTS, COUNT="1")
-    if not suite.holds(f"{name}: no 503 with ample memory", status == 0 and not any(number == 503 for number, _ in replies(output)), errors):
+    if not suite.holds(
+        f"{name}: no 503 with ample memory",
+        status == 0 and not any(number == 503 for number, _ in replies(output)),
+        errors,
+    ):
         return
     refused = range(random.randint(1, share), int(errors) + 1, share)
     for n in refused:

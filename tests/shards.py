@@ -31,8 +31,14 @@ SHELVES = ("common", "alpha", "beta", "platform", "gamma", "delta")
 SEED = random.Random(11)
 PSEUDO = "v0.0.0-20240131120000-abcdefabcdef"
 RELEASES = ("v1.0.0", "v1.1.0-RC.1")
-CERTIFICATE = "openssl req -x509 -newkey ec -pkeyopt ec_paramgen_curve:P-256 -nodes -days 2 -subj /CN=localhost -out /etc/ssl/goshelf.pem -keyout /etc/ssl/goshelf.key"
-SHARDS = "shard first 127.0.0.1:{first}\nteam alpha\nteam beta\nshard second 127.0.0.1:{second}\ngroup platform gamma\nteam delta\n"
+CERTIFICATE = (
+    "openssl req -x509 -newkey ec -pkeyopt ec_paramgen_curve:P-256 -nodes -days 2 -subj /CN=localhost -out"
+    " /etc/ssl/goshelf.pem -keyout /etc/ssl/goshelf.key"
+)
+SHARDS = (
+    "shard first 127.0.0.1:{first}\nteam alpha\nteam beta\nshard second 127.0.0.1:{second}\ngroup platform gamma\nteam"
+    " delta\n"
+)
 # a file of shards, and what is said of it; keys are those of GOOD
 WRONG_FILES = {
     "": "it names no team",
@@ -41,7 +47,9 @@ WRONG_FILES = {
     "shard first 127.0.0.1:1\nteam alpha\nshard second 127.0.0.1:2\nteam alpha\n": ":4: alpha is also at ",
     "shard first 127.0.0.1:1\nteam alpha\ngroup big beta alpha\n": ":3: alpha is also at ",
     "shard first 127.0.0.1:1\nteam alpha\nshard first 127.0.0.1:2\nteam beta\n": "first is the name of two shards",
-    "shard first 127.0.0.1:1\nteam alpha\nshard second 127.0.0.1:1\nteam beta\n": "127.0.0.1:1 is the address of two shards",
+    "shard first 127.0.0.1:1\nteam alpha\nshard second 127.0.0.1:1\nteam beta\n": (
+        "127.0.0.1:1 is the address of two shards"
+    ),
     "shard first 127.0.0.1:1\nteam alpha\nshard second 127.0.0.1:2\n": "second has no team",
     "shard first 127.0.0.1:1\nteam common\n": ":2: every shard has common",
     "shard first 127.0.0.1:1\nteam alpha beta\n": ":2: neither `shard NAME HOST:PORT`",
@@ -127,11 +135,18 @@ class Company:
         for name in ("etc/nginx/goshelf", "var/cache/nginx/goshelf", "var/cache/nginx/goshelf-public"):
             os.makedirs(f"{machine.folder}/{name}")
         os.chmod(f"{machine.folder}/var/cache/nginx/goshelf", 0o777)
-        machine.write("etc/nginx/goshelf/keys.map", "".join(f'"{it} {right}" {key(it, right)};\n' for it in SHELVES for right in rights))
-        machine.write("etc/nginx/goshelf/users.map", "".join(user_line(it, right) for it in SHELVES for right in rights))
+        machine.write(
+            "etc/nginx/goshelf/keys.map",
+            "".join(f'"{it} {right}" {key(it, right)};\n' for it in SHELVES for right in rights),
+        )
+        machine.write(
+            "etc/nginx/goshelf/users.map", "".join(user_line(it, right) for it in SHELVES for right in rights)
+        )
         machine.write("etc/nginx/goshelf/paths.map", '"example.com" "{}";\n'.format(" ".join(SHELVES)))
         machine.does("install -m 0644 deploy/nginx/elsewhere.conf deploy/nginx/public.conf /etc/nginx/goshelf/")
-        machine.does(f"{ROOT}/tools/shards conf {self.file} < deploy/nginx/goshelf.conf > /etc/nginx/conf.d/goshelf.conf")
+        machine.does(
+            f"{ROOT}/tools/shards conf {self.file} < deploy/nginx/goshelf.conf > /etc/nginx/conf.d/goshelf.conf"
+        )
         machine.does("nginx")
         wait_for(machine.front)
         self.context = ssl.create_default_context(cafile=f"{machine.folder}/etc/ssl/goshelf.pem")
@@ -146,7 +161,10 @@ class Company:
     def put(self, shelf, path, version, content=None, at=None):
         """Publishes by nginx, or at a goshelf."""
         head = f"module {path}\n".encode()
-        headers = {"Mod-Length": str(len(head)), **({} if version == PSEUDO else {"Version-Time": "2024-01-31T12:00:00Z"})}
+        headers = {
+            "Mod-Length": str(len(head)),
+            **({} if version == PSEUDO else {"Version-Time": "2024-01-31T12:00:00Z"}),
+        }
         target = f"/{path}/@v/{version}".replace("RC", "!r!c")
         return (at or self).ask("PUT", shelf, target, head + (content or SEED.randbytes(3_000)), headers)
 
@@ -159,15 +177,29 @@ class Company:
         return told
 
     def targets(self):
-        files = [f"/{path}/@v/{version}.{it}" for path, version in sorted(set(self.published)) for it in ("info", "mod", "zip")]
+        files = [
+            f"/{path}/@v/{version}.{it}"
+            for path, version in sorted(set(self.published))
+            for it in ("info", "mod", "zip")
+        ]
         paths = sorted({path for path, _ in self.published})
-        return [*files, *(f"/{path}/{it}" for path in paths for it in ("@v/list", "@latest")), "/-/modules", "/example.com/none/@v/list"]
+        return [
+            *files,
+            *(f"/{path}/{it}" for path in paths for it in ("@v/list", "@latest")),
+            "/-/modules",
+            "/example.com/none/@v/list",
+        ]
 
     def differing(self):
         """The answers of nginx, asked twice, that are not the one goshelf's."""
         asks = [(it, target, right) for it in SHELVES for target in self.targets() for right in ("read", "publish")]
         own = {it: self.one.ask("GET", *it[:2], right=it[2]) for it in asks}
-        return [(it, found[0], own[it][0]) for it in asks for found in (self.ask("GET", *it[:2], right=it[2]),) if found != own[it]]
+        return [
+            (it, found[0], own[it][0])
+            for it in asks
+            for found in (self.ask("GET", *it[:2], right=it[2]),)
+            if found != own[it]
+        ]
 
     def tool(self, command, *words, file=None, keys=None):
         """The status, the lines and the errors of tools/shards."""
@@ -185,13 +217,33 @@ def alike(suite, company):
     """What teams publish is there at once, and what common publishes once it is sent on."""
     for shelf in SHELVES:
         for version in RELEASES:
-            suite.equal(f"{shelf} publishes {version}", company.put_both(shelf, f"example.com/{shelf}", version), (201, b"published\n"))
+            suite.equal(
+                f"{shelf} publishes {version}",
+                company.put_both(shelf, f"example.com/{shelf}", version),
+                (201, b"published\n"),
+            )
             if shelf in ("platform", "gamma"):
-                suite.equal(f"{shelf} publishes {version} of what its chain has", company.put_both(shelf, "example.com/chain", version)[0], 201 if shelf == "platform" else 409)
-    late = {(it[0], found, wanted) for it, found, wanted in company.differing() if "/@v/list" not in it[1] and "/@latest" not in it[1]}
-    suite.holds("before it is sent on, the second shard's teams lack common, and nothing else differs", {it[0] for it in late} == set(TEAMS["second"]), late)
+                suite.equal(
+                    f"{shelf} publishes {version} of what its chain has",
+                    company.put_both(shelf, "example.com/chain", version)[0],
+                    201 if shelf == "platform" else 409,
+                )
+    late = {
+        (it[0], found, wanted)
+        for it, found, wanted in company.differing()
+        if "/@v/list" not in it[1] and "/@latest" not in it[1]
+    }
+    suite.holds(
+        "before it is sent on, the second shard's teams lack common, and nothing else differs",
+        {it[0] for it in late} == set(TEAMS["second"]),
+        late,
+    )
     status, lines, _ = company.tool("check")
-    suite.equal("check names what is missing", (status, lines[-1], len([it for it in lines if " lacks " in it])), (1, "2 compared, 2 wrong", 2))
+    suite.equal(
+        "check names what is missing",
+        (status, lines[-1], len([it for it in lines if " lacks " in it])),
+        (1, "2 compared, 2 wrong", 2),
+    )
     suite.equal("and sends nothing", company.tool("check")[1][-1], "2 compared, 2 wrong")
     suite.equal("it is sent on", (company.tool("send")[1])[-1], "2 sent, 0 wrong")
     suite.equal("and sent again", company.tool("send"), (0, ["0 sent, 0 wrong"], ""))
@@ -204,9 +256,21 @@ def shard_down(suite, company):
     company.shards["second"].stop()
     company.put_both("common", "example.com/common", "v1.2.0")
     status, lines, _ = company.tool("send")
-    suite.holds("a shard that is down is named", status == 1 and lines[0].startswith("second at ") and lines[-1] == "0 sent, 1 wrong", lines)
-    suite.equal("its teams get a 502, others all that they had", (company.ask("GET", "gamma", "/-/modules")[0], company.ask("GET", "alpha", "/-/modules")[0]), (502, 200))
-    health = [company.ask("GET", "gamma", "/healthz")[0], company.ask("GET", "alpha", "/healthz")[0], company.ask("GET", "", "/healthz", headers={"Authorization": ""})[0]]
+    suite.holds(
+        "a shard that is down is named",
+        status == 1 and lines[0].startswith("second at ") and lines[-1] == "0 sent, 1 wrong",
+        lines,
+    )
+    suite.equal(
+        "its teams get a 502, others all that they had",
+        (company.ask("GET", "gamma", "/-/modules")[0], company.ask("GET", "alpha", "/-/modules")[0]),
+        (502, 200),
+    )
+    health = [
+        company.ask("GET", "gamma", "/healthz")[0],
+        company.ask("GET", "alpha", "/healthz")[0],
+        company.ask("GET", "", "/healthz", headers={"Authorization": ""})[0],
+    ]
     suite.equal("health is that of the shard of the login, and without one of the first", health, [502, 200, 200])
     company.shards["second"].start()
     suite.equal("it is back, and gets what it missed", company.tool("send")[1][-1], "1 sent, 0 wrong")
@@ -256,7 +320,11 @@ def made(suite, company):
     told = company.tool("make", folder, keys=one.store)
     suite.equal("make makes a store for each", told, (0, [f"{it} is {folder}/{it}.db" for it in TEAMS], ""))
     status, lines, errors = company.tool("make", folder, keys=one.store)
-    suite.equal("and none in place of one that is there", (status, lines, errors), (1, [], "shards: first is not made: goshelf: not-empty\n"))
+    suite.equal(
+        "and none in place of one that is there",
+        (status, lines, errors),
+        (1, [], "shards: first is not made: goshelf: not-empty\n"),
+    )
     name = f"{company.folder}/wrong"
     before = {it: os.path.getmtime(one.store + it) for it in ("", "-wal") if os.path.exists(one.store + it)}
     for text, said in NOT_THE_STORE.items():
@@ -277,10 +345,21 @@ def made(suite, company):
     one.start()
     for it, teams in TEAMS.items():
         shard = Goshelf(f"{folder}/{it}.db")
-        asks = [(shelf, target, right) for shelf in ("common", *teams) for target in company.targets() for right in ("read", "publish")]
-        other = [ask[:2] for ask in asks if shard.ask("GET", *ask[:2], right=ask[2]) != one.ask("GET", *ask[:2], right=ask[2])]
+        asks = [
+            (shelf, target, right)
+            for shelf in ("common", *teams)
+            for target in company.targets()
+            for right in ("read", "publish")
+        ]
+        other = [
+            ask[:2]
+            for ask in asks
+            if shard.ask("GET", *ask[:2], right=ask[2]) != one.ask("GET", *ask[:2], right=ask[2])
+        ]
         suite.equal(f"no answer of {it} differs from the one goshelf's, by {len(asks)} asks", other, [])
-        strangers = [shelf for shelf in SHELVES[1:] if shelf not in teams and shard.ask("GET", shelf, "/-/modules")[0] != 404]
+        strangers = [
+            shelf for shelf in SHELVES[1:] if shelf not in teams and shard.ask("GET", shelf, "/-/modules")[0] != 404
+        ]
         suite.equal(f"{it} has no key of another shard's teams", strangers, [])
         shard.stop()
 
@@ -309,7 +388,11 @@ def new_team(suite, company):
     suite.equal("a new team publishes", company.put("zeta", "example.com/zeta", "v1.0.0")[0], 201)
     there = [it.ask("GET", "zeta", "/example.com/zeta/@v/list")[0] for it in company.shards.values()]
     suite.equal("at its shard alone", there, [404, 200])
-    suite.equal("it sees common", company.ask("GET", "zeta", "/example.com/common/@v/list"), company.ask("GET", "delta", "/example.com/common/@v/list"))
+    suite.equal(
+        "it sees common",
+        company.ask("GET", "zeta", "/example.com/common/@v/list"),
+        company.ask("GET", "delta", "/example.com/common/@v/list"),
+    )
     suite.equal("and send goes on", company.tool("send")[1][-1], "0 sent, 0 wrong")
     suite.equal("no answer to another differs", company.differing(), [])
 
@@ -319,9 +402,16 @@ def conf_in_place(suite, company):
     machine, name = company.machine, "etc/nginx/conf.d/goshelf.conf"
     command = block("sh", "tools/shards conf", "DEPLOYMENTS.md").replace("/root/shards.conf", company.file)
     command = command.replace("/usr/share/goshelf/tools", f"{ROOT}/tools")
-    machine.edit(name, ('"$goshelf_shelf 1"', '"$goshelf_shelf 7"'), ("server_name shelf.example.com;", "server_name own.example.com;"))
+    machine.edit(
+        name,
+        ('"$goshelf_shelf 1"', '"$goshelf_shelf 7"'),
+        ("server_name shelf.example.com;", "server_name own.example.com;"),
+    )
     before, text, own = machine.read(name), read(company.file).decode(), "wrong"
-    for why, shards, said in (("a wrong line", f"{text}junk\n", "neither `shard"), ("an address that is none", text.replace(":", ":9", 1), "nginx refuses")):
+    for why, shards, said in (
+        ("a wrong line", f"{text}junk\n", "neither `shard"),
+        ("an address that is none", text.replace(":", ":9", 1), "nginx refuses"),
+    ):
         machine.write(f"root/{own}", shards)
         told = machine.sh(command.replace(company.file, own))
         suite.holds(f"conf with {why}", told[0] and said in told[2] and machine.read(name) == before, told)
@@ -333,7 +423,13 @@ def conf_in_place(suite, company):
     left = [it for it in os.listdir(f"{machine.folder}/etc/nginx/conf.d") if it != "goshelf.conf"]
     suite.equal("and leaves nothing beside the file", left, [])
     single = re.sub(r"[^\n]*zeta[^\n]*\n", "", text)
-    suite.equal("by another way it prints the same", subprocess.run([f"{ROOT}/tools/shards", "conf", company.file], input=single.encode(), capture_output=True).stdout.decode(), text)
+    suite.equal(
+        "by another way it prints the same",
+        subprocess.run(
+            [f"{ROOT}/tools/shards", "conf", company.file], input=single.encode(), capture_output=True
+        ).stdout.decode(),
+        text,
+    )
 
 
 def ran_ahead(suite, company):
@@ -342,10 +438,22 @@ def ran_ahead(suite, company):
     company.put("common", path, "v1.0.0", b"common's")
     suite.equal("the team publishes it too", company.put("delta", path, "v1.0.0", b"delta's")[0], 201)
     status, lines, _ = company.tool("send")
-    suite.equal("the team is named", (status, lines[1:]), (1, [f"second: delta has other bytes than common as {path} v1.0.0", "1 sent, 1 wrong"]))
-    suite.equal("check with --teams names it too", company.tool("check", "--teams")[1][:-1], [f"second: delta has other bytes than common as {path} v1.0.0"])
+    suite.equal(
+        "the team is named",
+        (status, lines[1:]),
+        (1, [f"second: delta has other bytes than common as {path} v1.0.0", "1 sent, 1 wrong"]),
+    )
+    suite.equal(
+        "check with --teams names it too",
+        company.tool("check", "--teams")[1][:-1],
+        [f"second: delta has other bytes than common as {path} v1.0.0"],
+    )
     found = {it: company.ask("GET", it, f"/{path}/@v/v1.0.0.zip")[1] for it in SHELVES}
-    suite.equal("it keeps its own, and all others have common's", found, {**dict.fromkeys(SHELVES, b"common's"), "delta": b"delta's"})
+    suite.equal(
+        "it keeps its own, and all others have common's",
+        found,
+        {**dict.fromkeys(SHELVES, b"common's"), "delta": b"delta's"},
+    )
 
 
 def past_nginx(suite, company):
@@ -355,9 +463,16 @@ def past_nginx(suite, company):
     company.put("common", path, "v1.0.0", b"second", company.shards["second"])
     company.put("common", path, "v1.1.0", b"alone", company.shards["second"])
     status, lines, _ = company.tool("send")
-    suite.equal("what the second alone has is named", (status, lines), (1, [f"second has {path} v1.1.0 on common, and first does not", "0 sent, 1 wrong"]))
+    suite.equal(
+        "what the second alone has is named",
+        (status, lines),
+        (1, [f"second has {path} v1.1.0 on common, and first does not", "0 sent, 1 wrong"]),
+    )
     status, lines, _ = company.tool("check")
-    wanted = [f"second has {path} v1.1.0 on common, and first does not", f"second has other bytes than first as {path} v1.0.0 of common"]
+    wanted = [
+        f"second has {path} v1.1.0 on common, and first does not",
+        f"second has other bytes than first as {path} v1.0.0 of common",
+    ]
     suite.equal("and so are other bytes", (status, lines[:-1]), (1, wanted))
     found = [company.ask("GET", it, f"/{path}/@v/v1.0.0.zip")[1] for it in ("alpha", "gamma")]
     suite.equal("both keep theirs", found, [b"first", b"second"])
@@ -370,7 +485,11 @@ def other_keys(suite, company):
     done("key-revoke", "--db", second.store, "--key", key("common"))
     second.start()
     status, lines, _ = company.tool("send")
-    suite.equal("a shard without the key of common is named", (status, lines[0]), (1, "second does not know the key that publishes to common"))
+    suite.equal(
+        "a shard without the key of common is named",
+        (status, lines[0]),
+        (1, "second does not know the key that publishes to common"),
+    )
     second.stop()
     done("key-add", "--db", second.store, "--shelf", "common", "--key", key("common"))
     second.start()
@@ -383,7 +502,11 @@ def wrong_files(suite, company):
         with open(name, "w", encoding="utf-8") as file:
             file.write(text)
         status, lines, errors = company.tool("send", file=name)
-        suite.holds(f"{text!r}: {said}", (status, lines) == (2, []) and said in errors and errors.count("\n") == 1, (status, errors))
+        suite.holds(
+            f"{text!r}: {said}",
+            (status, lines) == (2, []) and said in errors and errors.count("\n") == 1,
+            (status, errors),
+        )
     for drop in ('"common publish"', '"delta read"'):
         with open(company.keys, encoding="utf-8") as file:
             lines = [it for it in file if not it.startswith(drop)]
@@ -391,10 +514,21 @@ def wrong_files(suite, company):
             file.writelines(lines)
         status, _, errors = company.tool("send", keys=name)
         suite.holds(f"keys without {drop}", status == 2 and f"it has no line for {drop}" in errors, errors)
-    for words in ([], ["send"], ["conf"], ["make", company.file], ["send", company.file], ["other", company.file, company.keys]):
-        status = subprocess.run([f"{ROOT}/tools/shards", *words], capture_output=True, stdin=subprocess.DEVNULL).returncode
+    for words in (
+        [],
+        ["send"],
+        ["conf"],
+        ["make", company.file],
+        ["send", company.file],
+        ["other", company.file, company.keys],
+    ):
+        status = subprocess.run(
+            [f"{ROOT}/tools/shards", *words], capture_output=True, stdin=subprocess.DEVNULL
+        ).returncode
         suite.equal(f"the words {[it[:5] for it in words]}", status, 2)
-    status = subprocess.run([f"{ROOT}/tools/shards", "conf", company.file], input=b"server { }", capture_output=True).returncode
+    status = subprocess.run(
+        [f"{ROOT}/tools/shards", "conf", company.file], input=b"server { }", capture_output=True
+    ).returncode
     suite.equal("conf of another file", status, 2)
 
 

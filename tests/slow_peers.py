@@ -163,7 +163,11 @@ def sends_half_a_head(peer):
 
 def publish(peer, zip_bytes):
     """The head of a publish, and its go.mod."""
-    return peer.door.head("PUT", f"{AT}/v9.0.0", f"Mod-Length: {len(GOMOD)}", f"Content-Length: {len(GOMOD) + zip_bytes}") + b"\r\n" + GOMOD
+    return (
+        peer.door.head("PUT", f"{AT}/v9.0.0", f"Mod-Length: {len(GOMOD)}", f"Content-Length: {len(GOMOD) + zip_bytes}")
+        + b"\r\n"
+        + GOMOD
+    )
 
 
 def sends_a_body_at_1_kb_a_second(peer):
@@ -327,7 +331,9 @@ def main():
     with tempfile.TemporaryDirectory(prefix="goshelf-slow-") as folder:
         own_port(suite, folder)
         honest(suite, folder)
-    lacking = [it for it in ("nginx", "openssl") if not shutil.which(it) and not shutil.which(it, path="/usr/sbin:/sbin")]
+    lacking = [
+        it for it in ("nginx", "openssl") if not shutil.which(it) and not shutil.which(it, path="/usr/sbin:/sbin")
+    ]
     why = f"the machine has no {lacking[0]}" if lacking else "its users and folders need root"
     return play(suite, "nginx", why, lambda folder: set_up(suite, folder), [through_nginx], not lacking)
 

@@ -122,21 +122,28 @@ def kept_zips():
         yield f"{about} is read back", get(f"{PATH}/@v/{version}.zip"), reply(200, zip_bytes, ".zip")
         yield f"{about} is published again", put(PATH, version, GOMOD, zip_bytes), reply(200, b"already published\n")
         if size:
-            yield f"{about}, but for its last byte", put(PATH, version, GOMOD, zip_of(version, True)), reply(409, b"conflict\n")
+            yield f"{about}, but for its last byte", put(PATH, version, GOMOD, zip_of(version, True)), reply(
+                409, b"conflict\n"
+            )
 
 
 def answers(suite, where, words, rows):
     """Asks for the rows in one run, and compares each reply."""
     status, output, told = run(["answer", *words], b"".join(request for _, request, _ in rows))
     found = raw_replies(output)
-    suite.equal(f"{where}: the run ends well, with a reply to each request", (status, told, len(found)), (0, "", len(rows)))
+    suite.equal(
+        f"{where}: the run ends well, with a reply to each request", (status, told, len(found)), (0, "", len(rows))
+    )
     for (name, _, wanted), raw in zip(rows, found):
         suite.equal(f"{where}: {name}", raw, wanted)
 
 
 def zips(suite):
     published = reply(201, b"published\n")
-    publishes = [(f"a zip of {size} bytes is published", put(PATH, it, GOMOD, zip_of(it)), published) for it, size in SIZES.items()]
+    publishes = [
+        (f"a zip of {size} bytes is published", put(PATH, it, GOMOD, zip_of(it)), published)
+        for it, size in SIZES.items()
+    ]
     new_store("a.db", ("alpha", KEY))
     answers(suite, "a file", ["--db", "a.db"], publishes)
     answers(suite, "the file in a later run", ["--db", "a.db"], list(kept_zips()))
@@ -146,11 +153,18 @@ def zips(suite):
 def lengths(suite):
     new_store("a.db", ("alpha", KEY))
     published = reply(201, b"published\n")
-    rows = [(f"a zip of {size} bytes is published", put(PATH, f"v1.0.{n}", GOMOD, b"z" * size), published) for n, size in enumerate(LISTED)]
+    rows = [
+        (f"a zip of {size} bytes is published", put(PATH, f"v1.0.{n}", GOMOD, b"z" * size), published)
+        for n, size in enumerate(LISTED)
+    ]
     answers(suite, "lengths", ["--db", "a.db"], rows)
     lines = [f"{PATH},v1.0.{n},alpha,release,,{len(GOMOD)},{size}\n" for n, size in enumerate(LISTED)]
     listed = "path,version,shelf,class,time,mod_bytes,zip_bytes\n" + "".join(lines)
-    suite.equal("the inventory tells the length of each", run(f"inventory --db a.db --key {KEY}".split()), (0, listed.encode(), ""))
+    suite.equal(
+        "the inventory tells the length of each",
+        run(f"inventory --db a.db --key {KEY}".split()),
+        (0, listed.encode(), ""),
+    )
 
 
 def refused(suite):
@@ -175,8 +189,12 @@ def refused(suite):
             name = f"{cause.replace(' ', '-')}-{number}.db"
             write({name: content})
             line, word = row.replace(" F", f" {name}").split(" | ")
-            suite.equal(f"{cause}: {row}", (run(words_of(line)), read(name) == content), ((1, b"", f"goshelf: {word}\n"), True))
-    suite.equal("the file that was damaged in copies is opened", run("team-add --db good.db --team beta".split()), (0, b"", ""))
+            suite.equal(
+                f"{cause}: {row}", (run(words_of(line)), read(name) == content), ((1, b"", f"goshelf: {word}\n"), True)
+            )
+    suite.equal(
+        "the file that was damaged in copies is opened", run("team-add --db good.db --team beta".split()), (0, b"", "")
+    )
 
 
 def logged(name, made, later, stale=()):
@@ -333,9 +351,13 @@ def no_files(suite):
     os.mkdir("folder")
     for name in NO_FILES:
         for command in (["team-add", "--team", "beta"], ["init"], ["answer"]):
-            suite.equal(f"{command[0]} on the name `{name}`", run([*command, f"--db={name}"]), (1, b"", "goshelf: device\n"))
+            suite.equal(
+                f"{command[0]} on the name `{name}`", run([*command, f"--db={name}"]), (1, b"", "goshelf: device\n")
+            )
     suite.equal("no file was made", os.listdir("."), ["folder"])
-    suite.runs("a name that is not there is a store with common alone", f"key-revoke --db new.db --key {KEYS['A']} | 1 no-key")
+    suite.runs(
+        "a name that is not there is a store with common alone", f"key-revoke --db new.db --key {KEYS['A']} | 1 no-key"
+    )
 
 
 if __name__ == "__main__":

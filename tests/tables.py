@@ -69,7 +69,9 @@ def zip_of(version):
 
 
 def put(version):
-    return messages.put(PATH, version, GOMOD, zip_of(version), time=stamp_time(version) if PSEUDO.match(version) else "")
+    return messages.put(
+        PATH, version, GOMOD, zip_of(version), time=stamp_time(version) if PSEUDO.match(version) else ""
+    )
 
 
 def stamp_time(version):
@@ -102,10 +104,18 @@ def read_by_sqlite(suite):
     suite.equal("foreign_key_check", conn.execute("PRAGMA foreign_key_check").fetchall(), [])
     suite.equal("schema 3", conn.execute("SELECT name, value FROM meta").fetchall(), [("schema", 3)])
     for version, length in VERSIONS.items():
-        rows = conn.execute("SELECT id, order_key, rank_key FROM version WHERE path = ? AND version = ?", (PATH, version)).fetchall()
+        rows = conn.execute(
+            "SELECT id, order_key, rank_key FROM version WHERE path = ? AND version = ?", (PATH, version)
+        ).fetchall()
         suite.equal(f"the keys of {version}", [row[1:] for row in rows], [(order_key(version), rank_key(version))])
-        pieces = conn.execute("SELECT number, bytes FROM piece WHERE version = ? ORDER BY number", rows[0][:1]).fetchall()
-        suite.equal(f"the numbers of its pieces, of {length} bytes", [number for number, _ in pieces], list(range((length + PIECE - 1) // PIECE)))
+        pieces = conn.execute(
+            "SELECT number, bytes FROM piece WHERE version = ? ORDER BY number", rows[0][:1]
+        ).fetchall()
+        suite.equal(
+            f"the numbers of its pieces, of {length} bytes",
+            [number for number, _ in pieces],
+            list(range((length + PIECE - 1) // PIECE)),
+        )
         suite.equal("each but the last is full", [number for number, piece in pieces[:-1] if len(piece) != PIECE], [])
         suite.holds("joined they are the zip", b"".join(piece for _, piece in pieces) == zip_of(version))
     by_order = [version for (version,) in conn.execute("SELECT version FROM version ORDER BY order_key")]
@@ -113,8 +123,14 @@ def read_by_sqlite(suite):
     conn.execute("PRAGMA wal_checkpoint(TRUNCATE)")
     conn.close()
     releases = [f"v1.0.{n}" for n in range(7)]
-    suite.equal("order_key goes by precedence", by_order, ["v0.0.0-20240131120000-0123456789ab", *releases, "v1.1.0-2", "v1.1.0-rc.10"])
-    suite.equal("rank_key goes by rank", by_rank, ["v0.0.0-20240131120000-0123456789ab", "v1.1.0-2", "v1.1.0-rc.10", *releases])
+    suite.equal(
+        "order_key goes by precedence",
+        by_order,
+        ["v0.0.0-20240131120000-0123456789ab", *releases, "v1.1.0-2", "v1.1.0-rc.10"],
+    )
+    suite.equal(
+        "rank_key goes by rank", by_rank, ["v0.0.0-20240131120000-0123456789ab", "v1.1.0-2", "v1.1.0-rc.10", *releases]
+    )
 
 
 # what each shelf publishes, by its key
@@ -136,10 +152,19 @@ def shelves_read(suite):
     """Tables, columns and the parents of shelves, as sqlite3 tells them."""
     stores.new_store("shelves.db", ("alpha", KEY), ("common", KEYS["C"]))
     add_platform("shelves.db")
-    puts = [messages.put(f"example.com/{it.lower()}", "v1.0.0", f"module example.com/{it.lower()}\n".encode(), it.encode(), KEYS[it]) for it in PUBLISHED]
-    suite.equal("each shelf publishes", [status for status, _ in answered(["--db", "shelves.db"], puts)], [201] * len(puts))
+    puts = [
+        messages.put(
+            f"example.com/{it.lower()}", "v1.0.0", f"module example.com/{it.lower()}\n".encode(), it.encode(), KEYS[it]
+        )
+        for it in PUBLISHED
+    ]
+    suite.equal(
+        "each shelf publishes", [status for status, _ in answered(["--db", "shelves.db"], puts)], [201] * len(puts)
+    )
     conn = opened("shelves.db")
-    suite.equal("each shelf has its parent", conn.execute("SELECT name, parent FROM shelf ORDER BY name").fetchall(), SHELVES)
+    suite.equal(
+        "each shelf has its parent", conn.execute("SELECT name, parent FROM shelf ORDER BY name").fetchall(), SHELVES
+    )
     suite.equal("foreign_key_check of shelves", conn.execute("PRAGMA foreign_key_check").fetchall(), [])
     suite.equal("integrity_check of shelves", conn.execute("PRAGMA integrity_check").fetchall(), [("ok",)])
     tables = {row[1]: row[5] for row in conn.execute("PRAGMA table_list") if not row[1].startswith("sqlite_")}
@@ -172,8 +197,13 @@ def second_row(file, parent, is_in_index):
     key, table = "sqlite_autoindex_shelf_1", "CREATE TABLE shelf (name TEXT, parent TEXT) STRICT"
     changed(file, "SELECT 1")
     conn = opened(file)
-    rows = conn.execute("SELECT rowid, type, name, tbl_name, rootpage, sql FROM sqlite_schema WHERE tbl_name = 'shelf'").fetchall()
-    conn.executescript(f"PRAGMA writable_schema = ON; DELETE FROM sqlite_schema WHERE name = '{key}'; UPDATE sqlite_schema SET sql = '{table}' WHERE name = 'shelf'")
+    rows = conn.execute(
+        "SELECT rowid, type, name, tbl_name, rootpage, sql FROM sqlite_schema WHERE tbl_name = 'shelf'"
+    ).fetchall()
+    conn.executescript(
+        f"PRAGMA writable_schema = ON; DELETE FROM sqlite_schema WHERE name = '{key}'; UPDATE sqlite_schema SET sql ="
+        f" '{table}' WHERE name = 'shelf'"
+    )
     conn.close()
     conn = opened(file)
     conn.execute("INSERT INTO shelf VALUES ('alpha', ?)", (parent,))
@@ -183,8 +213,10 @@ def second_row(file, parent, is_in_index):
     roots = dict(conn.execute("SELECT 'root', rootpage FROM sqlite_schema WHERE name = 'both'"))
     conn.execute("DELETE FROM sqlite_schema WHERE tbl_name = 'shelf'")
     for number, kind, name, of, root, sql in rows:
-        conn.execute("INSERT INTO sqlite_schema (rowid, type, name, tbl_name, rootpage, sql) VALUES (?, ?, ?, ?, ?, ?)",
-                     (number, kind, name, of, roots.get("root", root) if name == key else root, sql))
+        conn.execute(
+            "INSERT INTO sqlite_schema (rowid, type, name, tbl_name, rootpage, sql) VALUES (?, ?, ?, ?, ?, ?)",
+            (number, kind, name, of, roots.get("root", root) if name == key else root, sql),
+        )
     conn.close()
 
 
@@ -200,36 +232,93 @@ UNFIT_SHELVES = (
     ("a team that is its own parent", "UPDATE shelf SET parent = name WHERE name = 'alpha'"),
     ("a team of a group that is its own parent", "UPDATE shelf SET parent = name WHERE name = 'gamma'"),
     ("a group that is its own parent", "UPDATE shelf SET parent = name WHERE name = 'platform'"),
-    ("a cycle of two teams", "UPDATE shelf SET parent = iif(name = 'gamma', 'delta', 'gamma') WHERE name IN ('gamma', 'delta')"),
+    (
+        "a cycle of two teams",
+        "UPDATE shelf SET parent = iif(name = 'gamma', 'delta', 'gamma') WHERE name IN ('gamma', 'delta')",
+    ),
     ("a cycle of a group and its team", "UPDATE shelf SET parent = 'gamma' WHERE name = 'platform'"),
-    ("a cycle of three", "UPDATE shelf SET parent = iif(name = 'gamma', 'alpha', 'gamma') WHERE name IN ('gamma', 'platform'); UPDATE shelf SET parent = 'platform' WHERE name = 'alpha'"),
+    (
+        "a cycle of three",
+        (
+            "UPDATE shelf SET parent = iif(name = 'gamma', 'alpha', 'gamma') WHERE name IN ('gamma', 'platform');"
+            " UPDATE shelf SET parent = 'platform' WHERE name = 'alpha'"
+        ),
+    ),
     ("a group of teams whose parent is common", "UPDATE shelf SET parent = 'common' WHERE name = 'platform'"),
-    ("a group in a group", "INSERT INTO shelf VALUES ('tools', NULL); UPDATE shelf SET parent = 'tools' WHERE name = 'platform'"),
+    (
+        "a group in a group",
+        "INSERT INTO shelf VALUES ('tools', NULL); UPDATE shelf SET parent = 'tools' WHERE name = 'platform'",
+    ),
     ("common in a group", "UPDATE shelf SET parent = 'platform' WHERE name = 'common'"),
     ("common as a team", "UPDATE shelf SET parent = 'alpha' WHERE name = 'common'"),
     ("common that is its own parent", "UPDATE shelf SET parent = name WHERE name = 'common'"),
     ("common with a parent that is no shelf", "UPDATE shelf SET parent = 'nosuch' WHERE name = 'common'"),
     ("no common", "DELETE FROM shelf WHERE name = 'common'"),
-    ("no common, and nothing that names it", "DELETE FROM shelf WHERE name = 'common'; UPDATE shelf SET parent = NULL WHERE parent = 'common'; UPDATE access SET shelf = 'alpha' WHERE shelf = 'common'; UPDATE version SET shelf = 'alpha' WHERE shelf = 'common'"),
+    (
+        "no common, and nothing that names it",
+        (
+            "DELETE FROM shelf WHERE name = 'common'; UPDATE shelf SET parent = NULL WHERE parent = 'common'; UPDATE"
+            " access SET shelf = 'alpha' WHERE shelf = 'common'; UPDATE version SET shelf = 'alpha' WHERE shelf ="
+            " 'common'"
+        ),
+    ),
     ("no shelf at all", "DELETE FROM shelf"),
     ("the group is gone", "DELETE FROM shelf WHERE name = 'platform'"),
-    ("the group is gone, and its key and version", "DELETE FROM shelf WHERE name = 'platform'; DELETE FROM access WHERE shelf = 'platform'; DELETE FROM piece WHERE version = (SELECT id FROM version WHERE shelf = 'platform'); DELETE FROM version WHERE shelf = 'platform'"),
+    (
+        "the group is gone, and its key and version",
+        (
+            "DELETE FROM shelf WHERE name = 'platform'; DELETE FROM access WHERE shelf = 'platform'; DELETE FROM piece"
+            " WHERE version = (SELECT id FROM version WHERE shelf = 'platform'); DELETE FROM version WHERE shelf ="
+            " 'platform'"
+        ),
+    ),
     ("a team that is gone, with a key", "DELETE FROM shelf WHERE name = 'delta'"),
     ("a team's name that is none", "INSERT INTO shelf VALUES ('No Team', 'common')"),
     ("a group's name that is none", "INSERT INTO shelf VALUES ('No Group', NULL)"),
     ("a group's name of 33 bytes", "INSERT INTO shelf VALUES ('a23456789012345678901234567890123', NULL)"),
     ("an empty name", "INSERT INTO shelf VALUES ('', NULL)"),
-    ("a group's name that is none, and its team", "INSERT INTO shelf VALUES ('No Group', NULL); UPDATE shelf SET parent = 'No Group' WHERE name = 'gamma'"),
+    (
+        "a group's name that is none, and its team",
+        "INSERT INTO shelf VALUES ('No Group', NULL); UPDATE shelf SET parent = 'No Group' WHERE name = 'gamma'",
+    ),
 )
 # shelves of a world, with a group that is there, and what the keys of alpha, the group, gamma, delta and common see of
 # `PUBLISHED`
 FIT_SHELVES = (
     ("the shelves as they are", "SELECT 1", "platform", {"A": "AC", "P": "PC", "M": "PMC", "D": "PC", "C": "C"}),
-    ("a team that joined the group", "UPDATE shelf SET parent = 'platform' WHERE name = 'alpha'", "platform", {"A": "APC", "P": "PC", "M": "PMC", "D": "PC", "C": "C"}),
-    ("a team that left it", "UPDATE shelf SET parent = 'common' WHERE name = 'gamma'", "platform", {"A": "AC", "P": "PC", "M": "MC", "D": "PC", "C": "C"}),
-    ("a team that became a group", "UPDATE shelf SET parent = NULL WHERE name = 'alpha'; UPDATE shelf SET parent = 'alpha' WHERE name = 'delta'", "alpha", {"A": "AC", "P": "PC", "M": "PMC", "D": "AC", "C": "C"}),
-    ("another group, made behind its team", "UPDATE shelf SET parent = 'tools' WHERE name = 'delta'; INSERT INTO shelf VALUES ('tools', NULL)", "tools", {"A": "AC", "P": "PC", "M": "PMC", "D": "C", "C": "C"}),
-    ("a group that became a team, since it has none", "UPDATE shelf SET parent = 'common' WHERE parent = 'platform'; UPDATE shelf SET parent = 'common' WHERE name = 'platform'", "", {"A": "AC", "P": "PC", "M": "MC", "D": "C", "C": "C"}),
+    (
+        "a team that joined the group",
+        "UPDATE shelf SET parent = 'platform' WHERE name = 'alpha'",
+        "platform",
+        {"A": "APC", "P": "PC", "M": "PMC", "D": "PC", "C": "C"},
+    ),
+    (
+        "a team that left it",
+        "UPDATE shelf SET parent = 'common' WHERE name = 'gamma'",
+        "platform",
+        {"A": "AC", "P": "PC", "M": "MC", "D": "PC", "C": "C"},
+    ),
+    (
+        "a team that became a group",
+        "UPDATE shelf SET parent = NULL WHERE name = 'alpha'; UPDATE shelf SET parent = 'alpha' WHERE name = 'delta'",
+        "alpha",
+        {"A": "AC", "P": "PC", "M": "PMC", "D": "AC", "C": "C"},
+    ),
+    (
+        "another group, made behind its team",
+        "UPDATE shelf SET parent = 'tools' WHERE name = 'delta'; INSERT INTO shelf VALUES ('tools', NULL)",
+        "tools",
+        {"A": "AC", "P": "PC", "M": "PMC", "D": "C", "C": "C"},
+    ),
+    (
+        "a group that became a team, since it has none",
+        (
+            "UPDATE shelf SET parent = 'common' WHERE parent = 'platform'; UPDATE shelf SET parent = 'common' WHERE"
+            " name = 'platform'"
+        ),
+        "",
+        {"A": "AC", "P": "PC", "M": "MC", "D": "C", "C": "C"},
+    ),
 )
 
 
@@ -248,14 +337,26 @@ def shelves_changed(suite):
     for parent in ("common", "platform", None):
         for is_in_index in (True, False):
             second_row("twice.db", parent, is_in_index)
-            is_refused(suite, f"a second row of alpha, with the parent {parent}{'' if is_in_index else ', which its index lacks'}", "twice.db")
+            is_refused(
+                suite,
+                f"a second row of alpha, with the parent {parent}{'' if is_in_index else ', which its index lacks'}",
+                "twice.db",
+            )
     for cause, statements, group, wanted in FIT_SHELVES:
         changed("fit.db", statements)
         suite.equal(f"{cause}: what each key sees", {letter: seen("fit.db", letter) for letter in wanted}, wanted)
         if group:
-            suite.equal(f"{cause}: a team of {group}", run(["team-add", "--db", "fit.db", "--team", "eps", "--group", group]), (0, b"", ""))
+            suite.equal(
+                f"{cause}: a team of {group}",
+                run(["team-add", "--db", "fit.db", "--team", "eps", "--group", group]),
+                (0, b"", ""),
+            )
         else:
-            suite.equal(f"{cause}: no group is left", run(["team-add", "--db", "fit.db", "--team", "eps", "--group", "platform"]), (1, b"", "goshelf: no-group\n"))
+            suite.equal(
+                f"{cause}: no group is left",
+                run(["team-add", "--db", "fit.db", "--team", "eps", "--group", "platform"]),
+                (1, b"", "goshelf: no-group\n"),
+            )
 
 
 def refused(suite):
@@ -263,16 +364,34 @@ def refused(suite):
     for cause, statement in (
         ("a gap in the numbers", f"UPDATE piece SET number = 2 WHERE number = 1 AND version = {of}"),
         ("no first piece", f"DELETE FROM piece WHERE number = 0 AND version = {of}"),
-        ("a piece behind the last that is not full", "INSERT INTO piece SELECT id, 1, X'5A' FROM version WHERE version = 'v1.0.1'"),
-        ("a short piece before another", f"UPDATE piece SET bytes = substr(bytes, 2) WHERE number = 0 AND version = {of}"),
-        ("a piece of a byte too many", f"UPDATE piece SET bytes = CAST(bytes || X'5A' AS BLOB) WHERE number = 1 AND version = {of}"),
+        (
+            "a piece behind the last that is not full",
+            "INSERT INTO piece SELECT id, 1, X'5A' FROM version WHERE version = 'v1.0.1'",
+        ),
+        (
+            "a short piece before another",
+            f"UPDATE piece SET bytes = substr(bytes, 2) WHERE number = 0 AND version = {of}",
+        ),
+        (
+            "a piece of a byte too many",
+            f"UPDATE piece SET bytes = CAST(bytes || X'5A' AS BLOB) WHERE number = 1 AND version = {of}",
+        ),
         ("an empty piece", f"INSERT INTO piece VALUES ({of}, 2, X'')"),
         ("an empty piece of an empty zip", "INSERT INTO piece SELECT id, 0, X'' FROM version WHERE version = 'v1.0.0'"),
         ("a zip of a byte too many", "INSERT INTO piece SELECT id, 256, X'5A' FROM version WHERE version = 'v1.0.6'"),
         ("a piece without its version", "INSERT INTO piece VALUES (99, 0, X'5A')"),
         ("pieces whose version is gone", "DELETE FROM version WHERE version = 'v1.0.5'"),
-        ("pieces of a version taken by another", f"UPDATE piece SET version = {of} WHERE number > 2 AND version = (SELECT id FROM version WHERE version = 'v1.0.6')"),
-        ("an order_key of another version", f"UPDATE version SET order_key = X'{order_key('v1.0.4').hex()}' WHERE version = 'v1.0.5'"),
+        (
+            "pieces of a version taken by another",
+            (
+                f"UPDATE piece SET version = {of} WHERE number > 2 AND version = (SELECT id FROM version WHERE version"
+                " = 'v1.0.6')"
+            ),
+        ),
+        (
+            "an order_key of another version",
+            f"UPDATE version SET order_key = X'{order_key('v1.0.4').hex()}' WHERE version = 'v1.0.5'",
+        ),
         ("a rank_key that is the order_key", "UPDATE version SET rank_key = order_key WHERE version = 'v1.0.5'"),
         ("schema 1 by its number", "UPDATE meta SET value = 1"),
         ("schema 2 by its number", "UPDATE meta SET value = 2"),
@@ -298,15 +417,30 @@ def made_by_sqlite(suite):
     conn.execute("INSERT INTO shelf (name, parent) VALUES ('gamma', 'platform'), ('platform', NULL)")
     conn.execute("INSERT INTO access (token, shelf, publish) VALUES (?, 'gamma', 0)", (KEYS["M"],))
     row = (b"module example.com/p\n", order_key("v1.0.0"), rank_key("v1.0.0"))
-    conn.execute("INSERT INTO version (id, shelf, path, version, mod, order_key, rank_key) VALUES (-5, 'platform', 'example.com/p', 'v1.0.0', ?, ?, ?)", row)
+    conn.execute(
+        (
+            "INSERT INTO version (id, shelf, path, version, mod, order_key, rank_key) VALUES (-5, 'platform',"
+            " 'example.com/p', 'v1.0.0', ?, ?, ?)"
+        ),
+        row,
+    )
     for number, version in enumerate(VERSIONS, 7):
         time = stamp_time(version) if PSEUDO.match(version) else None
         row = (number, "alpha", PATH, version, time, GOMOD, order_key(version), rank_key(version))
-        conn.execute("INSERT INTO version (id, shelf, path, version, time, mod, order_key, rank_key) VALUES (?, ?, ?, ?, ?, ?, ?, ?)", row)
+        conn.execute(
+            (
+                "INSERT INTO version (id, shelf, path, version, time, mod, order_key, rank_key) VALUES (?, ?, ?, ?, ?,"
+                " ?, ?, ?)"
+            ),
+            row,
+        )
         zip = zip_of(version)
         # the last piece first: the order of rows means nothing
         for at in reversed(range(0, len(zip), PIECE)):
-            conn.execute("INSERT INTO piece (version, number, bytes) VALUES (?, ?, ?)", (number, at // PIECE, zip[at : at + PIECE]))
+            conn.execute(
+                "INSERT INTO piece (version, number, bytes) VALUES (?, ?, ?)",
+                (number, at // PIECE, zip[at : at + PIECE]),
+            )
     conn.execute("COMMIT")
     conn.execute("PRAGMA wal_checkpoint(TRUNCATE)")
     conn.close()
@@ -314,7 +448,11 @@ def made_by_sqlite(suite):
     for version in VERSIONS:
         suite.holds(f"the zip of {version}, whose rows sqlite3 made, is served", zips[version] == zip_of(version))
     told = answered(["--db", "made.db"], [get("example.com/p/@v/v1.0.0.mod", key) for key in (KEYS["M"], KEY)])
-    suite.equal("a group's version, whose rows sqlite3 made, is served to its team alone", told, [(200, b"module example.com/p\n"), (404, b"not found\n")])
+    suite.equal(
+        "a group's version, whose rows sqlite3 made, is served to its team alone",
+        told,
+        [(200, b"module example.com/p\n"), (404, b"not found\n")],
+    )
 
 
 def main():

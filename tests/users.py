@@ -183,7 +183,12 @@ def kept_in_step(suite, client):
 def of_files(suite, client, before):
     """A list of several files: one that is missing or empty removes nobody."""
     machine, first, rest = client.machine, *OWN.split("\n", 1)
-    for name, text in (("one", f"# machines\n{first}\n"), ("two", rest), ("none", "# nobody\n"), ("bad", "eve alpha\n")):
+    for name, text in (
+        ("one", f"# machines\n{first}\n"),
+        ("two", rest),
+        ("none", "# nobody\n"),
+        ("bad", "eve alpha\n"),
+    ):
         machine.write(f"root/{name}", text)
     for words, wanted in (
         ("one two", (0, "", "")),

@@ -22,12 +22,15 @@ from lib.suite import Suite
 from lib.warm import BOTH, COPY, ELSEWHERE, HOME, NOT_WHOLE, PAGE, SECOND_WAY, WARM, Warm, publishes, store_of
 
 
-
 def before_the_copy(suite, company):
     """The warm host has no store yet: the first host answers."""
     company.maps(block("sh", "root $(command -v goshelf-warm) store", PAGE).partition("\n")[0])
     suite.equal("publishes at the warm host", publishes(company, "v1.0.0"), {(201, b"published\n")})
-    suite.equal("a version whose name ends like a file's", {company.put("pub", "example.com/lib", f"v1.0.0-rc.{it}") for it in ("zip", "mod", "info")}, {(201, b"published\n")})
+    suite.equal(
+        "a version whose name ends like a file's",
+        {company.put("pub", "example.com/lib", f"v1.0.0-rc.{it}") for it in ("zip", "mod", "info")},
+        {(201, b"published\n")},
+    )
     equal(suite, company, "no copy")
 
 
@@ -41,9 +44,14 @@ def first_copy(suite, company):
     suite.equal("the lines for cron", [it[5:] for it in lines], [["root", script, "store"], ["root", script, "maps"]])
     for it in lines:
         words = ["ip", "netns", "exec", warm.namespace, "sh", "-c", " ".join(it[6:])]
-        ran = subprocess.run(words, env={"PATH": "/usr/sbin:/usr/bin:/bin"}, cwd="/", capture_output=True, text=True, timeout=60)
+        ran = subprocess.run(
+            words, env={"PATH": "/usr/sbin:/usr/bin:/bin"}, cwd="/", capture_output=True, text=True, timeout=60
+        )
         suite.equal(f"{it[7]} by cron", (ran.returncode, ran.stdout, ran.stderr), (0, "", ""))
-    modes = {it: os.stat(f"{warm.folder}/{it}").st_mode & 0o77 for it in (f"{HOME}/shelves.db", f"{HOME}/versions", "etc/nginx/goshelf/keys.map")}
+    modes = {
+        it: os.stat(f"{warm.folder}/{it}").st_mode & 0o77
+        for it in (f"{HOME}/shelves.db", f"{HOME}/versions", "etc/nginx/goshelf/keys.map")
+    }
     suite.equal("only their owner may read them", set(modes.values()), {0})
     suite.equal("nothing is left at the first host", os.listdir(f"{company.first.folder}/var/backups/goshelf"), [])
     wanted = equal(suite, company, "a copy")
@@ -52,8 +60,19 @@ def first_copy(suite, company):
     suite.equal(f"{len(kept)} files", company.differing(kept, (WARM,)), [])
     asked = [it for it in company.lines(FIRST, begun) if KEPT.search(it.split()[5]) and it.split()[6] == "200"]
     suite.equal("for which the first host is not asked", asked, [])
-    suite.equal("strangers get nothing", {company.desk.ask(WARM, None, it)[0] for it in ("/example.com/lib/@v/v1.0.0.zip", "/example.com/lib/@v/list")}, {401})
-    suite.equal("nor does who has another password", {company.desk.ask(WARM, None, it, headers={"Authorization": "Basic YW5uOng="})[0] for it in ("/example.com/lib/@v/v1.0.0.zip", "/x")}, {401})
+    suite.equal(
+        "strangers get nothing",
+        {company.desk.ask(WARM, None, it)[0] for it in ("/example.com/lib/@v/v1.0.0.zip", "/example.com/lib/@v/list")},
+        {401},
+    )
+    suite.equal(
+        "nor does who has another password",
+        {
+            company.desk.ask(WARM, None, it, headers={"Authorization": "Basic YW5uOng="})[0]
+            for it in ("/example.com/lib/@v/v1.0.0.zip", "/x")
+        },
+        {401},
+    )
     heads = [company.desk.ask(at, "ann", "/example.com/lib/@v/v1.0.0.zip", "HEAD") for at in company.fronts]
     suite.equal("a HEAD", heads[1], heads[0])
     for it in ("PUT", "POST", "DELETE"):
@@ -71,9 +90,15 @@ def old_copy(suite, company):
     wanted = equal(suite, company, "an old copy")
     store = store_of(company.warm)
     company.first.does("systemctl stop goshelf")
-    suite.equal("the first goshelf is stopped: the copy's files, and failures as the page says", company.alone(wanted, copied, wanted), [])
+    suite.equal(
+        "the first goshelf is stopped: the copy's files, and failures as the page says",
+        company.alone(wanted, copied, wanted),
+        [],
+    )
     suite.equal("a publish fails", company.put("pub", "example.com/lib", "v1.2.0")[0], 502)
-    suite.equal("also one whose name ends like a file's", company.put("pub", "example.com/lib", "v1.2.0-rc.zip")[0], 502)
+    suite.equal(
+        "also one whose name ends like a file's", company.put("pub", "example.com/lib", "v1.2.0-rc.zip")[0], 502
+    )
     company.first.stop_nginx()
     suite.equal("and the first nginx: the same", company.alone(wanted, copied), [])
     suite.equal("health is the copy's", [company.desk.ask(it, None, "/healthz")[0] for it in company.fronts], [0, 200])
@@ -110,26 +135,57 @@ def go_goes_on(suite, company):
         suite.skip("the go command while a host is down", "the machine has no go")
         return
     path, version, gomod, zipped = module("example.com/greet", "v1.0.0")
-    told = company.desk.ask(WARM, "pub", f"/{path}/@v/{version}", "PUT", gomod + zipped, {"Mod-Length": str(len(gomod))})
+    told = company.desk.ask(
+        WARM, "pub", f"/{path}/@v/{version}", "PUT", gomod + zipped, {"Mod-Length": str(len(gomod))}
+    )
     suite.equal("a module for the go command", told[0], 201)
     company.copy()
     desk = company.hosts[DESK]
     public = static(f"{desk.folder}/public", module("golang.example/tool", "v1.0.0"))
     desk.write("root/.netrc", f"machine {BOTH} login ann password {company.desk.passwords['ann']}\n")
-    write({f"{desk.folder}/etc/ssl/hosts.pem": "".join(company.hosts[name].read("etc/ssl/goshelf.pem") for name in company.fronts)})
-    proxies = shlex.split(block("sh", f"GOPROXY=https://{BOTH}", PAGE))[-1].removeprefix("GOPROXY=") + f",file://{public}"
-    settings = {"GOPROXY": proxies, "GONOSUMDB": "*", "GOFLAGS": "-modcacherw", "GOTOOLCHAIN": "local", "SSL_CERT_FILE": f"{desk.folder}/etc/ssl/hosts.pem"}
-    app = "mkdir -p app; cd app; printf 'module app\\n\\ngo 1.17\\n\\nrequire (\\n\\texample.com/greet v1.0.0\\n\\tgolang.example/tool v1.0.0\\n)\\n' > go.mod; go mod download all"
+    write(
+        {
+            f"{desk.folder}/etc/ssl/hosts.pem": "".join(
+                company.hosts[name].read("etc/ssl/goshelf.pem") for name in company.fronts
+            )
+        }
+    )
+    proxies = (
+        shlex.split(block("sh", f"GOPROXY=https://{BOTH}", PAGE))[-1].removeprefix("GOPROXY=") + f",file://{public}"
+    )
+    settings = {
+        "GOPROXY": proxies,
+        "GONOSUMDB": "*",
+        "GOFLAGS": "-modcacherw",
+        "GOTOOLCHAIN": "local",
+        "SSL_CERT_FILE": f"{desk.folder}/etc/ssl/hosts.pem",
+    }
+    app = (
+        "mkdir -p app; cd app; printf 'module app\\n\\ngo 1.17\\n\\nrequire (\\n\\texample.com/greet"
+        " v1.0.0\\n\\tgolang.example/tool v1.0.0\\n)\\n' > go.mod; go mod download all"
+    )
     hosts, names = f"/etc/netns/{desk.namespace}/hosts", read(f"/etc/netns/{desk.namespace}/hosts").decode()
-    for down, stops, starts in ((FIRST, company.first.stop_nginx, company.first.start_nginx), (WARM, company.warm.stop_nginx, company.warm.start_nginx)):
+    for down, stops, starts in (
+        (FIRST, company.first.stop_nginx, company.first.start_nginx),
+        (WARM, company.warm.stop_nginx, company.warm.start_nginx),
+    ):
         up = next(it for it in company.fronts if it != down)
         write({hosts: names + "".join(f"{company.hosts[it].address} {BOTH}\n" for it in (down, up))})
         stops()
         cache = f"{desk.folder}/go-{down}"
         told = desk.sh(app, GOPATH=cache, GOCACHE=f"{desk.folder}/gocache", **settings)
-        have = [os.path.exists(f"{cache}/pkg/mod/cache/download/{it}/@v/v1.0.0.zip") for it in ("example.com/greet", "golang.example/tool")]
-        suite.equal(f"the go command fetches a shelf's module and another while {down} is down", (told[0], have), (0, [True, True])) or print(told)
-        status, printed, errors = desk.sh("go list -m -versions example.com/greet", GOPATH=cache, GOCACHE=f"{desk.folder}/gocache", **settings)
+        have = [
+            os.path.exists(f"{cache}/pkg/mod/cache/download/{it}/@v/v1.0.0.zip")
+            for it in ("example.com/greet", "golang.example/tool")
+        ]
+        suite.equal(
+            f"the go command fetches a shelf's module and another while {down} is down",
+            (told[0], have),
+            (0, [True, True]),
+        ) or print(told)
+        status, printed, errors = desk.sh(
+            "go list -m -versions example.com/greet", GOPATH=cache, GOCACHE=f"{desk.folder}/gocache", **settings
+        )
         wanted = (1, "", True) if down == FIRST else (0, "example.com/greet v1.0.0\n", False)
         suite.equal(f"a list while {down} is down", (status, printed, "502" in errors), wanted)
         starts()
@@ -142,7 +198,14 @@ def static(folder, them):
     path, version, gomod, zipped = them
     at = f"{folder}/{path}/@v"
     os.makedirs(at)
-    write({f"{at}/list": f"{version}\n", f"{at}/{version}.info": f'{{"Version":"{version}"}}', f"{at}/{version}.mod": gomod, f"{at}/{version}.zip": zipped})
+    write(
+        {
+            f"{at}/list": f"{version}\n",
+            f"{at}/{version}.info": f'{{"Version":"{version}"}}',
+            f"{at}/{version}.mod": gomod,
+            f"{at}/{version}.zip": zipped,
+        }
+    )
     return folder
 
 
@@ -161,7 +224,12 @@ def under_way(suite, company):
         time.sleep(1)
         first.link(True)
 
-    harms = [(True, 0, kill), *((False, it, kill) for it in (0, 0.03, 0.06, 0.1, 0.2, 0.4)), (False, 0, cut), (False, 0.03, cut)]
+    harms = [
+        (True, 0, kill),
+        *((False, it, kill) for it in (0, 0.03, 0.06, 0.1, 0.2, 0.4)),
+        (False, 0, cut),
+        (False, 0.03, cut),
+    ]
     for number, (half, wait, harm) in enumerate(harms):
         path, body = f"example.com/large{number}", company.seed.randbytes(8_000_000)
         told = sent(company, path, body, half, wait, harm)
@@ -171,8 +239,15 @@ def under_way(suite, company):
         again = [company.put("pub", path, "v1.0.0", body=body) for _ in range(2)]
         outcomes.append((told, mine[0]))
         good = (is_there or mine[0] == 404) and (told != 201 or is_there) and told in (201, 502, 504)
-        name = f"{harm.__name__} {wait} s after {'half of ' if half else ''}a publish was sent (it got {told}, then the version {'is there' if is_there else 'is not there'})"
-        suite.equal(f"{name}: whole or not at all, and again", (good, [it[0] for it in again]), (True, [200 if is_there else 201, 200]))
+        name = (
+            f"{harm.__name__} {wait} s after {'half of ' if half else ''}a publish was sent (it got {told}, then the"
+            f" version {'is there' if is_there else 'is not there'})"
+        )
+        suite.equal(
+            f"{name}: whole or not at all, and again",
+            (good, [it[0] for it in again]),
+            (True, [200 if is_there else 201, 200]),
+        )
         found = [company.desk.ask(at, "ann", f"/{path}/@v/v1.0.0.zip")[2] == body for at in company.fronts]
         suite.equal("both hosts have its bytes then", found, [True, True])
     suite.holds("some were lost and some kept", len({status for _, status in outcomes}) == 2, outcomes)
@@ -184,7 +259,10 @@ def sent(company, path, body, is_half, wait, harm):
     """The status that a publish gets during which harm is done: behind half of it, or this many seconds after all of
     it was sent."""
     head = f"module {path}\n".encode()
-    text = f"PUT /{path}/@v/v1.0.0 HTTP/1.1\r\nHost: {WARM}\r\nAuthorization: {company.desk.login('pub')}\r\nConnection: close\r\n"
+    text = (
+        f"PUT /{path}/@v/v1.0.0 HTTP/1.1\r\nHost: {WARM}\r\nAuthorization: {company.desk.login('pub')}\r\nConnection:"
+        " close\r\n"
+    )
     text += f"Mod-Length: {len(head)}\r\nContent-Length: {len(head + body)}\r\n\r\n"
     whole = text.encode() + head + body
     with company.desk.connect(WARM, 90) as held:
@@ -203,7 +281,11 @@ def removed(suite, company):
     company.copy()
     company.desk.add(first, "tom", "alpha", "read")
     first.reload()
-    suite.equal("a new user is known here with the maps", [company.desk.ask(it, "tom", zip_file)[0] for it in company.fronts], [200, 401])
+    suite.equal(
+        "a new user is known here with the maps",
+        [company.desk.ask(it, "tom", zip_file)[0] for it in company.fronts],
+        [200, 401],
+    )
     company.maps()
     suite.equal("then also here", [company.desk.ask(it, "tom", zip_file)[0] for it in company.fronts], [200] * 2)
     first.does(remove)
@@ -212,7 +294,11 @@ def removed(suite, company):
     suite.equal("what the copy lacks", company.desk.ask(WARM, "tom", "/example.com/lib/@v/list")[0], 401)
     suite.equal("what the copy has, until the maps come", company.desk.ask(WARM, "tom", zip_file)[0], 200)
     company.maps()
-    suite.equal("and once they came", [company.desk.ask(WARM, "tom", it)[0] for it in (zip_file, "/example.com/lib/@v/list")], [401, 401])
+    suite.equal(
+        "and once they came",
+        [company.desk.ask(WARM, "tom", it)[0] for it in (zip_file, "/example.com/lib/@v/list")],
+        [401, 401],
+    )
     company.desk.add(first, "tom", "alpha", "read")
     first.reload()
     company.maps()
@@ -220,7 +306,11 @@ def removed(suite, company):
     first.does(remove)
     first.reload()
     told = warm.sh("goshelf-warm maps")
-    suite.holds("no maps come while the host is cut off, and it says so", told[0] == 1 and "no whole copy of the first host's maps came" in told[1], told)
+    suite.holds(
+        "no maps come while the host is cut off, and it says so",
+        told[0] == 1 and "no whole copy of the first host's maps came" in told[1],
+        told,
+    )
     warm.link(True)
     wait_until(lambda: company.desk.ask(WARM, "tom", zip_file)[0] == 200)
     suite.holds("until it is back and they come, the copy answers", True)
@@ -229,9 +319,20 @@ def removed(suite, company):
     good = first.read("etc/nginx/goshelf/users.map")
     first.write("etc/nginx/goshelf/users.map", good + '"Basic QQ==" "half a line')
     told = warm.sh("goshelf-warm maps")
-    suite.holds("maps that nginx refuses are named", told[0] == 1 and told[1] == "goshelf-warm: nginx refuses the first host's maps: the old ones stay\n", told)
-    suite.equal("the old ones stay", (warm.read("etc/nginx/goshelf/users.map") == good, warm.sh("nginx -q -t")[0], sorted(os.listdir(f"{warm.folder}/etc/nginx/goshelf"))),
-                (True, 0, ["elsewhere.conf", "keys.map", "paths.map", "public.conf", "users.map"]))
+    suite.holds(
+        "maps that nginx refuses are named",
+        told[0] == 1 and told[1] == "goshelf-warm: nginx refuses the first host's maps: the old ones stay\n",
+        told,
+    )
+    suite.equal(
+        "the old ones stay",
+        (
+            warm.read("etc/nginx/goshelf/users.map") == good,
+            warm.sh("nginx -q -t")[0],
+            sorted(os.listdir(f"{warm.folder}/etc/nginx/goshelf")),
+        ),
+        (True, 0, ["elsewhere.conf", "keys.map", "paths.map", "public.conf", "users.map"]),
+    )
     first.write("etc/nginx/goshelf/users.map", good)
     suite.equal("the same maps again", warm.sh("goshelf-warm maps"), (0, "", ""))
     warm.stop_nginx()
@@ -274,7 +375,9 @@ def key_revoked(suite, company):
     company.maps()
     company.warm.does("goshelf-warm store")
     wanted = {it: company.desk.ask(FIRST, *it) for it in wanted}
-    suite.equal("its line is back, with a copy made since: what the first host answers", company.differing(wanted, (WARM,)), [])
+    suite.equal(
+        "its line is back, with a copy made since: what the first host answers", company.differing(wanted, (WARM,)), []
+    )
     new = "betasnewkey00001"
     first.does("systemctl stop goshelf")
     done("key-add", "--db", first.store, "--shelf", "beta", "--key", new, "--read-only")
@@ -303,10 +406,20 @@ def restored(suite, company):
     first.does("goshelf-uncache")
     first.reload()
     target = "/example.com/lib/@v/v1.90.0.zip"
-    suite.equal("the first host lacks it, the copy has it", [company.desk.ask(at, "ann", target)[0] for at in company.fronts], [404, 200])
+    suite.equal(
+        "the first host lacks it, the copy has it",
+        [company.desk.ask(at, "ann", target)[0] for at in company.fronts],
+        [404, 200],
+    )
     status, printed, _ = company.warm.sh("goshelf-warm store")
-    suite.holds("the next copy is refused, and it says why", status == 1 and "alpha|example.com/lib|v1.90.0|" in printed, (status, printed))
-    suite.equal("the command of the page", company.warm.sh(block("sh", "rm /var/lib/goshelf/versions", PAGE)), (0, "", ""))
+    suite.holds(
+        "the next copy is refused, and it says why",
+        status == 1 and "alpha|example.com/lib|v1.90.0|" in printed,
+        (status, printed),
+    )
+    suite.equal(
+        "the command of the page", company.warm.sh(block("sh", "rm /var/lib/goshelf/versions", PAGE)), (0, "", "")
+    )
     suite.equal("then neither has it", [company.desk.ask(at, "ann", target)[0] for at in company.fronts], [404, 404])
     company.published -= {("example.com/lib", "v1.90.0")}
     equal(suite, company, "a restored store")
@@ -353,10 +466,29 @@ def promoted(suite, company):
     wait_until(lambda: warm.workers() and not before & warm.workers())
     company.desk.kept.clear()
     suite.equal("the warm host answers all as the first did", company.differing(wanted, (WARM,)), [])
-    suite.equal("and takes publishes", [company.put("pub", "example.com/lib", "v1.99.0")[0], company.desk.ask(WARM, "ann", "/example.com/lib/@latest")[0]], [201, 200])
+    suite.equal(
+        "and takes publishes",
+        [
+            company.put("pub", "example.com/lib", "v1.99.0")[0],
+            company.desk.ask(WARM, "ann", "/example.com/lib/@latest")[0],
+        ],
+        [201, 200],
+    )
     company.first.link(True)
 
 
 if __name__ == "__main__":
-    parts = (before_the_copy, first_copy, old_copy, first_reloaded, copy_down, go_goes_on, public_modules, removed, key_revoked)
-    sys.exit(play(Suite(), "deploy/warm", "network namespaces need root", Warm, (*parts, restored, under_way, promoted)))
+    parts = (
+        before_the_copy,
+        first_copy,
+        old_copy,
+        first_reloaded,
+        copy_down,
+        go_goes_on,
+        public_modules,
+        removed,
+        key_revoked,
+    )
+    sys.exit(
+        play(Suite(), "deploy/warm", "network namespaces need root", Warm, (*parts, restored, under_way, promoted))
+    )

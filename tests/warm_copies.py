@@ -77,7 +77,10 @@ def other_store(folder, *versions):
         done("key-add", "--db", file, "--shelf", "alpha", "--key", "alphakey00000001")
     for it in versions:
         write({f"{folder}/mod": "module example.com/lib\n", f"{folder}/zip": "other bytes"})
-        run(f"publish --db {file} --key alphakey00000001 --module example.com/lib --version {it} --mod {folder}/mod --zip {folder}/zip".split())
+        run(
+            f"publish --db {file} --key alphakey00000001 --module example.com/lib --version {it} --mod {folder}/mod"
+            f" --zip {folder}/zip".split()
+        )
     return {it: read(f"{folder}/{it}") for it in COPY}
 
 
@@ -96,12 +99,19 @@ def bad_ones(warm, whole):
         *((f"cut at byte {it}", whole[:it], NOT_WHOLE) for it in sorted(cuts)),
         ("no tar file", b"Permission denied\n" * 1000, NOT_WHOLE),
         ("without sums", tar_of(files, b""), NOT_WHOLE),
-        ("with another byte", tar_of({**files, COPY[1]: log[:middle] + bytes([log[middle] ^ 1]) + log[middle + 1 :]}, sums_of(files)), NOT_WHOLE),
+        (
+            "with another byte",
+            tar_of({**files, COPY[1]: log[:middle] + bytes([log[middle] ^ 1]) + log[middle + 1 :]}, sums_of(files)),
+            NOT_WHOLE,
+        ),
         ("without its log", tar_of({COPY[0]: files[COPY[0]]}), NOT_WHOLE),
         ("an empty file", tar_of({COPY[0]: b"", COPY[1]: b""}), "the copy is no store"),
         ("no store", tar_of({COPY[0]: b"x" * 9_000, COPY[1]: b""}), "the copy is no store"),
         *((f"page {it} is zeros", tar_of({COPY[0]: text, COPY[1]: b""}), BROKEN_STORE) for it, text in zeros.items()),
-        *((f"{it} pages", tar_of({COPY[0]: served[: 4096 * it], COPY[1]: b""}), BROKEN_STORE) for it in (1, 5, len(served) // 4096 - 1)),
+        *(
+            (f"{it} pages", tar_of({COPY[0]: served[: 4096 * it], COPY[1]: b""}), BROKEN_STORE)
+            for it in (1, 5, len(served) // 4096 - 1)
+        ),
         ("an empty store", tar_of(other_store(f"{warm.folder}/root/empty")), "goshelf refuses the copy"),
         ("another store", tar_of(other_store(f"{warm.folder}/root/other", "v1.0.0", "v7.0.0")), LACKS),
         ("the store of a day before", tar_of({it: read(f"{warm.folder}/root/older/{it}") for it in COPY}), LACKS),
@@ -119,9 +129,17 @@ def bad_copies(suite, company):
     left = sorted(os.listdir(f"{warm.folder}/{HOME}"))
     for name, text, wanted in bad_ones(warm, whole):
         status, printed, _ = tried(company, text)
-        suite.holds(f"a copy: {name}: it is named", status == 1 and re.search(f"^goshelf-warm: {wanted}", printed, re.M), (status, printed))
+        suite.holds(
+            f"a copy: {name}: it is named",
+            status == 1 and re.search(f"^goshelf-warm: {wanted}", printed, re.M),
+            (status, printed),
+        )
         begun = len(company.lines(FIRST, 0))
-        found = company.differing(sample, (WARM,)), company.lines(FIRST, begun), sorted(os.listdir(f"{warm.folder}/{HOME}"))
+        found = (
+            company.differing(sample, (WARM,)),
+            company.lines(FIRST, begun),
+            sorted(os.listdir(f"{warm.folder}/{HOME}")),
+        )
         suite.equal(f"a copy: {name}: the one before is served", found, ([], [], left))
     equal(suite, company, "bad copies")
 
@@ -131,7 +149,11 @@ def keep_older(suite, company):
     _, whole, _ = company.wire.copied("store")
     with tarfile.open(fileobj=io.BytesIO(whole)) as tar:
         tar.extractall(f"{company.warm.folder}/root/older", filter="tar")
-    suite.equal("the files of a copy are their owner's alone", {os.stat(f"{company.warm.folder}/root/older/{it}").st_mode & 0o77 for it in COPY}, {0})
+    suite.equal(
+        "the files of a copy are their owner's alone",
+        {os.stat(f"{company.warm.folder}/root/older/{it}").st_mode & 0o77 for it in COPY},
+        {0},
+    )
 
 
 def cut_line(suite, company):
@@ -149,7 +171,9 @@ def cut_line(suite, company):
     company.wire.held = None
     company.first.link(True)
     company.back()
-    suite.holds("a line that is cut in the middle of a copy", told and told[0][0] == 1 and NOT_WHOLE in told[0][1], told)
+    suite.holds(
+        "a line that is cut in the middle of a copy", told and told[0][0] == 1 and NOT_WHOLE in told[0][1], told
+    )
     suite.holds("nothing of it is left", not os.path.exists(f"{company.warm.folder}/{HOME}/new"))
     company.copy()
     equal(suite, company, "a copy after the cut")
@@ -162,8 +186,13 @@ def killed_runs(suite, company):
     company.copy()
     wanted = {it: company.own(*it) for it in SAMPLE}
     other = other_store(f"{warm.folder}/root/half", "v1.0.0")
-    for name, moved, come in (("nothing was moved", (), ()), ("the old log was", COPY[1:], ()), ("both old files were", COPY, ()),
-                              ("the new log had come", COPY, COPY[1:]), ("both new files had come", COPY, COPY)):
+    for name, moved, come in (
+        ("nothing was moved", (), ()),
+        ("the old log was", COPY[1:], ()),
+        ("both old files were", COPY, ()),
+        ("the new log had come", COPY, COPY[1:]),
+        ("both new files had come", COPY, COPY),
+    ):
         warm.does("systemctl stop goshelf")
         os.mkdir(old)
         for it in moved:
@@ -172,7 +201,14 @@ def killed_runs(suite, company):
         before = store_bytes(moved, home, old)
         status, printed, _ = tried(company, b"")
         begun = len(company.lines(FIRST, 0))
-        found = status, NOT_WHOLE in printed, company.differing(wanted, (WARM,)), company.lines(FIRST, begun), os.path.exists(old), read(f"{home}/{COPY[0]}") == before
+        found = (
+            status,
+            NOT_WHOLE in printed,
+            company.differing(wanted, (WARM,)),
+            company.lines(FIRST, begun),
+            os.path.exists(old),
+            read(f"{home}/{COPY[0]}") == before,
+        )
         suite.equal(f"a run was killed when {name}: the old copy is served", found, (1, True, [], [], False, True))
     program = f"{warm.folder}/usr/local/bin/goshelf"
     os.remove(program)
@@ -181,9 +217,17 @@ def killed_runs(suite, company):
     suite.equal("a publish", company.put("pub", "example.com/lib", "v1.3.0")[0], 201)
     before = read(f"{home}/{COPY[0]}")
     status, printed, _ = warm.sh("goshelf-warm store")
-    suite.equal("goshelf does not start over the new copy", (status, printed), (1, "goshelf-warm: goshelf does not answer over the new copy: the old one is back\n"))
+    suite.equal(
+        "goshelf does not start over the new copy",
+        (status, printed),
+        (1, "goshelf-warm: goshelf does not answer over the new copy: the old one is back\n"),
+    )
     begun = len(company.lines(FIRST, 0))
-    suite.equal("the old one is served", (company.differing(wanted, (WARM,)), company.lines(FIRST, begun), read(f"{home}/{COPY[0]}") == before), ([], [], True))
+    suite.equal(
+        "the old one is served",
+        (company.differing(wanted, (WARM,)), company.lines(FIRST, begun), read(f"{home}/{COPY[0]}") == before),
+        ([], [], True),
+    )
     company.copy()
     equal(suite, company, "the next copy")
 
@@ -209,14 +253,26 @@ def full_disks(suite, company):
                 company.copy()
             else:
                 warm.does("systemctl start goshelf")
-            suite.equal("a publish", company.put("pub", "example.com/lib", f"v1.{len(company.published)}.0", 2_000_000)[0], 201)
+            suite.equal(
+                "a publish", company.put("pub", "example.com/lib", f"v1.{len(company.published)}.0", 2_000_000)[0], 201
+            )
             fill(f"{at}/other")
             wanted = company.answers(("ann", "com"))
             status, printed, errors = warm.sh("goshelf-warm store")
-            suite.holds(f"the disk of {host.name} is full: it says so", status == 1 and NOT_WHOLE in printed and "No space left" in errors, (status, printed, errors))
+            suite.holds(
+                f"the disk of {host.name} is full: it says so",
+                status == 1 and NOT_WHOLE in printed and "No space left" in errors,
+                (status, printed, errors),
+            )
             suite.equal("the old copy is served, and the first host answers the rest", company.differing(wanted), [])
-            suite.holds("nothing of the new one is left", not os.path.exists(f"{warm.folder}/{HOME}/new") and not [it for it in os.listdir(at) if it.startswith("copy-")])
-            suite.equal("publishes go on", company.put("pub", "example.com/lib", f"v1.{len(company.published)}.0")[0], 201)
+            suite.holds(
+                "nothing of the new one is left",
+                not os.path.exists(f"{warm.folder}/{HOME}/new")
+                and not [it for it in os.listdir(at) if it.startswith("copy-")],
+            )
+            suite.equal(
+                "publishes go on", company.put("pub", "example.com/lib", f"v1.{len(company.published)}.0")[0], 201
+            )
             if host is warm:
                 os.unlink(f"{at}/other")
                 company.copy()
@@ -237,8 +293,14 @@ def rush(suite, company):
     first.command("cp", CP.replace("PORT", str(first.behind)).replace("KEY", company.key("pub")))
     first.write("often", "9")
     status, printed, errors = company.warm.sh("goshelf-warm store")
-    told = NOT_WHOLE in printed, "goshelf-copy: goshelf emptied its log during each of 5 copies" in errors, first.read("often")
-    suite.equal("the log is emptied during each copy: it says so", (status, told), (1, (True, True, "4\n"))) or print(printed, errors)
+    told = (
+        NOT_WHOLE in printed,
+        "goshelf-copy: goshelf emptied its log during each of 5 copies" in errors,
+        first.read("often"),
+    )
+    suite.equal("the log is emptied during each copy: it says so", (status, told), (1, (True, True, "4\n"))) or print(
+        printed, errors
+    )
     suite.equal("nothing is left of the copies", os.listdir(f"{first.folder}/var/backups/goshelf"), [])
     equal(suite, company, "the old copy")
     first.write("often", "2")
@@ -246,10 +308,22 @@ def rush(suite, company):
     suite.equal("emptied during two copies: the third is good", first.read("often"), "0\n")
     os.remove(f"{first.folder}/usr/local/bin/cp")
     versions = company.own("ann", "/example.com/rush/@v/list")[2].decode().split()
-    files = {("ann", f"/example.com/rush/@v/{it}.{end}"): company.own("ann", f"/example.com/rush/@v/{it}.{end}") for it in versions for end in ("mod", "zip")}
+    files = {
+        ("ann", f"/example.com/rush/@v/{it}.{end}"): company.own("ann", f"/example.com/rush/@v/{it}.{end}")
+        for it in versions
+        for end in ("mod", "zip")
+    }
     suite.equal(f"the files of {len(versions)} versions of the rush", company.differing(files), [])
     equal(suite, company, "a copy after the rush")
 
 
 if __name__ == "__main__":
-    sys.exit(play(Suite(), "deploy/warm", "network namespaces need root", Warm, (start, bad_copies, cut_line, killed_runs, full_disks, rush)))
+    sys.exit(
+        play(
+            Suite(),
+            "deploy/warm",
+            "network namespaces need root",
+            Warm,
+            (start, bad_copies, cut_line, killed_runs, full_disks, rush),
+        )
+    )

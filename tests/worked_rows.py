@@ -352,7 +352,9 @@ def in_one_stream(suite, where, words, rows):
     rows = list(rows)
     status, output, told = run(["answer", *words], b"".join(request for _, _, request, _ in rows))
     found = raw_replies(output)
-    suite.equal(f"{where}: the stream ends well, with a reply to each request", (status, told, len(found)), (0, "", len(rows)))
+    suite.equal(
+        f"{where}: the stream ends well, with a reply to each request", (status, told, len(found)), (0, "", len(rows))
+    )
     for (name, row, _, wanted), raw in zip(rows, found):
         suite.equal(f"{where}, {name}: {row}", raw, wanted)
 
@@ -360,7 +362,9 @@ def in_one_stream(suite, where, words, rows):
 def by_serve(suite, where, words, rows):
     """Asks `serve` for each row, on a connection of its own."""
     rows = list(rows)
-    serve = subprocess.Popen([PROGRAM, "serve", *words, "--port", "0", "--connections", str(len(rows))], stdout=subprocess.PIPE)
+    serve = subprocess.Popen(
+        [PROGRAM, "serve", *words, "--port", "0", "--connections", str(len(rows))], stdout=subprocess.PIPE
+    )
     port = int(serve.stdout.readline().rpartition(b":")[2])
     for name, row, request, wanted in rows:
         suite.equal(f"{where}, {name}: {row}", exchanged(port, request), wanted)
@@ -394,12 +398,19 @@ def over_memory(suite):
 
 
 def sums(suite):
-    summed = (("example.com/lib", "v1.0.0"), ("example.com/x", "v1.0.0"), ("example.com/Lib", "v1.0.0-a.mod"), ("example.com/t", "v1.5.0"))
+    summed = (
+        ("example.com/lib", "v1.0.0"),
+        ("example.com/x", "v1.0.0"),
+        ("example.com/Lib", "v1.0.0-a.mod"),
+        ("example.com/t", "v1.5.0"),
+    )
     for path, version in summed:
         hash_of_gomod = hashlib.sha256(f"module {path}\n".encode()).hexdigest()
         hash_of_list = hashlib.sha256(f"{hash_of_gomod}  go.mod\n".encode()).digest()
         line = f"{path} {version}/go.mod h1:{base64.b64encode(hash_of_list).decode()};"
-        suite.holds(f"the sum of {path} {version} is that of hashlib", f" | 200 {line}\n" in SUMS + GROUP_REQUESTS, line)
+        suite.holds(
+            f"the sum of {path} {version} is that of hashlib", f" | 200 {line}\n" in SUMS + GROUP_REQUESTS, line
+        )
 
 
 if __name__ == "__main__":

@@ -20,8 +20,14 @@ FIRST, SITE, OTHER, DESK = "shelf.example.com", "site.example.com", "site-b.exam
 FRONTS = (FIRST, SITE, OTHER)
 # alpha is a team of the group platform
 SHELVES = ("platform", "alpha", "beta", "common")
-USERS = [("ann", "alpha", "read"), ("pub", "alpha", "publish"), ("bob", "beta", "read"), ("rob", "beta", "publish"), ("com", "common", "publish"),
-         ("gil", "platform", "publish")]
+USERS = [
+    ("ann", "alpha", "read"),
+    ("pub", "alpha", "publish"),
+    ("bob", "beta", "read"),
+    ("rob", "beta", "publish"),
+    ("com", "common", "publish"),
+    ("gil", "platform", "publish"),
+]
 # the users who read, one of each shelf and a second of alpha
 READERS = ("ann", "pub", "bob", "com", "gil")
 # how long a site takes a login without asking: in the files, and here, to a second
@@ -77,27 +83,43 @@ class Company:
 
     def own(self, user, target):
         """The store's own answer."""
+
         def connect():
             with inside(self.first.namespace):
                 return socket.create_connection(("127.0.0.1", self.first.behind), 30)
+
         return fetched(over(connect()), "GET", f"/k/{self.key(user)}{target}")
 
     def put(self, user, path, version, size=2_000, at=None, body=None):
         """Publishes by a host, the second unless one is named, with a zip of random bytes unless a body is given."""
         head = re.sub("!(.)", lambda it: it[1].upper(), f"module {path}\n").encode()
         body = body or self.seed.randbytes(size)
-        told = self.desk.ask(at or self.fronts[1], user, f"/{path}/@v/{version}", "PUT", head + body, {"Mod-Length": str(len(head))})
+        told = self.desk.ask(
+            at or self.fronts[1], user, f"/{path}/@v/{version}", "PUT", head + body, {"Mod-Length": str(len(head))}
+        )
         if told[0] in (200, 201):
             self.published.add((path, version))
         return told[0], told[2]
 
     def targets(self):
         """Every file of every version, and lists, and names that nobody published."""
-        files = [f"/{path}/@v/{version}.{kind}" for path, version in sorted(self.published) for kind in ("info", "mod", "zip")]
+        files = [
+            f"/{path}/@v/{version}.{kind}"
+            for path, version in sorted(self.published)
+            for kind in ("info", "mod", "zip")
+        ]
         sums = [f"/-/gosum/{path}/@v/{version}" for path, version in sorted(self.published)]
         paths = sorted({path for path, _ in self.published})
         lists = [f"/{path}/{it}" for path in paths for it in ("@v/list", "@latest", "@v/v9.9.9.mod")]
-        return [*files, *sums, *lists, "/-/modules", "/-/gosum/example.com/none/@v/v1.0.0", "/x", "/example.com/lib/@v/../@v/v1.0.0.mod"]
+        return [
+            *files,
+            *sums,
+            *lists,
+            "/-/modules",
+            "/-/gosum/example.com/none/@v/v1.0.0",
+            "/x",
+            "/example.com/lib/@v/../@v/v1.0.0.mod",
+        ]
 
     def answers(self, users=READERS):
         """What the store itself answers to each user."""
@@ -106,9 +128,16 @@ class Company:
     def differing(self, wanted, fronts=None, failures=()):
         """The answers of hosts that are not the wanted ones, apart from failures: statuses that a host may give in
         their place."""
-        told = ((at, *it, self.told(at, it, answer, failures)) for at in fronts or self.fronts for it, answer in wanted.items())
-        return [(at, user, target, found[0], found[2][:60], wanted[user, target][0]) for at, user, target, found in told
-                if found != wanted[user, target] and found[0] not in failures]
+        told = (
+            (at, *it, self.told(at, it, answer, failures))
+            for at in fronts or self.fronts
+            for it, answer in wanted.items()
+        )
+        return [
+            (at, user, target, found[0], found[2][:60], wanted[user, target][0])
+            for at, user, target, found in told
+            if found != wanted[user, target] and found[0] not in failures
+        ]
 
     def told(self, at, asking, answer, failures):
         """What a host answers. If it fails where it may not, it is asked again: a site waits only 2 seconds for the

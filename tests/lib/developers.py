@@ -65,8 +65,12 @@ class Developers:
         os.unlink(f"{machine.folder}{AUTHORITIES}")
         os.symlink(self.outside.authority, f"{machine.folder}{AUTHORITIES}")
         store = STORE.replace(".", r"\.")
-        self.conf(("127.0.0.53", f"127.0.0.1:{self.outside.name_server.port}"), ("valid=60s", "valid=1s"),
-                  (f"https://{store}/", f"https://{store}:{self.outside.store_port}/"), ("min_free=2g", "min_free=1m"))
+        self.conf(
+            ("127.0.0.53", f"127.0.0.1:{self.outside.name_server.port}"),
+            ("valid=60s", "valid=1s"),
+            (f"https://{store}/", f"https://{store}:{self.outside.store_port}/"),
+            ("min_free=2g", "min_free=1m"),
+        )
         machine.edit("etc/nginx/goshelf/public.conf", ("proxy_read_timeout 30s", f"proxy_read_timeout {PATIENCE}s"))
 
     def conf(self, *pairs):
@@ -150,6 +154,8 @@ class Developers:
     def close(self):
         self.machine.close()
         self.outside.close()
+
+
 # how somebody might spell the path of another shelf
 SPELLINGS = """
 /{} //{} /./{} /pub.example/../{} /pub.example/%2e%2e/{} /pub.example/..%2f{} /pub.example/.%2e/{}

@@ -20,7 +20,13 @@ GOMOD, ZIP = b"module example.com/lib\n", os.urandom(3_000_000)
 LONG = "z" * 32
 # a key of alpha that nginx does not know
 UNUSED = "firstkey00000001"
-USERS = [("ann", "alpha", "read"), ("ann-b", "alpha", "read"), ("pub", "alpha", "publish"), ("bob", "beta", "publish"), ("zoe", LONG, "publish")]
+USERS = [
+    ("ann", "alpha", "read"),
+    ("ann-b", "alpha", "read"),
+    ("pub", "alpha", "publish"),
+    ("bob", "beta", "publish"),
+    ("zoe", LONG, "publish"),
+]
 
 
 class Client:
@@ -77,7 +83,10 @@ class Client:
 
     def head(self, method, target, user, *lines):
         """The head of a request, without the empty line at its end."""
-        return "".join(f"{it}\r\n" for it in (f"{method} {target} HTTP/1.1", "Host: localhost", f"Authorization: {self.login(user)}", *lines)).encode()
+        return "".join(
+            f"{it}\r\n"
+            for it in (f"{method} {target} HTTP/1.1", "Host: localhost", f"Authorization: {self.login(user)}", *lines)
+        ).encode()
 
 
 def set_up(suite, folder):

@@ -13,7 +13,7 @@ ALPHA, READER, BETA, COMMON = "alphakey00000001", "alphareader00001", "betakey00
 PSEUDO = "v0.0.0-20240131120000-abcdefabcdef"
 
 
-RETRACTED = 'retract (\n\tv1.1.0 // lost a file\n\tv1.3.0 // published too early\n)\n'
+RETRACTED = "retract (\n\tv1.1.0 // lost a file\n\tv1.3.0 // published too early\n)\n"
 USES_BASE = 'package words\n\nimport "example.com/base"\n\nconst Version = "words over " + base.Version\n'
 GREET = [module("example.com/greet", it) for it in ("v1.0.0", "v1.1.0", "v1.2.0", "v1.4.0-rc.1")]
 GREET.append(module("example.com/greet", "v1.3.0", more=RETRACTED))
@@ -48,7 +48,9 @@ class Client:
             "GOFLAGS": "-modcacherw",
             "CGO_ENABLED": "0",
         }
-        done = subprocess.run(["go", *words], cwd=os.path.join(self.folder, at), env=env, capture_output=True, text=True)
+        done = subprocess.run(
+            ["go", *words], cwd=os.path.join(self.folder, at), env=env, capture_output=True, text=True
+        )
         return done.returncode, done.stdout.strip(), done.stderr.strip()
 
     def tells(self, name, want, *words, at="home"):
@@ -83,20 +85,30 @@ def lists(client):
     greet = "example.com/greet"
     client.tells("versions", f"{greet} v1.0.0 v1.2.0 v1.4.0-rc.1", "list", "-m", "-versions", f"{greet}@v1.0.0")
     all_versions = f"{greet} v1.0.0 v1.1.0 v1.2.0 v1.3.0 v1.4.0-rc.1"
-    client.tells("versions with the retracted", all_versions, "list", "-m", "-retracted", "-versions", f"{greet}@v1.0.0")
+    client.tells(
+        "versions with the retracted", all_versions, "list", "-m", "-retracted", "-versions", f"{greet}@v1.0.0"
+    )
     client.tells("latest", f"{greet} v1.2.0", "list", "-m", f"{greet}@latest")
-    client.tells("latest with the retracted", f"{greet} v1.3.0 (retracted)", "list", "-m", "-retracted", f"{greet}@latest")
+    client.tells(
+        "latest with the retracted", f"{greet} v1.3.0 (retracted)", "list", "-m", "-retracted", f"{greet}@latest"
+    )
     told = "{{.Version}} {{.Retracted}}"
-    client.tells("why it is retracted", "v1.1.0 [lost a file]", "list", "-m", "-retracted", "-f", told, f"{greet}@v1.1.0")
+    client.tells(
+        "why it is retracted", "v1.1.0 [lost a file]", "list", "-m", "-retracted", "-f", told, f"{greet}@v1.1.0"
+    )
     client.tells("time", "2024-01-31 12:00:00 +0000 UTC", "list", "-m", "-f", "{{.Time}}", f"{greet}@v1.0.0")
     client.tells("a range", f"{greet} v1.0.0", "list", "-m", f"{greet}@<v1.2.0")
     client.tells("a front of a version", f"{greet} v1.2.0", "list", "-m", f"{greet}@v1.2")
     client.tells("another major version", f"{greet}/v2 v2.0.0", "list", "-m", f"{greet}/v2@latest")
-    client.tells("a path with capitals", "example.com/Upper/CaseD v1.0.0", "list", "-m", "example.com/Upper/CaseD@latest")
+    client.tells(
+        "a path with capitals", "example.com/Upper/CaseD v1.0.0", "list", "-m", "example.com/Upper/CaseD@latest"
+    )
     client.tells("a pseudo-version", f"example.com/early {PSEUDO}", "list", "-m", "example.com/early@latest")
     both = "example.com/old v1.0.0 v2.0.0+incompatible"
     client.tells("a mark", both, "list", "-m", "-versions", "example.com/old@v1.0.0")
-    client.tells("versions of common", "example.com/base v1.0.0 v1.1.0", "list", "-m", "-versions", "example.com/base@latest")
+    client.tells(
+        "versions of common", "example.com/base v1.0.0 v1.1.0", "list", "-m", "-versions", "example.com/base@latest"
+    )
 
 
 def gets(client):
@@ -141,12 +153,16 @@ def builds(client):
     done = subprocess.run([os.path.join(client.folder, "app", "app")], capture_output=True, text=True)
     client.suite.holds("run", done.stderr.strip() == said, done.stderr)
     client.tells("verify what was built", "all modules verified", "mod", "verify", at="app")
-    client.tells("why", "# example.com/base\nexample.com/app\nexample.com/base", "mod", "why", "example.com/base", at="app")
+    client.tells(
+        "why", "# example.com/base\nexample.com/app\nexample.com/base", "mod", "why", "example.com/base", at="app"
+    )
     with open(os.path.join(client.folder, "app", "go.sum")) as file:
         lines = file.read().splitlines()
     path, version, gomod, zipped = ON_COMMON[1]
     mod_sum, zip_sum = sums(gomod, zipped)
-    client.suite.holds("go.sum", f"{path} {version} {zip_sum}" in lines and f"{path} {version}/go.mod {mod_sum}" in lines, lines)
+    client.suite.holds(
+        "go.sum", f"{path} {version} {zip_sum}" in lines and f"{path} {version}/go.mod {mod_sum}" in lines, lines
+    )
     for line in (line for line in lines if "/go.mod h1:" in line):
         path, version = line.removesuffix(line[line.index("/go.mod h1:") :]).split(" ")
         told = client.server.sum_line(client.key, path, version)
@@ -156,7 +172,9 @@ def builds(client):
 def is_not_found(client, query):
     """A version that the key's shelf does not see is as one that there is not."""
     status, output, errors = client.go("mod", "download", query)
-    client.suite.holds(f"{client.key} sees no {query}", status != 0 and "404 Not Found" in errors + output, f"{status} {errors}")
+    client.suite.holds(
+        f"{client.key} sees no {query}", status != 0 and "404 Not Found" in errors + output, f"{status} {errors}"
+    )
 
 
 def teams(alpha, beta):

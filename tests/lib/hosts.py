@@ -33,7 +33,10 @@ def ip(*words):
 @contextlib.contextmanager
 def inside(namespace):
     """Has this thread in a namespace: a socket that it makes there stays there."""
-    with open("/proc/thread-self/ns/net", encoding="utf-8") as own, open(f"/run/netns/{namespace}", encoding="utf-8") as other:
+    with (
+        open("/proc/thread-self/ns/net", encoding="utf-8") as own,
+        open(f"/run/netns/{namespace}", encoding="utf-8") as other,
+    ):
         assert LIBC.setns(other.fileno(), NEW_NET) == 0, os.strerror(ctypes.get_errno())
         try:
             yield
@@ -103,7 +106,20 @@ class Network:
         ip("-n", self.wire, "link", "set", "br0", "up")
         for number, name in enumerate(names, 1):
             namespace = self.namespace(name.partition(".")[0])
-            ip("link", "add", "eth0", "netns", namespace, "type", "veth", "peer", "name", f"to{number}", "netns", self.wire)
+            ip(
+                "link",
+                "add",
+                "eth0",
+                "netns",
+                namespace,
+                "type",
+                "veth",
+                "peer",
+                "name",
+                f"to{number}",
+                "netns",
+                self.wire,
+            )
             ip("-n", self.wire, "link", "set", f"to{number}", "master", "br0", "up")
             ip("-n", namespace, "addr", "add", f"198.18.0.{number}/24", "dev", "eth0")
             for device in ("lo", "eth0"):

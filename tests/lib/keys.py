@@ -8,5 +8,8 @@ KEYS = {
     "P": "platformkey00001", "M": "gammakey00000001", "D": "deltakey00000001",
 }  # fmt: skip
 SHELVES = (("beta", KEYS["B"]), ("alpha", KEYS["A"], KEYS["R"]), ("common", KEYS["C"]))
-PLATFORM, MEMBERS = ("platform", KEYS["P"]), (("gamma", KEYS["M"], "", "platform"), ("delta", KEYS["D"], "", "platform"))
+PLATFORM, MEMBERS = ("platform", KEYS["P"]), (
+    ("gamma", KEYS["M"], "", "platform"),
+    ("delta", KEYS["D"], "", "platform"),
+)
 MEMORY = ["--mem", "--team", "alpha", "--key", KEY]

@@ -37,7 +37,9 @@ def kill_after(child, wait):
 def is_kept(store, acknowledged, underway):
     """Opens the store again. Returns whether the version underway is there, and what is wrong, or None."""
     asked = [*acknowledged, *underway]
-    status, written, told = run(["answer", "--db", store], b"".join(fetch(number, kind) for number in asked for kind in ("mod", "zip")))
+    status, written, told = run(
+        ["answer", "--db", store], b"".join(fetch(number, kind) for number in asked for kind in ("mod", "zip"))
+    )
     got = replies(written) if status == 0 else []
     if len(got) != 2 * len(asked):
         return False, f"{len(got)} replies to {2 * len(asked)} requests, status {status}, {told}"

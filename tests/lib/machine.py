@@ -124,7 +124,11 @@ class Machine:
 
     def sh(self, script, **settings):
         """Runs a script that is written for a whole machine, in `root`. Returns its status, output and errors."""
-        where = {"PATH": f"{self.folder}/usr/local/bin:{os.environ['PATH']}:/usr/sbin", "HOME": f"{self.folder}/root", **settings}
+        where = {
+            "PATH": f"{self.folder}/usr/local/bin:{os.environ['PATH']}:/usr/sbin",
+            "HOME": f"{self.folder}/root",
+            **settings,
+        }
         words = [*self.within, "sh", "-euc", self.placed(script)]
         how = {"cwd": f"{self.folder}/root", "env": where, "stdin": subprocess.DEVNULL, "timeout": 120}
         ran = subprocess.run(words, capture_output=True, text=True, **how)

@@ -2,6 +2,7 @@
 
 from lib.keys import KEY
 
+
 def get(target, key=KEY):
     """A GET request for what stands behind the key, as `example.com/lib/@v/list`."""
     return f"GET /k/{key}/{target} HTTP/1.1\r\n\r\n".encode()
@@ -9,7 +10,10 @@ def get(target, key=KEY):
 
 def put(path, version, gomod, zip_bytes=b"", key=KEY, time=""):
     """A publish. The path and the version stand as they are on the wire."""
-    head = f"PUT /k/{key}/{path}/@v/{version} HTTP/1.1\r\nMod-Length: {len(gomod)}\r\nContent-Length: {len(gomod) + len(zip_bytes)}\r\n"
+    head = (
+        f"PUT /k/{key}/{path}/@v/{version} HTTP/1.1\r\nMod-Length: {len(gomod)}\r\nContent-Length:"
+        f" {len(gomod) + len(zip_bytes)}\r\n"
+    )
     return head.encode() + (f"Version-Time: {time}\r\n" if time else "").encode() + b"\r\n" + gomod + zip_bytes
 
 

@@ -5,6 +5,7 @@ import hashlib
 import io
 import zipfile
 
+
 def module(path, version, requires=(), more="", code=None):
     """A module as (path, version, go.mod, zip): one package, whose constant names the version."""
     name = next(it for it in reversed(path.split("/")) if not it[1:].isdigit()).lower()

@@ -14,16 +14,29 @@ from lib.worked import FILES, worked_store
 SHARED = (
     "CREATE TABLE meta (name TEXT PRIMARY KEY, value INTEGER NOT NULL) STRICT",
     "CREATE TABLE shelf (name TEXT PRIMARY KEY) STRICT",
-    "CREATE TABLE access (token TEXT PRIMARY KEY, shelf TEXT NOT NULL REFERENCES shelf (name), publish INTEGER NOT NULL CHECK (publish IN (0, 1))) STRICT",
+    (
+        "CREATE TABLE access (token TEXT PRIMARY KEY, shelf TEXT NOT NULL REFERENCES shelf (name), publish INTEGER NOT"
+        " NULL CHECK (publish IN (0, 1))) STRICT"
+    ),
 )
 OWN = {
     1: (
-        "CREATE TABLE version (id INTEGER PRIMARY KEY, shelf TEXT NOT NULL REFERENCES shelf (name), path TEXT NOT NULL, version TEXT NOT NULL, time TEXT, mod BLOB NOT NULL, UNIQUE (shelf, path, version)) STRICT",
+        (
+            "CREATE TABLE version (id INTEGER PRIMARY KEY, shelf TEXT NOT NULL REFERENCES shelf (name), path TEXT NOT"
+            " NULL, version TEXT NOT NULL, time TEXT, mod BLOB NOT NULL, UNIQUE (shelf, path, version)) STRICT"
+        ),
         "CREATE TABLE body (id INTEGER PRIMARY KEY REFERENCES version (id), zip BLOB NOT NULL) STRICT",
     ),
     2: (
-        "CREATE TABLE version (id INTEGER PRIMARY KEY, shelf TEXT NOT NULL REFERENCES shelf (name), path TEXT NOT NULL, version TEXT NOT NULL, time TEXT, mod BLOB NOT NULL, order_key BLOB NOT NULL, rank_key BLOB NOT NULL, UNIQUE (shelf, path, version)) STRICT",
-        "CREATE TABLE piece (version INTEGER NOT NULL REFERENCES version (id), number INTEGER NOT NULL CHECK (number >= 0), bytes BLOB NOT NULL, PRIMARY KEY (version, number)) STRICT",
+        (
+            "CREATE TABLE version (id INTEGER PRIMARY KEY, shelf TEXT NOT NULL REFERENCES shelf (name), path TEXT NOT"
+            " NULL, version TEXT NOT NULL, time TEXT, mod BLOB NOT NULL, order_key BLOB NOT NULL, rank_key BLOB NOT"
+            " NULL, UNIQUE (shelf, path, version)) STRICT"
+        ),
+        (
+            "CREATE TABLE piece (version INTEGER NOT NULL REFERENCES version (id), number INTEGER NOT NULL CHECK"
+            " (number >= 0), bytes BLOB NOT NULL, PRIMARY KEY (version, number)) STRICT"
+        ),
     ),
 }
 # zips of more pieces than one, the last one full or not
@@ -39,7 +52,9 @@ def older(file, schema, source="whole.db"):
     old.execute("BEGIN")
     old.execute("INSERT INTO meta VALUES ('schema', ?)", (schema,))
     old.executemany("INSERT INTO shelf VALUES (?)", new.execute("SELECT name FROM shelf").fetchall())
-    old.executemany("INSERT INTO access VALUES (?, ?, ?)", new.execute("SELECT token, shelf, publish FROM access").fetchall())
+    old.executemany(
+        "INSERT INTO access VALUES (?, ?, ?)", new.execute("SELECT token, shelf, publish FROM access").fetchall()
+    )
     for row, zip in entries_of(new):
         put_entry(old, schema, row, zip)
     old.execute("COMMIT")
@@ -63,7 +78,11 @@ def filled(suite):
     worked_store(suite, "whole.db")
     publishes = b"".join(put("example.com/long", version, LONG_MOD, zip, KEYS["A"]) for version, zip in LONG.items())
     status, written, _ = run(["answer", "--db", "whole.db"], publishes)
-    suite.equal("the long zips are published", (status, [raw.split()[1] for raw in raw_replies(written)]), (0, [b"201"] * len(LONG)))
+    suite.equal(
+        "the long zips are published",
+        (status, [raw.split()[1] for raw in raw_replies(written)]),
+        (0, [b"201"] * len(LONG)),
+    )
 
 
 def with_log(folder, schema):
@@ -77,6 +96,7 @@ def with_log(folder, schema):
     for end in ("", "-wal"):
         shutil.copy(f"kept.db{end}", f"{folder}/old.db{end}")
     conn.close()
+
 
 # the tables of schema 1, which have no keys of order, with their rows
 SCHEMA_1 = """

@@ -26,7 +26,10 @@ def publish(machine, key, path, version, zipped, store=None):
     for name, content in ((mod, f"module {path}\n".encode()), (file, zipped)):
         with open(name, "wb") as held:
             held.write(content)
-    line = f"publish --db {store or machine.store} --key {key} --module {path} --version {version} --mod {mod} --zip {file} --time 2024-01-31T12:00:00Z"
+    line = (
+        f"publish --db {store or machine.store} --key {key} --module {path} --version {version} --mod {mod} --zip"
+        f" {file} --time 2024-01-31T12:00:00Z"
+    )
     return run(line.split())[1].decode().strip()
 
 
@@ -34,7 +37,14 @@ def prepared(suite, machine):
     """Gives a machine the scripts of deploy/ and a store, whose program runs."""
     machine.write("restarts", "0\n")
     machine.check_out()
-    new_store(machine.store, ("alpha", ALPHA, READER), ("beta", BETA), ("common", COMMON), ("gamma", MEMBER, "", "platform"), groups=[("platform", GROUP)])
+    new_store(
+        machine.store,
+        ("alpha", ALPHA, READER),
+        ("beta", BETA),
+        ("common", COMMON),
+        ("gamma", MEMBER, "", "platform"),
+        groups=[("platform", GROUP)],
+    )
     told = [publish(machine, *it) for it in PUBLISHED]
     assert told == ["201 published"] * len(PUBLISHED), told
     for script in ("goshelf-backup", "goshelf-watch", "goshelf-metrics", "goshelf-backup", "goshelf-metrics"):

@@ -111,7 +111,13 @@ class Load:
     """Peers who ask on and on with one key, and what each request got, from when to when. They may be cut off."""
 
     def __init__(self, server, key, count=4, is_cut=False):
-        self.server, self.request, self.stopped, self.seen, self.is_cut = server, get(LIST, key), threading.Event(), [], is_cut
+        self.server, self.request, self.stopped, self.seen, self.is_cut = (
+            server,
+            get(LIST, key),
+            threading.Event(),
+            [],
+            is_cut,
+        )
         self.threads = [threading.Thread(target=self.ask) for _ in range(count)]
         for thread in self.threads:
             thread.start()

@@ -44,7 +44,11 @@ NOBODY = ["setpriv", "--reuid=65534", "--regid=65534", "--clear-groups", "--no-n
 def can_be_nobody():
     """Whether a process can become nobody here."""
     words = [*NOBODY, "true"]
-    return os.geteuid() == 0 and bool(shutil.which("setpriv")) and subprocess.run(words, capture_output=True).returncode == 0
+    return (
+        os.geteuid() == 0
+        and bool(shutil.which("setpriv"))
+        and subprocess.run(words, capture_output=True).returncode == 0
+    )
 
 
 def columns(row, count):

@@ -28,12 +28,23 @@ class Room:
         self.said = []
         for name in ("home", "temporary files"):
             os.mkdir(f"{folder}/{name}")
-        write({f"{folder}/key": KEY + "\n", f"{folder}/reader": READER, f"{folder}/nobody": KEYS["N"], f"{folder}/beta": KEYS["B"]})
+        write(
+            {
+                f"{folder}/key": KEY + "\n",
+                f"{folder}/reader": READER,
+                f"{folder}/nobody": KEYS["N"],
+                f"{folder}/beta": KEYS["B"],
+            }
+        )
         own = {"HOME": f"{folder}/home", "TMPDIR": self.tmp, "GOCACHE": f"{folder}/gocache", "GIT_CONFIG_NOSYSTEM": "1"}
         own.update({f"GIT_{who}_{what}": "me" for who in ("AUTHOR", "COMMITTER") for what in ("NAME", "EMAIL")})
         own.update(GIT_AUTHOR_DATE=STAMP, GIT_COMMITTER_DATE=STAMP, GIT_CONFIG_COUNT="1")
         own.update(GIT_CONFIG_KEY_0="init.defaultBranch", GIT_CONFIG_VALUE_0="main")
-        clean = {name: text for name, text in os.environ.items() if not name.startswith(("GO", "GIT_")) and "proxy" not in name.lower()}
+        clean = {
+            name: text
+            for name, text in os.environ.items()
+            if not name.startswith(("GO", "GIT_")) and "proxy" not in name.lower()
+        }
         self.env = {**clean, **own}
 
     def publish(self, *words, stdin=b"", at=None, **more):
@@ -51,8 +62,21 @@ class Room:
 
     def go(self, at, proxies, *words):
         """Runs the go command as a user with a cache below a folder of its own."""
-        own = {"GOPATH": f"{self.folder}/{at}-path", "GOPROXY": proxies, "GOSUMDB": "off", "GOFLAGS": "-modcacherw", "CGO_ENABLED": "0"}
-        return subprocess.run(["go", *words], cwd=f"{self.folder}/{at}", env={**self.env, **own}, capture_output=True, text=True, timeout=300)
+        own = {
+            "GOPATH": f"{self.folder}/{at}-path",
+            "GOPROXY": proxies,
+            "GOSUMDB": "off",
+            "GOFLAGS": "-modcacherw",
+            "CGO_ENABLED": "0",
+        }
+        return subprocess.run(
+            ["go", *words],
+            cwd=f"{self.folder}/{at}",
+            env={**self.env, **own},
+            capture_output=True,
+            text=True,
+            timeout=300,
+        )
 
 
 class Repository:
@@ -84,7 +108,11 @@ class Repository:
         out."""
         names = self.git("ls-tree", "-r", "--name-only", commit).decode().splitlines()
         front = f"{folder}/" if folder else ""
-        inner = [it[: -len("go.mod")] for it in names if it.endswith("/go.mod") and it != f"{front}go.mod" and it.startswith(front)]
+        inner = [
+            it[: -len("go.mod")]
+            for it in names
+            if it.endswith("/go.mod") and it != f"{front}go.mod" and it.startswith(front)
+        ]
         own = [it for it in names if it.startswith(front) and not any(it.startswith(other) for other in inner)]
         return {it[len(front) :]: self.git("cat-file", "blob", f"{commit}:{it}") for it in own}
 
@@ -114,9 +142,21 @@ def module(path, folder="", more=""):
 def greet_of(room):
     """A repository of modules: at its top, in folders, of another major version, with a capital."""
     greet = Repository(room, "a repository/greet")
-    files = {**module("example.com/greet"), **module("example.com/greet/sub", "sub"), **module("example.com/greet/v2", "v2")}
-    files.update({**module("example.com/greet/Words", "Words"), **module("example.com/greet/sub/v3", "sub/v3"), "text/kept.txt": "kept\n"})
-    files["sub/go.mod"] = gomod("example.com/greet/sub", "example.com/greet v1.0.0", "example.com/private/elsewhere v1.2.3")
+    files = {
+        **module("example.com/greet"),
+        **module("example.com/greet/sub", "sub"),
+        **module("example.com/greet/v2", "v2"),
+    }
+    files.update(
+        {
+            **module("example.com/greet/Words", "Words"),
+            **module("example.com/greet/sub/v3", "sub/v3"),
+            "text/kept.txt": "kept\n",
+        }
+    )
+    files["sub/go.mod"] = gomod(
+        "example.com/greet/sub", "example.com/greet v1.0.0", "example.com/private/elsewhere v1.2.3"
+    )
     greet.first = greet.commit(files, "v1.0.0", "sub/v0.1.0", "v2.0.0", "Words/v1.0.0-RC.1", "sub/v3.0.0", "v1.1")
     greet.git("tag", "-a", "-m", "annotated", "v1.0.1")
     greet.last = greet.commit({"greet.go": code("greet", "\n// changed\n")})

@@ -4,10 +4,14 @@ import os
 import subprocess
 import tempfile
 
+
 def mounted(at, size):
     """Mounts a tmpfs of a size at a folder, and returns whether this machine could. `umount` takes it away."""
     options = (f"size={size},noswap", f"size={size}")
-    return any(subprocess.run(["mount", "-t", "tmpfs", "-o", it, "tmpfs", at], capture_output=True).returncode == 0 for it in options)
+    return any(
+        subprocess.run(["mount", "-t", "tmpfs", "-o", it, "tmpfs", at], capture_output=True).returncode == 0
+        for it in options
+    )
 
 
 def in_new_folders(suite, *parts):
@@ -53,7 +57,11 @@ def read(name):
 
 def files_of(folder="."):
     """The files of a folder, with their bytes."""
-    return {name: read(os.path.join(folder, name)) for name in sorted(os.listdir(folder)) if os.path.isfile(os.path.join(folder, name))}
+    return {
+        name: read(os.path.join(folder, name))
+        for name in sorted(os.listdir(folder))
+        if os.path.isfile(os.path.join(folder, name))
+    }
 
 
 def fill(name):

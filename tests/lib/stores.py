@@ -3,6 +3,7 @@
 from lib.keys import MEMBERS, PLATFORM
 from lib.program import done
 
+
 def new_store(file, *shelves, groups=()):
     """Makes a store with these groups, each as `add_group` takes it, and with these shelves, each as `add_shelf`
     takes it."""

@@ -7,6 +7,7 @@ status is 1 where a row failed.
 
 from lib.program import run, runs_of
 
+
 class Suite:
     """Counts rows and prints them. A row that passed is printed as `ok NAME`, one that failed with what was found
     and what was wanted."""

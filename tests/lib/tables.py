@@ -38,7 +38,9 @@ def settled(conn):
 
 def entries_of(conn):
     """The entries of a store of today's schema: the row of `version`, and the zip."""
-    for row in conn.execute("SELECT id, shelf, path, version, time, mod, order_key, rank_key FROM version ORDER BY id").fetchall():
+    for row in conn.execute(
+        "SELECT id, shelf, path, version, time, mod, order_key, rank_key FROM version ORDER BY id"
+    ).fetchall():
         pieces = conn.execute("SELECT bytes FROM piece WHERE version = ? ORDER BY number", row[:1])
         yield row, b"".join(piece for (piece,) in pieces)
 

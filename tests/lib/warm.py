@@ -90,7 +90,9 @@ class Wire:
         command = re.search(r'^restrict,command="([^"]+)" ssh-ed25519 ', self.host.read("root/.ssh/authorized_keys"))[1]
         words = ["ip", "netns", "exec", self.host.namespace, "sh", "-c", command]
         env = {"PATH": "/usr/sbin:/usr/bin:/bin", "SSH_ORIGINAL_COMMAND": word}
-        child = subprocess.Popen(words, env=env, stdin=subprocess.DEVNULL, stdout=subprocess.PIPE, stderr=subprocess.PIPE)
+        child = subprocess.Popen(
+            words, env=env, stdin=subprocess.DEVNULL, stdout=subprocess.PIPE, stderr=subprocess.PIPE
+        )
         while True:
             try:
                 printed, errors = child.communicate(timeout=1)
@@ -174,8 +176,14 @@ class Warm(Company):
 def publishes(company, version):
     """Each shelf publishes a version at the warm host, of a path of its own and of one that all have. Returns what
     they are told."""
-    them = [(user, f"example.com/{path}") for user, path in (("pub", "lib"), ("rob", "lib"), ("com", "base"), ("gil", "!big"))]
-    return {company.put(*it, version) for it in [*them, ("com", "example.com/shared"), ("pub", "example.com/own"), ("gil", "example.com/shared/sub")]}
+    them = [
+        (user, f"example.com/{path}")
+        for user, path in (("pub", "lib"), ("rob", "lib"), ("com", "base"), ("gil", "!big"))
+    ]
+    return {
+        company.put(*it, version)
+        for it in [*them, ("com", "example.com/shared"), ("pub", "example.com/own"), ("gil", "example.com/shared/sub")]
+    }
 
 
 def store_of(host):

@@ -15,13 +15,18 @@ FILES = {
     "h": "h",
     "m": "m",
     "one": "X",
-    **{f"{name}.mod": f"module example.com/{name}\n" for name in ("own", "lib", "Lib", "ps", "ra", "rb", "rc", "rd", "x", "y", "g", "h", "s")},
+    **{
+        f"{name}.mod": f"module example.com/{name}\n"
+        for name in ("own", "lib", "Lib", "ps", "ra", "rb", "rc", "rd", "x", "y", "g", "h", "s")
+    },
     "ra-next.mod": "module example.com/ra\nretract [v1.0.5, v1.1.0]\n",
     "rb-next.mod": "module example.com/rb\nretract v1.1.0\n",
     "rd.mod": "module example.com/rd\nretract v1.0.0\n",
     "many.csv": HEADER + "".join(f"example.com/own,v1.{n}.0,,own.mod,one\n" for n in range(1, 101)),
     "beta.csv": HEADER + "example.com/own,v1.0.0,,own.mod,one\n",
-    "alpha.csv": HEADER + """\
+    "alpha.csv": (
+        HEADER
+        + """\
 example.com/lib,v1.0.0,,lib.mod,none
 example.com/y,v1.0.0,,y.mod,a
 example.com/Lib,v1.0.0,,Lib.mod,none
@@ -36,7 +41,8 @@ example.com/ra,v1.1.0,,ra-next.mod,none
 example.com/rb,v1.1.0,,rb.mod,none
 example.com/rb,v1.2.0-rc.1,,rb-next.mod,none
 example.com/rd,v1.0.0,,rd.mod,none
-""",
+"""
+    ),
     "common.csv": HEADER + "example.com/x,v1.0.0,,x.mod,one\nexample.com/y,v1.0.0,,y.mod,c\n",
     # group-publishes and chain-publishes, and a version of delta's own
     "gamma.csv": HEADER + "example.com/h,v1.0.0,,h.mod,m\n",
@@ -68,7 +74,15 @@ example.com/rd v1.0.0
 example.com/s v1.0.0
 example.com/x v1.0.0
 example.com/y v1.0.0"""
-TARGETS = ("{0}/@v/{1}.info", "{0}/@v/{1}.mod", "{0}/@v/{1}.zip", "-/gosum/{0}/@v/{1}", "{0}/@v/list", "{0}/@latest", "-/modules")
+TARGETS = (
+    "{0}/@v/{1}.info",
+    "{0}/@v/{1}.mod",
+    "{0}/@v/{1}.zip",
+    "-/gosum/{0}/@v/{1}",
+    "{0}/@v/list",
+    "{0}/@latest",
+    "-/modules",
+)
 
 
 def published(count):
@@ -85,7 +99,9 @@ def worked_store(suite, file, more=""):
 def filled_group(suite, file, more=""):
     """Adds the group platform and its versions, behind another list of delta's where one is named."""
     add_platform(file)
-    imported(suite, file, ("D", more), ("D", "delta.csv"), ("M", "gamma.csv"), ("P", "platform.csv"), ("C", "common-h.csv"))
+    imported(
+        suite, file, ("D", more), ("D", "delta.csv"), ("M", "gamma.csv"), ("P", "platform.csv"), ("C", "common-h.csv")
+    )
 
 
 def imported(suite, file, *lists):

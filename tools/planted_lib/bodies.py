@@ -22,14 +22,17 @@ class Body:
     why: str = ""
 
 
-
 def read_body(crate, path):
     """Returns the wrong body of a file, or raises why it cannot be applied."""
     file, old, texts = "", "", {}
     for word, text in re.findall(r"^(file|old|new): ?(.*)", read(path), re.M):
         if word == "file":
             file = text.strip()
-            if os.path.normpath(file) != file or file.partition("/")[0] not in PARTS or not os.path.isfile(f"{crate.folder}/{file}"):
+            if (
+                os.path.normpath(file) != file
+                or file.partition("/")[0] not in PARTS
+                or not os.path.isfile(f"{crate.folder}/{file}")
+            ):
                 raise Unusable(f"there is no file {file} below src/, specs/ or proofs/")
         elif word == "old":
             old = text

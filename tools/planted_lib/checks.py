@@ -26,9 +26,13 @@ CALLS = "it calls what is not proved"
 
 PLACED = re.compile(r"(?:note: )?(?:\./)?((?:src|specs|proofs)/\S+?):(\d+):\d+: (.*)")
 VERDICT = re.compile(r"(?:fn|impl|struct|enum|trait|const|static) (\S+): (.*)")
-OF_CHECKER = re.compile(r"could not tell|bug in (?:rattle|antt)|bug or a limit of antt|fault of rattle's own|please report")
+OF_CHECKER = re.compile(
+    r"could not tell|bug in (?:rattle|antt)|bug or a limit of antt|fault of rattle's own|please report"
+)
 # (of an error with Q for what stands in quotes; before 'has no field' stand the names that the record has)
-LOST_NAME = re.compile(r": (?:Q: )*(?:record Q.* has no field|.{,60}(?:is not in scope|has no Q|was not admitted|is no name))")
+LOST_NAME = re.compile(
+    r": (?:Q: )*(?:record Q.* has no field|.{,60}(?:is not in scope|has no Q|was not admitted|is no name))"
+)
 STALE = re.compile(r"module .Rattle-\w+-.*Run the lower steps again")
 
 

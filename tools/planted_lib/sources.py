@@ -5,7 +5,9 @@ from dataclasses import dataclass
 from planted_lib.repository import Unusable
 
 FUNCTION = re.compile(r"( *)(?:pub(?:\([^)]*\))? )?(?:(?:const|unsafe|default) )*fn (\w+)")
-HOLDER = re.compile(r" *(?:pub(?:\([^)]*\))? )?(?:unsafe )?(?:impl(?:<(?:[^<>]|<[^<>]*>)*>)?|trait(?= \w+)) ([^:{]\w*[^{]*)")
+HOLDER = re.compile(
+    r" *(?:pub(?:\([^)]*\))? )?(?:unsafe )?(?:impl(?:<(?:[^<>]|<[^<>]*>)*>)?|trait(?= \w+)) ([^:{]\w*[^{]*)"
+)
 
 
 @dataclass(frozen=True)
@@ -42,7 +44,11 @@ def functions_of(path, text):
         if not head or at < after:
             continue
         (opens, last), first = body_of(lines, at, head[1]), at
-        while first > after and lines[first - 1].startswith(f"{head[1]}#[") or lines[first - 1].startswith(f"{head[1]}///"):
+        while (
+            first > after
+            and lines[first - 1].startswith(f"{head[1]}#[")
+            or lines[first - 1].startswith(f"{head[1]}///")
+        ):
             first -= 1
         found.append(Function(path, head[2], holder_of(lines, at, head[1]), first + 1, opens + 1, last + 1))
         after = last + 1

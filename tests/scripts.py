@@ -1,25 +1,80 @@
 #!/usr/bin/env python3
 """The scripts that users and operators run, and tests/all: each prints its usage, and refuses an unknown option.
 
-Those in sh pass shellcheck, as the package's own do.
+Those in sh pass shellcheck, as the package's own do, and all files in Python pyflakes and black, which lays them out
+by pyproject.toml. The registry lists each suite, and no suite imports another.
 """
 
+import ast
 import glob
 import os
+import shutil
 import subprocess
 import sys
 
 from lib.program import ROOT
+from lib.registry import SUITES
 from lib.suite import Suite
 
 SUITE = Suite()
 COMMANDS = sorted(glob.glob("deploy/**/goshelf-*", root_dir=ROOT, recursive=True))
 SCRIPTS = ["tools/adopt", "tools/publish", "tools/release", "tools/shards", "tests/all", *COMMANDS]
+# folders with files in Python
+FOLDERS = ("tests", "tools", "bench", "deploy")
+LONGEST_LINE = 120
+# the black of Debian 12: another may lay files out otherwise
+BLACK = "black, 23."
 
 
 def ran(*words):
-    told = subprocess.run(words, cwd=ROOT, stdin=subprocess.DEVNULL, capture_output=True, text=True, timeout=60)
+    told = subprocess.run(words, cwd=ROOT, stdin=subprocess.DEVNULL, capture_output=True, text=True, timeout=600)
     return told.returncode, told.stdout, told.stderr
+
+
+def read(name):
+    with open(os.path.join(ROOT, name), encoding="utf-8", errors="replace") as file:
+        return file.read()
+
+
+def in_python():
+    """The files in Python: those that end so, and scripts that begin so."""
+    below = ((at, name) for folder in FOLDERS for at, _, names in os.walk(os.path.join(ROOT, folder)) for name in names)
+    files = sorted(os.path.relpath(os.path.join(at, name), ROOT) for at, name in below)
+    return [it for it in files if it.endswith(".py") or read(it).startswith("#!/usr/bin/env python3\n")]
+
+
+def imported(name):
+    """The modules that a file imports."""
+    nodes = list(ast.walk(ast.parse(read(name))))
+    plain = [it.name for node in nodes if isinstance(node, ast.Import) for it in node.names]
+    return {*plain, *(node.module for node in nodes if isinstance(node, ast.ImportFrom))}
+
+
+def python(files):
+    """The files in Python are laid out and have no loose end, as far as the machine has who says so."""
+    long_lines = [
+        f"{it}:{at}" for it in files for at, line in enumerate(read(it).split("\n"), 1) if len(line) > LONGEST_LINE
+    ]
+    SUITE.equal(f"no line in Python has more than {LONGEST_LINE} characters", long_lines, [])
+    if shutil.which("pyflakes3"):
+        SUITE.equal("pyflakes", ran("pyflakes3", *files), (0, "", ""))
+    else:
+        SUITE.skip("pyflakes", "the machine has no pyflakes3")
+    if shutil.which("black") and ran("black", "--version")[1].startswith(BLACK):
+        status, _, errors = ran("black", "--check", *files)
+        SUITE.holds("black", status == 0, errors)
+    else:
+        SUITE.skip("black", f"the machine has no {BLACK}")
+
+
+def suites():
+    """The registry lists each suite, and each stands alone."""
+    names = [it.removesuffix(".py") for it in sorted(os.listdir(os.path.join(ROOT, "tests"))) if it.endswith(".py")]
+    SUITE.equal("the registry lists each suite", [it.name for it in SUITES], names)
+    SUITE.equal("and each says what it shows", [it.name for it in SUITES if not it.shows.endswith(".")], [])
+    above = [f"tests/{it}" for it in os.listdir(os.path.join(ROOT, "tests")) if it.endswith(".py")]
+    within = [f"tests/lib/{it}" for it in os.listdir(os.path.join(ROOT, "tests", "lib")) if it.endswith(".py")]
+    SUITE.equal("no suite is imported", [it for it in sorted([*above, *within]) if imported(it) & {*names}], [])
 
 
 def main():
@@ -36,6 +91,8 @@ def main():
         with open(os.path.join(ROOT, script), encoding="utf-8") as file:
             if file.readline() == "#!/bin/sh\n":
                 SUITE.equal(f"shellcheck {script}", ran("shellcheck", script), (0, "", ""))
+    python(in_python())
+    suites()
     return SUITE.end()
 
 

@@ -5,11 +5,14 @@ It listens over TLS for nginx, and plain for those who ask it themselves.
 
 import os
 import shutil
-import socket
 import subprocess
+import sys
 import time
 
 ROOT = os.path.dirname(os.path.dirname(os.path.abspath(__file__)))
+sys.path.insert(0, os.path.join(ROOT, "tests"))
+from lib.ports import free_port
+
 NAME, AUTHORITIES = "proxy.golang.org", "/etc/ssl/certs/ca-certificates.crt"
 CERTIFICATE = f"openssl req -x509 -newkey rsa:2048 -nodes -days 2 -subj /CN={NAME} -addext subjectAltName=DNS:{NAME}"
 CONF = """
@@ -31,12 +34,6 @@ http {{
 """
 # GOPROXY with the public proxy behind, as goshelf or nginx answers 404 for its modules; and the one URL
 BEHIND, SECOND, ONE = WAYS = ("404 of goshelf", "404 of nginx", "one URL")
-
-
-def free_port():
-    with socket.socket() as held:
-        held.bind(("127.0.0.1", 0))
-        return held.getsockname()[1]
 
 
 class Outside:

@@ -23,6 +23,9 @@ import store
 from store import KEY, PROGRAM
 
 ROOT = os.path.dirname(os.path.dirname(os.path.abspath(__file__)))
+sys.path.insert(0, os.path.join(ROOT, "tests"))
+from lib.ports import free_port
+
 AT = f"/k/{KEY}/example.com/lib/@v/v1.0.0"
 GOMOD = b"module example.com/lib\n"
 ZIP = bytes(range(256)) * 65_536
@@ -39,12 +42,6 @@ http {{
     server {{ listen 127.0.0.1:{port}; root {folder}/files; }}
 }}
 """
-
-
-def free_port():
-    with socket.socket() as held:
-        held.bind(("127.0.0.1", 0))
-        return held.getsockname()[1]
 
 
 def ask(port, method, target, body=None, headers=None):

@@ -1,7 +1,8 @@
 #!/usr/bin/env python3
 """Blocks of the pages as a reader pastes them: into a shell that goes on after a line that fails, and perhaps twice.
 
-They run on a machine in a folder (machine.py). Commands that would need more than files are scripts here, which note what they are asked.
+They run on a machine in a folder (lib/machine.py). Commands that would need more than files are scripts here, which
+note what they are asked.
 """
 
 import contextlib
@@ -24,7 +25,10 @@ OWN = "# the reader's own\n"
 
 
 def pasted(machine, script, **settings):
-    """Gives a script to a shell on its standard input, and returns what the commands were asked, the status and the errors."""
+    """Gives a script to a shell on its standard input.
+
+    Returns what the commands were asked, the status and the errors.
+    """
     with open(f"{machine.folder}/root/asked", "w", encoding="utf-8"):
         pass
     where = {

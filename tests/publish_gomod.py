@@ -1,7 +1,8 @@
 #!/usr/bin/env python3
-"""tools/publish --check, without a server, finds the fault of a go.mod that goshelf finds, by line: go.mods made at random.
+"""tools/publish --check, without a server, finds the fault of a go.mod that goshelf finds, by line.
 
-The program that tools/publish builds for it reads each go.mod, and goshelf gets it as a publish. The seed is fixed.
+The go.mods are made at random, from a fixed seed. The program that tools/publish builds for it reads each go.mod, and
+goshelf gets it as a publish.
 """
 
 import os
@@ -50,8 +51,9 @@ def line():
         f"require {path} {low}", f"exclude {path} {low}", f"replace {path} => ./a", f"replace {path} {low} => ../a",
         f"replace {path} => {other} {high}", f"replace {path} {low} => {other} {high}", f"retract {low}",
         f"retract [{low}, {high}]", f"retract [{low},{high}] // why", f"retract (\n\t[{low}, {high}]\n\t{high}\n)",
-        f"require (\n\t{path} {low}\n)", "go 1.21", "toolchain x", "tool a", "godebug a=b", "ignore ./x", "", "\t// why",
-        "module example.com/x", f"module (\n{SEED.choice(['', 'example.com/x', 'example.com/x' + chr(10) * 2 + 'a.b'])}\n)",
+        f"require (\n\t{path} {low}\n)", "go 1.21", "toolchain x", "tool a", "godebug a=b", "ignore ./x", "",
+        "\t// why", "module example.com/x",
+        f"module (\n{SEED.choice(['', 'example.com/x', 'example.com/x' + chr(10) * 2 + 'a.b'])}\n)",
         SEED.choice(WORDS), words, f"{SEED.choice(DIRECTIVES)} {words}", f"{SEED.choice(DIRECTIVES)} (",
     ])  # fmt: skip
 

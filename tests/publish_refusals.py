@@ -317,8 +317,9 @@ def of_goshelf(room, server):
 
 # lines that goshelf refuses in a go.mod, and whether a check without a server finds them; and others, which it takes
 FAULTS = [
-    "require example.com/y v1", "frobnicate y", "exclude example.com/y v1.0", "retract v1", "require example.com/y v2.0.0",
-    "require example.com/y/v2 v1.0.0", "require ( )", "replace example.com/y => example.com/z v2.0.0",
+    "require example.com/y v1", "frobnicate y", "exclude example.com/y v1.0", "retract v1",
+    "require example.com/y v2.0.0", "require example.com/y/v2 v1.0.0", "require ( )",
+    "replace example.com/y => example.com/z v2.0.0",
     "replace example.com/y => C:\\y", "retract [v1.1.0, v1.0.0]", "retract v2.0.0", "require example.com/con v1.0.0",
     'require "example.com/y" v1', "replace example.com/y => mymod v1.0.0",
 ]  # fmt: skip

@@ -214,7 +214,7 @@ def part_is(client, number):
 
 
 def uncached(suite, client):
-    """goshelf-uncache makes the number one that no host had, time after time, and puts a file back that nginx refuses."""
+    """goshelf-uncache makes the number one that no host had, each time, and puts a file back that nginx refuses."""
     machine, name = client.machine, "etc/nginx/conf.d/goshelf.conf"
     told = [client.put("v1.0.0", GOMOD + ZIP)[0], client.put("v1.0.0", GOMOD + b"other", "bob")[0]]
     suite.equal("two teams publish", told, [201, 201])

@@ -25,26 +25,13 @@ OWN = "# the reader's own\n"
 
 
 def pasted(machine, script, **settings):
-    """Gives a script to a shell on its standard input.
-
-    Returns what the commands were asked, the status and the errors.
-    """
+    """Gives a script to a shell on its standard input. Returns what commands were asked, the status and the errors."""
     with open(f"{machine.folder}/root/asked", "w", encoding="utf-8"):
         pass
-    where = {
-        "PATH": f"{machine.folder}/usr/local/bin:{os.environ['PATH']}",
-        "HOME": f"{machine.folder}/root",
-        **settings,
-    }
-    ran = subprocess.run(
-        ["bash"],
-        input=machine.placed(script),
-        cwd=f"{machine.folder}/root",
-        env=where,
-        capture_output=True,
-        text=True,
-        timeout=60,
-    )
+    home, path = f"{machine.folder}/root", f"{machine.folder}/usr/local/bin:{os.environ['PATH']}"
+    where = {"PATH": path, "HOME": home, **settings}
+    how = {"cwd": home, "env": where, "capture_output": True, "text": True, "timeout": 60}
+    ran = subprocess.run(["bash"], input=machine.placed(script), **how)
     return machine.read("root/asked").splitlines(), ran.returncode, ran.stderr
 
 
@@ -84,11 +71,8 @@ def of_nginx(suite, machine):
 def of_users(suite, machine):
     """A publish by curl wants each of its words, and ends as the server answers."""
     commands(machine, curl=NOTES)
-    script, words = block("sh", "curl --netrc"), {
-        "module": "example.com/a",
-        "version": "v1.0.0",
-        "time": "2024-01-31T12:00:00Z",
-    }
+    script = block("sh", "curl --netrc")
+    words = {"module": "example.com/a", "version": "v1.0.0", "time": "2024-01-31T12:00:00Z"}
     machine.write("root/go.mod", "module example.com/a\n")
     for it in words:
         asked, status, errors = pasted(machine, script, **{**words, it: ""})
@@ -110,20 +94,13 @@ def of_cron(suite, machine):
 
 def of_warm(suite, machine):
     """The commands that fetch a copy leave the lines after them to the shell."""
-    commands(
-        machine,
-        ssh='#!/bin/sh\n[ "$1" = -n ] || cat > @/root/swallowed\nexit 1\n',
-        systemctl=NOTES,
-        flock="#!/bin/sh\n",
-    )
+    ssh = '#!/bin/sh\n[ "$1" = -n ] || cat > @/root/swallowed\nexit 1\n'
+    commands(machine, ssh=ssh, systemctl=NOTES, flock="#!/bin/sh\n")
     machine.write("etc/default/goshelf", "GOSHELF_FIRST=shelf.example.com\n")
     script = block("sh", "root $(command -v goshelf-warm) store", "DEPLOYMENTS.md")
     asked, _, errors = pasted(machine, script * 2)
-    suite.equal(
-        "a first host that does not answer: each command runs",
-        (asked, errors.count("Not found in archive") > 0),
-        (["systemctl enable goshelf"] * 2, True),
-    )
+    told = asked, "Not found in archive" in errors
+    suite.equal("a first host that does not answer: each command runs", told, (["systemctl enable goshelf"] * 2, True))
     lines = machine.read("etc/cron.d/goshelf-warm").splitlines()
     suite.equal("and cron has each line once", [it.split()[-1] for it in lines], ["store", "maps"])
     for it in ("ssh", "flock"):
@@ -150,11 +127,8 @@ def of_stores(suite, machine):
     commands(machine, goshelf=FAILS, systemctl=NOTES)
     machine.write("var/lib/goshelf/shelves.db", OWN)
     asked = pasted(machine, script)[0]
-    suite.equal(
-        "goshelf is not started over a store that was not made",
-        [it for it in asked if it.startswith("systemctl")],
-        ["systemctl stop goshelf"],
-    )
+    asked = [it for it in asked if it.startswith("systemctl")]
+    suite.equal("goshelf is not started over a store that was not made", asked, ["systemctl stop goshelf"])
     machine.write("var/lib/goshelf/shelves.db", "new")
     asked = pasted(machine, script)[0]
     suite.equal("a second time it is not stopped", [it for it in asked if it.startswith("systemctl")], [])

@@ -1,4 +1,3 @@
-mod Gathered
 mod InventoryLines
 mod OutlineLines
 mod ImportLists

@@ -8,7 +8,7 @@ use Rattle.world.specs.Store.{Shown, Reads}
 use Rattle.world.specs.World.{view}
 use Rattle.world.proofs.Causes.{answers}
 use Rattle.commands.specs.Inventory.{row_of, row_at, outlined, line, lines_of, fields}
-use Rattle.commands.specs.Reading.{Adds}
+use Rattle.keyring.specs.Reading.{Adds}
 use Rattle.commands.specs.declared.inventory.InventoryRow.{InventoryRow}
 
 -- the row of what is seen is the row of its outline

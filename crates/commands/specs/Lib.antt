@@ -14,7 +14,6 @@ pub mod Order
 pub mod Ping
 pub mod Printed
 pub mod Publish
-pub mod Reading
 pub mod Repetition
 pub mod Report
 pub mod Requirements

@@ -4,7 +4,7 @@ ghost use Rattle.std.specs.FinMap as map;
 ghost use Rattle.world.specs.Store.{Reads};
 ghost use Rattle.commands.specs.Inventory as spec;
 ghost use Rattle.commands.specs.Lines.{IsBetweenLines, text_in};
-ghost use Rattle.commands.specs.Reading.{Adds};
+ghost use Rattle.keyring.specs.Reading.{Adds};
 ghost use Rattle.commands.specs.Rows.{IsWhole};
 
 use crate::inventory_text::{headed, text_of, write_row};

@@ -2,7 +2,7 @@ use Rattle.std.proofs.lemmas.List.{at_drop_more}
 use Rattle.world.specs.Versions.{versions_of}
 use Rattle.commands.specs.Inventory.{lines_of, row_at, rows_of_path}
 use Rattle.commands.specs.Lines.{text_in}
-use Rattle.commands.proofs.Gathered.{gathered_next, gathers_first}
+use Rattle.keyring.proofs.Gathered.{gathered_next, gathers_first}
 use Rattle.commands.proofs.InventoryLines.{path_lines}
 use Rattle.commands.proofs.inventory.add_path.Goals as goal
 

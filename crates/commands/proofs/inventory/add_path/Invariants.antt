@@ -1,7 +1,7 @@
 use Rattle.std.proofs.Common.{drop}
 use Rattle.commands.specs.Inventory.{lines_of, row_at, rows_of_path}
 use Rattle.commands.specs.Lines.{IsBetweenLines, text_in}
-use Rattle.commands.proofs.Gathered.{HoldsThroughout, Gathers}
+use Rattle.keyring.proofs.Gathered.{HoldsThroughout, Gathers}
 use Rattle.commands.proofs.inventory.add_path.Given as goal
 
 -- the lines of the versions so far are written, and those of the other versions are left

@@ -4,7 +4,7 @@ use Rattle.world.specs.Lines.{in_order}
 use Rattle.world.specs.Visible.{paths_seen}
 use Rattle.commands.specs.Inventory.{lines_of, rows_of_text, rows_seen}
 use Rattle.commands.specs.Lines.{text_in}
-use Rattle.commands.proofs.Gathered.{gathers_first}
+use Rattle.keyring.proofs.Gathered.{gathers_first}
 use Rattle.commands.proofs.InventoryLines.{shelf_lines}
 use Rattle.commands.proofs.inventory.add_paths.Goals as goal
 

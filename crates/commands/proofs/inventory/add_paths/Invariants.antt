@@ -1,7 +1,7 @@
 use Rattle.std.specs.Prelude.{map as each, string_bytes}
 use Rattle.commands.specs.Inventory.{lines_of, rows_of_text, rows_seen}
 use Rattle.commands.specs.Lines.{IsBetweenLines, text_in}
-use Rattle.commands.proofs.Gathered.{HoldsThroughout, Gathers}
+use Rattle.keyring.proofs.Gathered.{HoldsThroughout, Gathers}
 use Rattle.commands.proofs.inventory.add_paths.Given as goal
 
 -- the lines of the paths so far are written, and those of the other paths are left

@@ -3,7 +3,7 @@ use Rattle.std.proofs.Common.{◌≡◌, ◌≤◌, ◌++◌, ◌∷◌, List, O
 use Rattle.std.specs.List.{flat_map}
 use Rattle.world.specs.Store.{Shown, Reads}
 use Rattle.world.specs.World.{World}
-use Rattle.commands.specs.Reading.{Adds}
+use Rattle.keyring.specs.Reading.{Adds}
 
 -- this holds, and the store still stands for this world
 pub record HoldsAt (old new : Shown) (w : World) (so : Type 0) : Type 0 where

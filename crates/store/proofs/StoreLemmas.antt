@@ -149,6 +149,14 @@ pub reads : {T : Type 0} (old new : State) (kept : Kept) (before now : ℕ) (r :
 reads old new kept before now r value spares cause answer =
     reads_keeping old new kept kept before now r value spares cause (λ clean w stands right. (answer clean w stands, right))
 
+-- a read of the tables whose error is counted, and that caches nothing
+pub reads_counted : {T : Type 0} (old new : State) (kept : Kept) (before now : ℕ) (given : Result T Error) (r : Result T StoreFault) (value : World → T)
+    → Spares old new → IsCounted before now given r → (HasCleanDisk new → (w : World) → Stands old w → IfOk given (λ x. x ≡ value w))
+    → Reads (shown_with old kept before) (shown_with new kept now) r value
+reads_counted old new kept before now given r value spares counted answer =
+    reads old new kept before now r value spares (counted_cause _ _ given r counted)
+    (λ clean w stands. counted_ok given r (λ x. x ≡ value w) counted.ok (answer clean w stands.0))
+
 -- a read of the tables whose error is counted and handed on, and that caches nothing
 pub reads_counted_none : {T : Type 0} (old new : State) (kept : Kept) (before now : ℕ) (given : Result T Error) (fault : StoreFault) (r : Result T StoreFault) (value : World → T)
     → Spares old new → IsErr r × IsErrAnd r (λ e. e ≡ fault) → IsCounted before now given (Err fault) → Reads (shown_with old kept before) (shown_with new kept now) r value

@@ -1,4 +1,5 @@
-//! Team shelves as rows of SQL tables, behind the traits `world::shelves::Shelves` and `outline::outlines::Outlines`.
+//! Team shelves as rows of SQL tables, behind the traits `world::shelves::Shelves`, `outline::outlines::Outlines` and
+//! `keyring::Keyring`.
 //!
 //! The crate `tables` defines the tables and the world that they stand for; the crate `statements` reads and changes
 //! them; the crate `setup` finds or makes them, and copies shelves; the crate `kept` caches what was found. A store
@@ -26,6 +27,8 @@
 //! | `team_add`, `group_add`, `key_add` | `add_team`, `add_group`, `add_key` of `statements::registry` |
 //! | `key_revoke` | `statements::revoke::revoke_key` |
 //! | `extract`, `extract_teams`, `copy` | `setup::copy::copy_shelves`, which writes in one transaction |
+//! | `keys`, `shelves` | `keyring_rows::find_keys`, `find_shelf_names` |
+//! | `parent` | `statements::registry::find_shelf` |
 //! | `migrate` | `older::schema::format_of`, and `migration::write::write_world`, into a fresh store in one transaction |
 //!
 //! The chain of a shelf is its own shelf, its group if it has one, and `common`. `statements::registry::find_shelf`
@@ -42,6 +45,7 @@ pub mod files;
 pub mod laws;
 mod look;
 pub mod migrate;
+mod named;
 pub mod open;
 pub mod open_older;
 mod seen;

@@ -51,6 +51,10 @@ publish --db none.db
 import --db none.db --key A
 inventory --db none.db
 requires --db none.db --key A --module example.com/lib
+key-list
+key-list --db none.db --key A
+shelf-list
+shelf-list --db none.db --team alpha
 extract --db none.db --team alpha
 extract --db none.db --to other.db
 extract --team alpha --to other.db
@@ -120,6 +124,8 @@ publish --db --key --module --version --mod --zip --time
 import --db --key --list
 inventory --db --key
 requires --db --key --module --version
+key-list --db
+shelf-list --db
 extract --db --team --to
 migrate --from --to
 answer --db --mem --team --key
@@ -278,6 +284,37 @@ group-add --db new.db --group platform | 0
 team-add --db new.db --team alpha --group platform | 0
 """
 
+# who has keys; the digits are those of `printf %s KEY | sha256sum`, and the lines are in another order than their keys
+WHO = """
+key-list --db store.db | 0
+shelf-list --db store.db | 0
+    common common
+team-add --db store.db --team alpha | 0
+group-add --db store.db --group platform | 0
+team-add --db store.db --team alpha-b --group platform | 0
+team-add --db store.db --team gamma --group platform | 0
+key-add --db store.db --shelf platform --key P | 0
+key-add --db store.db --shelf common --key C --read-only | 0
+key-add --db store.db --shelf alpha --key A | 0
+key-add --db store.db --shelf alpha --key R --read-only | 0
+key-add --db store.db --shelf alpha --key D | 0
+key-add --db store.db --shelf gamma --key M | 0
+key-add --db store.db --shelf gamma --key B | 0
+key-revoke --db store.db --key B | 0
+key-list --db store.db | 0
+    alpha publish ccaaf6d99f2c8ac7
+    alpha publish d6d1ae514132c03b
+    alpha read c2fcda156efd8585
+    common read 4ae6c4eb38bf8b54
+    gamma publish 3e9e696676741f95
+    platform publish 59349fdf37ea2a6b
+shelf-list --db store.db | 0
+    alpha team
+    alpha-b team platform
+    common common
+    gamma team platform
+    platform group
+"""
 # what `serve` says of a file that is missing or empty
 NEW_STORE = "new store: the file of --db is missing or empty; without a key, each request gets a 404\n"
 NEW_FILE = "new store: the file of --db is missing or empty\n"
@@ -296,6 +333,9 @@ import --db {} --key C --list list.csv | 1
 READS = """
 inventory --db none.db --key A | 1 no-key
 requires --db none.db --key A --module example.com/lib --version v1.0.0 | 1 not-found
+key-list --db none.db | 0
+shelf-list --db none.db | 0
+    common common
 answer --db none.db | 0
 answer --db none.db < A example.com/lib/@v/list | 0
     404 not found
@@ -502,6 +542,14 @@ def groups(suite):
     suite.runs("what a group sees", GROUP_KEYS)
 
 
+def who(suite):
+    suite.runs("who has keys", "init --db store.db | 0")
+    before = {name: read(name) for name in ("store.db", "store.db-wal")}
+    suite.runs("who has keys", "key-list --db store.db | 0\nshelf-list --db store.db | 0\n    common common")
+    suite.equal("the lists change nothing", {name: read(name) for name in before}, before)
+    suite.runs("who has keys", WHO)
+
+
 def quick_start(suite):
     """The README's first command writes what the README says."""
     page = read(os.path.join(ROOT, "README.md")).decode()
@@ -640,6 +688,6 @@ if __name__ == "__main__":
     told = (new_store_told, new_file_told, reads_of_none)
     sys.exit(
         in_new_folders(
-            Suite(), quick_start, names, bad_usage, helped, one_store, imports, seen, groups, *told, serve, address
+            Suite(), quick_start, names, bad_usage, helped, one_store, imports, seen, groups, who, *told, serve, address
         )
     )

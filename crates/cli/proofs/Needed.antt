@@ -90,6 +90,8 @@ no_serve rows none (action.Publish words files) asks = cc
 no_serve rows none (action.Import key list) asks = cc
 no_serve rows none (action.Inventory key) asks = cc
 no_serve rows none (action.Requires version) asks = cc
+no_serve rows none action.KeyList asks = cc
+no_serve rows none action.ShelfList asks = cc
 no_serve rows none (action.Serve entrance connections control) asks = none connections asks.2
 
 -- a word asks for no command that is none of these, and asks for no order and no action of one form
@@ -107,6 +109,8 @@ no_command rows word init answer extract migrate copy ping stop order acts = go
     on_store db (action.Import key list) asks = acts (action.Import key list) asks.1
     on_store db (action.Inventory key) asks = acts (action.Inventory key) asks.1
     on_store db (action.Requires version) asks = acts (action.Requires version) asks.1
+    on_store db action.KeyList asks = acts action.KeyList asks.1
+    on_store db action.ShelfList asks = acts action.ShelfList asks.1
     on_store db (action.Serve entrance connections control) asks = acts (action.Serve entrance connections control) asks.1
 
     go : (asked : Command) → AsksCommand rows word asked → ⊥

@@ -98,6 +98,8 @@ module _ (rows : List Row) where
   AsksAction word (action.Inventory key) = (word ≡ codes "inventory") × Is (codes "key") key.now
   AsksAction word (action.Requires version) = (word ≡ codes "requires")
       × Is (codes "key") version.key.now × Is (codes "module") version.path.now × Is (codes "version") version.version.now
+  AsksAction word action.KeyList = word ≡ codes "key-list"
+  AsksAction word action.ShelfList = word ≡ codes "shelf-list"
   AsksAction word (action.Serve entrance connections control) = (word ≡ codes "serve")
       × AsksEntrance entrance × AsksConnections connections × MayBe (codes "control") control
 

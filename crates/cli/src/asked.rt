@@ -147,6 +147,8 @@ fn action_of<'a>(word: &str, options: &ArgMatches<'a>) -> Option<Action<'a>>
             key: text(options, "key")?,
         }),
         "requires" => requires_of(options),
+        "key-list" => Some(Action::KeyList),
+        "shelf-list" => Some(Action::ShelfList),
         "serve" => serve_of(options),
         _ => None,
     }

@@ -7,7 +7,7 @@ use Rattle.commands.specs.Ending.{Registers}
 use Rattle.commands.specs.ImportFile.{ImportsFile}
 use Rattle.commands.specs.Opening.{AnswersAll}
 use Rattle.commands.specs.Publish.{asked_by, PublishesFiles}
-use Rattle.commands.specs.Report.{PrintsInventory, PrintsRequirements}
+use Rattle.commands.specs.Report.{PrintsInventory, PrintsKeys, PrintsRequirements, PrintsShelves}
 use Rattle.commands.specs.Serve.{Copied, Counted, ListensAs}
 use Rattle.commands.specs.declared.refusal.CommandRefusal.{CommandRefusal}
 use Rattle.commands.specs.declared.serve.Entrance.{Entrance}
@@ -53,8 +53,8 @@ module _ {S : Type 0} (shown : S → Shown) (copied : Copied S) (counted : Count
     pub came : new.came ≡ old.came
 
   -- What is done by the kind of action: nothing, one command of the registry, one publish, those of a list, an
-  -- inventory or the requirements of a version are printed, all requests of the input are answered, or no more requests
-  -- than there are connections, and orders, copies and pings between them.
+  -- inventory, the requirements of a version, or a list of the keys or of the shelves is printed, all requests of the
+  -- input are answered, or no more requests than there are connections, and orders, copies and pings between them.
   abbrev pub Acts : Result Bool CommandRefusal → Action → Type 0
   Acts result action.Open = (new ≡ old) × (result ≡ Ok true)
   Acts result (action.Register order) = RegistersAlone order result
@@ -66,5 +66,8 @@ module _ {S : Type 0} (shown : S → Shown) (copied : Copied S) (counted : Count
       PrintsInventory (shown old.store) (shown new.store) key.now old.written new.written result × (new.came ≡ old.came)
   Acts result (action.Requires version) =
       PrintsRequirements (shown old.store) (shown new.store) version old.written new.written result × (new.came ≡ old.came)
+  Acts result action.KeyList = PrintsKeys (shown old.store) (shown new.store) old.written new.written result × (new.came ≡ old.came)
+  Acts result action.ShelfList =
+      PrintsShelves (shown old.store) (shown new.store) old.written new.written result × (new.came ≡ old.came)
   Acts result action.Answer = AnswersFrom result
   Acts result (action.Serve entrance connections control) = ServesConnections entrance connections (option_copied control) result

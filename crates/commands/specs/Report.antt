@@ -2,6 +2,8 @@
 use Rattle.std.specs.Prelude.{ℕ, ◌≡◌, List, Bool, true, Option, Some, None, Result, Ok, Err, MatchResult}
 use Rattle.std.specs.FinMap as map
 use Rattle.std.specs.Io.KnownBytes.{Appends}
+use Rattle.keyring.specs.KeyList.{ListsKeys}
+use Rattle.keyring.specs.ShelfList.{shelf_text}
 use Rattle.modver.specs.Reading.{version_of}
 use Rattle.world.specs.Forms.{path_of}
 use Rattle.world.specs.Store.{Shown, Reads}
@@ -30,6 +32,12 @@ requirements_ending (Ok None) = Err NotFound
 requirements_ending (Err fault.Device) = Err Device
 requirements_ending (Err fault.Memory) = Err Memory
 
+-- a list, or the refusal if there is none
+abbrev pub list_ending : Result (List ℕ) StoreFault → Result (List ℕ) CommandRefusal
+list_ending (Ok text) = Ok text
+list_ending (Err fault.Device) = Err Device
+list_ending (Err fault.Memory) = Err Memory
+
 -- The text was printed, or the output failed and a beginning of it was printed. If there is no text, the result is the
 -- refusal, and nothing is printed.
 abbrev pub Prints : Option (List ℕ) → Option (List ℕ) → Result Bool CommandRefusal → Result (List ℕ) CommandRefusal → Type 0
@@ -53,3 +61,15 @@ pub record PrintsRequirements
   pub reads : Reads old new told
       (λ w. required_by w (map.get w.keys version.key.now) (path_of version.path.now) (version_of version.version.now))
   pub prints : Prints written written_new result (requirements_ending told)
+
+-- the lines of all keys were read, which changes nothing, and printed in byte order
+pub record PrintsKeys (old new : Shown) (written written_new : Option (List ℕ)) (result : Result Bool CommandRefusal) : Type 0 where
+  pub told : Result (List ℕ) StoreFault
+  pub lists : ListsKeys old new told
+  pub prints : Prints written written_new result (list_ending told)
+
+-- the lines of all shelves were read, which changes nothing, and printed
+pub record PrintsShelves (old new : Shown) (written written_new : Option (List ℕ)) (result : Result Bool CommandRefusal) : Type 0 where
+  pub told : Result (List ℕ) StoreFault
+  pub reads : Reads old new told shelf_text
+  pub prints : Prints written written_new result (list_ending told)

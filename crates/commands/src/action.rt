@@ -7,10 +7,11 @@ use crate::import_file::import_file;
 use crate::publish::{Files, Words, publish};
 use crate::refusal::CommandRefusal;
 use crate::registry::register;
-use crate::report::{Named, print_inventory, print_requirements};
+use crate::report::{Named, print_inventory, print_keys, print_requirements, print_shelves};
 use crate::serve::{Entrance, serve};
 use control::{Copies, Order};
 use histories::{Hear, Tell};
+use keyring::Keyring;
 use outline::outlines::Outlines;
 use std::rt::HostRuntime;
 
@@ -41,6 +42,10 @@ pub enum Action<'a> {
     Requires {
         version: Named<'a>,
     },
+    /// `key-list`: prints a line for each key, which does not show the key.
+    KeyList,
+    /// `shelf-list`: prints a line for each shelf.
+    ShelfList,
     /// `answer --db F`: answers the requests on the input.
     Answer,
     /// `serve`: answers one request on each of this many connections, and between them carries out the orders that come
@@ -55,7 +60,7 @@ pub enum Action<'a> {
 /// Does one action on a store and returns whether it was accepted; only a publish and an import can be done and not
 /// accepted. `copies` makes the copies that are ordered while the store is served, and counts its versions for a ping.
 /// Fails as the function of the action does.
-pub fn act_on<S: Outlines, K: Copies<S>, I: Hear, O: Tell>(
+pub fn act_on<S: Outlines + Keyring, K: Copies<S>, I: Hear, O: Tell>(
     rt: &HostRuntime,
     shelves: &mut S,
     copies: &mut K,
@@ -75,6 +80,8 @@ pub fn act_on<S: Outlines, K: Copies<S>, I: Hear, O: Tell>(
         Action::Import { key, list } => import_file(rt, shelves, key, list, output),
         Action::Inventory { key } => print_inventory(rt.alloc(), shelves, key, output),
         Action::Requires { version } => print_requirements(rt.alloc(), shelves, version, output),
+        Action::KeyList => print_keys(rt.alloc(), shelves, output),
+        Action::ShelfList => print_shelves(rt.alloc(), shelves, output),
         Action::Answer => acceptance(answer_input(rt.alloc(), shelves, input, output)),
         Action::Serve {
             entrance,

@@ -6,6 +6,7 @@
 //! | `publish` | asks the machine to publish two files, and prints the line of its outcome | [`publish`] |
 //! | `import` | asks the machine to publish each row of a list, and prints a line for each | [`import`], [`import_file`] |
 //! | `inventory`, `requires` | prints what a shelf sees, and what a version requires | [`report`], [`inventory`], [`requirements`] |
+//! | `key-list`, `shelf-list` | prints a line for each key, or for each shelf | [`report`] |
 //! | `answer` | answers the requests of a reader from a store, or from shelves in memory | [`answer`], [`memory`] |
 //! | `serve` | prints its port, answers one request on each of some connections, and carries out orders between them | [`serve`] |
 //! | the registry commands with `--control`, `copy`, `stop` | send an order to a running `serve`, and end by its outcome | [`order`] |

@@ -8,6 +8,9 @@ use crate::printing::print_one;
 use crate::refusal::CommandRefusal;
 use crate::requirements::requirements;
 use histories::Tell;
+use keyring::Keyring;
+use keyring::key_list::list_keys;
+use keyring::shelf_list::list_shelves;
 use outline::outlines::Outlines;
 use std::alloc::Global;
 use world::bytes::Bytes;
@@ -54,6 +57,43 @@ pub fn print_requirements<S: Shelves, O: Tell>(
     print(requirements_ending(told), output)
 }
 
+/// Prints a line for each key, in byte order, and returns true: the shelf, what the key may do, and its fingerprint.
+/// `Device` or `Memory` if the store meets a fault: then nothing is printed. `Io` if the output fails: then a beginning
+/// of the lines is printed, or all of them.
+pub fn print_keys<S: Keyring, O: Tell>(
+    alloc: Global,
+    shelves: &mut S,
+    output: &mut O,
+) -> Result<bool, CommandRefusal>
+    ensures prints { spec.PrintsKeys (S.shown shelves.old) (S.shown shelves.new)
+        (O.contents output.old) (O.contents output.new) result }
+    // It ends with `Io` only if a call of the output failed.
+    ensures cause { FailsByOutput (O.writes output.old) (O.writes output.new) result }
+    // What was printed is flushed.
+    ensures flushed { OnOk result ((O.writes output.new).unflushed ≡ []) }
+{
+    let told = list_keys(alloc, shelves);
+    print(list_ending(told), output)
+}
+
+/// Prints a line for each shelf, in byte order, and returns true: its name, what kind of shelf it is, and the group of a
+/// team that has one. Fails as `print_keys` does.
+pub fn print_shelves<S: Keyring, O: Tell>(
+    alloc: Global,
+    shelves: &mut S,
+    output: &mut O,
+) -> Result<bool, CommandRefusal>
+    ensures prints { spec.PrintsShelves (S.shown shelves.old) (S.shown shelves.new)
+        (O.contents output.old) (O.contents output.new) result }
+    // It ends with `Io` only if a call of the output failed.
+    ensures cause { FailsByOutput (O.writes output.old) (O.writes output.new) result }
+    // What was printed is flushed.
+    ensures flushed { OnOk result ((O.writes output.new).unflushed ≡ []) }
+{
+    let told = list_shelves(alloc, shelves);
+    print(list_ending(told), output)
+}
+
 /// A version, in the words of a command line.
 #[derive(Clone, Copy, Drop)]
 pub struct Named<'a> {
@@ -81,6 +121,17 @@ fn requirements_ending(told: Result<Option<Bytes>, StoreFault>) -> Result<Bytes,
     match told {
         Ok(Some(lines)) => Ok(lines),
         Ok(None) => Err(CommandRefusal::NotFound),
+        Err(StoreFault::Device) => Err(CommandRefusal::Device),
+        Err(StoreFault::Memory) => Err(CommandRefusal::Memory),
+    }
+}
+
+/// Returns a list, or the refusal if there is none.
+fn list_ending(told: Result<Bytes, StoreFault>) -> Result<Bytes, CommandRefusal>
+    ensures { result ≡ spec.list_ending told }
+{
+    match told {
+        Ok(text) => Ok(text),
         Err(StoreFault::Device) => Err(CommandRefusal::Device),
         Err(StoreFault::Memory) => Err(CommandRefusal::Memory),
     }

@@ -195,10 +195,14 @@ fn command_refusal(unopened: Unopened) -> CommandRefusal
     }
 }
 
-/// What an action opens its store for. These three leave a store that has no key as it is.
+/// What an action opens its store for. Those that only read leave a store that has no key as it is.
 fn use_of(action: &Action) -> Use {
     match action {
-        Action::Inventory { .. } | Action::Requires { .. } | Action::Answer => Use::Reading,
+        Action::Inventory { .. }
+        | Action::Requires { .. }
+        | Action::KeyList
+        | Action::ShelfList
+        | Action::Answer => Use::Reading,
         _ => Use::Writing,
     }
 }

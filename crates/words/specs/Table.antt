@@ -55,6 +55,8 @@ store_lines =
     ∷ formed (codes "key-add") (may (codes "db") ∷ may (codes "control") ∷ needs (codes "shelf") ∷ needs (codes "key")
     ∷ flag (codes "read-only") ∷ [])
     ∷ formed (codes "key-revoke") (may (codes "db") ∷ may (codes "control") ∷ needs (codes "key") ∷ [])
+    ∷ plain (codes "key-list") (needs (codes "db") ∷ [])
+    ∷ plain (codes "shelf-list") (needs (codes "db") ∷ [])
     ∷ plain (codes "publish") (needs (codes "db") ∷ needs (codes "key") ∷ needs (codes "module") ∷ needs (codes "version")
     ∷ needs (codes "mod") ∷ needs (codes "zip") ∷ may (codes "time") ∷ [])
     ∷ plain (codes "import") (needs (codes "db") ∷ needs (codes "key") ∷ needs (codes "list") ∷ [])

@@ -4,8 +4,8 @@ ghost use Rattle.clap.specs.Words.{app_of, rule_of, shape_of};
 ghost use Rattle.words.specs.Table as spec;
 
 use crate::options::{
-    ANSWER, COPY, EXTRACT, GROUP_ADD, IMPORT, INIT, INVENTORY, KEY_ADD, KEY_REVOKE, MIGRATE,
-    OptionRow, PING, PUBLISH, REQUIRES, SERVE, STOP, TEAM_ADD, Value,
+    ANSWER, COPY, EXTRACT, GROUP_ADD, IMPORT, INIT, INVENTORY, KEY_ADD, KEY_LIST, KEY_REVOKE,
+    MIGRATE, OptionRow, PING, PUBLISH, REQUIRES, SERVE, SHELF_LIST, STOP, TEAM_ADD, Value,
 };
 use clap::builder::ValueParser;
 use clap::{Arg, ArgAction, Command};
@@ -24,7 +24,7 @@ struct CommandRow {
 }
 
 /// The commands that work on one store, in the order of the help.
-static STORE_COMMANDS: [CommandRow; 9] = [
+static STORE_COMMANDS: [CommandRow; 11] = [
     CommandRow {
         name: "init",
         about: "Makes a store with the shelf common alone, in a file that has no bytes",
@@ -58,6 +58,20 @@ static STORE_COMMANDS: [CommandRow; 9] = [
         about: "Revokes a key",
         options: &KEY_REVOKE,
         forms: Some(KEY_REVOKE_FORMS),
+        example: "",
+    },
+    CommandRow {
+        name: "key-list",
+        about: "Prints a line for each key: its shelf, what it may do, and its fingerprint",
+        options: &KEY_LIST,
+        forms: None,
+        example: "",
+    },
+    CommandRow {
+        name: "shelf-list",
+        about: "Prints a line for each shelf: its name, what kind it is, and a team's group",
+        options: &SHELF_LIST,
+        forms: None,
         example: "",
     },
     CommandRow {

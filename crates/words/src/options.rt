@@ -118,6 +118,10 @@ pub(crate) const KEY_REVOKE: [OptionRow; 3] = [
     },
 ];
 
+pub(crate) const KEY_LIST: [OptionRow; 1] = [DB];
+
+pub(crate) const SHELF_LIST: [OptionRow; 1] = [DB];
+
 /// The path of a module.
 const MODULE: OptionRow = OptionRow {
     name: "module",

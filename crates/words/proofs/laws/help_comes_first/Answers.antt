@@ -43,26 +43,32 @@ follow_each = (
         (
           follows (codes "key-revoke") refl refl (λ _. refl) (λ _. refl),
           (
-            follows (codes "publish") refl refl (λ _. refl) (λ _. refl),
+            follows (codes "key-list") refl refl (λ _. refl) (λ _. refl),
             (
-              follows (codes "import") refl refl (λ _. refl) (λ _. refl),
+              follows (codes "shelf-list") refl refl (λ _. refl) (λ _. refl),
               (
-                follows (codes "inventory") refl refl (λ _. refl) (λ _. refl),
+                follows (codes "publish") refl refl (λ _. refl) (λ _. refl),
                 (
-                  follows (codes "requires") refl refl (λ _. refl) (λ _. refl),
+                  follows (codes "import") refl refl (λ _. refl) (λ _. refl),
                   (
-                    follows (codes "extract") refl refl (λ _. refl) (λ _. refl),
+                    follows (codes "inventory") refl refl (λ _. refl) (λ _. refl),
                     (
-                      follows (codes "migrate") refl refl (λ _. refl) (λ _. refl),
+                      follows (codes "requires") refl refl (λ _. refl) (λ _. refl),
                       (
-                        follows (codes "answer") refl refl (λ _. refl) (λ _. refl),
+                        follows (codes "extract") refl refl (λ _. refl) (λ _. refl),
                         (
-                          follows (codes "serve") refl refl (λ _. refl) (λ _. refl),
+                          follows (codes "migrate") refl refl (λ _. refl) (λ _. refl),
                           (
-                            follows (codes "copy") refl refl (λ _. refl) (λ _. refl),
+                            follows (codes "answer") refl refl (λ _. refl) (λ _. refl),
                             (
-                              follows (codes "ping") refl refl (λ _. refl) (λ _. refl),
-                              (follows (codes "stop") refl refl (λ _. refl) (λ _. refl), tt),
+                              follows (codes "serve") refl refl (λ _. refl) (λ _. refl),
+                              (
+                                follows (codes "copy") refl refl (λ _. refl) (λ _. refl),
+                                (
+                                  follows (codes "ping") refl refl (λ _. refl) (λ _. refl),
+                                  (follows (codes "stop") refl refl (λ _. refl) (λ _. refl), tt),
+                                ),
+                              ),
                             ),
                           ),
                         ),

@@ -2,8 +2,8 @@
 use Rattle.std.specs.Prelude.{◌^◌, ◌⊎◌, ◌↔◌, IsTrue}
 use Rattle.std.proofs.Common.{Bool, true, false, length, ℕ, ◌+◌, ◌-◌, ◌<◌, ◌≤◌, ◌≡◌, refl, sym, ap, ◌∙◌, subst, List, [], ◌∷◌, ◌++◌, map, All, Option, Some, None, Result, Ok, Err, inl, inr, arith, append_assoc, append-nil}
 use Rattle.std.proofs.lemmas.Bool.{false≢true}
-use Rattle.std.proofs.lemmas.List.{length-append, map-append}
-use Rattle.std.proofs.lemmas.List.Elements.{All-nil, All-push}
+use Rattle.std.proofs.lemmas.List.{length-append}
+use Rattle.std.proofs.lemmas.List.Elements.{All-append, All-cons, All-nil, All-push}
 use Rattle.std.specs.Io.KnownBytes.{Appends}
 use Rattle.histories.specs.Account.{Account}
 use Rattle.world.specs.Store.{Shown}
@@ -20,8 +20,8 @@ use Rattle.control.specs.Health.{Answered, AreBelow, tally_of, with_one}
 use Rattle.control.specs.Hearing.{Heard, Carried, Copied, Pinged, Stop, NoOrder, NoMemory, Obeys}
 use Rattle.control.specs.Told.{line_told}
 use Rattle.control.specs.Turns.{Asked, messages, GoesOn}
-use Rattle.control.specs.Visits.{Call, OfPeer, OfOperator, Untaken, answered_with, caller_of, connections_of, steps_if, steps_of}
-use Rattle.control.specs.Visits.{steps_with, peers, AnswersOne, ObeysOne, ObeysOneBy, IsCallThere, IsNewIf, IsNoStop, IsTallied}
+use Rattle.control.specs.Visits.{Call, OfPeer, OfOperator, Untaken, answered_with, callers_of, connections_of, steps_if, steps_of}
+use Rattle.control.specs.Visits.{steps_with, peers, AnswersOne, ObeysOne, ObeysOneBy, IsCallThere, IsNoStop, IsTallied}
 use Rattle.control.specs.Visits.{ServesEach, ReadsEach, EndsEach, TellsTally}
 use Rattle.control.specs.declared.callers.Caller.{Caller}
 use Rattle.control.specs.declared.callers.Caller.TheVariants.{Peer, Operator}
@@ -161,6 +161,12 @@ module _ {P O : Type 0} where
   connections_last (OfOperator audience ∷ calls) last = connections_last calls last
   connections_last (Untaken ∷ calls) last = let e = connections_last calls last in omega (arith, e)
 
+  callers_last : (calls : List (Call P O)) (last : Call P O) → callers_of (calls ++ last ∷ []) ≡ callers_of calls ++ callers_of (last ∷ [])
+  callers_last [] last = refl
+  callers_last (OfPeer visit answered ∷ calls) last = ap (λ more. Peer visit.before ∷ more) (callers_last calls last)
+  callers_last (OfOperator audience ∷ calls) last = ap (λ more. Operator audience.before ∷ more) (callers_last calls last)
+  callers_last (Untaken ∷ calls) last = callers_last calls last
+
   -- there are at most as many messages as peers
   one_each : (calls : List (Call P O)) → messages (turns_in (steps_with calls)) ≤ peers calls
   one_each [] = omega arith
@@ -180,19 +186,22 @@ module _ {P O : Type 0} where
 
   module _ (heeded : O → Account) (told : O → Option (List ℕ)) (heard : P → Account) (written : P → Option (List ℕ))
       (is_new : Caller P O → Type 0) where
-    module _ (waiting left rest : Option (List (Option (Caller P O)))) (old mid new : Shown) (n m : ℕ)
+    one_new : (caller : Caller P O) → is_new caller → All is_new (caller ∷ [])
+    one_new caller fresh = All-cons is_new caller [] fresh (All-nil is_new)
+
+    module _ (waiting left rest : Option (List (Caller P O))) (old mid new : Shown) (n m : ℕ)
         (first : ServesEach heeded told heard written is_new waiting left old mid n) where
       -- serving one more caller after others serves each of them
-      each_push : (call : Call P O) → Come left rest (caller_of call ∷ []) → IsNewIf is_new (caller_of call)
+      each_push : (call : Call P O) → Come left rest (callers_of (call ∷ [])) → All is_new (callers_of (call ∷ []))
           → IsCallThere heeded told heard written call → GoesThroughSteps mid new (steps_of call) → n + peers (call ∷ []) ≤ m
           → ServesEach heeded told heard written is_new waiting rest old new m
       each_push call comes fresh there through few = record {
         calls = first.calls ++ call ∷ [];
         few = omega (arith, peers_last first.calls call, first.few, few);
-        came = subst (Come waiting rest) (sym (map-append caller_of first.calls (call ∷ [])))
-            (then_come waiting left rest (map caller_of first.calls) (caller_of call ∷ []) first.came comes);
-        begun = subst (All (IsNewIf is_new)) (sym (map-append caller_of first.calls (call ∷ [])))
-            (All-push (IsNewIf is_new) (map caller_of first.calls) (caller_of call) first.begun fresh);
+        came = subst (Come waiting rest) (sym (callers_last first.calls call))
+            (then_come waiting left rest (callers_of first.calls) (callers_of (call ∷ [])) first.came comes);
+        begun = subst (All is_new) (sym (callers_last first.calls call))
+            (All-append is_new (callers_of first.calls) (callers_of (call ∷ [])) first.begun fresh);
         there = All-push (IsCallThere heeded told heard written) first.calls call first.there there;
         through = subst (GoesThroughSteps old new) (sym (steps_last first.calls call))
             (steps_more old mid new (steps_with first.calls) (steps_of call) first.through through);
@@ -200,11 +209,11 @@ module _ {P O : Type 0} where
 
     module _ {S : Type 0} (shown : S → Shown) (copied : S → S → List ℕ → Result (Unit {0}) CopyRefusal → Type 0)
         (counted : S → S → ℕ → Type 0) (since : List ℕ) where
-      abbrev Each : Option (List (Option (Caller P O))) → Option (List (Option (Caller P O))) → S → S → ℕ → Type 0
+      abbrev Each : Option (List (Caller P O)) → Option (List (Caller P O)) → S → S → ℕ → Type 0
       Each waiting left old new n = ReadsEach heeded told heard written shown copied counted is_new waiting left old new since n
 
       -- the callers up to a moment, k of them, with the counts of their connections; n count as connections, and none is told to stop
-      pub record UpTo (waiting left : Option (List (Option (Caller P O)))) (old new : S) (n k : ℕ) (tally : Tally) : Type 0 where
+      pub record UpTo (waiting left : Option (List (Caller P O))) (old new : S) (n k : ℕ) (tally : Tally) : Type 0 where
         pub reads : Each waiting left old new n
         pub is : tally ≡ tally_of since (answered_with reads.each.calls)
         pub goes : All IsNoStop reads.each.calls
@@ -212,14 +221,14 @@ module _ {P O : Type 0} where
         pub total : length reads.each.calls ≡ k
 
       -- the counts leave room for another connection
-      pub each_below : (waiting left : Option (List (Option (Caller P O)))) (old new : S) (n k : ℕ) (tally : Tally)
+      pub each_below : (waiting left : Option (List (Caller P O))) (old new : S) (n k : ℕ) (tally : Tally)
           → UpTo waiting left old new n k tally → (most : ℕ) → n < most → AreBelow most tally
       each_below waiting left old new n k tally first most few =
           let calls = first.reads.each.calls in
           subst (AreBelow most) (sym first.is)
           (below_of since (answered_with calls) most (omega (arith, few, answered_peers calls, first.reads.each.few)))
 
-      pub each_zero : (waiting : Option (List (Option (Caller P O)))) (store : S) (n : ℕ) (tally : Tally) → 0 ≡ n → tally ≡ tally_of since []
+      pub each_zero : (waiting : Option (List (Caller P O))) (store : S) (n : ℕ) (tally : Tally) → 0 ≡ n → tally ≡ tally_of since []
           → UpTo waiting waiting store store n 0 tally
       each_zero waiting store n tally none is = record {
         reads = record {
@@ -227,7 +236,7 @@ module _ {P O : Type 0} where
             calls = [];
             few = omega arith;
             came = none_come waiting;
-            begun = All-nil (IsNewIf is_new);
+            begun = All-nil is_new;
             there = All-nil (IsCallThere heeded told heard written);
             through = turns_none (shown store);
           };
@@ -240,8 +249,8 @@ module _ {P O : Type 0} where
         total = refl;
       }
 
-      module _ (waiting left rest : Option (List (Option (Caller P O)))) (old mid new : S) (n m k : ℕ) (tally : Tally) (first : UpTo waiting left old mid n k tally) where
-        reads_push : (call : Call P O) → Come left rest (caller_of call ∷ []) → IsNewIf is_new (caller_of call)
+      module _ (waiting left rest : Option (List (Caller P O))) (old mid new : S) (n m k : ℕ) (tally : Tally) (first : UpTo waiting left old mid n k tally) where
+        reads_push : (call : Call P O) → Come left rest (callers_of (call ∷ [])) → All is_new (callers_of (call ∷ []))
             → IsCallThere heeded told heard written call
             → GoesThroughSteps (shown mid) (shown new) (steps_of call)
             → ((shown new).is_honest → (w : World) → (shown mid).stands w → AllRead shown copied counted w (steps_of call))
@@ -261,7 +270,7 @@ module _ {P O : Type 0} where
         }
 
         -- a peer more
-        pub each_peer : (peer : P) (answered : Answered) → Come left rest (Some (Peer peer) ∷ [])
+        pub each_peer : (peer : P) (answered : Answered) → Come left rest (Peer peer ∷ [])
             → is_new (Peer peer)
             → AnswersOne heard written peer (shown mid) (shown new) answered → n + 1 ≡ m
             → UpTo waiting rest old new m (k + 1) (with_one tally answered)
@@ -272,8 +281,8 @@ module _ {P O : Type 0} where
             let calls = first.reads.each.calls in
             record {
               reads = reads_push call
-                  (subst (λ p. Come left rest (Some (Peer p) ∷ [])) (sym next.answers.begins) comes)
-                  (subst (λ p. is_new (Peer p)) (sym next.answers.begins) fresh)
+                  (subst (λ p. Come left rest (Peer p ∷ [])) (sym next.answers.begins) comes)
+                  (one_new (Peer visit.before) (subst (λ p. is_new (Peer p)) (sym next.answers.begins) fresh))
                   (next.answers.there, next.counts)
                   (steps_first (shown mid) (shown new) visit.first next.answers.through)
                   (λ h w stands. no_reads shown copied counted w (exchanges_of visit.first)) tt (omega (arith, few));
@@ -284,15 +293,15 @@ module _ {P O : Type 0} where
               total = omega (arith, length-append calls (call ∷ []), first.total);
             }
 
-        operator_served : (operator : O) (stops : Bool) → Come left rest (Some (Operator operator) ∷ [])
+        operator_served : (operator : O) (stops : Bool) → Come left rest (Operator operator ∷ [])
             → is_new (Operator operator)
             → (next : ObeysOneBy heeded told shown copied counted tally operator stops mid new)
             → n ≤ m → Each waiting rest old new m
         unfolding each_push reads_push
         operator_served operator stops comes fresh next few =
             reads_push (OfOperator next.audience)
-            (subst (λ o. Come left rest (Some (Operator o) ∷ [])) (sym next.begins) comes)
-            (subst (λ o. is_new (Operator o)) (sym next.begins) fresh)
+            (subst (λ o. Come left rest (Operator o ∷ [])) (sym next.begins) comes)
+            (one_new (Operator next.audience.before) (subst (λ o. is_new (Operator o)) (sym next.begins) fresh))
             next.there next.through
             (λ h w stands. read_heard shown copied counted tally mid new h w stands next.audience.heard next.came)
             (subst (λ t. TellsTally t next.audience.heard) first.is
@@ -300,7 +309,7 @@ module _ {P O : Type 0} where
             (omega (arith, few))
 
         -- an operator more, who is not told that the server ends
-        pub each_operator : (operator : O) (stops : Bool) → Come left rest (Some (Operator operator) ∷ [])
+        pub each_operator : (operator : O) (stops : Bool) → Come left rest (Operator operator ∷ [])
             → is_new (Operator operator)
             → ObeysOneBy heeded told shown copied counted tally operator stops mid new → stops ≡ false
             → n ≡ m → UpTo waiting rest old new m (k + 1) tally
@@ -317,7 +326,7 @@ module _ {P O : Type 0} where
             }
 
         -- an operator more, who is told that the server ends
-        pub operator_ends : (operator : O) (stops : Bool) → Come left rest (Some (Operator operator) ∷ [])
+        pub operator_ends : (operator : O) (stops : Bool) → Come left rest (Operator operator ∷ [])
             → is_new (Operator operator)
             → ObeysOneBy heeded told shown copied counted tally operator stops mid new → stops ≡ true
             → n ≤ m → EndsEach heeded told heard written shown copied counted is_new waiting rest old new since m
@@ -328,15 +337,15 @@ module _ {P O : Type 0} where
         }
 
       -- a connection could not be taken
-      pub each_untaken : (waiting left rest : Option (List (Option (Caller P O)))) (old new : S) (n m k : ℕ) (tally : Tally)
-          → Come left rest (None ∷ []) → UpTo waiting left old new n k tally → n + 1 ≡ m
+      pub each_untaken : (waiting left rest : Option (List (Caller P O))) (old new : S) (n m k : ℕ) (tally : Tally)
+          → Come left rest [] → UpTo waiting left old new n k tally → n + 1 ≡ m
           → UpTo waiting rest old new m (k + 1) tally
       unfolding each_push reads_push
       each_untaken waiting left rest old new n m k tally comes first few =
           let call : Call P O = Untaken in
           let calls = first.reads.each.calls in
           record {
-            reads = reads_push waiting left rest old new new n m k tally first call comes tt tt (turns_none (shown new))
+            reads = reads_push waiting left rest old new new n m k tally first call comes (All-nil is_new) tt (turns_none (shown new))
                 (λ h w stands. tt) tt (omega (arith, few));
             is = first.is ∙ ap (tally_of since) (sym (answered_last calls call ∙ append-nil (answered_with calls)));
             goes = All-push IsNoStop calls call first.goes (λ never. never);
@@ -344,7 +353,7 @@ module _ {P O : Type 0} where
             total = omega (arith, length-append calls (call ∷ []), first.total);
           }
 
-      pub each_most : (waiting left : Option (List (Option (Caller P O)))) (old new : S) (n m k : ℕ) (tally : Tally)
+      pub each_most : (waiting left : Option (List (Caller P O))) (old new : S) (n m k : ℕ) (tally : Tally)
           → UpTo waiting left old new n k tally → n ≤ m → Each waiting left old new m
       each_most waiting left old new n m k tally first few = record {
         each = record {
@@ -360,7 +369,7 @@ module _ {P O : Type 0} where
       }
 
       -- all connections were taken or could not be, or as many callers came as are counted
-      pub each_ends : (waiting left : Option (List (Option (Caller P O)))) (old new : S) (n m k : ℕ) (tally : Tally)
+      pub each_ends : (waiting left : Option (List (Caller P O))) (old new : S) (n m k : ℕ) (tally : Tally)
           → UpTo waiting left old new n k tally → n ≤ m → (n ≡ m) ⊎ (k ≡ 2 ^ 64 - 1)
           → EndsEach heeded told heard written shown copied counted is_new waiting left old new since m
       unfolding each_most
@@ -374,7 +383,7 @@ module _ {P O : Type 0} where
       }
 
       -- one run of the machine
-      pub each_goes : (waiting left : Option (List (Option (Caller P O)))) (old new : S) (n : ℕ) → Each waiting left old new n
+      pub each_goes : (waiting left : Option (List (Caller P O))) (old new : S) (n : ℕ) → Each waiting left old new n
           → GoesOn (shown old) (shown new) n
       each_goes waiting left old new n all = record {
         turns = turns_in (steps_with all.each.calls);
@@ -384,7 +393,7 @@ module _ {P O : Type 0} where
       }
 
       -- one run with the copies and the pings that were answered in it
-      pub each_read : (waiting left : Option (List (Option (Caller P O)))) (old new : S) (n : ℕ) → Each waiting left old new n
+      pub each_read : (waiting left : Option (List (Caller P O))) (old new : S) (n : ℕ) → Each waiting left old new n
           → GoesOnRead shown copied counted old new n
       each_read waiting left old new n all = record {
         steps = steps_with all.each.calls;

@@ -40,27 +40,18 @@ pub data Call (P O : Type 0) : Type 0 where
   OfOperator : Audience O → Call P O
   Untaken : Call P O
 
-abbrev pub caller_of : {P O : Type 0} → Call P O → Option (Caller P O)
-caller_of (OfPeer visit answered) = Some (Peer visit.before)
-caller_of (OfOperator audience) = Some (Operator audience.before)
-caller_of Untaken = None
+-- those who came, in their order
+abbrev pub callers_of : {P O : Type 0} → List (Call P O) → List (Caller P O)
+callers_of [] = []
+callers_of (OfPeer visit answered ∷ calls) = Peer visit.before ∷ callers_of calls
+callers_of (OfOperator audience ∷ calls) = Operator audience.before ∷ callers_of calls
+callers_of (Untaken ∷ calls) = callers_of calls
 
 -- nothing has passed between this caller and us
 module _ {P O : Type 0} (came : P → Account) (written : P → Option (List ℕ)) (heeded : O → Account) (told : O → Option (List ℕ)) where
   abbrev pub IsUnheard : Caller P O → Type 0
   IsUnheard (Peer peer) = IsUnused (came peer) (written peer)
   IsUnheard (Operator operator) = IsUnused (heeded operator) (told operator)
-
--- the caller is new, if there is one
-abbrev pub IsNewIf : {C : Type 0} → (C → Type 0) → Option C → Type 0
-IsNewIf is_new None = Unit {0}
-IsNewIf is_new (Some caller) = is_new caller
-
--- the next caller is taken, or the next connection can't be
-abbrev pub Takes : {P O E : Type 0} → Option (List (Option (Caller P O))) → Option (List (Option (Caller P O)))
-    → Result (Caller P O) E → Type 0
-Takes waiting left (Ok caller) = Come waiting left (Some caller ∷ [])
-Takes waiting left (Err e) = Come waiting left (None ∷ [])
 
 -- the steps of what an operator ordered: one for an order, a copy or a ping, and otherwise none
 abbrev pub steps_if : Option Heard → List Step
@@ -191,12 +182,12 @@ module _ {O : Type 0} (heeded : O → Account) (told : O → Option (List ℕ)) 
     -- The callers were served one after another, each once, and at most as many peers as there are connections. Each
     -- was new. What a peer sent was answered to that peer, and the outcome of an operator's order went to that
     -- operator.
-    pub record ServesEach (is_new : Caller P O → Type 0) (waiting left : Option (List (Option (Caller P O)))) (old new : Shown)
+    pub record ServesEach (is_new : Caller P O → Type 0) (waiting left : Option (List (Caller P O))) (old new : Shown)
         (connections : ℕ) : Type 0 where
       pub calls : List (Call P O)
       pub few : peers calls ≤ connections
-      pub came : Come waiting left (map caller_of calls)
-      pub begun : All (IsNewIf is_new) (map caller_of calls)
+      pub came : Come waiting left (callers_of calls)
+      pub begun : All is_new (callers_of calls)
       pub there : All IsCallThere calls
       pub through : GoesThroughSteps old new (steps_with calls)
 
@@ -205,7 +196,7 @@ module _ {O : Type 0} (heeded : O → Account) (told : O → Option (List ℕ)) 
     pub record ReadsEach
         {S : Type 0} (shown : S → Shown) (copied : S → S → List ℕ → Result (Unit {0}) CopyRefusal → Type 0)
         (counted : S → S → ℕ → Type 0) (is_new : Caller P O → Type 0)
-        (waiting left : Option (List (Option (Caller P O)))) (old new : S) (since : List ℕ) (connections : ℕ) : Type 0 where
+        (waiting left : Option (List (Caller P O))) (old new : S) (since : List ℕ) (connections : ℕ) : Type 0 where
       pub each : ServesEach is_new waiting left (shown old) (shown new) connections
       pub reads : (shown new).is_honest → (w : World) → (shown old).stands w
           → AllRead shown copied counted w (steps_with each.calls)
@@ -215,6 +206,6 @@ module _ {O : Type 0} (heeded : O → Account) (told : O → Option (List ℕ)) 
     pub record EndsEach
         {S : Type 0} (shown : S → Shown) (copied : S → S → List ℕ → Result (Unit {0}) CopyRefusal → Type 0)
         (counted : S → S → ℕ → Type 0) (is_new : Caller P O → Type 0)
-        (waiting left : Option (List (Option (Caller P O)))) (old new : S) (since : List ℕ) (connections : ℕ) : Type 0 where
+        (waiting left : Option (List (Caller P O))) (old new : S) (since : List ℕ) (connections : ℕ) : Type 0 where
       pub reads : ReadsEach shown copied counted is_new waiting left old new since connections
       pub ends : IsEnd connections reads.each.calls

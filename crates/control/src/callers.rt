@@ -150,12 +150,11 @@ fn obey_since<
 /// A source of peers and operators.
 pub trait Callers<P, O> {
     ghost use Rattle.std.specs.Prelude.{List, Option, IfOk};
-    ghost use Rattle.control.specs.Visits.{Takes};
+    ghost use Rattle.socket.specs.Connections.{Accepts};
     ghost use Rattle.control.specs.declared.callers.Caller.{Caller};
 
-    /// The callers who connect from here on, in their order, if they are known; `None` is a connection that can't be
-    /// taken.
-    ghost waiting: { Self → Option (List (Option (Caller P O))) };
+    /// The callers who connect from here on, in their order, if they are known.
+    ghost waiting: { Self → Option (List (Caller P O)) };
 
     /// What is known of a caller who was just taken.
     ghost is_new: { Caller P O → Type 0 };
@@ -163,7 +162,7 @@ pub trait Callers<P, O> {
     /// Waits for the next connection, however long that takes, and returns its caller. Fails if the connection can't be
     /// taken.
     fn next(&mut self) -> io::Result<Caller<P, O>>
-        ensures takes { Takes (waiting self.old) (waiting self.new) result }
+        ensures takes { Accepts (waiting self.old) (waiting self.new) result }
         ensures fresh { IfOk result (λ caller. is_new caller) };
 }
 

@@ -4,11 +4,10 @@ use Rattle.std.specs.Io.KnownBytes.{Keeps}
 use Rattle.histories.specs.Account.{Account}
 use Rattle.world.specs.Store.{Shown}
 use Rattle.world.specs.declared.registry.StoreFault.{StoreFault}
-use Rattle.engine.specs.Written.{Writes}
 use Rattle.engine.specs.declared.fault.Io.{Io}
 use Rattle.engine.specs.declared.fault.Io.TheVariants as io
 use Rattle.control.specs.Copying.{GoesThroughSteps}
-use Rattle.control.specs.Hearing.{Heard, NoMemory, IsHeard, IsHeardIn, Heeds, Hears, Obeys}
+use Rattle.control.specs.Hearing.{Heard, NoMemory, IsHeard, IsHeardIn, Heeds, Hears, Obeys, TellsLine}
 use Rattle.control.specs.Line.{ReadsLine}
 use Rattle.control.specs.Told.{line_told}
 use Rattle.control.specs.declared.copies.CopyRefusal.{CopyRefusal}
@@ -38,7 +37,7 @@ module _ (copied : List ℕ → Result (Unit {0}) CopyRefusal → Type 0) (pinge
   }
 
   module _ (w w' : Option (List ℕ)) where
-    pub obeys_told : (told : Told) (result : Result (Unit {0}) Io) → Hears copied pinged old new u u' told → Writes w w' (line_told told) result
+    pub obeys_told : (told : Told) (result : Result (Unit {0}) Io) → Hears copied pinged old new u u' told → TellsLine w w' (line_told told) result
         → Obeys copied pinged old new u u' w w' (told_unless told result)
     obeys_told told (Ok done) hears writes = (hears, writes)
     obeys_told told (Err io.Write) hears writes = (told, hears, writes.1)

@@ -11,13 +11,12 @@ use Rattle.world.specs.World.{World}
 use Rattle.world.specs.declared.registry.StoreFault.{StoreFault}
 use Rattle.engine.specs.First.{First, Answers as Message, Closes, ServesHeard}
 use Rattle.engine.specs.Store.{GoesThrough}
-use Rattle.engine.specs.Written.{WritesBeginning}
 use Rattle.engine.specs.declared.fault.Io.{Io}
 use Rattle.engine.specs.declared.fault.Io.TheVariants as io
 use Rattle.socket.specs.Connections.{Come, exchanges_of}
 use Rattle.control.specs.Copying.{Turned, turns_in, has_read, AllRead, GoesOnRead, GoesThroughSteps}
 use Rattle.control.specs.Health.{Answered, AreBelow, tally_of, with_one}
-use Rattle.control.specs.Hearing.{Heard, Carried, Copied, Pinged, Stop, NoOrder, NoMemory, Obeys}
+use Rattle.control.specs.Hearing.{Heard, Carried, Copied, Pinged, Stop, NoOrder, NoMemory, Obeys, WritesSome}
 use Rattle.control.specs.Told.{line_told}
 use Rattle.control.specs.Turns.{Asked, messages, GoesOn}
 use Rattle.control.specs.Visits.{Call, OfPeer, OfOperator, Untaken, answered_with, callers_of, connections_of, steps_if, steps_of}
@@ -91,7 +90,7 @@ module _ {O : Type 0} (heeded : O → Account) (told : O → Option (List ℕ)) 
     there = (
       refl,
       obeys.1.from,
-      subst (λ (o : Told). WritesBeginning (told operator) (told after) (line_told o)) obeys.1.tells obeys.2,
+      subst (λ (o : Told). WritesSome (told operator) (told after) (line_told o)) obeys.1.tells obeys.2,
     );
     stopped = stopped;
     through = obeys.1.through;

@@ -1,5 +1,5 @@
 -- What an operator's line orders, and the outcome that the operator gets.
-use Rattle.std.specs.Prelude.{ℕ, ◌≡◌, ◌≢◌, List, [], ◌∷◌, Option, Result, Ok, Err}
+use Rattle.std.specs.Prelude.{ℕ, ◌≡◌, ◌≢◌, ◌⊎◌, List, [], ◌∷◌, Option, Result, Ok, Err}
 use Rattle.std.specs.Io.KnownBytes.{Appends, Keeps}
 use Rattle.histories.specs.Account.{Account}
 use Rattle.world.specs.Store.{Shown}
@@ -75,6 +75,15 @@ abbrev pub IsHeard : Account → Account → Heard → Type 0
 IsHeard came came_new NoMemory = Unit {0}
 IsHeard came came_new heard = (got : List ℕ) × ReadsLine came came_new got × IsHeardIn got heard
 
+-- a beginning of the line was written, and not all of it, or all
+abbrev pub WritesSome : Option (List ℕ) → Option (List ℕ) → List ℕ → Type 0
+WritesSome written written_new line = WritesBeginning written written_new line ⊎ Appends written written_new line
+
+-- the line was written, or a write or the flush failed, and a beginning of it was written, or all
+abbrev pub TellsLine : Option (List ℕ) → Option (List ℕ) → List ℕ → Result (Unit {0}) Io → Type 0
+TellsLine written written_new line (Ok u) = Appends written written_new line
+TellsLine written written_new line (Err e) = (e ≡ io.Write) × WritesSome written written_new line
+
 module _ (copied : List ℕ → Result (Unit {0}) CopyRefusal → Type 0) (pinged : Result Health StoreFault → Type 0) where
   -- where an operator ordered a copy or asked for the health, this came of it
   abbrev pub CameOf : Heard → Type 0
@@ -106,8 +115,8 @@ module _ (copied : List ℕ → Result (Unit {0}) CopyRefusal → Type 0) (pinge
   HearsOrFails old new came came_new (Ok told) = Hears old new came came_new told
   HearsOrFails old new came came_new (Err e) = (e ≡ io.Read) × GoesThroughSteps old new []
 
-  -- A line was read, what it orders was done, and what came of it was written, or a beginning of that where a write
-  -- failed. Or a read failed, and nothing was done, and nothing written.
+  -- A line was read, what it orders was done, and what came of it was written; where a write or the flush failed, a
+  -- beginning of that or all of it. Or a read failed, and nothing was done, and nothing written.
   abbrev pub Obeys :
       Shown → Shown → Account → Account → Option (List ℕ) → Option (List ℕ) → Result Told Io → Type 0
   Obeys old new came came_new written written_new (Ok told) =
@@ -115,7 +124,7 @@ module _ (copied : List ℕ → Result (Unit {0}) CopyRefusal → Type 0) (pinge
   Obeys old new came came_new written written_new (Err io.Read) =
       GoesThroughSteps old new [] × Keeps written written_new
   Obeys old new came came_new written written_new (Err io.Write) =
-      (told : Told) × Hears old new came came_new told × WritesBeginning written written_new (line_told told)
+      (told : Told) × Hears old new came came_new told × WritesSome written written_new (line_told told)
 
 -- So it was between two stores, by what is known of copies and counts, with the tally of the moment.
 module _ {S : Type 0} (shown : S → Shown) (copied : S → S → List ℕ → Result (Unit {0}) CopyRefusal → Type 0)

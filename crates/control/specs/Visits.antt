@@ -7,14 +7,13 @@ use Rattle.world.specs.Store.{Shown}
 use Rattle.world.specs.World.{World}
 use Rattle.world.specs.declared.registry.StoreFault.{StoreFault}
 use Rattle.engine.specs.First.{First, first_status}
-use Rattle.engine.specs.Written.{WritesBeginning}
 use Rattle.engine.specs.declared.fault.Io.{Io}
 use Rattle.engine.specs.declared.fault.Io.TheVariants as io
 use Rattle.socket.specs.Connections.{Visit, Come, exchanges_of}
 use Rattle.socket.specs.Connections as socket
 use Rattle.control.specs.Copying.{Step, Turned, AllRead, GoesThroughSteps}
 use Rattle.control.specs.Health.{Answered, IsPinged, tally_of}
-use Rattle.control.specs.Hearing.{Heard, Pinged, CameOf, IsHeard, steps_heard, told_heard}
+use Rattle.control.specs.Hearing.{Heard, Pinged, CameOf, IsHeard, WritesSome, steps_heard, told_heard}
 use Rattle.control.specs.Told.{line_told}
 use Rattle.control.specs.Turns.{Asked}
 use Rattle.control.specs.declared.callers.Caller.{Caller}
@@ -143,8 +142,8 @@ pub record AnswersOne {P : Type 0} (heard : P → Account) (written : P → Opti
   pub counts : CountsAs answers.visit.first answered
 
 module _ {O : Type 0} (heeded : O → Account) (told : O → Option (List ℕ)) where
-  -- What was read came from this operator, and what came of it went to this operator: the whole line, or a beginning
-  -- where a write failed. Where a read failed, nothing was written.
+  -- What was read came from this operator, and what came of it went to this operator: the whole line, or where a write
+  -- or the flush failed a beginning of it or all. Where a read failed, nothing was written.
   abbrev pub IsToldThere : O → O → Option Heard → Result Told Io → Type 0
   IsToldThere before after None result = (result ≡ Err io.Read) × Keeps (told before) (told after)
   IsToldThere before after (Some heard) (Ok said) =
@@ -152,7 +151,7 @@ module _ {O : Type 0} (heeded : O → Account) (told : O → Option (List ℕ)) 
       × Appends (told before) (told after) (line_told (told_heard heard))
   IsToldThere before after (Some heard) (Err e) =
       (e ≡ io.Write) × IsHeard (heeded before) (heeded after) heard
-      × WritesBeginning (told before) (told after) (line_told (told_heard heard))
+      × WritesSome (told before) (told after) (line_told (told_heard heard))
 
   -- This operator was obeyed, and the store went through its order. The flag says whether it was told that the server
   -- ends.

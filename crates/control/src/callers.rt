@@ -1,5 +1,5 @@
 //! Callers: peers, who send requests, and operators, who send orders.
-ghost use Rattle.std.specs.Prelude.{◌≡◌, IfOk, IfSome};
+ghost use Rattle.std.specs.Prelude.{◌≡◌, [], IfOk, IfSome};
 ghost use Rattle.histories.specs.Timing.{KeepsTime};
 ghost use Rattle.control.specs.Hearing.{ObeysBy};
 ghost use Rattle.control.specs.Pace.{time_for_order};
@@ -12,8 +12,8 @@ use crate::tally::Tally;
 use crate::told::Told;
 use engine::Io;
 use histories::{
-    BoundRead, BoundWrite, Connection, HasCalls, Hear, Hearing, HearingInTime, Start, Telling,
-    TellingInTime, over_tcp, over_unix,
+    BoundRead, BoundWrite, Connection, HasCalls, Hear, Hearing, HearingInTime, Start, Tell,
+    Telling, TellingInTime, over_tcp, over_unix,
 };
 use mio::unix::SourceFd;
 use mio::{Events, Interest, Poll, Token};
@@ -46,8 +46,9 @@ pub struct Obeyed<O> {
 
 /// An operator who has connected.
 pub trait Operator {
-    ghost use Rattle.std.specs.Prelude.{ℕ, List, Option};
+    ghost use Rattle.std.specs.Prelude.{ℕ, ◌≡◌, List, [], Option, IfOk};
     ghost use Rattle.histories.specs.Account.{Account};
+    ghost use Rattle.histories.specs.Calls.{Writes};
     ghost use Rattle.histories.specs.Timing.{KeepsTime};
     ghost use Rattle.histories.specs.declared.call.Call.{Call};
     ghost use Rattle.control.specs.Hearing.{ObeysBy};
@@ -58,6 +59,9 @@ pub trait Operator {
 
     /// The bytes that were sent to it, if they are known.
     ghost written: { Self → Option (List ℕ) };
+
+    /// The calls to write to it and to flush it so far.
+    ghost writes: { Self → Writes };
 
     /// The calls that bear on how long a read from it waits, the last of them first.
     ghost read_calls: { Self → List Call };
@@ -78,6 +82,8 @@ pub trait Operator {
         Self: Sized,
         ensures obeys { ObeysBy S.shown K.copied K.counted tally.now shelves.old shelves.new
             (came self) (came result.operator) (written self) (written result.operator) result.told }
+        // What was written is flushed.
+        ensures flushed { IfOk result.told (λ _. (writes result.operator).unflushed ≡ []) }
         // No read, and no write, began after its time or waited longer than what was left of it.
         ensures reads_in_time { KeepsTime time_for_order (read_calls self) (read_calls result.operator) }
         ensures writes_in_time { KeepsTime time_for_order (write_calls self) (write_calls result.operator) };
@@ -87,6 +93,8 @@ impl<R: BoundRead + Drop, W: BoundWrite + Drop> Operator for Connection<R, W> {
     ghost came = { λ o. ⟦<Hearing<R> as Hear>⟧.account o.reader };
 
     ghost written = { λ o. ⟦<Telling<W> as Write>⟧.contents o.writer };
+
+    ghost writes = { λ o. ⟦<Telling<W> as Tell>⟧.writes o.writer };
 
     ghost read_calls = { λ o. ⟦<Hearing<R> as HasCalls>⟧.calls o.reader };
 
@@ -129,6 +137,7 @@ fn obey_since<
         (⟦<Hearing<R> as Hear>⟧.account operator.reader) (⟦<Hearing<R> as Hear>⟧.account result.operator.reader)
         (⟦<Telling<W> as Write>⟧.contents operator.writer) (⟦<Telling<W> as Write>⟧.contents result.operator.writer)
         result.told }
+    ensures flushed { IfOk result.told (λ _. (⟦<Telling<W> as Tell>⟧.writes result.operator.writer).unflushed ≡ []) }
     ensures reads_in_time { KeepsTime time_for_order I.calls
         (⟦<Hearing<R> as HasCalls>⟧.calls result.operator.reader) }
     ensures writes_in_time { KeepsTime time_for_order J.calls

@@ -1,6 +1,6 @@
 //! One order.
-ghost use Rattle.std.specs.Prelude.{◌≡◌};
-ghost use Rattle.control.specs.Hearing.{HeedsBy, HearsBy, ObeysBy};
+ghost use Rattle.std.specs.Prelude.{◌≡◌, [], IfOk, OnOk};
+ghost use Rattle.control.specs.Hearing.{HeedsBy, HearsBy, ObeysBy, TellsLine};
 
 use crate::carry::carry_out;
 use crate::copies::Copies;
@@ -17,14 +17,15 @@ use std::alloc::Global;
 use world::registry::StoreFault;
 use world::shelves::Shelves;
 
-/// Reads an operator's line, does what it orders, and writes and returns what came of it; `copies` makes copies.
+/// Reads an operator's line, does what it orders, writes what came of it, flushes that, and returns it; `copies` makes
+/// copies.
 ///
 /// `Outcome::Stopping`: the server is to end. `Told::Health`: the line is a ping, which gets the tally, the failures of
 /// the store and the versions that `copies` counts. `Outcome::Failed(StoreFault::Memory)` also means that memory ran
 /// out for the line, and that nothing was done.
 ///
-/// `Io::Read`: nothing was done, and nothing written. `Io::Write`: a beginning of the line was written, and not all;
-/// the shelves are as after the order.
+/// `Io::Read`: nothing was done, and nothing written. `Io::Write`: a write or the flush failed; a beginning of the line
+/// was written or all of it, and the shelves are as after the order.
 pub fn obey<R: Hear, W: Tell, S: Shelves, K: Copies<S>>(
     alloc: Global,
     reader: &mut R,
@@ -33,15 +34,30 @@ pub fn obey<R: Hear, W: Tell, S: Shelves, K: Copies<S>>(
     shelves: &mut S,
     copies: &mut K,
 ) -> Result<Told, Io>
-    ensures { ObeysBy S.shown K.copied K.counted tally.now shelves.old shelves.new
+    ensures obeys { ObeysBy S.shown K.copied K.counted tally.now shelves.old shelves.new
         (R.account reader.old) (R.account reader.new) (W.contents writer.old) (W.contents writer.new) result }
+    // What was written is flushed.
+    ensures flushed { IfOk result (λ _. (W.writes writer.new).unflushed ≡ []) }
 {
     match hear(alloc, reader, tally, shelves, copies) {
-        Ok(told) => match write_bytes(writer, told.line().as_bytes()) {
+        Ok(told) => match tell_line(writer, told.line().as_bytes()) {
             Ok(()) => Ok(told),
             Err(why) => Err(why),
         },
         Err(why) => Err(why),
+    }
+}
+
+/// Writes a line and flushes it. `Io::Write` if a write or the flush fails: then a beginning of the line was written,
+/// or all of it.
+fn tell_line<W: Tell>(writer: &mut W, line: &[u8]) -> Result<(), Io>
+    ensures tells { TellsLine (W.contents writer.old) (W.contents writer.new) line.now result }
+    ensures flushed { OnOk result ((W.writes writer.new).unflushed ≡ []) }
+{
+    write_bytes(writer, line)?;
+    match writer.settle() {
+        Ok(()) => Ok(()),
+        Err(_) => Err(Io::Write),
     }
 }
 

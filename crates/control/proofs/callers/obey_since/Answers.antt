@@ -3,4 +3,7 @@ use Rattle.control.proofs.callers.obey_since.Goals as goal
 pub returns-clause-obeys : goal.returns-clause-obeys
 returns-clause-obeys g c =
     rw (c.into_inner.ensures.same, c.into_inner-2.ensures.same)
-    (rw (c.new-line.ensures, c.new-outcome.ensures) at c.obey-told.ensures)
+    (rw (c.new-line.ensures, c.new-outcome.ensures) at c.obey-told.ensures.obeys)
+
+pub returns-clause-flushed : goal.returns-clause-flushed
+returns-clause-flushed g c = rw c.into_inner-2.ensures.same c.obey-told.ensures.flushed

@@ -1,5 +1,5 @@
 //! The worked rows of orders: the answer to each line over shelves in memory, what a command sends and how it ends for
-//! each outcome, and an operator and a peer of this process who come at once.
+//! each outcome, an operator and a peer of this process who come at once, and callers in memory.
 #![tactic(auto)]
 
 #[cfg(test)]
@@ -7,4 +7,8 @@ mod both;
 #[cfg(test)]
 mod copier;
 #[cfg(test)]
+mod memory;
+#[cfg(test)]
 mod orders;
+#[cfg(test)]
+mod queue;

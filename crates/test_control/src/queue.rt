@@ -1,0 +1,108 @@
+//! Peers and operators in memory, whose bytes are known.
+use crate::copier::Copier;
+use crate::memory::{InMemory, sending};
+use control::{Caller, Callers, serve_both};
+use modver::read_time;
+use std::collections::LinkedList;
+use std::io::{self, ErrorKind};
+use std::rt::HostRuntime;
+use std::test::Fail;
+use world::map_shelves::MapShelves;
+use world::registry::StoreFault;
+use world::shelves::Shelves;
+
+const PUT: &[u8] =
+    b"PUT /k/alphakey00000001/example.com/lib/@v/v1.0.0 HTTP/1.1\r\nMod-Length: 23\r\nContent-Length: 23\r\n\r\nmodule example.com/lib\n";
+
+const KEY_ADD: &[u8] = b"key-add alpha alphakey00000001\n";
+
+const GET: &[u8] = b"GET /k/alphakey00000001/example.com/lib/@v/v1.0.0.mod HTTP/1.1\r\n\r\n";
+
+const PUBLISHED: &str =
+    "HTTP/1.1 201 Created\r\nContent-Type: text/plain; charset=utf-8\r\nContent-Length: 10\r\nConnection: close\r\n\r\npublished\n";
+
+const NOT_FOUND: &str =
+    "HTTP/1.1 404 Not Found\r\nContent-Type: text/plain; charset=utf-8\r\nContent-Length: 10\r\nConnection: close\r\n\r\nnot found\n";
+
+/// Callers who connect one after another, and then nobody.
+#[derive(Drop)]
+struct Queue<P, O> {
+    callers: LinkedList<Caller<P, O>>,
+}
+
+/// The callers are known.
+impl<P, O> Callers<P, O> for Queue<P, O> {
+    ghost use Rattle.std.specs.Prelude.{Some};
+
+    ghost waiting = { λ q. Some q.callers };
+
+    ghost is_new = { λ _. Unit {0} };
+
+    fn next(&mut self) -> io::Result<Caller<P, O>> {
+        self.callers
+            .pop_front()
+            .ok_or(io::Error::from(ErrorKind::WouldBlock))
+    }
+}
+
+/// Serves up to three connections of a queue, and returns how many callers it still has.
+fn serve<'a, S: Shelves>(
+    rt: &HostRuntime,
+    callers: LinkedList<Caller<InMemory<'a>, InMemory<'a>>>,
+    shelves: &mut S,
+) -> Result<usize, Fail> {
+    let Ok(since) = read_time("2026-11-26T18:40:00Z") else {
+        return Err(Fail::from("no time"));
+    };
+    let mut queue = Queue { callers };
+    serve_both(
+        rt.alloc(),
+        rt,
+        &mut queue,
+        shelves,
+        &mut Copier { versions: 0 },
+        since,
+        3,
+    );
+    Ok(queue.callers.len())
+}
+
+/// Returns shelves of one team, which has no key.
+fn shelves(rt: &HostRuntime) -> Result<MapShelves, StoreFault> {
+    let mut shelves = MapShelves::new(rt.alloc())?;
+    shelves.team_add("alpha", None)?;
+    Ok(shelves)
+}
+
+#[test]
+fn serves_the_callers_of_a_queue_up_to_a_stop(rt: HostRuntime) -> Result<(), Fail> {
+    let mut early = Vec::new(rt.alloc());
+    let mut added = Vec::new(rt.alloc());
+    let mut late = Vec::new(rt.alloc());
+    let mut stopped = Vec::new(rt.alloc());
+    let mut never = Vec::new(rt.alloc());
+    let mut callers = LinkedList::new(rt.alloc());
+    callers.push_back(Caller::Peer(sending(GET, &mut early)))?;
+    callers.push_back(Caller::Operator(sending(KEY_ADD, &mut added)))?;
+    callers.push_back(Caller::Peer(sending(PUT, &mut late)))?;
+    callers.push_back(Caller::Operator(sending(b"stop\n", &mut stopped)))?;
+    callers.push_back(Caller::Peer(sending(GET, &mut never)))?;
+    let left = serve(&rt, callers, &mut shelves(&rt)?)?;
+    assert!(rt; left == 1, "the last peer was not taken");
+    assert!(rt; early.as_slice() == NOT_FOUND.as_bytes());
+    assert!(rt; added.as_slice() == b"done\n".as_slice());
+    assert!(rt; late.as_slice() == PUBLISHED.as_bytes());
+    assert!(rt; stopped.as_slice() == b"stopping\n".as_slice());
+    assert!(rt; never.is_empty());
+    Ok(())
+}
+
+#[test]
+fn a_caller_who_cannot_be_taken_counts(rt: HostRuntime) -> Result<(), Fail> {
+    let mut added = Vec::new(rt.alloc());
+    let mut callers = LinkedList::new(rt.alloc());
+    callers.push_back(Caller::Operator(sending(KEY_ADD, &mut added)))?;
+    assert!(rt; serve(&rt, callers, &mut shelves(&rt)?)? == 0);
+    assert!(rt; added.as_slice() == b"done\n".as_slice());
+    Ok(())
+}

@@ -18,7 +18,7 @@ from lib.suite import Suite
 
 SUITE = Suite()
 COMMANDS = sorted(glob.glob("deploy/**/goshelf-*", root_dir=ROOT, recursive=True))
-SCRIPTS = ["tools/adopt", "tools/publish", "tools/release", "tools/shards", "tests/all", *COMMANDS]
+SCRIPTS = ["tools/adopt", "tools/catalog", "tools/publish", "tools/release", "tools/shards", "tests/all", *COMMANDS]
 # folders with files in Python
 FOLDERS = ("tests", "tools", "bench", "deploy")
 LONGEST_LINE = 120

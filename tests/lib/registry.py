@@ -36,6 +36,8 @@ def listed(name, needs="", is_long=False):
 SUITES = (
     listed("adopt", "go"),
     listed("behind_nginx", "nginx openssl go git curl"),
+    listed("catalog", "go tidy", is_long=True),
+    listed("catalog_misuse"),
     listed("commands"),
     listed("control"),
     listed("control_kills", is_long=True),

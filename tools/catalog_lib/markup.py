@@ -1,0 +1,138 @@
+"""HTML whose every value is escaped, and the frame that all pages share."""
+import html as escapes
+import re
+from collections import namedtuple
+from functools import lru_cache
+
+SPECIAL = re.compile("[&<>\"']")
+# where a page stands, and what its header says
+Place = namedtuple("Place", "root shelf findings")
+
+
+class Html(str):
+    """A text that is HTML already. Any other value is escaped where it is put in."""
+
+
+def escaped(value):
+    """A value as HTML: an Html as it is, a list or tuple as its values one after another, any other as its text."""
+    if type(value) is Html:
+        return value
+    if type(value) in (list, tuple):
+        return "".join([escaped(it) for it in value])
+    text = str(value)
+    return escapes.escape(text) if SPECIAL.search(text) else text
+
+
+def html(template, *values):
+    """The template with the values in the places of its `{}`."""
+    return Html(template.format(*[it if type(it) is Html else escaped(it) for it in values]))
+
+
+FRAME = """<!DOCTYPE html>
+<html lang="en">
+<head>
+<meta charset="utf-8">
+<meta name="viewport" content="width=device-width, initial-scale=1">
+<meta name="color-scheme" content="light dark">
+<title>{}</title>
+<link rel="icon" href="{}parts/icon.svg" type="image/svg+xml">
+<link rel="stylesheet" href="{}parts/catalog.css">
+<script src="{}parts/catalog.js" defer></script>
+</head>
+<body>
+<a class="skip" href="#main">Skip to the content</a>
+<header>
+<nav aria-label="Catalog">
+<a class="brand" href="{}">{}</a>
+<ul>
+<li><a href="{}"{}>Modules</a></li>
+<li><a href="{}health/"{}>Health{}</a></li>
+</ul>
+</nav>
+</header>
+<main id="main" tabindex="-1">
+{}
+</main>
+<footer>
+<p>What the shelf <b>{}</b> sees. Dates are UTC.</p>
+</footer>
+</body>
+</html>
+"""
+HERE = Html(' aria-current="page"')
+
+
+def page(place, title, main, here=""):
+    """A whole page. `here` is `modules` or `health` if the page is the one of that name in its header."""
+    root, top = place.root, place.root or "./"
+    on_modules, on_health = (HERE if here == it else "" for it in ("modules", "health"))
+    found = html(' <span class="count">{}</span><span class="unseen"> findings</span>', place.findings)
+    links = top, place.shelf, top, on_modules, root, on_health, found if place.findings else ""
+    return html(FRAME, title, root, root, root, *links, main, place.shelf).encode()
+
+
+def module_folder(path):
+    """The folder of a module's page. No two paths have the same, and none has an element `index.html`."""
+    return "/".join("!index.html" if it == "index.html" else it for it in path.split("/"))
+
+
+def link(place, path):
+    """A link to the page of a module that the shelf sees."""
+    return html('<a href="{}m/{}/">{}</a>', place.root, module_folder(path), broken(path))
+
+
+def broken(path):
+    """A path that may be broken behind each slash."""
+    return Html(escaped(path).replace("/", "/<wbr>"))
+
+
+def gomod_link(place, path, version):
+    """A link to a go.mod, which goshelf serves on the same host."""
+    words = html('go.mod<span class="unseen"> of {}</span>', version)
+    return html('<a href="{}{}/@v/{}.mod">{}</a>', place.root, cased(path), cased(version), words)
+
+
+def cased(text):
+    """A path or a version as URLs of goshelf have it: with `!` and the small letter for each capital."""
+    return "".join(f"!{it.lower()}" if it.isupper() else it for it in text).replace("!", "%21")
+
+
+def date(time):
+    if time is None:
+        return Html('<span class="quiet">no time</span>')
+    return html('<time datetime="{}">{}</time>', time, time[:10])
+
+
+def size(count):
+    """A number of bytes, as people read it."""
+    units = ((1 << 20, "MiB"), (1 << 10, "KiB"))
+    told = next((f"{count / unit:.1f} {name}" for unit, name in units if count >= unit), f"{count} B")
+    return html('<span title="{} bytes">{}</span>', f"{count:,}", told)
+
+
+@lru_cache(maxsize=1_024)
+def chip(word, text=None):
+    """A short word about a row. Its class is the word."""
+    return html('<span class="chip {}">{}</span>', word, text or word)
+
+
+TABLE = """<div class="wide" role="region" aria-labelledby="{}" tabindex="0">
+<table>
+<thead><tr>{}</tr></thead>
+<tbody>
+{}</tbody>
+</table>
+</div>
+"""
+NUMBER = Html(' class="number"')
+
+
+def table(name, heads, rows):
+    """A table that may be wider than a phone. `name` is the id of its heading; a `#` marks the head of numbers."""
+    head = [html('<th scope="col"{}>{}</th>', NUMBER if it.startswith("#") else "", it.lstrip("#")) for it in heads]
+    return html(TABLE, name, head, rows)
+
+
+def count(number, one, many=None):
+    """`1 module`, `2 modules`."""
+    return f"{number:,} {one if number == 1 else many or one + 's'}"

@@ -1,0 +1,188 @@
+"""What the pages say of a shelf: its modules, who requires whom, and what needs attention."""
+import re
+from array import array
+from dataclasses import dataclass, field
+from datetime import timedelta
+
+from catalog_lib.lines import Refused, kind, line_of, precedence, read
+
+PATH_LINE = re.compile(r'\s*"([^"\\]*)"\s+"[^"\\]*"\s*;\s*(?:#.*)?')
+IGNORED = re.compile(r"\s*(?:#.*)?")
+# how far back `changed` looks
+RECENT = timedelta(days=30)
+
+
+@dataclass(slots=True)
+class Module:
+    """A module of the shelf. `versions` has each version, the lowest first, with whether it is retracted."""
+
+    path: str
+    place: int
+    length: int = 0
+    versions: dict = field(default_factory=dict)
+    latest: str = None
+    time: str = None
+    shelf: str = None
+    requires: list = field(default_factory=list)
+
+    def add(self, line, length):
+        self.length += length
+        self.versions[line.version] = line.is_retracted
+        if line.is_latest:
+            self.latest, self.time, self.shelf, self.requires = line.version, line.time, line.shelf, line.requires
+
+    def is_behind(self, version):
+        """Whether a version is below the latest."""
+        return self.latest is not None and precedence(version) < precedence(self.latest)
+
+    def kinds(self):
+        return {kind(it) for it in self.versions}
+
+
+@dataclass(slots=True)
+class User:
+    """A module that requires a version of another. `version` is its highest that does, and `others` counts the rest."""
+
+    module: Module
+    version: str
+    required: str
+    others: int
+
+
+class Shelf:
+    """What a shelf sees. The lines stay in a file; of each module it keeps what other pages need."""
+
+    def __init__(self, file, name, today, ours):
+        self.file, self.name, self.today, self.ours = file, name, today, ours
+        self.modules, self.recent = {}, {}
+        self.users, self.words, self.numbers = {}, [], {}
+        self.version_count = self.retracted_count = 0
+
+    def fill(self, source):
+        """Reads the lines. `source` names them in a refusal."""
+        module, needs = None, {}
+        for place, length, line in read(self.file, source):
+            if module is None or line.path != module.path:
+                self.keep(module, needs)
+                module, needs = Module(line.path, place), {}
+            if line.is_latest and (module.latest or line.is_retracted):
+                raise Refused(f"{source}: {line.path} {line.version} cannot be the latest version")
+            module.add(line, length)
+            self.count(line)
+            # (a go.mod may require the same twice)
+            for required in dict.fromkeys(line.requires):
+                needs.setdefault(required, []).append(len(module.versions) - 1)
+        self.keep(module, needs)
+
+    def count(self, line):
+        self.version_count += 1
+        self.retracted_count += line.is_retracted
+        first = (self.today - RECENT).isoformat()
+        if line.time and first <= line.time[:10] <= self.today.isoformat():
+            self.recent.setdefault(line.path, []).append((line.time, line.version))
+
+    def keep(self, module, needs):
+        """Keeps a module, and what its versions require: of each, the highest version that does, and how many do."""
+        if module is None:
+            return
+        number = len(self.modules)
+        self.modules[module.path] = module
+        for (path, required), rows in needs.items():
+            entry = number, rows[-1], self.number(required), len(rows) - 1
+            self.users.setdefault(path, array("I")).extend(entry)
+
+    def number(self, version):
+        """A small number for the text of a version."""
+        if version not in self.numbers:
+            self.numbers[version] = len(self.words)
+            self.words.append(version)
+        return self.numbers[version]
+
+    def lines(self, module):
+        """The Lines of a module, the lowest version first."""
+        self.file.seek(module.place)
+        return [line_of(it) for it in self.file.read(module.length).split(b"\n") if it]
+
+    def users_of(self, path):
+        """The users of a module by their paths, and of each the highest version first."""
+        numbers = self.users.get(path, array("I"))
+        rows = (numbers[at : at + 4] for at in range(0, len(numbers), 4))
+        order = sorted(rows, key=lambda it: (it[0], -it[1], it[2]))
+        return [self.user(*it) for it in order]
+
+    def user(self, number, row, required, others):
+        module, versions = self.in_order[number]
+        return User(module, versions[row], self.words[required], others)
+
+    def index(self):
+        """Makes ready to look modules and their versions up by their numbers."""
+        self.in_order = [(it, tuple(it.versions)) for it in self.modules.values()]
+
+    def is_ours(self, path):
+        """Whether a module is the company's: the shelf sees some version of it, or a line of the map has it."""
+        elements = path.lower().split("/")
+        return path in self.modules or any("/".join(elements[:it]) in self.ours for it in range(1, len(elements) + 1))
+
+    def state(self, path, version):
+        """What is to be said of a required version: `missing`, `retracted`, `behind` or nothing."""
+        module = self.modules.get(path)
+        if module is None or version not in module.versions:
+            return "missing" if self.is_ours(path) else ""
+        if module.versions[version]:
+            return "retracted"
+        return "behind" if module.is_behind(version) else ""
+
+    def requiring(self, state):
+        """Each module whose latest version requires one of a state, with what it requires."""
+        return [
+            (module, path, version)
+            for module in self.modules.values()
+            for path, version in module.requires
+            if self.state(path, version) == state
+        ]
+
+    def without_release(self):
+        """The modules that have no release."""
+        return [it for it in self.modules.values() if "release" not in it.kinds()]
+
+    def without_latest(self):
+        """The modules all of whose versions are retracted."""
+        return [it for it in self.modules.values() if it.latest is None]
+
+    def changed(self):
+        """The modules with a version of the last days, the latest first, each with those versions, the latest first."""
+        found = [(self.modules[path], sorted(rows, reverse=True)) for path, rows in self.recent.items()]
+        return sorted(sorted(found, key=lambda it: it[0].path), key=lambda it: it[1][0][0], reverse=True)
+
+
+def differing(file, above, word, source):
+    """Each path and version that a shelf above in the chain has with another go.mod, size of the zip or time.
+
+    `word` is what `Shelf` calls that shelf. Refuses lines of another shelf: they lack a version that is seen there."""
+    file.seek(0)
+    found, upper = [], read(above, source)
+    other = next(upper, None)
+    for _, _, line in read(file, "the lines"):
+        now = line.path, precedence(line.version)
+        while other and (other[2].path, precedence(other[2].version)) < now:
+            other = next(upper, None)
+        is_there = other is not None and (other[2].path, other[2].version) == (line.path, line.version)
+        is_same = is_there and other[2].content() == line.content()
+        if line.shelf == word and not (is_same and other[2].shelf == "own"):
+            raise Refused(f"{source}: not of the shelf `{word}` of these lines, which has {line.path} {line.version}")
+        if is_there and not is_same:
+            found.append((line.path, line.version))
+    return found
+
+
+def paths_of(name):
+    """The paths of nginx's paths.map, in small letters."""
+    try:
+        with open(name, encoding="utf-8") as file:
+            lines = [(number, it) for number, it in enumerate(file.read().split("\n"), 1) if not IGNORED.fullmatch(it)]
+    except (OSError, UnicodeDecodeError) as error:
+        raise Refused(f"{name}: {error}") from None
+    found = [(number, PATH_LINE.fullmatch(it)) for number, it in lines]
+    if wrong := [number for number, it in found if not it]:
+        raise Refused(f'{name}:{wrong[0]}: not of the form "PATH" "SHELF ..";')
+    return {it[1].lower() for _, it in found}

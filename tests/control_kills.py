@@ -59,10 +59,20 @@ class Acknowledged:
         return wrong, None if told == wanted else f"{keys} are answered {told}"
 
 
+def sums_of(stores):
+    """How many publishes, keys and revoked keys were acknowledged."""
+    return [sum(map(len, them)) for them in zip(*((it.published, it.kept, it.gone) for it in stores))]
+
+
 def killed(suite):
-    """Kills with orders among the publishes: what was acknowledged is there, and of the rest all or nothing."""
+    """Kills with orders among the publishes: what was acknowledged is there, and of the rest all or nothing.
+
+    A busy machine acknowledges little in the time, so they go on until there is some of each, up to ten times as many.
+    """
     count, stores, said = count_of(sys.argv[1:], SHORT, LONG), [], None
-    for turn in range(count):
+    for turn in range(10 * count):
+        if turn >= count and all(sums_of(stores)):
+            break
         if not stores or said or stores[-1].next_number > MOST:
             stores.append(Acknowledged(f"kills{len(stores)}.db"))
         server = Server(stores[-1].store, CONTROL)
@@ -77,10 +87,10 @@ def killed(suite):
         for what, wrong in zip(("publishes", "keys"), stores[-1].wrong()):
             suite.counts(f"kill {turn}: {what}", wrong)
             said = said or wrong
-    sums = [sum(len(them) for them in of) for of in zip(*((it.published, it.kept, it.gone) for it in stores))]
+    sums = sums_of(stores)
     suite.holds("some publishes, keys and revoked keys were acknowledged", all(sums))
     print(
-        f"{count} kills over {len(stores)} stores: {sums[0]} publishes, {sums[1]} keys and {sums[2]} revoked keys"
+        f"{turn} kills over {len(stores)} stores: {sums[0]} publishes, {sums[1]} keys and {sums[2]} revoked keys"
         " acknowledged"
     )
 

@@ -4,6 +4,7 @@
 import fcntl
 import hashlib
 import os
+import subprocess
 import sys
 
 from lib import catalog_lines
@@ -79,6 +80,30 @@ def wrong_lines():
     """Each line that is refused, and what is said of it."""
     fields = [(line_of(**{name: it}), f"{name} is not of its form") for name, values in WRONG.items() for it in values]
     return [*LINES, *fields]
+
+
+# words of tests/lib/catalog_lines.py, its status, and what is said
+PRINTS = """
+store.db | 2 | usage:
+store.db alpha beta | 2 | usage:
+store.db --help | 2 | usage:
+nosuch.db alpha | 1 | unable to open
+mine alpha | 1 | catalog_lines: mine: 
+alpha.lines alpha | 1 | not a database
+store.db nosuch | 1 | no shelf has the name
+store.db Alpha | 1 | no shelf has the name
+"""
+
+
+def unprinted(suite):
+    """A store or a shelf that is not there is refused in a sentence, and no line is printed."""
+    program, before = os.path.join(ROOT, "tests/lib/catalog_lines.py"), sorted(os.listdir("."))
+    for row in PRINTS.split("\n")[1:-1]:
+        words, status, said = row.split(" | ")
+        told = subprocess.run([sys.executable, program, *words.split()], capture_output=True, text=True)
+        is_right = (told.returncode, told.stdout) == (int(status), "") and said in told.stderr
+        suite.holds(f"catalog_lines {words}: refused", is_right and "Traceback" not in told.stderr, told)
+    suite.equal("no file is made", sorted(os.listdir(".")), before)
 
 
 def misused(suite):
@@ -185,7 +210,7 @@ def played(suite):
     os.mkdir("mine")
     make("gamma")
     suite.equal("the pages", make("alpha", *COMMON), "4 pages, 4 new or changed\n")
-    for part in (misused, left_alone, killed, odd):
+    for part in (unprinted, misused, left_alone, killed, odd):
         part(suite)
 
 

@@ -116,7 +116,7 @@ def chain(store, shelf):
     """The names of the shelves that a shelf sees, the shelf itself first, each with what `Shelf` calls it."""
     found = store.execute("SELECT parent FROM shelf WHERE name = ?", (shelf,)).fetchone()
     if found is None:
-        raise SystemExit(f"no shelf has the name {shelf}")
+        raise LookupError(f"no shelf has the name {shelf}")
     (parent,) = found
     above = [] if shelf == "common" else [("common", "common")]
     group = [(parent, "group")] if parent not in (None, "common") else []
@@ -187,7 +187,11 @@ def main(words):
     if len(words) != 2 or any(it.startswith("-") for it in words):
         print(__doc__.strip(), file=sys.stderr)
         return 2
-    sys.stdout.write(lines(*words))
+    try:
+        sys.stdout.write(lines(*words))
+    except (sqlite3.Error, LookupError) as error:
+        print(f"catalog_lines: {words[0]}: {error}", file=sys.stderr)
+        return 1
     return 0
 
 

@@ -5,6 +5,7 @@ A team gets a store of its own. Their commands and the scripts of deploy/ run as
 a machine in a folder (lib/machine.py).
 """
 
+import hashlib
 import http.server
 import os
 import re
@@ -15,7 +16,21 @@ import threading
 
 from lib.machine import Machine
 from lib.older import SCHEMA_1, SCHEMA_2
-from lib.operating import ALPHA, BETA, PUBLISHED, SECRET, answers_of, copies, prepared, publish, runs
+from lib.operating import (
+    ALPHA,
+    BETA,
+    COMMON,
+    GROUP,
+    MEMBER,
+    PUBLISHED,
+    READER,
+    SECRET,
+    answers_of,
+    copies,
+    prepared,
+    publish,
+    runs,
+)
 from lib.pages import OPERATORS, block, read_page
 from lib.program import run
 from lib.scratch import play, read
@@ -182,7 +197,7 @@ def backups(suite, machine):
 
 
 def queries(suite, machine):
-    """What sqlite3 prints of a copy."""
+    """What sqlite3 and goshelf print of a copy."""
     copy = f"{machine.folder}/root/copy/shelves.db"
     for first, words in (
         (
@@ -197,17 +212,6 @@ def queries(suite, machine):
                 ["beta", "1", "23", "10"],
             ],
         ),
-        (
-            "substr(token, 1, 4)",
-            [
-                ["alpha", "publish", "alph"],
-                ["alpha", "read", "alph"],
-                ["beta", "publish", "beta"],
-                ["common", "publish", "comm"],
-                ["gamma", "publish", "gamm"],
-            ],
-        ),
-        ("AS in_group", [["platform", "gamma"]]),
     ):
         printed = machine.does(block("sh", first).replace("COPY", copy))
         rows = [
@@ -218,6 +222,12 @@ def queries(suite, machine):
             all(row[: len(want)] == want for row, want in zip(rows[1:], words)) and len(rows) > len(words),
             printed,
         )
+    publishers = {"alpha": ALPHA, "beta": BETA, "common": COMMON, "gamma": MEMBER, "platform": GROUP}
+    keys_of = [*((shelf, "publish", key) for shelf, key in publishers.items()), ("alpha", "read", READER)]
+    wanted = sorted(f"{shelf} {right} {hashlib.sha256(key.encode()).hexdigest()[:16]}" for shelf, right, key in keys_of)
+    wanted += ["alpha team", "beta team", "common common", "gamma team platform", "omega team", "platform group"]
+    printed = machine.does(block("sh", "goshelf key-list").replace("COPY", copy))
+    suite.equal("who has keys, and which shelves there are", printed.splitlines(), wanted)
     printed = machine.does(block("sh", "/versions | head"))
     suite.holds("the first backup that has a version", printed.endswith("/2020-01-09T031500Z/versions\n"), printed)
     printed = machine.does(block("sh", "/versions | sort -u"))

@@ -15,7 +15,8 @@ span begins left before after = record { begins = begins; left = left; before = 
 
 module _ {S C : Type 0} (acts : Deeds S) (state_of : C → State) (shown : S → Shown)
     (begins : S → Type 0) (left : S → C) (begins_older : C → Type 0) (left_older : C → C)
-    (came came_new : Account) (written written_new : Option (List ℕ)) (result : Result Bool CommandRefusal) (command : Command) where
+    (came came_new : Account) (written written_new : Option (List ℕ)) (result : Result Bool CommandRefusal)
+    (command : Command) where
   pub afresh : (f f' t t' o o' : List (Done C)) → f ≡ [] → t ≡ [] → o ≡ []
       → Runs acts state_of shown (span begins left f f') (span begins left t t') (span begins_older left_older o o')
       came came_new written written_new result command
@@ -25,10 +26,13 @@ module _ {S C : Type 0} (acts : Deeds S) (state_of : C → State) (shown : S →
     f',
     t',
     o',
-    subst (λ x. Runs acts state_of shown (from_new begins left f') (from_new begins left t') (span begins_older left_older x o')
+    subst (λ x. Runs acts state_of shown (from_new begins left f') (from_new begins left t')
+        (span begins_older left_older x o')
         came came_new written written_new result command) none_older
-        (subst (λ x. Runs acts state_of shown (from_new begins left f') (span begins left x t') (span begins_older left_older o o')
+        (subst (λ x. Runs acts state_of shown (from_new begins left f') (span begins left x t')
+        (span begins_older left_older o o')
         came came_new written written_new result command) none_too
-        (subst (λ x. Runs acts state_of shown (span begins left x f') (span begins left t t') (span begins_older left_older o o')
+        (subst (λ x. Runs acts state_of shown (span begins left x f') (span begins left t t')
+        (span begins_older left_older o o')
         came came_new written written_new result command) none runs)),
   )

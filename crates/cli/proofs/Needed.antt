@@ -1,5 +1,6 @@
 -- What the words have to give so that a command is asked for.
-use Rattle.std.proofs.Common.{◌≡◌, ◌≤◌, ◌+◌, ◌^◌, ◌∙◌, ℕ, List, Option, None, Some, Ok, Err, ap, arith, codes, inl, inr, refl, sym}
+use Rattle.std.proofs.Common.{◌≡◌, ◌≤◌, ◌+◌, ◌^◌, ◌∙◌, ℕ, List, Option, None, Some, Ok, Err, ap, arith, codes, inl, inr}
+use Rattle.std.proofs.Common.{refl, sym}
 use Rattle.std.specs.Prelude.{Result, find, option_and_then, option_map}
 use Rattle.std.specs.Result.{result_ok}
 use Rattle.std.specs.Str.Parse.{IsNumeral, ParsesUnsigned, digits_value, without_leading_plus}
@@ -38,7 +39,8 @@ found o x asks is h = rw is at h
 pub not_found : {T : Type 0} (o : Option T) (asks : T → Type 0) → o ≡ None → Finds o asks → (x : T) → asks x → ⊥
 not_found o asks is h = rw is at h
 
-no_number : {E : Type 0} (k most : ℕ) (t : Text) (x : E) (n : ℕ) (u : Text) → ParsesUnsigned k 10 t (Err x) → 2 ^ k ≡ most + 1 → u ≡ t
+no_number : {E : Type 0} (k most : ℕ) (t : Text) (x : E) (n : ℕ) (u : Text) → ParsesUnsigned k 10 t (Err x)
+    → 2 ^ k ≡ most + 1 → u ≡ t
     → IsNumeral 10 (without_leading_plus u) → n ≡ digits_value 10 (without_leading_plus u) → n ≤ most → ⊥
 no_number k most t x n u failed limit same numeral value small =
     let numeral_here : IsNumeral 10 (without_leading_plus t) = rw same at numeral in
@@ -46,7 +48,8 @@ no_number k most t x n u failed limit same numeral value small =
     failed (numeral_here, omega (arith, limit, value_here))
 
 -- what the typed getter makes of the text of a number
-pub number_read : (rows : List Row) (name : Text) (k most : ℕ) {E : Type 0} (gives : List ℕ → Result ℕ E → Type 0) (r : Result (Option ℕ) E)
+pub number_read : (rows : List Row) (name : Text) (k most : ℕ) {E : Type 0} (gives : List ℕ → Result ℕ E → Type 0)
+    (r : Result (Option ℕ) E)
     → ((t : List ℕ) (x : Result ℕ E) → gives t x → ParsesUnsigned k 10 t x) → 2 ^ k ≡ most + 1
     → (one_of name rows ≡ None → r ≡ Ok None) → ((t : List ℕ) → one_of name rows ≡ Some t → TriesOne gives t r)
     → ReadsNumber rows name most (result_ok r)
@@ -58,7 +61,14 @@ number_read rows name k most {E} gives r parses limit none some = go (one_of nam
     go None e r none some = rw (none e) e
     go (Some t) e (Ok (Some n)) none some =
         let parsed = parses t (Ok n) (some t e) in
-        record { text = t; has = e; numeral = parsed.0.0; value = parsed.1; limit = omega (arith, limit, parsed.0.1, parsed.1) }
+        record {
+          text = t;
+          has = e;
+          numeral = parsed.0.0;
+          value = parsed.1;
+          limit =
+              omega (arith, limit, parsed.0.1, parsed.1);
+        }
     go (Some t) e (Ok None) none some = absurd (some t e)
     go (Some t) e (Err x) none some =
         let failed = parses t (Err x) (some t e) in (
@@ -82,7 +92,8 @@ no_port rows o r none is h = rw is (go (rw none at h))
     go h (Port n) asks = h.1 n asks.0
     go h Input asks = h.0 asks.0
 
-pub no_serve : (rows : List Row) → ((n : ℕ) → AsksConnections rows n → ⊥) → (a : Action) → AsksAction rows (codes "serve") a → ⊥
+pub no_serve : (rows : List Row) → ((n : ℕ) → AsksConnections rows n → ⊥) → (a : Action)
+    → AsksAction rows (codes "serve") a → ⊥
 no_serve rows none action.Open asks = asks
 no_serve rows none (action.Register order) asks = asks
 no_serve rows none action.Answer asks = asks
@@ -95,7 +106,8 @@ no_serve rows none action.ShelfList asks = cc
 no_serve rows none (action.Serve entrance connections control) asks = none connections asks.2
 
 -- a word asks for no command that is none of these, and asks for no order and no action of one form
-pub no_command : (rows : List Row) (word : Text) → (word ≡ codes "init" → ⊥) → (word ≡ codes "answer" → ⊥) → (word ≡ codes "extract" → ⊥)
+pub no_command : (rows : List Row) (word : Text) → (word ≡ codes "init" → ⊥) → (word ≡ codes "answer" → ⊥)
+    → (word ≡ codes "extract" → ⊥)
     → (word ≡ codes "migrate" → ⊥) → (word ≡ codes "copy" → ⊥) → (word ≡ codes "ping" → ⊥) → (word ≡ codes "stop" → ⊥)
     → ((o : Order) → AsksOrder rows word o → ⊥) → ((a : Action) → AsksAction rows word a → ⊥)
     → (asked : Command) → AsksCommand rows word asked → ⊥
@@ -111,7 +123,8 @@ no_command rows word init answer extract migrate copy ping stop order acts = go
     on_store db (action.Requires version) asks = acts (action.Requires version) asks.1
     on_store db action.KeyList asks = acts action.KeyList asks.1
     on_store db action.ShelfList asks = acts action.ShelfList asks.1
-    on_store db (action.Serve entrance connections control) asks = acts (action.Serve entrance connections control) asks.1
+    on_store db (action.Serve entrance connections control) asks =
+        acts (action.Serve entrance connections control) asks.1
 
     go : (asked : Command) → AsksCommand rows word asked → ⊥
     go (command.Init db) asks = init asks.0

@@ -5,7 +5,8 @@ use Rattle.clap.specs.Kinds.{FailsBy, IsAmong}
 use Rattle.clap.specs.Words.{Text, kind_of, subcommand_rows_of}
 use Rattle.clap.specs.declared.error.Error.{Error}
 use Rattle.clap.specs.declared.error.kind.ErrorKind.{ErrorKind}
-use Rattle.clap.specs.declared.error.kind.ErrorKind.TheVariants.{ArgumentConflict, DisplayHelp, DisplayVersion, OutOfMemory}
+use Rattle.clap.specs.declared.error.kind.ErrorKind.TheVariants.{ArgumentConflict, DisplayHelp, DisplayVersion}
+use Rattle.clap.specs.declared.error.kind.ErrorKind.TheVariants.{OutOfMemory}
 use Rattle.clap.specs.declared.parser.matches.ArgMatches.{ArgMatches}
 use Rattle.runner.specs.declared.Command.{Command}
 use Rattle.words.specs.Table.{faults, given}
@@ -32,7 +33,8 @@ none_shown words k (inl is) none = rw is none
 none_shown words k (inr is) none = rw is tt
 
 -- what the matches ask for, the words ask for
-pub asked_for : (words : List Text) (result : Result ArgMatches Error) (matches : ArgMatches) (asked : Command) → result ≡ Ok matches
+pub asked_for : (words : List Text) (result : Result ArgMatches Error) (matches : ArgMatches) (asked : Command)
+    → result ≡ Ok matches
     → FailsBy (faults words) result → IfOk result (λ m. subcommand_rows_of m ≡ given words)
     → GivenAsks (subcommand_rows_of matches) asked → Asks words asked
 asked_for words result matches asked is fails reads asks =
@@ -40,8 +42,10 @@ asked_for words result matches asked is fails reads asks =
     (rw is at fails, subst (λ g. GivenAsks g asked) same asks)
 
 -- and nothing else
-pub none_asked : (words : List Text) (result : Result ArgMatches Error) (matches : ArgMatches) (found : Option Command) → result ≡ Ok matches
-    → found ≡ None → IfOk result (λ m. subcommand_rows_of m ≡ given words) → Finds found (GivenAsks (subcommand_rows_of matches))
+pub none_asked : (words : List Text) (result : Result ArgMatches Error) (matches : ArgMatches) (found : Option Command)
+    → result ≡ Ok matches
+    → found ≡ None → IfOk result (λ m. subcommand_rows_of m ≡ given words)
+    → Finds found (GivenAsks (subcommand_rows_of matches))
     → (asked : Command) → Asks words asked → ⊥
 none_asked words result matches found is not reads finds asked asks =
     let same : subcommand_rows_of matches ≡ given words = rw is at reads in

@@ -1,5 +1,6 @@
 -- A command with `--control`, and the `serve` that gets its line.
-use Rattle.std.proofs.Common.{◌≡◌, ℕ, List, [], ◌∷◌, ◌++◌, Bool, true, false, Some, Result, Ok, Err, refl, ◌∙◌, sym, ap, subst, inl, inr, true≢false}
+use Rattle.std.proofs.Common.{◌≡◌, ℕ, List, [], ◌∷◌, ◌++◌, Bool, true, false, Some, Result, Ok, Err, refl, ◌∙◌, sym, ap}
+use Rattle.std.proofs.Common.{subst, inl, inr, true≢false}
 use Rattle.std.specs.Prelude.{bytes_eq, codes}
 use Rattle.std.proofs.lemmas.List.Folds.{list_all-append}
 use Rattle.world.specs.Store.{Shown}
@@ -13,7 +14,8 @@ use Rattle.shelf.specs.declared.reply.Reply.{Reply}
 use Rattle.shelf.specs.declared.reply.Reply.TheVariants.{Registry}
 use Rattle.control.specs.Asking.{Asks}
 use Rattle.control.specs.Copying.{GoesThroughSteps}
-use Rattle.control.specs.Hearing.{Heard, Carried, Copied, Pinged, Stop, NoOrder, NoMemory, IsHeardIn, steps_heard, told_heard}
+use Rattle.control.specs.Hearing.{Heard, Carried, Copied, Pinged, Stop, NoOrder, NoMemory, IsHeardIn, steps_heard}
+use Rattle.control.specs.Hearing.{told_heard}
 use Rattle.control.specs.Line.{IsSent, IsCopyTo, copy_words}
 use Rattle.control.specs.Order.{Orders, said_in, event_of, outcome_in}
 use Rattle.control.specs.Outcome.{outcome_of}
@@ -39,8 +41,10 @@ no_word : (word : List ℕ) → is_word word ≡ true → (order : Order) → ¬
 no_word word passes order sent =
     let said = said_in order in
     let line = one_line (word ++ line_end ∷ []) word sent.line refl sent.ends in
-    let words : is_word (said.verb ++ space ∷ (said.first ++ behind said.second)) ≡ true = ap is_word (sym sent.says.is ∙ line) ∙ passes in
-    false_after (is_word said.verb) (sym (list_all-append is_word_byte said.verb (space ∷ (said.first ++ behind said.second))) ∙ words)
+    let words : is_word (said.verb ++ space ∷ (said.first ++ behind said.second)) ≡ true =
+    ap is_word (sym sent.says.is ∙ line) ∙ passes in
+    false_after (is_word said.verb)
+    (sym (list_all-append is_word_byte said.verb (space ∷ (said.first ++ behind said.second))) ∙ words)
 
 -- ---- nor one that orders a copy
 
@@ -58,14 +62,16 @@ no_copy : (sent path : List ℕ) (order : Order) → IsSent sent order → ¬ Is
 no_copy sent path order orders copies =
     let line = one_line sent orders.line copies.line orders.ends.is copies.ends in
     no_copy_words path order
-    (one_saying orders.line (copy_words path) (said_in order) (subst (λ l. IsTextOf l (copy_words path)) line copies.says) orders.says)
+    (one_saying orders.line (copy_words path) (said_in order)
+    (subst (λ l. IsTextOf l (copy_words path)) line copies.says) orders.says)
 
 -- ---- one order
 
 -- the bytes order one event
 same_event : (got : List ℕ) (one two : Order) → IsSent got one → IsSent got two → event_of one ≡ event_of two
 same_event got one two first second =
-    one_event first.line one two first.says (subst (λ l. Orders l two) (one_line got first.line second.line first.ends.is second.ends) second.says)
+    one_event first.line one two first.says
+    (subst (λ l. Orders l two) (one_line got first.line second.line first.ends.is second.ends) second.says)
 
 abbrev registered_in : Reply → Registered
 registered_in (Registry r) = r
@@ -81,36 +87,48 @@ abbrev outcome_in_told : Told → Outcome
 outcome_in_told (spoken.Outcome outcome) = outcome
 outcome_in_told (spoken.Health line) = outcome.Bad
 
-module _ (old new : Shown) (sent : List ℕ) (order asked : Order) (result : Result (Unit {0}) CommandRefusal) (w : World) where
-  carried : new.is_honest → old.stands w → IsWorld w → ComeToTheSame asked order → IsSent sent asked → (other : Order) → IsSent sent other
-      → (told : Result Registered StoreFault) → result ≡ told_ending asked (Ok (outcome_of told))
-      → GoesThroughSteps old new (steps_heard (Carried other told)) → EndsAt new w order result
-  carried honest stands is same asks other heard (Ok r) ends through =
-      let run = through.runs.at honest w stands in
-      let event = same_event sent asked other asks heard in
-      let outcome = ap registered_in (run.run.0 ∙ ap (reply_to w) (sym event)) ∙ replied w asked ∙ (same w is).0 in
-      inl (ends ∙ ap (λ r. told_ending asked (Ok (outcome_of (Ok r)))) outcome, subst new.stands (ap (after w) (sym event) ∙ (same w is).1) run.ends)
-  carried honest stands is same asks other heard (Err fault) ends through = inr (fault, ends, (through.runs.at honest w stands).ends)
+module _ (old new : Shown) (sent : List ℕ) (order asked : Order) (result : Result (Unit {0}) CommandRefusal) (w : World)
+  where
+    carried : new.is_honest → old.stands w → IsWorld w → ComeToTheSame asked order → IsSent sent asked → (other : Order)
+        → IsSent sent other
+        → (told : Result Registered StoreFault) → result ≡ told_ending asked (Ok (outcome_of told))
+        → GoesThroughSteps old new (steps_heard (Carried other told)) → EndsAt new w order result
+    carried honest stands is same asks other heard (Ok r) ends through =
+        let run = through.runs.at honest w stands in
+        let event = same_event sent asked other asks heard in
+        let outcome = ap registered_in (run.run.0 ∙ ap (reply_to w) (sym event)) ∙ replied w asked ∙ (same w is).0 in
+        inl (
+          ends ∙ ap (λ r. told_ending asked (Ok (outcome_of (Ok r)))) outcome,
+          subst new.stands (ap (after w) (sym event) ∙ (same w is).1) run.ends,
+        )
+    carried honest stands is same asks other heard (Err fault) ends through =
+        inr (fault, ends, (through.runs.at honest w stands).ends)
 
-  heard_so : new.is_honest → old.stands w → IsWorld w → ComeToTheSame asked order → IsSent sent asked → (heard : Heard) → IsHeardIn sent heard
-      → (outcome : Outcome) → spoken.Outcome outcome ≡ told_heard heard → result ≡ told_ending asked (Ok outcome)
-      → GoesThroughSteps old new (steps_heard heard)
-      → EndsAt new w order result
-  heard_so honest stands is same asks (Carried other told) from outcome tells ends through =
-      carried honest stands is same asks other from told (ends ∙ ap (λ o. told_ending asked (Ok o)) (ap outcome_in_told tells)) through
-  heard_so honest stands is same asks (Copied path told) from outcome tells ends through = absurd (no_copy sent path asked asks from)
-  heard_so honest stands is same asks (Pinged told) from outcome tells ends through =
-      absurd (no_word (codes "ping") refl asked (subst (λ got. IsSent got asked) from asks))
-  heard_so honest stands is same asks Stop from outcome tells ends through =
-      absurd (no_word (codes "stop") refl asked (subst (λ got. IsSent got asked) from asks))
-  heard_so honest stands is same asks NoOrder from outcome tells ends through = absurd (from.0 asked asks)
-  heard_so honest stands is same asks NoMemory from outcome tells ends through = absurd from
+    heard_so : new.is_honest → old.stands w → IsWorld w → ComeToTheSame asked order → IsSent sent asked → (heard : Heard)
+        → IsHeardIn sent heard
+        → (outcome : Outcome) → spoken.Outcome outcome ≡ told_heard heard → result ≡ told_ending asked (Ok outcome)
+        → GoesThroughSteps old new (steps_heard heard)
+        → EndsAt new w order result
+    heard_so honest stands is same asks (Carried other told) from outcome tells ends through =
+        carried honest stands is same asks other from told
+        (ends ∙ ap (λ o. told_ending asked (Ok o)) (ap outcome_in_told tells)) through
+    heard_so honest stands is same asks (Copied path told) from outcome tells ends through =
+        absurd (no_copy sent path asked asks from)
+    heard_so honest stands is same asks (Pinged told) from outcome tells ends through =
+        absurd (no_word (codes "ping") refl asked (subst (λ got. IsSent got asked) from asks))
+    heard_so honest stands is same asks Stop from outcome tells ends through =
+        absurd (no_word (codes "stop") refl asked (subst (λ got. IsSent got asked) from asks))
+    heard_so honest stands is same asks NoOrder from outcome tells ends through = absurd (from.0 asked asks)
+    heard_so honest stands is same asks NoMemory from outcome tells ends through = absurd from
 
-pub ends_as_on_the_store : (copied : List ℕ → Result (Unit {0}) CopyRefusal → Type 0) (pinged : Result Health StoreFault → Type 0) (old new : Shown)
+pub ends_as_on_the_store : (copied : List ℕ → Result (Unit {0}) CopyRefusal → Type 0)
+    (pinged : Result Health StoreFault → Type 0) (old new : Shown)
     → ((w : World) → old.stands w → IsWorld w) → EndsAsOnTheStore copied pinged old new
 ends_as_on_the_store copied pinged old new sound order result w two honest stands =
     let asked = two.command.asked in
-    let asks = subst (λ told. Asks two.unread two.unread_new (Some []) (Some two.sent) asked told) two.heard two.command.asks in
+    let asks = subst (λ told. Asks two.unread two.unread_new (Some []) (Some two.sent) asked told) two.heard
+    two.command.asks in
     let sends : IsSent two.sent asked = subst (λ got. IsSent got asked) (sym asks.2) asks.1 in
-    heard_so old new two.sent order asked result w honest stands (sound w stands) two.command.same sends two.server.heard two.server.from
+    heard_so old new two.sent order asked result w honest stands (sound w stands) two.command.same sends
+    two.server.heard two.server.from
     two.told two.server.tells (two.command.ends ∙ ap (told_ending asked) two.heard) two.server.through

@@ -1,5 +1,6 @@
 -- An import row by row.
-use Rattle.std.proofs.Common.{◌≡◌, ◌≤◌, ◌+◌, ℕ, List, [], ◌∷◌, ◌++◌, ◌&&◌, Bool, true, false, Option, Some, None, Ok, Err, Result, length, refl, sym, ap, subst, ◌∙◌, inl, inr, arith, append_assoc}
+use Rattle.std.proofs.Common.{◌≡◌, ◌≤◌, ◌+◌, ℕ, List, [], ◌∷◌, ◌++◌, ◌&&◌, Bool, true, false, Option, Some, None, Ok}
+use Rattle.std.proofs.Common.{Err, Result, length, refl, sym, ap, subst, ◌∙◌, inl, inr, arith, append_assoc}
 use Rattle.std.proofs.lemmas.List.{append-nil, map-append}
 use Rattle.std.proofs.KnownBytes.{Appends-trans}
 use Rattle.std.specs.Io.KnownBytes.{Appends}
@@ -36,21 +37,26 @@ use Rattle.commands.specs.declared.sources.SourceFault.TheVariants as source
 
 -- ---- lists of done rows
 
-pub events_more : (done_rows : List DoneRow) (t : DoneRow) → spec.events (done_rows ++ t ∷ []) ≡ spec.events done_rows ++ spec.events (t ∷ [])
+pub events_more : (done_rows : List DoneRow) (t : DoneRow)
+    → spec.events (done_rows ++ t ∷ []) ≡ spec.events done_rows ++ spec.events (t ∷ [])
 events_more [] t = refl
-events_more (u ∷ done_rows) t = ap (λ es. spec.events_of u.done ++ es) (events_more done_rows t) ∙ sym (append_assoc (spec.events_of u.done) (spec.events done_rows) (spec.events (t ∷ [])))
+events_more (u ∷ done_rows) t = ap (λ es. spec.events_of u.done ++ es) (events_more done_rows t)
+    ∙ sym (append_assoc (spec.events_of u.done) (spec.events done_rows) (spec.events (t ∷ [])))
 
-pub answers_more : (done_rows : List DoneRow) (t : DoneRow) → spec.answers (done_rows ++ t ∷ []) ≡ spec.answers done_rows ++ spec.answers (t ∷ [])
+pub answers_more : (done_rows : List DoneRow) (t : DoneRow)
+    → spec.answers (done_rows ++ t ∷ []) ≡ spec.answers done_rows ++ spec.answers (t ∷ [])
 answers_more [] t = refl
 answers_more (u ∷ done_rows) t =
-    ap (λ es. spec.answers_of u.done ++ es) (answers_more done_rows t) ∙ sym (append_assoc (spec.answers_of u.done) (spec.answers done_rows) (spec.answers (t ∷ [])))
+    ap (λ es. spec.answers_of u.done ++ es) (answers_more done_rows t)
+    ∙ sym (append_assoc (spec.answers_of u.done) (spec.answers done_rows) (spec.answers (t ∷ [])))
 
 -- ---- one row
 
 module _ (old new : Shown) (ask : Ask) where
   -- an ask that the machine answered, or that met a fault, is a run of one event
   pub published : (told : Result Reply StoreFault) (answer : Fixed)
-      → Does old new told (λ w. ask_reply w ask) (λ w. after_ask w ask) → answer ≡ answer_of told → Publishes old new ask answer
+      → Does old new told (λ w. ask_reply w ask) (λ w. after_ask w ask) → answer ≡ answer_of told
+      → Publishes old new ask answer
   published (Ok reply) answer does is = record {
     told = Replied reply;
     runs = record {
@@ -83,10 +89,17 @@ module _ (files : List ℕ → Option (Option (List ℕ))) (key : List ℕ) wher
   }
 
   -- a row that was not asked of the machine leaves the store as it was
-  pub row_without_file : (old : Shown) (l : Line) → IsBodyOf files l (Err source.NoFile) → DoesRow old old files key l outcome.NoFile
+  pub row_without_file : (old : Shown) (l : Line) → IsBodyOf files l (Err source.NoFile)
+      → DoesRow old old files key l outcome.NoFile
   row_without_file old l none = record {
     done = HasNoFile;
-    through = record { done = (none, tt); runs = runs_begun old; no_fewer = omega arith; device = λ never. absurd never };
+    through = record {
+      done = (none, tt);
+      runs = runs_begun old;
+      no_fewer = omega arith;
+      device = λ never.
+          absurd never;
+    };
     is = refl;
   }
 
@@ -108,7 +121,8 @@ module _ (files : List ℕ → Option (Option (List ℕ))) (key : List ℕ) wher
 
   -- ---- one more row
 
-  done_more : (done_rows : List DoneRow) (t : DoneRow) → spec.AreDone files key done_rows → spec.IsDone files key t.line t.done → spec.AreDone files key (done_rows ++ t ∷ [])
+  done_more : (done_rows : List DoneRow) (t : DoneRow) → spec.AreDone files key done_rows
+      → spec.IsDone files key t.line t.done → spec.AreDone files key (done_rows ++ t ∷ [])
   done_more [] t done last = (last, tt)
   done_more (u ∷ done_rows) t done last = (done.0, done_more done_rows t done.1 last)
 
@@ -119,10 +133,12 @@ module _ (files : List ℕ → Option (Option (List ℕ))) (key : List ℕ) wher
     done = done_more done_rows t far.done next.done.0;
     runs = subst (λ es. Runs a c es (spec.answers (done_rows ++ t ∷ []))) (sym (events_more done_rows t))
         (subst (λ told. Runs a c (spec.events done_rows ++ spec.events (t ∷ [])) told) (sym (answers_more done_rows t))
-        (runs_joined a b c (spec.events done_rows) (spec.events (t ∷ [])) (spec.answers done_rows) (spec.answers (t ∷ [])) far.runs next.runs));
+        (runs_joined a b c (spec.events done_rows) (spec.events (t ∷ [])) (spec.answers done_rows)
+        (spec.answers (t ∷ [])) far.runs next.runs));
     no_fewer = omega (arith, far.no_fewer, next.no_fewer);
     device = λ met.
-        elim (met_either (spec.answers done_rows) (spec.answers (t ∷ [])) (subst MetDevice (answers_more done_rows t) met)) [
+        elim (met_either (spec.answers done_rows) (spec.answers (t ∷ []))
+        (subst MetDevice (answers_more done_rows t) met)) [
           | inl x ↦ grown_more a.failures b.failures c.failures (far.device x) next.no_fewer
           | inr x ↦ grown_before a.failures b.failures c.failures far.no_fewer (next.device x)
         ];
@@ -145,7 +161,8 @@ module _ (files : List ℕ → Option (Option (List ℕ))) (key : List ℕ) wher
   module _ (old new : Shown) (list w0 w1 w2 : Option (List ℕ)) (done_rows : List DoneRow) where
     -- an import that did these rows and printed the line that ends it does as `Imports` says
     pub closed : (n : ℕ) (why : Closing) (accepted : Bool) (result : Result Ending Io) → spec.AreFirst list done_rows
-        → GoesThrough old new files key done_rows → spec.IsOver list done_rows n why → accepted ≡ list_all spec.is_accepted done_rows → Appends w0 w1 (spec.lines_from 1 done_rows)
+        → GoesThrough old new files key done_rows → spec.IsOver list done_rows n why
+        → accepted ≡ list_all spec.is_accepted done_rows → Appends w0 w1 (spec.lines_from 1 done_rows)
         → spec.Closes n why accepted w1 w2 result → Imports old new files key list w0 w2 result
     closed n why accepted (Ok e) front far over all printed closes = record {
       done_rows = done_rows;
@@ -162,13 +179,24 @@ module _ (files : List ℕ → Option (Option (List ℕ))) (key : List ℕ) wher
 
     -- an import whose output broke off in the line of a row does as `Imports` says
     pub broken_off : (mid : Shown) (n : ℕ) (t : DoneRow) (e : Io) → spec.AreFirst list (done_rows ++ t ∷ [])
-        → GoesThrough old mid files key done_rows → GoesThrough mid new files key (t ∷ []) → Appends w0 w1 (spec.lines_from 1 done_rows) → n ≡ length done_rows + 1 → e ≡ io.Write
+        → GoesThrough old mid files key done_rows → GoesThrough mid new files key (t ∷ [])
+        → Appends w0 w1 (spec.lines_from 1 done_rows) → n ≡ length done_rows + 1 → e ≡ io.Write
         → PrintsFront w1 w2 (spec.line_of n t) → Imports old new files key list w0 w2 (Err e)
     broken_off mid n t e first far next printed count is front = record {
       done_rows = done_rows ++ t ∷ [];
       first = first;
       through = through_more old mid new done_rows t far next;
-      ends = (is, inl (done_rows, t, front.0, refl, subst (λ k. IsFront front.0 (spec.line_of k t)) count front.1, Appends-trans w0 w1 w2 _ _ printed front.2));
+      ends = (
+        is,
+        inl (
+          done_rows,
+          t,
+          front.0,
+          refl,
+          subst (λ k. IsFront front.0 (spec.line_of k t)) count front.1,
+          Appends-trans w0 w1 w2 _ _ printed front.2,
+        ),
+      );
     }
 
 -- ---- the rows so far
@@ -178,30 +206,37 @@ appends_none None = tt
 appends_none (Some xs) = sym (append-nil xs)
 
 -- the rows that a reader has read are the first of its list
-begun : (list : Option (List ℕ)) (rows : List (List (List ℕ))) (state : State) (source : Option (List ℕ)) → IsAt list rows state source
+begun : (list : Option (List ℕ)) (rows : List (List (List ℕ))) (state : State) (source : Option (List ℕ))
+    → IsAt list rows state source
     → spec.Begins list rows
 begun None rows state source at = tt
 begun (Some text) rows state source (rest, is, reached) = (state, rest, reached, tt)
 
 module _ {R : Type 0} (remaining : R → Option (List ℕ)) (list : Option (List ℕ)) where
-  pub are_first : (done_rows : List DoneRow) (reader : Reader R) → HasRead remaining list (spec.rows_of done_rows) reader → spec.AreFirst list done_rows
+  pub are_first : (done_rows : List DoneRow) (reader : Reader R)
+      → HasRead remaining list (spec.rows_of done_rows) reader → spec.AreFirst list done_rows
   are_first [] reader read = tt
   are_first (t ∷ ts) reader read = begun list _ _ _ read.at
 
 -- the rows with one more at the end
-pub rows_more : (done_rows : List DoneRow) (t : DoneRow) → spec.rows_of done_rows ++ fields_of_line t.line ∷ [] ≡ spec.rows_of (done_rows ++ t ∷ [])
-rows_more done_rows t = ap (λ l. header ∷ l) (sym (map-append (λ (u : DoneRow). fields_of_line u.line) done_rows (t ∷ [])))
+pub rows_more : (done_rows : List DoneRow) (t : DoneRow)
+    → spec.rows_of done_rows ++ fields_of_line t.line ∷ [] ≡ spec.rows_of (done_rows ++ t ∷ [])
+rows_more done_rows t = ap (λ l. header ∷ l)
+    (sym (map-append (λ (u : DoneRow). fields_of_line u.line) done_rows (t ∷ [])))
 
-lines_after : (n : ℕ) (done_rows : List DoneRow) (t : DoneRow) → spec.lines_from n (done_rows ++ t ∷ []) ≡ spec.lines_from n done_rows ++ spec.line_of (n + length done_rows) t
+lines_after : (n : ℕ) (done_rows : List DoneRow) (t : DoneRow)
+    → spec.lines_from n (done_rows ++ t ∷ []) ≡ spec.lines_from n done_rows ++ spec.line_of (n + length done_rows) t
 lines_after n [] t = append-nil (spec.line_of n t) ∙ ap (λ k. spec.line_of k t) (omega arith)
 lines_after n (u ∷ done_rows) t =
     let same : n + 1 + length done_rows ≡ n + length (u ∷ done_rows) = omega arith in
     ap (λ l. spec.line_of n u ++ l) (lines_after (n + 1) done_rows t)
-    ∙ sym (append_assoc (spec.line_of n u) (spec.lines_from (n + 1) done_rows) (spec.line_of (n + 1 + length done_rows) t))
+    ∙ sym (append_assoc (spec.line_of n u) (spec.lines_from (n + 1) done_rows)
+    (spec.line_of (n + 1 + length done_rows) t))
     ∙ ap (λ k. (spec.line_of n u ++ spec.lines_from (n + 1) done_rows) ++ spec.line_of k t) same
 
 -- printing the line of one more row prints the lines of all
-pub lines_more : (a b c : Option (List ℕ)) (n : ℕ) (done_rows : List DoneRow) (t : DoneRow) → n ≡ length done_rows + 1 → Appends a b (spec.lines_from 1 done_rows)
+pub lines_more : (a b c : Option (List ℕ)) (n : ℕ) (done_rows : List DoneRow) (t : DoneRow) → n ≡ length done_rows + 1
+    → Appends a b (spec.lines_from 1 done_rows)
     → Appends b c (spec.line_of n t) → Appends a c (spec.lines_from 1 (done_rows ++ t ∷ []))
 lines_more a b c n done_rows t count printed more =
     let same : n ≡ 1 + length done_rows = omega (arith, count) in
@@ -217,10 +252,12 @@ and_assoc true b c = refl
 and_assoc false b c = refl
 
 -- all rows with one more are accepted if the first ones and the last are
-pub all_more : (done_rows : List DoneRow) (t : DoneRow) → list_all spec.is_accepted (done_rows ++ t ∷ []) ≡ list_all spec.is_accepted done_rows && spec.is_accepted t
+pub all_more : (done_rows : List DoneRow) (t : DoneRow)
+    → list_all spec.is_accepted (done_rows ++ t ∷ []) ≡ list_all spec.is_accepted done_rows && spec.is_accepted t
 all_more [] t = and_true (spec.is_accepted t)
 all_more (u ∷ done_rows) t =
-    ap (λ b. spec.is_accepted u && b) (all_more done_rows t) ∙ and_assoc (spec.is_accepted u) (list_all spec.is_accepted done_rows) (spec.is_accepted t)
+    ap (λ b. spec.is_accepted u && b) (all_more done_rows t)
+    ∙ and_assoc (spec.is_accepted u) (list_all spec.is_accepted done_rows) (spec.is_accepted t)
 
 -- ---- why an import fails
 

@@ -10,13 +10,16 @@ use Rattle.commands.specs.Inventory.{fields, line, lines_of, row_at, rows_of_pat
 
 module _ {A B C : Type 0} where
   -- flattening twice is flattening once, piece by piece
-  flat_map_twice : (g : B → List C) (f : A → List B) (xs : List A) → flat_map g (flat_map f xs) ≡ flat_map (λ x. flat_map g (f x)) xs
+  flat_map_twice : (g : B → List C) (f : A → List B) (xs : List A)
+      → flat_map g (flat_map f xs) ≡ flat_map (λ x. flat_map g (f x)) xs
   flat_map_twice g f [] = refl
-  flat_map_twice g f (x ∷ xs) = flat_map-append g (f x) (flat_map f xs) ∙ ap (λ l. flat_map g (f x) ++ l) (flat_map_twice g f xs)
+  flat_map_twice g f (x ∷ xs) = flat_map-append g (f x) (flat_map f xs)
+      ∙ ap (λ l. flat_map g (f x) ++ l) (flat_map_twice g f xs)
 
 module _ (w : World) (s : List ℕ) where
   -- those of a path, version by version
-  pub path_lines : (p : List ℕ) → flat_map (λ v. lines_of (row_at w s p v)) (versions_of w s p) ≡ lines_of (rows_of_path w s p)
+  pub path_lines : (p : List ℕ)
+      → flat_map (λ v. lines_of (row_at w s p v)) (versions_of w s p) ≡ lines_of (rows_of_path w s p)
   path_lines p = sym (flat_map_twice (λ r. line (fields r)) (row_at w s p) (versions_of w s p))
 
   -- those of a shelf, path by path

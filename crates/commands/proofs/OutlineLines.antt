@@ -17,9 +17,11 @@ same_row p v None = refl
 same_row p v (Some seen) = refl
 
 -- once the outline of a version was read
-module _ (old new : Shown) (s p : List ℕ) (v : SemanticVersion) (found : Option Outline) (read : Reads old new (Ok found) (λ w. outline w s p (version_text v))) (before after : List ℕ) where
+module _ (old new : Shown) (s p : List ℕ) (v : SemanticVersion) (found : Option Outline)
+    (read : Reads old new (Ok found) (λ w. outline w s p (version_text v))) (before after : List ℕ) where
   -- adding the lines of the outline adds those of the version
-  adds_lines : (o : Option Outline) → found ≡ o → after ≡ before ++ lines_of (outlined p v o) → Adds old new before after (Ok tt) (λ w. lines_of (row_at w s p v))
+  adds_lines : (o : Option Outline) → found ≡ o → after ≡ before ++ lines_of (outlined p v o)
+      → Adds old new before after (Ok tt) (λ w. lines_of (row_at w s p v))
   adds_lines o is says = record {
     honest = read.honest;
     at = λ honest w stands.
@@ -41,4 +43,5 @@ module _ (old new : Shown) (s p : List ℕ) (v : SemanticVersion) (found : Optio
   pub adds_one : (it : Outline) (row : InventoryRow) → found ≡ Some it → row ∷ [] ≡ outlined p v (Some it)
       → after ≡ before ++ line (fields row) → Adds old new before after (Ok tt) (λ w. lines_of (row_at w s p v))
   adds_one it row is rows says =
-      adds_lines (Some it) is (says ∙ (ap (λ l. before ++ l) (sym (append-nil (line (fields row)))) ∙ ap (λ rs. before ++ lines_of rs) rows))
+      adds_lines (Some it) is (says
+      ∙ (ap (λ l. before ++ l) (sym (append-nil (line (fields row)))) ∙ ap (λ rs. before ++ lines_of rs) rows))

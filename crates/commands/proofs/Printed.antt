@@ -25,7 +25,8 @@ prints_after a b c first last (Err e) wrote then =
     )
 
 -- a beginning of the first of two texts is a beginning of both
-pub front_of_both : (a b : Option (List ℕ)) (first last : List ℕ) → WritesBeginning a b first → PrintsFront a b (first ++ last)
+pub front_of_both : (a b : Option (List ℕ)) (first last : List ℕ) → WritesBeginning a b first
+    → PrintsFront a b (first ++ last)
 front_of_both a b first last (front, (rest, some, cut), did) =
     (front, (rest ++ last, ap (λ l. l ++ last) cut ∙ append_assoc front rest last), did)
 

@@ -1,5 +1,6 @@
 -- A list that was imported whole changes nothing when it is imported again.
-use Rattle.std.proofs.Common.{◌≡◌, ◌⊎◌, ◌++◌, ◌&&◌, ◌∙◌, ℕ, List, [], ◌∷◌, Bool, true, false, Option, Some, None, Ok, Err, refl, sym, ap, subst, inl, inr, map}
+use Rattle.std.proofs.Common.{◌≡◌, ◌⊎◌, ◌++◌, ◌&&◌, ◌∙◌, ℕ, List, [], ◌∷◌, Bool, true, false, Option, Some, None, Ok}
+use Rattle.std.proofs.Common.{Err, refl, sym, ap, subst, inl, inr, map}
 use Rattle.std.specs.Prelude.{is_some, if◌then◌else◌}
 use Rattle.std.specs.List.{list_all}
 use Rattle.std.proofs.lemmas.Bool.{and_parts}
@@ -35,7 +36,8 @@ use Rattle.world.specs.Forms.{path_of}
 use Rattle.world.specs.World.{World, gomod_limit, zip_limit}
 use Rattle.world.specs.declared.registry.StoreFault.TheVariants.{Memory}
 use Rattle.commands.specs.Import as spec
-use Rattle.commands.specs.Import.{AreDone, Done, IsDone, DoneRow, Answers, HasNoFile, Unfetched, answers, answers_of, events, events_of, outcome_of}
+use Rattle.commands.specs.Import.{AreDone, Done, IsDone, DoneRow, Answers, HasNoFile, Unfetched, answers, answers_of}
+use Rattle.commands.specs.Import.{events, events_of, outcome_of}
 use Rattle.commands.specs.ImportFiles.{IsBodyOf, IsReadable}
 use Rattle.commands.specs.ImportLine.{accepts_outcome}
 use Rattle.commands.specs.ImportList.{Line, Meets, fields_of_line}
@@ -64,21 +66,27 @@ AreFront (r ∷ rs) [] = ⊥
 AreFront (r ∷ rs) (q ∷ qs) = (r ≡ q) × AreFront rs qs
 
 -- the rows that were read from a text are the first of all its rows
-front_of_all : (cfg : Config) (s s1 s2 : State) (xs y1 y2 : List ℕ) (rs qs : List (List (List ℕ))) → Reached cfg s xs rs s1 y1 → Reached cfg s xs qs s2 y2
+front_of_all : (cfg : Config) (s s1 s2 : State) (xs y1 y2 : List ℕ) (rs qs : List (List (List ℕ)))
+    → Reached cfg s xs rs s1 y1 → Reached cfg s xs qs s2 y2
     → next_record cfg s2 [] [] y2 ≡ None → AreFront rs qs
 unfolding Reached
 front_of_all cfg s s1 s2 xs y1 y2 [] qs some all end = tt
 front_of_all cfg s s1 s2 xs y1 y2 (r ∷ rs) [] some all end =
     let more : next_record cfg s2 [] [] y2 ≡ Some some.0 =
-    subst (λ y. next_record cfg s2 [] [] y ≡ Some some.0) all.1 (subst (λ x. next_record cfg x [] [] xs ≡ Some some.0) all.0 some.1) in
+    subst (λ y. next_record cfg s2 [] [] y ≡ Some some.0) all.1
+    (subst (λ x. next_record cfg x [] [] xs ≡ Some some.0) all.0 some.1) in
     absurd (no_read some.0 (sym more ∙ end))
 front_of_all cfg s s1 s2 xs y1 y2 (r ∷ rs) (q ∷ qs) some all end =
     let same : some.0 ≡ all.0 = ap (read_or some.0) (sym some.1 ∙ all.1) in
-    let there : Reached cfg all.0.1 all.0.2 rs s1 y1 = subst (λ (p : Read). Reached cfg p.1 p.2 rs s1 y1) same some.3 in
-    (some.2 ∙ ap (λ (p : Read). p.0) same ∙ sym all.2, front_of_all cfg all.0.1 s1 s2 all.0.2 y1 y2 rs qs there all.3 end)
+    let there : Reached cfg all.0.1 all.0.2 rs s1 y1 = subst (λ (p : Read). Reached cfg p.1 p.2 rs s1 y1) same some.3 in (
+      some.2 ∙ ap (λ (p : Read). p.0) same
+          ∙ sym all.2,
+      front_of_all cfg all.0.1 s1 s2 all.0.2 y1 y2 rs qs there all.3 end,
+    )
 
 abbrev line_in : List (List ℕ) → Line
-line_in (path ∷ version ∷ time ∷ gomod ∷ zip ∷ []) = record { path = path; version = version; time = time; gomod = gomod; zip = zip }
+line_in (path ∷ version ∷ time ∷ gomod ∷ zip ∷ []) =
+    record { path = path; version = version; time = time; gomod = gomod; zip = zip }
 line_in fields = record { path = []; version = []; time = []; gomod = []; zip = [] }
 
 -- the rows of the first import are the first rows of the second
@@ -87,15 +95,19 @@ AreFirstOf [] us = Unit {0}
 AreFirstOf (t ∷ ts) [] = ⊥
 AreFirstOf (t ∷ ts) (u ∷ us) = (t.line ≡ u.line) × AreFirstOf ts us
 
-first_of : (ts us : List DoneRow) → AreFront (map (λ (t : DoneRow). fields_of_line t.line) ts) (map (λ (t : DoneRow). fields_of_line t.line) us) → AreFirstOf ts us
+first_of : (ts us : List DoneRow)
+    → AreFront (map (λ (t : DoneRow). fields_of_line t.line) ts) (map (λ (t : DoneRow). fields_of_line t.line) us)
+    → AreFirstOf ts us
 first_of [] us front = tt
 first_of (t ∷ ts) [] front = absurd front
 first_of (t ∷ ts) (u ∷ us) front = (ap line_in front.0, first_of ts us front.1)
 
-again_first : (text : List ℕ) (ts us : List DoneRow) → spec.AreFirst (Some text) ts → Meets (Some text) (spec.rows_of us) (λ next. next ≡ None) → AreFirstOf ts us
+again_first : (text : List ℕ) (ts us : List DoneRow) → spec.AreFirst (Some text) ts
+    → Meets (Some text) (spec.rows_of us) (λ next. next ≡ None) → AreFirstOf ts us
 again_first text [] us first whole = tt
 again_first text (t ∷ ts) us (s1, y1, some, _) (s2, y2, all, end) =
-    let front = front_of_all default_config st.StartRecord s1 s2 (strip_bom text) y1 y2 (spec.rows_of (t ∷ ts)) (spec.rows_of us) some all end in
+    let front = front_of_all default_config st.StartRecord s1 s2 (strip_bom text) y1 y2 (spec.rows_of (t ∷ ts))
+    (spec.rows_of us) some all end in
     first_of (t ∷ ts) us front.1
 
 -- ---- a row that was accepted
@@ -121,7 +133,8 @@ decided decision.Conflict is = absurd (cc is)
 decided decision.Full is = absurd (cc is)
 
 -- a reply that is answered 200 or 201 is a decision that accepts the publish
-accepted : (r : Reply) → accepts (fixed_status (answer_of (Ok r))) ≡ true → (d : Decision) × (r ≡ reply.Decided d) × IsAccepted d
+accepted : (r : Reply) → accepts (fixed_status (answer_of (Ok r))) ≡ true
+    → (d : Decision) × (r ≡ reply.Decided d) × IsAccepted d
 accepted (reply.Decided d) is = (d, refl, decided d is)
 accepted reply.NotFound is = absurd (cc is)
 accepted (reply.GoMod b) is = absurd (cc is)
@@ -135,10 +148,13 @@ no_decision : (d : Decision) → reply.Decided d ≡ reply.NotFound → ⊥
 no_decision d e = cc e
 
 -- an ask that got a decision is a publish, and with each key it is that publish
-asked_put : (key : List ℕ) (path : Option (List ℕ)) (version : Option SemanticVersion) (time : GivenTime) (body : Body) (w : World) (d : Decision)
+asked_put : (key : List ℕ) (path : Option (List ℕ)) (version : Option SemanticVersion) (time : GivenTime) (body : Body)
+    (w : World) (d : Decision)
     → reply.Decided d ≡ ask_reply w (asked_at key path version time body)
-    → (p : Publish) × ((k : List ℕ) → asked_at k path version time body ≡ Put k p) × (is_some path && is_some version ≡ true)
-asked_put key (Some path) (Some version) time body w d is = (record { path = path; version = version; body = Some body; time = time }, λ k. refl, refl)
+    → (p : Publish) × ((k : List ℕ) → asked_at k path version time body ≡ Put k p)
+    × (is_some path && is_some version ≡ true)
+asked_put key (Some path) (Some version) time body w d is =
+    (record { path = path; version = version; body = Some body; time = time }, λ k. refl, refl)
 asked_put key (Some path) None time body w d is = absurd (no_decision d is)
 asked_put key None (Some version) time body w d is = absurd (no_decision d is)
 asked_put key None None time body w d is = absurd (no_decision d is)
@@ -168,7 +184,8 @@ module _ (files : List ℕ → Option (Option (List ℕ))) where
     accepts : IsAcceptance told
 
   -- a row that was accepted is a publish that the machine accepted
-  row_accepted : (key : List ℕ) (w new : World) (l : Line) (d : Done) (es : List Event) (told : List Answer) → IsDone files key l d
+  row_accepted : (key : List ℕ) (w new : World) (l : Line) (d : Done) (es : List Event) (told : List Answer)
+      → IsDone files key l d
       → accepts_outcome (outcome_of d) ≡ true → Run w (events_of d ++ es) (answers_of d ++ told) new → Accepted key l d
   row_accepted key w new l (Answers ask (Replied r)) es told (body, had, is) accepts run =
       let (d, decides, accepting) = accepted r accepts in
@@ -193,12 +210,14 @@ module _ (files : List ℕ → Option (Option (List ℕ))) where
     are : events done_rows ≡ puts key publishes
     accepts : AllAccepted (answers done_rows)
 
-  run_after : (w new : World) (e : Event) (a : Answer) (es : List Event) (told : List Answer) → Run w (e ∷ es) (a ∷ told) new → (v : World) × Run v es told new
+  run_after : (w new : World) (e : Event) (a : Answer) (es : List Event) (told : List Answer)
+      → Run w (e ∷ es) (a ∷ told) new → (v : World) × Run v es told new
   run_after w new e (Replied r) es told run = (after w e, run.1)
   run_after w new e (Failed fault) es told run = (w, run)
 
   -- rows that were all accepted are publishes that the machine accepted
-  all_in : (key : List ℕ) (w new : World) (done_rows : List DoneRow) → AreDone files key done_rows → list_all spec.is_accepted done_rows ≡ true
+  all_in : (key : List ℕ) (w new : World) (done_rows : List DoneRow) → AreDone files key done_rows
+      → list_all spec.is_accepted done_rows ≡ true
       → Run w (events done_rows) (answers done_rows) new → TookAll key done_rows
   all_in key w new [] done all run = record { publishes = []; asks = tt; are = refl; accepts = tt }
   all_in key w new (t ∷ ts) done all run =
@@ -218,12 +237,14 @@ module _ (files : List ℕ → Option (Option (List ℕ))) where
 
   -- ---- the rows again
 
-  read_once : (most : ℕ) (known : Option (Option (List ℕ))) (xs ys : List ℕ) → (known ≡ None → ⊥) → IsRead most known (Ok xs) → IsRead most known (Ok ys) → xs ≡ ys
+  read_once : (most : ℕ) (known : Option (Option (List ℕ))) (xs ys : List ℕ) → (known ≡ None → ⊥)
+      → IsRead most known (Ok xs) → IsRead most known (Ok ys) → xs ≡ ys
   read_once most None xs ys known a b = absurd (known refl)
   read_once most (Some None) xs ys known a b = absurd a
   read_once most (Some (Some all)) xs ys known a b = a ∙ sym b
 
-  read_or_none : (most : ℕ) (known : Option (Option (List ℕ))) (xs : List ℕ) → (known ≡ None → ⊥) → IsRead most known (Ok xs) → IsRead most known (Err source.NoFile) → ⊥
+  read_or_none : (most : ℕ) (known : Option (Option (List ℕ))) (xs : List ℕ) → (known ≡ None → ⊥)
+      → IsRead most known (Ok xs) → IsRead most known (Err source.NoFile) → ⊥
   read_or_none most None xs known a b = known refl
   read_or_none most (Some None) xs known a b = a
   read_or_none most (Some (Some all)) xs known a b = b
@@ -248,7 +269,8 @@ module _ (files : List ℕ → Option (Option (List ℕ))) where
         ]
 
     -- a row that is done again with another key asks the same publish
-    asked_again : (key : List ℕ) (l : Line) (p : Publish) (ask : Ask) (answer : Answer) → Asks l p → IsDone files key l (Answers ask answer) → ask ≡ Put key p
+    asked_again : (key : List ℕ) (l : Line) (p : Publish) (ask : Ask) (answer : Answer) → Asks l p
+        → IsDone files key l (Answers ask answer) → ask ≡ Put key p
     asked_again key l p ask answer asks (b, had, is) =
         is ∙ ap (spec.ask_of key l) (same_body l b asks.body asks.readable had asks.had) ∙ asks.asks key
 
@@ -265,19 +287,22 @@ module _ (files : List ℕ → Option (Option (List ℕ))) where
     padded (p ∷ ps) (t ∷ ts) = answer_in t.done ∷ padded ps ts
 
     -- a run over a row that is done again is a run over its publish
-    one_again : (key : List ℕ) (w new : World) (l : Line) (d : Done) (p : Publish) (es fs : List Event) (told more : List Answer) → Asks l p → IsDone files key l d
+    one_again : (key : List ℕ) (w new : World) (l : Line) (d : Done) (p : Publish) (es fs : List Event)
+        (told more : List Answer) → Asks l p → IsDone files key l d
         → ((v : World) → Run v es told new → Run v fs more new) → Run w (events_of d ++ es) (answers_of d ++ told) new
         → Run w (Asked (Put key p) ∷ fs) (answer_in d ∷ more) new
     one_again key w new l (Answers ask (Replied r)) p es fs told more asks done go run =
         let same = asked_again key l p ask (Replied r) asks done in
-        let whole : Run w (Asked (Put key p) ∷ es) (Replied r ∷ told) new = subst (λ (a : Ask). Run w (Asked a ∷ es) (Replied r ∷ told) new) same run in
+        let whole : Run w (Asked (Put key p) ∷ es) (Replied r ∷ told) new =
+        subst (λ (a : Ask). Run w (Asked a ∷ es) (Replied r ∷ told) new) same run in
         (whole.0, go (after w (Asked (Put key p))) whole.1)
     one_again key w new l (Answers ask (Failed fault)) p es fs told more asks done go run = go w run
     one_again key w new l HasNoFile p es fs told more asks done go run = absurd (has_files l p asks done)
     one_again key w new l Unfetched p es fs told more asks done go run = go w run
 
     -- a run over rows that are done again is a run over their publishes
-    all_again : (key : List ℕ) (w new : World) (us ts : List DoneRow) (ps : List Publish) → AskEach us ps → AreFirstOf ts us → AreDone files key ts
+    all_again : (key : List ℕ) (w new : World) (us ts : List DoneRow) (ps : List Publish) → AskEach us ps
+        → AreFirstOf ts us → AreDone files key ts
         → Run w (events ts) (answers ts) new → Run w (puts key ps) (padded ps ts) new
     all_again key w new [] [] [] asks first done run = run
     all_again key w new [] [] (p ∷ ps) asks first done run = absurd asks
@@ -285,26 +310,31 @@ module _ (files : List ℕ → Option (Option (List ℕ))) where
     all_again key w new (u ∷ us) ts [] asks first done run = absurd asks
     all_again key w new (u ∷ us) [] (p ∷ ps) asks first done run = all_again key w new us [] ps asks.1 tt tt run
     all_again key w new (u ∷ us) (t ∷ ts) (p ∷ ps) asks first done run =
-        one_again key w new t.line t.done p (events ts) (puts key ps) (answers ts) (padded ps ts) (subst (λ l. Asks l p) (sym first.0) asks.0) done.0
+        one_again key w new t.line t.done p (events ts) (puts key ps) (answers ts) (padded ps ts)
+        (subst (λ l. Asks l p) (sym first.0) asks.0) done.0
         (λ v so. all_again key v new us ts ps asks.1 first.1 done.1 so) run
 
     -- a row that is done again and got `Same` or a fault is answered `200 already published` or 503
     repeat : (key : List ℕ) (l : Line) (d : Done) (p : Publish) → Asks l p → IsDone files key l d
         → (answer_in d ≡ Replied (reply.Decided decision.Same)) ⊎ IsFailed (answer_in d)
         → (outcome_of d ≡ outcome.Answered fixed.AlreadyPublished) ⊎ (outcome_of d ≡ outcome.Answered fixed.Unavailable)
-    repeat key l (Answers ask (Replied r)) p asks done (inl same) = inl (ap (λ a. outcome.Answered (spec.fixed_answer a)) same)
+    repeat key l (Answers ask (Replied r)) p asks done (inl same) =
+        inl (ap (λ a. outcome.Answered (spec.fixed_answer a)) same)
     repeat key l (Answers ask (Replied r)) p asks done (inr fails) = absurd fails
     repeat key l (Answers ask (Failed fault)) p asks done got = inr refl
     repeat key l HasNoFile p asks done got = absurd (has_files l p asks done)
     repeat key l Unfetched p asks done got = inr refl
 
-    repeats : (key : List ℕ) (us ts : List DoneRow) (ps : List Publish) → AskEach us ps → AreFirstOf ts us → AreDone files key ts → AllSameOrFailed (padded ps ts)
+    repeats : (key : List ℕ) (us ts : List DoneRow) (ps : List Publish) → AskEach us ps → AreFirstOf ts us
+        → AreDone files key ts → AllSameOrFailed (padded ps ts)
         → AreRepeats ts
     repeats key us [] ps asks first done same = tt
     repeats key [] (t ∷ ts) ps asks first done same = absurd first
     repeats key (u ∷ us) (t ∷ ts) [] asks first done same = absurd asks
-    repeats key (u ∷ us) (t ∷ ts) (p ∷ ps) asks first done same =
-        (repeat key t.line t.done p (subst (λ l. Asks l p) (sym first.0) asks.0) done.0 same.0, repeats key us ts ps asks.1 first.1 done.1 same.1)
+    repeats key (u ∷ us) (t ∷ ts) (p ∷ ps) asks first done same = (
+      repeat key t.line t.done p (subst (λ l. Asks l p) (sym first.0) asks.0) done.0 same.0,
+      repeats key us ts ps asks.1 first.1 done.1 same.1,
+    )
 
 -- ---- the whole import
 
@@ -313,21 +343,27 @@ all_or_some true e = refl
 all_or_some false e = absurd (cc e)
 
 -- an import that ended as all accepted did all rows of its list, and each was accepted
-whole_list : (text : List ℕ) (done_rows : List DoneRow) (n : ℕ) (why : Closing) → spec.IsOver (Some text) done_rows n why → AllIn ≡ spec.ending_of (list_all spec.is_accepted done_rows) why
+whole_list : (text : List ℕ) (done_rows : List DoneRow) (n : ℕ) (why : Closing)
+    → spec.IsOver (Some text) done_rows n why → AllIn ≡ spec.ending_of (list_all spec.is_accepted done_rows) why
     → (list_all spec.is_accepted done_rows ≡ true) × Meets (Some text) (spec.rows_of done_rows) (λ next. next ≡ None)
-whole_list text done_rows n closing.End (inl over) ends = (all_or_some (list_all spec.is_accepted done_rows) ends, over.1)
+whole_list text done_rows n closing.End (inl over) ends =
+    (all_or_some (list_all spec.is_accepted done_rows) ends, over.1)
 whole_list text done_rows n closing.End (inr over) ends = absurd over.2
 whole_list text done_rows n closing.BadRow over ends = absurd (cc ends)
 whole_list text done_rows n closing.Unread over ends = absurd (cc ends)
 
 -- importing a list again that was imported whole changes nothing
 pub repeated_import_changes_nothing : RepeatedImportChangesNothing
-repeated_import_changes_nothing files text k again s old mid later new done_rows repeated between told known is own first (n, why, over, ends) after may second =
+repeated_import_changes_nothing files text k again s old mid later new done_rows repeated between told known is own
+    first (n, why, over, ends) after may second =
     let (accepts, whole) = whole_list text done_rows n why over ends in
     let took = all_in files k old mid done_rows first.done accepts first.run in
     let front = again_first text repeated done_rows second.first whole in
-    let once : Run old (puts k took.publishes) (answers done_rows) mid = subst (λ es. Run old es (answers done_rows) mid) took.are first.run in
-    let twice = all_again files known again later new done_rows repeated took.publishes took.asks front second.done second.run in
-    let law = repeated_list_changes_nothing old mid later new s k again took.publishes between (answers done_rows) told (padded files known took.publishes repeated)
+    let once : Run old (puts k took.publishes) (answers done_rows) mid =
+    subst (λ es. Run old es (answers done_rows) mid) took.are first.run in
+    let twice = all_again files known again later new done_rows repeated took.publishes took.asks front second.done
+    second.run in
+    let law = repeated_list_changes_nothing old mid later new s k again took.publishes between (answers done_rows) told
+    (padded files known took.publishes repeated)
     is own once took.accepts after may twice in
     (repeats files known again done_rows repeated took.publishes took.asks front second.done law.0, law.1)

@@ -1,5 +1,6 @@
 -- The rows of an inventory are whole: one for each path and version that the shelf sees.
-use Rattle.std.proofs.Common.{◌≡◌, ℕ, List, [], ◌∷◌, ◌++◌, Bool, true, false, cond, refl, ◌∙◌, sym, ap, subst, Option, Some, None, inl, inr}
+use Rattle.std.proofs.Common.{◌≡◌, ℕ, List, [], ◌∷◌, ◌++◌, Bool, true, false, cond, refl, ◌∙◌, sym, ap, subst, Option}
+use Rattle.std.proofs.Common.{Some, None, inl, inr}
 use Rattle.std.specs.Prelude.{◌&&◌, Contains, filter, bytes_eq, is_some, map as each}
 use Rattle.std.specs.Cmp.{IsTotalOrder, tied_itself}
 use Rattle.std.specs.FinMap as map
@@ -30,25 +31,30 @@ use Rattle.world.proofs.Places.{seen_places_read}
 use Rattle.world.proofs.Seen.{contains_paths}
 use Rattle.world.proofs.SeenVersions.{seen_members}
 use Rattle.world.proofs.VersionOrder.{versions_exact}
-use Rattle.commands.specs.Inventory.{row_of, row_at, rows_of_path, rows_at, rows_of_text, rows_seen, inventory_of, inventory_of_shelf}
+use Rattle.commands.specs.Inventory.{row_of, row_at, rows_of_path, rows_at, rows_of_text, rows_seen, inventory_of}
+use Rattle.commands.specs.Inventory.{inventory_of_shelf}
 use Rattle.commands.specs.Rows.{is_of, HasOneRow, RowsAreWhole, TellsAll}
 use Rattle.commands.specs.declared.inventory.InventoryRow.{InventoryRow}
 
 -- ---- what is gathered from one member of a set
 
-module _ {K B : Type 0} {R : K → K → Ordering} (o : IsTotalOrder R) (exact : map.IsAntisymmetric R) (f : K → List B) (k : K) where
+module _ {K B : Type 0} {R : K → K → Ordering} (o : IsTotalOrder R) (exact : map.IsAntisymmetric R) (f : K → List B)
+    (k : K) where
   -- nothing is gathered from the other members
   abbrev pub OfNoOther : List K → Type 0
   OfNoOther ks = (x : K) → Contains ks x → eq_by_cmp R k x ≡ false → f x ≡ []
 
-  none_above : (es : List (K × Unit {0})) → T (below_all R k es) → OfNoOther (each (λ e. e.0) es) → flat_map f (each (λ e. e.0) es) ≡ []
+  none_above : (es : List (K × Unit {0})) → T (below_all R k es) → OfNoOther (each (λ e. e.0) es)
+      → flat_map f (each (λ e. e.0) es) ≡ []
   none_above [] below others = refl
   none_above (e ∷ es) below others =
-      ap (λ l. l ++ flat_map f (each (λ x. x.0) es)) (others e.0 (first_member e.0 (each (λ x. x.0) es)) (is_apart (R k e.0) (first _ _ below)))
+      ap (λ l. l ++ flat_map f (each (λ x. x.0) es))
+      (others e.0 (first_member e.0 (each (λ x. x.0) es)) (is_apart (R k e.0) (first _ _ below)))
       ∙ none_above es (second _ _ below) (λ x at. others x (later_member e.0 x (each (λ y. y.0) es) at))
 
   -- gathering from sorted members gives what one of them gives, if the others give nothing
-  just_one : (es : List (K × Unit {0})) → T (map.is_sorted R es) → Contains (each (λ e. e.0) es) k → OfNoOther (each (λ e. e.0) es) → flat_map f (each (λ e. e.0) es) ≡ f k
+  just_one : (es : List (K × Unit {0})) → T (map.is_sorted R es) → Contains (each (λ e. e.0) es) k
+      → OfNoOther (each (λ e. e.0) es) → flat_map f (each (λ e. e.0) es) ≡ f k
   just_one [] up at others = absurd (no_member k at)
   just_one (e ∷ es) up at others =
       let rest = each (λ (x : K × Unit {0}). x.0) es in
@@ -60,10 +66,12 @@ module _ {K B : Type 0} {R : K → K → Ordering} (o : IsTotalOrder R) (exact :
             ∙ append-nil (f e.0) ∙ ap f (sym same)
         | false ↦ λ apart.
             let there : Contains rest k = elim (member_cases e.0 k rest at) [
-              | inl same ↦ absurd (true≢false (sym (ap is_eq (tied_itself o k)) ∙ ap (eq_by_cmp R k) (sym same) ∙ apart))
+              | inl same ↦ absurd (true≢false
+                  (sym (ap is_eq (tied_itself o k)) ∙ ap (eq_by_cmp R k) (sym same) ∙ apart))
               | inr more ↦ more
             ] in
-            ap (λ l. l ++ flat_map f rest) (others e.0 (first_member e.0 rest) apart) ∙ just_one es (second _ _ up) there later
+            ap (λ l. l ++ flat_map f rest) (others e.0 (first_member e.0 rest) apart)
+            ∙ just_one es (second _ _ up) there later
       ] refl
 
   pub of_one : (s : set.FinSet R) → Contains (in_order s) k → OfNoOther (in_order s) → flat_map f (in_order s) ≡ f k
@@ -71,7 +79,8 @@ module _ {K B : Type 0} {R : K → K → Ordering} (o : IsTotalOrder R) (exact :
   of_one s at others = just_one _ (map.entries_sorted _) at others
 
 module _ {X B : Type 0} where
-  filter_each : (p : B → Bool) (g : X → List B) (xs : List X) → filter p (flat_map g xs) ≡ flat_map (λ x. filter p (g x)) xs
+  filter_each : (p : B → Bool) (g : X → List B) (xs : List X)
+      → filter p (flat_map g xs) ≡ flat_map (λ x. filter p (g x)) xs
   filter_each p g [] = refl
   filter_each p g (x ∷ xs) = filter-append p (g x) (flat_map g xs) ∙ ap (λ l. filter p (g x) ++ l) (filter_each p g xs)
 
@@ -81,16 +90,22 @@ module _ {X B : Type 0} where
 
   member_of_one : (g : X → List B) (xs : List X) (y : B) → Contains (flat_map g xs) y → (x : X) × Contains (g x) y
   member_of_one g [] y at = absurd (no_member y at)
-  member_of_one g (x ∷ xs) y at = elim (Contains-append_cases (g x) (flat_map g xs) y at) [ inl here ↦ (x, here) | inr later ↦ member_of_one g xs y later ]
+  member_of_one g (x ∷ xs) y at =
+      elim (Contains-append_cases (g x) (flat_map g xs) y at) [
+        | inl here ↦ (x, here)
+        | inr later ↦ member_of_one g xs y later
+      ]
 
 -- ---- each path and version has one row
 
 -- texts that a set tells apart are different
 other_text : (p x : List ℕ) → eq_by_cmp text_cmp p x ≡ false → bytes_eq x p ≡ false
 other_text p x apart = false_from_ne_true (bytes_eq x p) (λ same.
-    true≢false (sym (ap is_eq (tied_itself texts_total p)) ∙ ap (eq_by_cmp text_cmp p) (sym (text_same x p same)) ∙ apart))
+    true≢false (sym (ap is_eq (tied_itself texts_total p)) ∙ ap (eq_by_cmp text_cmp p) (sym (text_same x p same))
+    ∙ apart))
 
-not_of : (p t q : List ℕ) (v : SemanticVersion) (o : Option Seen) → (bytes_eq q p && bytes_eq (version_text v) t) ≡ false → filter (is_of p t) (row_of q v o) ≡ []
+not_of : (p t q : List ℕ) (v : SemanticVersion) (o : Option Seen)
+    → (bytes_eq q p && bytes_eq (version_text v) t) ≡ false → filter (is_of p t) (row_of q v o) ≡ []
 not_of p t q v None other = refl
 not_of p t q v (Some e) other = ap (λ b. cond b (row_of q v (Some e)) []) other
 
@@ -102,7 +117,11 @@ none_of_path w s p t q apart =
 
 none_of_text : (w : World) (s p t x : List ℕ) → bytes_eq x p ≡ false → filter (is_of p t) (rows_of_text w s x) ≡ []
 none_of_text w s p t x apart =
-    elim (is_path x) as (λ b. filter (is_of p t) (rows_at w s (cond b (Some x) None)) ≡ []) [ true ↦ none_of_path w s p t x apart | false ↦ refl ]
+    elim (is_path x) as (λ b. filter (is_of p t) (rows_at w s (cond b (Some x) None)) ≡ []) [
+      | true ↦
+          none_of_path w s p t x apart
+      | false ↦ refl
+    ]
 
 module _ (w : World) (is : IsWorld w) (s p t : List ℕ) (seen : Seen) (found : view w s p t ≡ Some seen) where
   at_path : filter (is_of p t) (rows_seen w s) ≡ filter (is_of p t) (rows_of_text w s p)
@@ -114,7 +133,8 @@ module _ (w : World) (is : IsWorld w) (s p t : List ℕ) (seen : Seen) (found : 
 
   -- the version that the text names
   module _ (v : SemanticVersion) (valid : IsVersion v) (text : version_text v ≡ t) where
-    other_version : (u : SemanticVersion) → IsVersion u → eq_by_cmp version_cmp v u ≡ false → (bytes_eq p p && bytes_eq (version_text u) t) ≡ false
+    other_version : (u : SemanticVersion) → IsVersion u → eq_by_cmp version_cmp v u ≡ false
+        → (bytes_eq p p && bytes_eq (version_text u) t) ≡ false
     other_version u other apart =
         ap (λ b. b && bytes_eq (version_text u) t) (text_self p)
         ∙ false_from_ne_true (bytes_eq (version_text u) t) (λ same.
@@ -125,7 +145,8 @@ module _ (w : World) (is : IsWorld w) (s p t : List ℕ) (seen : Seen) (found : 
     at_version =
         let members = seen_members w is s p in
         filter_each (is_of p t) (row_at w s p) (versions_of w s p)
-        ∙ of_one versions_total versions_exact (λ u. filter (is_of p t) (row_at w s p u)) v (by_precedence (named (in_order (versions_seen w s p))))
+        ∙ of_one versions_total versions_exact (λ u. filter (is_of p t) (row_at w s p u)) v
+        (by_precedence (named (in_order (versions_seen w s p))))
         ((members v).1 (valid, subst (IsSeen w s p) (sym text) (seen, found)))
         (λ u there apart. not_of p t p u (view w s p (version_text u)) (other_version u ((members u).0 there).0 apart))
 
@@ -133,7 +154,8 @@ module _ (w : World) (is : IsWorld w) (s p t : List ℕ) (seen : Seen) (found : 
     row_there =
         let both : (bytes_eq p p && bytes_eq (version_text v) t) ≡ true =
         ap (λ b. b && bytes_eq (version_text v) t) (text_self p) ∙ ap (λ x. bytes_eq x t) text ∙ text_self t in
-        ap (λ o. filter (is_of p t) (row_of p v o)) (ap (view w s p) text ∙ found) ∙ ap (λ b. cond b (row_of p v (Some seen)) []) both
+        ap (λ o. filter (is_of p t) (row_of p v o)) (ap (view w s p) text ∙ found)
+        ∙ ap (λ b. cond b (row_of p v (Some seen)) []) both
 
   -- a version that the shelf sees has exactly one row
   one_row : HasOneRow (rows_seen w s) p t seen
@@ -158,24 +180,39 @@ row_is_seen w s p v r (Some e) seen at = elim (member_cases _ r [] at) [
   | inr never ↦ absurd (no_member r never)
 ]
 
-text_is_seen : (w : World) (s : List ℕ) (r : InventoryRow) (o : Option (List ℕ)) → Contains (rows_at w s o) r → IsSeen w s r.path (version_text r.version)
+text_is_seen : (w : World) (s : List ℕ) (r : InventoryRow) (o : Option (List ℕ)) → Contains (rows_at w s o) r
+    → IsSeen w s r.path (version_text r.version)
 text_is_seen w s r None at = absurd (no_member r at)
 text_is_seen w s r (Some p) at =
     let of = member_of_one (row_at w s p) (versions_of w s p) r at in
     row_is_seen w s p of.0 r (view w s p (version_text of.0)) refl of.1
 
-rows_are_seen : (w : World) (s : List ℕ) (r : InventoryRow) → Contains (rows_seen w s) r → IsSeen w s r.path (version_text r.version)
-rows_are_seen w s r at = let of = member_of_one (rows_of_text w s) (in_order (paths_seen w s)) r at in text_is_seen w s r (path_of of.0) of.1
+rows_are_seen : (w : World) (s : List ℕ) (r : InventoryRow) → Contains (rows_seen w s) r
+    → IsSeen w s r.path (version_text r.version)
+rows_are_seen w s r at = let of = member_of_one (rows_of_text w s) (in_order (paths_seen w s)) r at in
+    text_is_seen w s r (path_of of.0) of.1
 
 pub rows_are_whole : RowsAreWhole
-rows_are_whole w s is = record { each = λ p t seen found. one_row w is s p t seen found; no_other = λ r at. rows_are_seen w s r at }
+rows_are_whole w s is = record {
+  each = λ p t seen found. one_row w is s p t seen found;
+  no_other = λ r at.
+      rows_are_seen w s r at;
+}
 
 -- the inventory of a key is whole
-pub tells_all : (w : World) (key text : List ℕ) → IsWorld w → Some text ≡ inventory_of w (map.get w.keys key) → TellsAll w key text
+pub tells_all : (w : World) (key text : List ℕ) → IsWorld w → Some text ≡ inventory_of w (map.get w.keys key)
+    → TellsAll w key text
 tells_all w key text is says = by_holder (map.get w.keys key) refl says
   where
     by_holder : (o : Option Holder) → map.get w.keys key ≡ o → Some text ≡ inventory_of w o → TellsAll w key text
     by_holder None none e = cc e
     by_holder (Some h) found e =
         let same : text ≡ inventory_of_shelf w h.shelf = cc e in
-        record { holder = h; has_key = found; rows = rows_seen w h.shelf; told = same; whole = rows_are_whole w h.shelf is }
+        record {
+          holder = h;
+          has_key = found;
+          rows = rows_seen w h.shelf;
+          told = same;
+          whole =
+              rows_are_whole w h.shelf is;
+        }

@@ -1,6 +1,8 @@
 -- How orders that no line can carry end in each world.
-use Rattle.std.proofs.Common.{◌≡◌, ℕ, ◌+◌, ◌<◌, ◌≤◌, ◌⊎◌, inl, inr, List, [], ◌∷◌, ◌++◌, length, Bool, true, false, Option, Some}
-use Rattle.std.proofs.Common.{None, Result, Ok, Err, refl, ◌∙◌, sym, ap, subst, arith, nat_eq, nat_lt, ltb-true, leb-true, true≢false}
+use Rattle.std.proofs.Common.{◌≡◌, ℕ, ◌+◌, ◌<◌, ◌≤◌, ◌⊎◌, inl, inr, List, [], ◌∷◌, ◌++◌, length, Bool, true, false}
+use Rattle.std.proofs.Common.{Option, Some}
+use Rattle.std.proofs.Common.{None, Result, Ok, Err, refl, ◌∙◌, sym, ap, subst, arith, nat_eq, nat_lt, ltb-true}
+use Rattle.std.proofs.Common.{leb-true, true≢false}
 use Rattle.std.specs.Borrow.{Bor}
 use Rattle.std.specs.Prelude.{◌&&◌, ◌||◌, not, if◌then◌else◌, codes, bytes_eq, nat_le, is_some, option_copied}
 use Rattle.std.specs.List.{list_all}
@@ -42,13 +44,15 @@ record Fits (most : ℕ) (word : List ℕ) : Type 0 where
   ascii : IsAscii word
   few : length word ≤ most
 
-says_by : (p : ℕ → Bool) → ((b : ℕ) → p b ≡ true → is_word_byte b ≡ true) → (t : List ℕ) → list_all p t ≡ true → is_word t ≡ true
+says_by : (p : ℕ → Bool) → ((b : ℕ) → p b ≡ true → is_word_byte b ≡ true) → (t : List ℕ) → list_all p t ≡ true
+    → is_word t ≡ true
 says_by p says [] h = refl
 says_by p says (b ∷ t) h = let halves = and_parts _ _ h in and_from _ _ (says b halves.0) (says_by p says t halves.1)
 
 ascii_by : (p : ℕ → Bool) → ((b : ℕ) → p b ≡ true → b < 128) → (t : List ℕ) → list_all p t ≡ true → IsAscii t
 ascii_by p small [] h = IsAscii-nil
-ascii_by p small (b ∷ t) h = let halves = and_parts _ _ h in IsAscii-cons b t (small b halves.0) (ascii_by p small t halves.1)
+ascii_by p small (b ∷ t) h = let halves = and_parts _ _ h in
+    IsAscii-cons b t (small b halves.0) (ascii_by p small t halves.1)
 
 name_byte : (c : ℕ) → (is_lower c || is_digit c || nat_eq c 45) ≡ true → c < 128
 name_byte c h = grind (arith, nat_tests)
@@ -82,8 +86,10 @@ key_fits k h =
     }
 
 -- a literal word fits if these tests hold
-word_fits : (most : ℕ) (word : List ℕ) → is_word word ≡ true → list_all (λ b. nat_lt b 128) word ≡ true → nat_le (length word) most ≡ true → Fits most word
-word_fits most word says ascii few = record { says = says; ascii = ascii_by (λ b. nat_lt b 128) small word ascii; few = leb-true (length word) most few }
+word_fits : (most : ℕ) (word : List ℕ) → is_word word ≡ true → list_all (λ b. nat_lt b 128) word ≡ true
+    → nat_le (length word) most ≡ true → Fits most word
+word_fits most word says ascii few =
+    record { says = says; ascii = ascii_by (λ b. nat_lt b 128) small word ascii; few = leb-true (length word) most few }
 
 shelf_fits : (s : List ℕ) → (s ≡ common) ⊎ (is_team_name s ≡ true) → Fits 32 s
 shelf_fits s (inl same) = subst (Fits 32) (sym same) (word_fits 32 common refl refl refl)
@@ -112,7 +118,8 @@ behind_few most None fits = omega arith
 behind_few most (Some word) fits = let few = fits.few in omega (arith, few)
 
 -- an order whose words fit into 127 bytes has a line
-carried : (a b c : ℕ) (order : Order) → Fits a (said_in order).verb → Fits b (said_in order).first → FitsIf c (said_in order).second → a + b + c + 2 ≤ 127
+carried : (a b c : ℕ) (order : Order) → Fits a (said_in order).verb → Fits b (said_in order).first
+    → FitsIf c (said_in order).second → a + b + c + 2 ≤ 127
     → (sent : List ℕ) × IsSent sent order
 carried a b c order verb first second room =
     let s = said_in order in
@@ -123,12 +130,21 @@ carried a b c order verb first second room =
     let few_first = first.few in
     let few_second = behind_few c s.second second in
     let ascii = IsAscii-append s.verb (space ∷ rest) verb.ascii
-    (IsAscii-cons space rest (omega arith) (IsAscii-append s.first (behind s.second) first.ascii (behind_ascii c s.second second))) in (
+    (IsAscii-cons space rest (omega arith)
+    (IsAscii-append s.first (behind s.second) first.ascii (behind_ascii c s.second second))) in (
       line_of order ++ line_end ∷ [],
       record {
         line = line_of order;
-        ends = record { is = refl; few = omega (arith, counted, rest_counted, few_verb, few_first, few_second, room); text = IsUtf8-from_ascii (line_of order) ascii };
-        says = record { is = refl; words = and_from _ _ verb.says (and_from _ _ first.says (if_says c s.second second)) };
+        ends = record {
+          is = refl;
+          few = omega (arith, counted, rest_counted, few_verb, few_first, few_second, room);
+          text = IsUtf8-from_ascii (line_of order) ascii;
+        };
+        says = record {
+          is = refl;
+          words =
+              and_from _ _ verb.says (and_from _ _ first.says (if_says c s.second second));
+        };
       },
     )
 
@@ -152,7 +168,8 @@ group_fits None sayable = tt
 group_fits (Some g) sayable = shelf_fits g sayable
 
 common_no_group : (w : World) → is_group w common ≡ false
-common_no_group w = and_right (is_top (map.get w.shelves common)) (not (bytes_eq common common)) (ap not (text_self common))
+common_no_group w = and_right (is_top (map.get w.shelves common)) (not (bytes_eq common common))
+    (ap not (text_self common))
 
 no_group : (w : World) (g : List ℕ) → IsWorld w → is_team_name g ≡ false → is_group w g ≡ false
 no_group w g is unnamed = go (map.get w.shelves g) refl
@@ -167,7 +184,8 @@ no_group w g is unnamed = go (map.get w.shelves g) refl
 -- the answer to adding a team, by these tests
 abbrev answer : Bool → Bool → Bool → Registered
 answer named there group =
-    if not named then registered.Name else if there then registered.Taken else if not group then registered.NoGroup else registered.Done
+    if not named then registered.Name else if there then registered.Taken else if not group then registered.NoGroup else
+    registered.Done
 
 refused : (w : World) (t g : List ℕ) → is_group w g ≡ false → after_team_add w t (Some g) (team_added w t (Some g)) ≡ w
 refused w t g none =
@@ -182,7 +200,8 @@ refused w t g none =
 -- adding a team with the group that is sent does what adding it with its own group does
 same_team : (w : World) (t : List ℕ) (group : Option (List ℕ)) → IsWorld w
     → (team_added w t (group_sent group) ≡ team_added w t group)
-    × (after_team_add w t (group_sent group) (team_added w t (group_sent group)) ≡ after_team_add w t group (team_added w t group))
+    × (after_team_add w t (group_sent group) (team_added w t (group_sent group))
+    ≡ after_team_add w t group (team_added w t group))
 same_team w t None is = (refl, refl)
 same_team w t (Some g) is = go (is_team_name g) refl
   where
@@ -200,8 +219,11 @@ pub comes_to_the_same : (order sent : Order) → IsSentFor order sent → ComeTo
 comes_to_the_same (TeamAdd name group) sent (other, is, same) w world =
     let one = same_team w name.now (option_copied group) world in
     let both = subst (λ g. (team_added w name.now g ≡ team_added w name.now (option_copied group))
-    × (after_team_add w name.now g (team_added w name.now g) ≡ after_team_add w name.now (option_copied group) (team_added w name.now (option_copied group)))) (sym same) one in
-    subst (λ o. (outcome_in w o ≡ outcome_in w (TeamAdd name group)) × (after w (event_of o) ≡ after w (event_of (TeamAdd name group)))) (sym is) both
+    × (after_team_add w name.now g (team_added w name.now g)
+    ≡ after_team_add w name.now (option_copied group) (team_added w name.now (option_copied group)))) (sym same)
+    one in
+    subst (λ o. (outcome_in w o ≡ outcome_in w (TeamAdd name group))
+    × (after w (event_of o) ≡ after w (event_of (TeamAdd name group)))) (sym is) both
 comes_to_the_same (GroupAdd name) sent is w world = (ap (outcome_in w) is, ap (λ o. after w (event_of o)) is)
 comes_to_the_same (KeyAdd shelf key right) sent is w world = (ap (outcome_in w) is, ap (λ o. after w (event_of o)) is)
 comes_to_the_same (KeyRevoke key) sent is w world = (ap (outcome_in w) is, ap (λ o. after w (event_of o)) is)
@@ -209,29 +231,39 @@ comes_to_the_same (KeyRevoke key) sent is w world = (ap (outcome_in w) is, ap (�
 -- ---- how an order that no line carries ends
 
 -- adding a team that no line carries is refused in each world as the command says
-team_unsaid : (name : Bor (List ℕ)) (group : Option (Bor (List ℕ))) → IsGroupSayable (option_copied group) → IsUnsayable (TeamAdd name group)
+team_unsaid : (name : Bor (List ℕ)) (group : Option (Bor (List ℕ))) → IsGroupSayable (option_copied group)
+    → IsUnsayable (TeamAdd name group)
     → (w : World) → ending (Ok (outcome_in w (TeamAdd name group))) ≡ Err (unsayable (TeamAdd name group))
 team_unsaid name group sayable unsaid w = go (is_team_name name.now) refl
   where
-    go : (b : Bool) → is_team_name name.now ≡ b → ending (Ok (outcome_in w (TeamAdd name group))) ≡ Err (unsayable (TeamAdd name group))
-    go false unnamed = ap (λ b. ending (Ok (if not b then registered.Name else if map.contains_key w.shelves name.now then registered.Taken
+    go : (b : Bool) → is_team_name name.now ≡ b
+        → ending (Ok (outcome_in w (TeamAdd name group))) ≡ Err (unsayable (TeamAdd name group))
+    go false unnamed = ap (λ b.
+        ending (Ok (if not b then registered.Name else if map.contains_key w.shelves name.now then registered.Taken
         else if lacks_group w (option_copied group) then registered.NoGroup else registered.Done))) unnamed
     go true named =
-        let it = carried 8 32 32 (TeamAdd name group) (word_fits 8 (codes "team-add") refl refl refl) (team_fits name.now named)
+        let it = carried 8 32 32 (TeamAdd name group) (word_fits 8 (codes "team-add") refl refl refl)
+        (team_fits name.now named)
         (group_fits (option_copied group) sayable) (omega arith) in absurd (unsaid it.0 it.1)
 
-group_unsaid : (name : Bor (List ℕ)) → IsUnsayable (GroupAdd name) → (w : World) → ending (Ok (outcome_in w (GroupAdd name))) ≡ Err (unsayable (GroupAdd name))
+group_unsaid : (name : Bor (List ℕ)) → IsUnsayable (GroupAdd name) → (w : World)
+    → ending (Ok (outcome_in w (GroupAdd name))) ≡ Err (unsayable (GroupAdd name))
 group_unsaid name unsaid w = go (is_team_name name.now) refl
   where
-    go : (b : Bool) → is_team_name name.now ≡ b → ending (Ok (outcome_in w (GroupAdd name))) ≡ Err (unsayable (GroupAdd name))
-    go false unnamed = ap (λ b. ending (Ok (if not b then registered.Name else if map.contains_key w.shelves name.now then registered.Taken
+    go : (b : Bool) → is_team_name name.now ≡ b
+        → ending (Ok (outcome_in w (GroupAdd name))) ≡ Err (unsayable (GroupAdd name))
+    go false unnamed = ap (λ b.
+        ending (Ok (if not b then registered.Name else if map.contains_key w.shelves name.now then registered.Taken
         else registered.Done))) unnamed
     go true named =
-        let it = carried 9 32 0 (GroupAdd name) (word_fits 9 (codes "group-add") refl refl refl) (team_fits name.now named) tt (omega arith) in
+        let it = carried 9 32 0 (GroupAdd name) (word_fits 9 (codes "group-add") refl refl refl)
+        (team_fits name.now named) tt (omega arith) in
         absurd (unsaid it.0 it.1)
 
 abbrev key_told : Bool → Bool → Bool → Registered
-key_told named there taken = if not named then registered.Name else if not there then registered.NoTeam else if taken then registered.Taken else registered.Done
+key_told named there taken =
+    if not named then registered.Name else if not there then registered.NoTeam else if taken then registered.Taken else
+    registered.Done
 
 abbrev key_word : Bool → Result (Unit {0}) CommandRefusal
 key_word named = Err (refusal_by named NoTeam)
@@ -245,39 +277,51 @@ key_unsaid shelf key right unsaid w is = go (is_key key.now) (map.contains_key w
     go : (named there : Bool) → is_key key.now ≡ named → map.contains_key w.shelves shelf.now ≡ there
         → ending (Ok (outcome_in w (KeyAdd shelf key right))) ≡ Err (unsayable (KeyAdd shelf key right))
     go false there unnamed at =
-        ap (λ b. ending (Ok (key_told b (map.contains_key w.shelves shelf.now) (map.contains_key w.keys key.now)))) unnamed ∙ sym (ap key_word unnamed)
+        ap (λ b. ending (Ok (key_told b (map.contains_key w.shelves shelf.now) (map.contains_key w.keys key.now))))
+        unnamed ∙ sym (ap key_word unnamed)
     go true false named at =
-        ap (λ b. ending (Ok (key_told b (map.contains_key w.shelves shelf.now) (map.contains_key w.keys key.now)))) named
+        ap (λ b. ending (Ok (key_told b (map.contains_key w.shelves shelf.now) (map.contains_key w.keys key.now))))
+        named
         ∙ ap (λ b. ending (Ok (key_told true b (map.contains_key w.keys key.now)))) at ∙ sym (ap key_word named)
     go true true named at =
-        let it = carried 10 32 64 (KeyAdd shelf key right) (add_fits right) (shelf_fits shelf.now (is.team_names shelf.now at)) (key_fits key.now named) (omega arith) in
+        let it = carried 10 32 64 (KeyAdd shelf key right) (add_fits right)
+        (shelf_fits shelf.now (is.team_names shelf.now at)) (key_fits key.now named) (omega arith) in
         absurd (unsaid it.0 it.1)
 
 revoke_unsaid : (key : Bor (List ℕ)) → IsUnsayable (KeyRevoke key) → (w : World) → IsWorld w
     → ending (Ok (outcome_in w (KeyRevoke key))) ≡ Err (unsayable (KeyRevoke key))
 revoke_unsaid key unsaid w is = go (map.get w.keys key.now) refl
   where
-    go : (o : Option Holder) → map.get w.keys key.now ≡ o → ending (Ok (outcome_in w (KeyRevoke key))) ≡ Err (unsayable (KeyRevoke key))
+    go : (o : Option Holder) → map.get w.keys key.now ≡ o
+        → ending (Ok (outcome_in w (KeyRevoke key))) ≡ Err (unsayable (KeyRevoke key))
     go None at = ap (λ o. ending (Ok (if is_some o then registered.Done else registered.NoKey))) at
     go (Some h) at =
-        let it = carried 10 64 0 (KeyRevoke key) (word_fits 10 (codes "key-revoke") refl refl refl) (key_fits key.now (is.key_names key.now h at)) tt (omega arith) in
+        let it = carried 10 64 0 (KeyRevoke key) (word_fits 10 (codes "key-revoke") refl refl refl)
+        (key_fits key.now (is.key_names key.now h at)) tt (omega arith) in
         absurd (unsaid it.0 it.1)
 
 -- an order that no line carries ends in each world as the command says, also if another is sent for it
-pub unsent_ends : (order sent : Order) → IsSentFor order sent → IsUnsayable sent → (w : World) → IsWorld w → Err (unsayable sent) ≡ ending (Ok (outcome_in w order))
+pub unsent_ends : (order sent : Order) → IsSentFor order sent → IsUnsayable sent → (w : World) → IsWorld w
+    → Err (unsayable sent) ≡ ending (Ok (outcome_in w order))
 unsent_ends (TeamAdd name group) sent (other, is, same) unsaid w world =
     let sayable = subst IsGroupSayable (sym same) (sent_sayable (option_copied group)) in
     let said = team_unsaid name other sayable (subst IsUnsayable is unsaid) w in
     ap (λ o. Err (unsayable o)) is ∙ sym said
-    ∙ ap (λ o. ending (Ok o)) (subst (λ o. outcome_in w o ≡ outcome_in w (TeamAdd name group)) is (comes_to_the_same (TeamAdd name group) sent (other, is, same) w world).0)
-unsent_ends (GroupAdd name) sent is unsaid w world = ap (λ o. Err (unsayable o)) is ∙ sym (group_unsaid name (subst IsUnsayable is unsaid) w)
-unsent_ends (KeyAdd shelf key right) sent is unsaid w world = ap (λ o. Err (unsayable o)) is ∙ sym (key_unsaid shelf key right (subst IsUnsayable is unsaid) w world)
-unsent_ends (KeyRevoke key) sent is unsaid w world = ap (λ o. Err (unsayable o)) is ∙ sym (revoke_unsaid key (subst IsUnsayable is unsaid) w world)
+    ∙ ap (λ o. ending (Ok o))
+    (subst (λ o. outcome_in w o ≡ outcome_in w (TeamAdd name group)) is
+    (comes_to_the_same (TeamAdd name group) sent (other, is, same) w world).0)
+unsent_ends (GroupAdd name) sent is unsaid w world = ap (λ o. Err (unsayable o)) is
+    ∙ sym (group_unsaid name (subst IsUnsayable is unsaid) w)
+unsent_ends (KeyAdd shelf key right) sent is unsaid w world = ap (λ o. Err (unsayable o)) is
+    ∙ sym (key_unsaid shelf key right (subst IsUnsayable is unsaid) w world)
+unsent_ends (KeyRevoke key) sent is unsaid w world = ap (λ o. Err (unsayable o)) is
+    ∙ sym (revoke_unsaid key (subst IsUnsayable is unsaid) w world)
 
 -- ---- the command
 
 -- a command that sends the order for its own, and ends by the result, does as `OrdersOver` says
-pub orders_over : (unread unread_new written written_new : Option (List ℕ)) (order asked : Order) (told : Result Outcome Untold) (result : Result (Unit {0}) CommandRefusal)
+pub orders_over : (unread unread_new written written_new : Option (List ℕ)) (order asked : Order)
+    (told : Result Outcome Untold) (result : Result (Unit {0}) CommandRefusal)
     → IsSentFor order asked → Asks unread unread_new written written_new asked told → result ≡ told_ending asked told
     → OrdersOver unread unread_new written written_new order result
 orders_over unread unread_new written written_new order asked told result sends asks ends = record {

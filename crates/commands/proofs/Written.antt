@@ -6,7 +6,8 @@ use Rattle.engine.specs.Written.{Writes, WritesBeginning}
 use Rattle.engine.specs.declared.fault.Io.{Io}
 
 -- writing a text and then another, or a beginning of it, writes both, or a beginning
-pub writes_after : {T : Type 0} (a b c : Option (List ℕ)) (first last : List ℕ) (result : Result T Io) → Appends a b first → Writes b c last result
+pub writes_after : {T : Type 0} (a b c : Option (List ℕ)) (first last : List ℕ) (result : Result T Io)
+    → Appends a b first → Writes b c last result
     → Writes a c (first ++ last) result
 writes_after a b c first last (Ok u) done then = Appends-trans a b c first last done then
 writes_after a b c first last (Err e) done then =
@@ -24,6 +25,7 @@ longer [] last some = absurd (some refl)
 longer (x ∷ rest) last some = λ none. cc
 
 -- a beginning of the first of two texts is a beginning of both
-pub begins_both : (a b : Option (List ℕ)) (first last : List ℕ) → WritesBeginning a b first → WritesBeginning a b (first ++ last)
+pub begins_both : (a b : Option (List ℕ)) (first last : List ℕ) → WritesBeginning a b first
+    → WritesBeginning a b (first ++ last)
 begins_both a b first last (front, (rest, some, cut), did) =
     (front, (rest ++ last, longer rest last some, ap (λ l. l ++ last) cut ∙ append_assoc front rest last), did)

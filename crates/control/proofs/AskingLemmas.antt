@@ -3,7 +3,8 @@ use Rattle.std.proofs.Common.{◌≡◌, ℕ, List, Option, subst}
 use Rattle.std.specs.Io.KnownBytes.{Consumes}
 use Rattle.histories.specs.Account.{Account, Gives}
 
-pub line_consumed : (a b : Account) (u u' : Option (List ℕ)) (got line : List ℕ) → a.left ≡ u → b.left ≡ u' → Gives a b got → got ≡ line
+pub line_consumed : (a b : Account) (u u' : Option (List ℕ)) (got line : List ℕ) → a.left ≡ u → b.left ≡ u'
+    → Gives a b got → got ≡ line
     → Consumes u u' line
 line_consumed a b u u' got line is is_new gives same =
     subst (Consumes u u') same

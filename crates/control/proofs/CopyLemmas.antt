@@ -30,7 +30,8 @@ no_words_copied line none path = none (copy_words path)
 copies_nothing : (line : List ℕ) (s : Said) → IsTextOf line s → SaysNoCopy s → CopiesNothing line
 copies_nothing line s given none path says = none path (one_saying line s (copy_words path) given says)
 
-pub copy_read : (line : List ℕ) (s : Said) → IsTextOf line s → (r : Option (Bor (List ℕ))) → MatchOption r (SaysNoCopy s) (λ p. s ≡ copy_words p.now)
+pub copy_read : (line : List ℕ) (s : Said) → IsTextOf line s → (r : Option (Bor (List ℕ)))
+    → MatchOption r (SaysNoCopy s) (λ p. s ≡ copy_words p.now)
     → MatchOption r (CopiesNothing line) (λ p. IsTextOf line (copy_words p.now))
 copy_read line s given None none = copies_nothing line s given none
 copy_read line s given (Some p) same = subst (IsTextOf line) same given
@@ -48,14 +49,17 @@ module _ {V : Type 0} (items : V → List ℕ) (most : ℕ) (s t : Said) (is : s
   pub ok_said : (r : Result V Untold) → IfOk r (λ v. IsSaid most (items v) s) → IfOk r (λ v. IsSaid most (items v) t)
   ok_said r = subst (λ u. IfOk r (λ v. IsSaid most (items v) u)) is
 
-pub err_unwritten : {V : Type 0} (most : ℕ) (s t : Said) → s ≡ t → (r : Result V Untold) → IfErr r (λ why. IsUnwritten most s why)
+pub err_unwritten : {V : Type 0} (most : ℕ) (s t : Said) → s ≡ t → (r : Result V Untold)
+    → IfErr r (λ why. IsUnwritten most s why)
     → IfErr r (λ why. IsUnwritten most t why)
 err_unwritten most s t is r = subst (λ u. IfErr r (λ why. IsUnwritten most u why)) is
 
 -- ---- a line was sent
 
 -- what was sent is such a line
-pub asks_by : (is_line : List ℕ → Type 0) (u u' w w' : Option (List ℕ)) (line : List ℕ) (told : Result Outcome Untold) → is_line line
+pub asks_by : (is_line : List ℕ → Type 0) (u u' w w' : Option (List ℕ)) (line : List ℕ) (told : Result Outcome Untold)
+    → is_line line
     → Sends u u' w w' line told → AsksBy is_line u u' w w' told
 asks_by is_line u u' w w' line (Ok told) is sends = (line, is, sends.0, sends.1)
-asks_by is_line u u' w w' line (Err why) is (same, sends) = subst (λ x. AsksBy is_line u u' w w' (Err x)) (sym same) (line, is, sends)
+asks_by is_line u u' w w' line (Err why) is (same, sends) =
+    subst (λ x. AsksBy is_line u u' w w' (Err x)) (sym same) (line, is, sends)

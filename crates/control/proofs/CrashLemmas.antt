@@ -11,10 +11,12 @@ pub leaves_still : (mid new : Shown) → ((w x : World) → mid.leaves w x → n
     → LeavesTwo mid w ts → LeavesTwo new w ts
 leaves_still mid new still w [] leaves = still w w leaves
 leaves_still mid new still w (t ∷ []) leaves = still w _ leaves
-leaves_still mid new still w (t ∷ u ∷ more) leaves = λ calm. leaves_still mid new still (world_at w (t ∷ [])) (u ∷ more) (leaves calm)
+leaves_still mid new still w (t ∷ u ∷ more) leaves = λ calm.
+    leaves_still mid new still (world_at w (t ∷ [])) (u ∷ more) (leaves calm)
 
 step_asked : (w : World) (m : Request) (o : Outcome) (ts : List Turn)
-    → world_at (world_at w (Asked (record { message = m; outcome = o }) ∷ [])) ts ≡ world_at w (Asked (record { message = m; outcome = o }) ∷ ts)
+    → world_at (world_at w (Asked (record { message = m; outcome = o }) ∷ [])) ts
+    ≡ world_at w (Asked (record { message = m; outcome = o }) ∷ ts)
 step_asked w m Unserved ts = refl
 step_asked w m (Met fault) ts = refl
 step_asked w m (Served reply) ts = refl

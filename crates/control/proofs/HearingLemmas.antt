@@ -19,7 +19,8 @@ abbrev told_unless : Told → Result (Unit {0}) Io → Result Told Io
 told_unless told (Ok done) = Ok told
 told_unless told (Err e) = Err e
 
-module _ (copied : List ℕ → Result (Unit {0}) CopyRefusal → Type 0) (pinged : Result Health StoreFault → Type 0) (old new : Shown)
+module _ (copied : List ℕ → Result (Unit {0}) CopyRefusal → Type 0) (pinged : Result Health StoreFault → Type 0)
+    (old new : Shown)
     (u u' : Account) where
   was_heard : (got : List ℕ) → ReadsLine u u' got → (heard : Heard) → IsHeardIn got heard → IsHeard u u' heard
   was_heard got reads NoMemory never = absurd never
@@ -37,7 +38,8 @@ module _ (copied : List ℕ → Result (Unit {0}) CopyRefusal → Type 0) (pinge
   }
 
   module _ (w w' : Option (List ℕ)) where
-    pub obeys_told : (told : Told) (result : Result (Unit {0}) Io) → Hears copied pinged old new u u' told → TellsLine w w' (line_told told) result
+    pub obeys_told : (told : Told) (result : Result (Unit {0}) Io) → Hears copied pinged old new u u' told
+        → TellsLine w w' (line_told told) result
         → Obeys copied pinged old new u u' w w' (told_unless told result)
     obeys_told told (Ok done) hears writes = (hears, writes)
     obeys_told told (Err io.Write) hears writes = (told, hears, writes.1)
@@ -45,4 +47,5 @@ module _ (copied : List ℕ → Result (Unit {0}) CopyRefusal → Type 0) (pinge
 
     pub obeys_unread : (e : Io) → e ≡ io.Read → GoesThroughSteps old new [] → Keeps w w'
         → Obeys copied pinged old new u u' w w' (Err e)
-    obeys_unread e is through keeps = subst (λ x. Obeys copied pinged old new u u' w w' (Err x)) (sym is) (through, keeps)
+    obeys_unread e is through keeps =
+        subst (λ x. Obeys copied pinged old new u u' w w' (Err x)) (sym is) (through, keeps)

@@ -35,7 +35,8 @@ text_is (Ordered order (Err fault)) = refl
 
 -- ---- turns as what happened
 
-fused : {X : Type 0} (f : Happening → X) (g : Turn → X) → ((t : Turn) → f (happening_of t) ≡ g t) → (ts : List Turn) → map f (map happening_of ts) ≡ map g ts
+fused : {X : Type 0} (f : Happening → X) (g : Turn → X) → ((t : Turn) → f (happening_of t) ≡ g t) → (ts : List Turn)
+    → map f (map happening_of ts) ≡ map g ts
 fused f g same [] = refl
 fused f g same (t ∷ ts) = let one = same t in let rest = fused f g same ts in λ i. one i ∷ rest i
 
@@ -46,7 +47,8 @@ faultless_step t (Replied r) hs ts same = ap (λ rest. happening_of t ∷ rest) 
 
 faultless_is : (ts : List Turn) → happened.faultless (map happening_of ts) ≡ map happening_of (faultless ts)
 faultless_is [] = refl
-faultless_is (t ∷ ts) = faultless_step t (turn_answer t) (happened.faultless (map happening_of ts)) (faultless ts) (faultless_is ts)
+faultless_is (t ∷ ts) = faultless_step t (turn_answer t) (happened.faultless (map happening_of ts)) (faultless ts)
+    (faultless_is ts)
 
 -- what holds of each happening that met no fault holds of each turn that met none
 said_of : {X : Type 0} (f : Happening → X) (g : Turn → X) → ((t : Turn) → f (happening_of t) ≡ g t) → (ts : List Turn)
@@ -62,7 +64,8 @@ ran w new ts run =
 -- ---- two runs
 
 -- two runs whose turns without faults are all, and the remaining ones, write alike
-pub turns_are_answered_alike : (old new old_too new_too : Shown) → ((w : World) → old.stands w → IsWorld w) → TurnsAreAnsweredAlike old new old_too new_too
+pub turns_are_answered_alike : (old new old_too new_too : Shown) → ((w : World) → old.stands w → IsWorld w)
+    → TurnsAreAnsweredAlike old new old_too new_too
 turns_are_answered_alike old new old_too new_too sound w x s full purged two same =
     let ss : List (List ℕ) = chain (world_at w full) s in
     let first : List Happening = map happening_of full in
@@ -75,7 +78,8 @@ turns_are_answered_alike old new old_too new_too sound w x s full purged two sam
     let left = came purged ∙ same
     ∙ sym (ap (marked (remaining w ss (map turn_event (faultless full)))) (came full))
     ∙ sym (ap (λ es. marked (remaining w ss es) (map coming_of (happened.faultless first))) events) in
-    let alike = alike_by text_for w x (world_at w full) (world_at x purged) s first second (sound w two.stands) two.agree
+    let alike = alike_by text_for w x (world_at w full) (world_at x purged) s first second (sound w two.stands)
+    two.agree
     (ran w (world_at w full) full run.run) (ran x (world_at x purged) purged again.run) left in
     record {
       texts = sym (said_of text text_at text_is purged) ∙ alike.0

@@ -1,5 +1,6 @@
 -- Lines among bytes.
-use Rattle.std.proofs.Common.{◌≡◌, ◌≢◌, ℕ, ◌-◌, ◌+◌, nat_eq, Bool, true, false, IsTrue, ◌↔◌, List, [], ◌∷◌, ◌++◌, length, get_or, take, drop, arith, refl, sym, subst, ◌∙◌, Option, Some, MatchOption}
+use Rattle.std.proofs.Common.{◌≡◌, ◌≢◌, ℕ, ◌-◌, ◌+◌, nat_eq, Bool, true, false, IsTrue, ◌↔◌, List, [], ◌∷◌, ◌++◌}
+use Rattle.std.proofs.Common.{length, get_or, take, drop, arith, refl, sym, subst, ◌∙◌, Option, Some, MatchOption}
 use denote.Ref.{Bor}
 use Rattle.std.specs.List.{Contains, IsAnyAnswer}
 use Rattle.std.proofs.Math.Dec.{eqb}
@@ -17,10 +18,14 @@ use Rattle.control.specs.Words.{line_end}
 abbrev Stripped : List ℕ → List ℕ → Option (Bor (List ℕ)) → Type 0
 Stripped s p r =
     MatchOption r (pointwise nat_eq (drop (length s - length p) s) p ≡ false)
-    (λ x. (pointwise nat_eq (drop (length s - length p) s) p ≡ true) × (x.now ≡ take (length s - length p) s) × (length x.now + length p ≡ length s))
+    (λ x. (pointwise nat_eq (drop (length s - length p) s) p ≡ true) × (x.now ≡ take (length s - length p) s)
+    × (length x.now + length p ≡ length s))
 
-pub end_cut : (s p : List ℕ) (r : Option (Bor (List ℕ))) (x : Bor (List ℕ)) → r ≡ Some x → Stripped s p r → s ≡ x.now ++ p
-end_cut s p r x is cases = subst (λ o. MatchOption o ((front : List ℕ) → s ≢ front ++ p) (λ y. s ≡ y.now ++ p)) is (strip_suffix_is unsigned_Decides s p r cases)
+pub end_cut : (s p : List ℕ) (r : Option (Bor (List ℕ))) (x : Bor (List ℕ)) → r ≡ Some x → Stripped s p r
+    → s ≡ x.now ++ p
+end_cut s p r x is cases =
+    subst (λ o. MatchOption o ((front : List ℕ) → s ≢ front ++ p) (λ y. s ≡ y.now ++ p)) is
+    (strip_suffix_is unsigned_Decides s p r cases)
 
 -- ---- lines
 
@@ -38,7 +43,11 @@ pub no_line : (got : List ℕ) → HoldsNoLine longest got → IsNoOrder got
 no_line got none order sent = none sent.line sent.ends
 
 -- a search finds a byte just if the bytes contain it
-pub has_byte : (x : ℕ) (bytes : List ℕ) (r : Bool) → IsAnyAnswer (λ y b. eqb y x ≡ b) bytes r → IsTrue r ↔ Contains bytes x
+pub has_byte : (x : ℕ) (bytes : List ℕ) (r : Bool) → IsAnyAnswer (λ y b. eqb y x ≡ b) bytes r
+    → IsTrue r ↔ Contains bytes x
 has_byte x bytes true found = (λ is. (found.0, found.1, eqb-true (get_or bytes found.0 x) x (found.2 x)), λ there. refl)
-has_byte x bytes false none =
-    (λ is. absurd (false≢true is), λ there. absurd (eqb-false (get_or bytes there.0 x) x (none there.0 x (omega arith) there.1) there.2))
+has_byte x bytes false none = (
+  λ is. absurd (false≢true is),
+  λ there.
+      absurd (eqb-false (get_or bytes there.0 x) x (none there.0 x (omega arith) there.1) there.2),
+)

@@ -1,5 +1,6 @@
 -- What words say no order.
-use Rattle.std.proofs.Common.{◌≡◌, ℕ, List, [], Bool, true, false, Option, Some, None, MatchOption, refl, sym, ap, ◌∙◌, subst}
+use Rattle.std.proofs.Common.{◌≡◌, ℕ, List, [], Bool, true, false, Option, Some, None, MatchOption, refl, sym, ap, ◌∙◌}
+use Rattle.std.proofs.Common.{subst}
 use Rattle.std.specs.Prelude.{codes, bytes_eq, if◌then◌else◌, unwrap_or}
 use Rattle.shelf.specs.declared.ask.Event.{Event}
 use Rattle.shelf.specs.declared.ask.Event.TheVariants as event
@@ -18,7 +19,8 @@ has_more (Some word) = true
 pub orders_nothing : (line : List ℕ) (s : Said) → IsTextOf line s → SaysNoOrder s → OrdersNothing line
 orders_nothing line s given none order orders = none order (one_saying line s (said_in order) given orders)
 
-pub order_read : (line : List ℕ) (s : Said) → IsTextOf line s → (r : Option Order) → MatchOption r (SaysNoOrder s) (λ o. s ≡ said_in o)
+pub order_read : (line : List ℕ) (s : Said) → IsTextOf line s → (r : Option Order)
+    → MatchOption r (SaysNoOrder s) (λ o. s ≡ said_in o)
     → MatchOption r (OrdersNothing line) (λ o. Orders line o)
 order_read line s given None none = orders_nothing line s given none
 order_read line s given (Some o) same = subst (IsTextOf line) same given
@@ -43,4 +45,5 @@ orders_itself (KeyRevoke key) = refl
 
 pub one_event : (line : List ℕ) (one two : Order) → Orders line one → Orders line two → event_of one ≡ event_of two
 one_event line one two first next =
-    sym (orders_itself one) ∙ (ap ordered_by (one_saying line (said_in one) (said_in two) first next) ∙ orders_itself two)
+    sym (orders_itself one) ∙ (ap ordered_by (one_saying line (said_in one) (said_in two) first next)
+    ∙ orders_itself two)

@@ -1,6 +1,8 @@
 -- What a store goes through on one connection, and on those before it.
 use Rattle.std.specs.Prelude.{◌^◌, ◌⊎◌, ◌↔◌, IsTrue}
-use Rattle.std.proofs.Common.{Bool, true, false, length, ℕ, ◌+◌, ◌-◌, ◌<◌, ◌≤◌, ◌≡◌, refl, sym, ap, ◌∙◌, subst, List, [], ◌∷◌, ◌++◌, map, All, Option, Some, None, Result, Ok, Err, inl, inr, arith, append_assoc, append-nil}
+use Rattle.std.proofs.Common.{Bool, true, false, length, ℕ, ◌+◌, ◌-◌, ◌<◌, ◌≤◌, ◌≡◌, refl, sym, ap, ◌∙◌, subst, List}
+use Rattle.std.proofs.Common.{[], ◌∷◌, ◌++◌, map, All, Option, Some, None, Result, Ok, Err, inl, inr, arith}
+use Rattle.std.proofs.Common.{append_assoc, append-nil}
 use Rattle.std.proofs.lemmas.Bool.{false≢true}
 use Rattle.std.proofs.lemmas.List.{length-append}
 use Rattle.std.proofs.lemmas.List.Elements.{All-append, All-cons, All-nil, All-push}
@@ -19,7 +21,8 @@ use Rattle.control.specs.Health.{Answered, AreBelow, tally_of, with_one}
 use Rattle.control.specs.Hearing.{Heard, Carried, Copied, Pinged, Stop, NoOrder, NoMemory, Obeys, WritesSome}
 use Rattle.control.specs.Told.{line_told}
 use Rattle.control.specs.Turns.{Asked, messages, GoesOn}
-use Rattle.control.specs.Visits.{Call, OfPeer, OfOperator, Untaken, answered_with, callers_of, connections_of, steps_if, steps_of}
+use Rattle.control.specs.Visits.{Call, OfPeer, OfOperator, Untaken, answered_with, callers_of, connections_of, steps_if}
+use Rattle.control.specs.Visits.{steps_of}
 use Rattle.control.specs.Visits.{steps_with, peers, AnswersOne, ObeysOne, ObeysOneBy, IsCallThere, IsNoStop, IsTallied}
 use Rattle.control.specs.Visits.{ServesEach, ReadsEach, EndsEach, TellsTally}
 use Rattle.control.specs.declared.callers.Caller.{Caller}
@@ -57,7 +60,8 @@ no_message (Some Stop) = refl
 no_message (Some NoOrder) = refl
 no_message (Some NoMemory) = refl
 
-module _ {O : Type 0} (heeded : O → Account) (told : O → Option (List ℕ)) (copied : List ℕ → Result (Unit {0}) CopyRefusal → Type 0)
+module _ {O : Type 0} (heeded : O → Account) (told : O → Option (List ℕ))
+    (copied : List ℕ → Result (Unit {0}) CopyRefusal → Type 0)
     (pinged : Result Health StoreFault → Type 0) (old new : Shown) where
   -- an operator was obeyed
   pub obeyed_one : (operator after : O) (stops : Bool) (result : Result Told Io)
@@ -98,7 +102,8 @@ module _ {O : Type 0} (heeded : O → Account) (told : O → Option (List ℕ)) 
   }
 
 -- a peer was answered
-pub answered_one : {P : Type 0} (heard : P → Account) (written : P → Option (List ℕ)) (old new : Shown) (peer after : P) (told : Answered)
+pub answered_one : {P : Type 0} (heard : P → Account) (written : P → Option (List ℕ)) (old new : Shown) (peer after : P)
+    (told : Answered)
     → ServesHeard old new (heard peer) (heard after) (written peer) (written after) told
     → AnswersOne heard written peer old new told
 answered_one heard written old new peer after (Ok status) (first, takes, through, is, ended) = record {
@@ -136,7 +141,8 @@ none_come None = tt
 none_come (Some all) = refl
 
 -- if some callers come and then others, all of them come
-then_come : {C : Type 0} (waiting left rest : Option (List C)) (first next : List C) → Come waiting left first → Come left rest next
+then_come : {C : Type 0} (waiting left rest : Option (List C)) (first next : List C) → Come waiting left first
+    → Come left rest next
     → Come waiting rest (first ++ next)
 then_come None left rest first next one two = tt
 then_come (Some all) None rest first next one two = absurd one
@@ -147,7 +153,8 @@ then_come (Some all) (Some more) (Some few) first next one two =
 -- ---- one after another
 
 module _ {P O : Type 0} where
-  peers_last : (calls : List (Call P O)) (last : Call P O) → peers (calls ++ last ∷ []) ≡ peers calls + peers (last ∷ [])
+  peers_last : (calls : List (Call P O)) (last : Call P O)
+      → peers (calls ++ last ∷ []) ≡ peers calls + peers (last ∷ [])
   peers_last [] last = omega arith
   peers_last (OfPeer visit answered ∷ calls) last = let e = peers_last calls last in omega (arith, e)
   peers_last (OfOperator audience ∷ calls) last = peers_last calls last
@@ -160,10 +167,12 @@ module _ {P O : Type 0} where
   connections_last (OfOperator audience ∷ calls) last = connections_last calls last
   connections_last (Untaken ∷ calls) last = let e = connections_last calls last in omega (arith, e)
 
-  callers_last : (calls : List (Call P O)) (last : Call P O) → callers_of (calls ++ last ∷ []) ≡ callers_of calls ++ callers_of (last ∷ [])
+  callers_last : (calls : List (Call P O)) (last : Call P O)
+      → callers_of (calls ++ last ∷ []) ≡ callers_of calls ++ callers_of (last ∷ [])
   callers_last [] last = refl
   callers_last (OfPeer visit answered ∷ calls) last = ap (λ more. Peer visit.before ∷ more) (callers_last calls last)
-  callers_last (OfOperator audience ∷ calls) last = ap (λ more. Operator audience.before ∷ more) (callers_last calls last)
+  callers_last (OfOperator audience ∷ calls) last =
+      ap (λ more. Operator audience.before ∷ more) (callers_last calls last)
   callers_last (Untaken ∷ calls) last = callers_last calls last
 
   -- there are at most as many messages as peers
@@ -192,7 +201,8 @@ module _ {P O : Type 0} where
         (first : ServesEach heeded told heard written is_new waiting left old mid n) where
       -- serving one more caller after others serves each of them
       each_push : (call : Call P O) → Come left rest (callers_of (call ∷ [])) → All is_new (callers_of (call ∷ []))
-          → IsCallThere heeded told heard written call → GoesThroughSteps mid new (steps_of call) → n + peers (call ∷ []) ≤ m
+          → IsCallThere heeded told heard written call → GoesThroughSteps mid new (steps_of call)
+          → n + peers (call ∷ []) ≤ m
           → ServesEach heeded told heard written is_new waiting rest old new m
       each_push call comes fresh there through few = record {
         calls = first.calls ++ call ∷ [];
@@ -209,9 +219,11 @@ module _ {P O : Type 0} where
     module _ {S : Type 0} (shown : S → Shown) (copied : S → S → List ℕ → Result (Unit {0}) CopyRefusal → Type 0)
         (counted : S → S → ℕ → Type 0) (since : List ℕ) where
       abbrev Each : Option (List (Caller P O)) → Option (List (Caller P O)) → S → S → ℕ → Type 0
-      Each waiting left old new n = ReadsEach heeded told heard written shown copied counted is_new waiting left old new since n
+      Each waiting left old new n =
+          ReadsEach heeded told heard written shown copied counted is_new waiting left old new since n
 
-      -- the callers up to a moment, k of them, with the counts of their connections; n count as connections, and none is told to stop
+      -- the callers up to a moment, k of them, with the counts of their connections; n count as connections, and none
+      -- is told to stop
       pub record UpTo (waiting left : Option (List (Caller P O))) (old new : S) (n k : ℕ) (tally : Tally) : Type 0 where
         pub reads : Each waiting left old new n
         pub is : tally ≡ tally_of since (answered_with reads.each.calls)
@@ -227,7 +239,8 @@ module _ {P O : Type 0} where
           subst (AreBelow most) (sym first.is)
           (below_of since (answered_with calls) most (omega (arith, few, answered_peers calls, first.reads.each.few)))
 
-      pub each_zero : (waiting : Option (List (Caller P O))) (store : S) (n : ℕ) (tally : Tally) → 0 ≡ n → tally ≡ tally_of since []
+      pub each_zero : (waiting : Option (List (Caller P O))) (store : S) (n : ℕ) (tally : Tally) → 0 ≡ n
+          → tally ≡ tally_of since []
           → UpTo waiting waiting store store n 0 tally
       each_zero waiting store n tally none is = record {
         reads = record {
@@ -248,11 +261,13 @@ module _ {P O : Type 0} where
         total = refl;
       }
 
-      module _ (waiting left rest : Option (List (Caller P O))) (old mid new : S) (n m k : ℕ) (tally : Tally) (first : UpTo waiting left old mid n k tally) where
+      module _ (waiting left rest : Option (List (Caller P O))) (old mid new : S) (n m k : ℕ) (tally : Tally)
+          (first : UpTo waiting left old mid n k tally) where
         reads_push : (call : Call P O) → Come left rest (callers_of (call ∷ [])) → All is_new (callers_of (call ∷ []))
             → IsCallThere heeded told heard written call
             → GoesThroughSteps (shown mid) (shown new) (steps_of call)
-            → ((shown new).is_honest → (w : World) → (shown mid).stands w → AllRead shown copied counted w (steps_of call))
+            → ((shown new).is_honest → (w : World) → (shown mid).stands w
+            → AllRead shown copied counted w (steps_of call))
             → IsTallied since first.reads.each.calls call
             → n + peers (call ∷ []) ≤ m → Each waiting rest old new m
         unfolding each_push
@@ -264,7 +279,8 @@ module _ {P O : Type 0} where
               let calls = first.reads.each.calls in
               let more = reads h _ (first.reads.each.through.runs.at honest w stands).ends in
               subst (AllRead shown copied counted w) (sym (steps_last calls call))
-              (read_then shown copied counted w (steps_with calls) (steps_of call) (first.reads.reads honest w stands) more);
+              (read_then shown copied counted w (steps_with calls) (steps_of call) (first.reads.reads honest w stands)
+              more);
           tallies = tallied_push since [] first.reads.each.calls call first.reads.tallies tallied;
         }
 
@@ -304,7 +320,8 @@ module _ {P O : Type 0} where
             next.there next.through
             (λ h w stands. read_heard shown copied counted tally mid new h w stands next.audience.heard next.came)
             (subst (λ t. TellsTally t next.audience.heard) first.is
-            (tells_tally (copied mid new) tally (shown mid).failures (shown new).failures (counted mid new) next.audience.heard next.came))
+            (tells_tally (copied mid new) tally (shown mid).failures (shown new).failures (counted mid new)
+            next.audience.heard next.came))
             (omega (arith, few))
 
         -- an operator more, who is not told that the server ends
@@ -344,7 +361,8 @@ module _ {P O : Type 0} where
           let call : Call P O = Untaken in
           let calls = first.reads.each.calls in
           record {
-            reads = reads_push waiting left rest old new new n m k tally first call comes (All-nil is_new) tt (turns_none (shown new))
+            reads = reads_push waiting left rest old new new n m k tally first call comes (All-nil is_new) tt
+                (turns_none (shown new))
                 (λ h w stands. tt) tt (omega (arith, few));
             is = first.is ∙ ap (tally_of since) (sym (answered_last calls call ∙ append-nil (answered_with calls)));
             goes = All-push IsNoStop calls call first.goes (λ never. never);

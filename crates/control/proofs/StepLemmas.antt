@@ -1,6 +1,7 @@
 -- The steps of the callers: their turns, and the copies between them.
 use Rattle.std.specs.Prelude.{◌||◌}
-use Rattle.std.proofs.Common.{◌≡◌, ◌+◌, ℕ, List, [], ◌∷◌, ◌++◌, map, refl, sym, ap, ◌∙◌, subst, Option, Some, None, Result, Ok, Err, append_assoc, append-nil}
+use Rattle.std.proofs.Common.{◌≡◌, ◌+◌, ℕ, List, [], ◌∷◌, ◌++◌, map, refl, sym, ap, ◌∙◌, subst, Option, Some, None}
+use Rattle.std.proofs.Common.{Result, Ok, Err, append_assoc, append-nil}
 use Rattle.world.specs.World.{World}
 use Rattle.world.specs.Store.{Shown}
 use Rattle.engine.specs.Exchange.{Exchange}
@@ -30,17 +31,21 @@ read_append (Copied path told ∷ xs) ys = refl
 read_append (Counted told ∷ xs) ys = refl
 
 -- a store that goes through some steps and then through more goes through all of them
-pub steps_more : (old mid new : Shown) (xs ys : List Step) → GoesThroughSteps old mid xs → GoesThroughSteps mid new ys → GoesThroughSteps old new (xs ++ ys)
+pub steps_more : (old mid new : Shown) (xs ys : List Step) → GoesThroughSteps old mid xs → GoesThroughSteps mid new ys
+    → GoesThroughSteps old new (xs ++ ys)
 steps_more old mid new xs ys first next =
-    rw (turns_append xs ys, read_append xs ys) (turns_more old mid new (turns_in xs) (has_read xs) first (turns_in ys) (has_read ys) next)
+    rw (turns_append xs ys, read_append xs ys)
+    (turns_more old mid new (turns_in xs) (has_read xs) first (turns_in ys) (has_read ys) next)
 
-pub messages_both : (xs ys : List Step) → messages (turns_in (xs ++ ys)) ≡ messages (turns_in xs) + messages (turns_in ys)
+pub messages_both : (xs ys : List Step)
+    → messages (turns_in (xs ++ ys)) ≡ messages (turns_in xs) + messages (turns_in ys)
 messages_both xs ys = ap messages (turns_append xs ys) ∙ messages_append (turns_in xs) (turns_in ys)
 
 -- ---- the steps of all callers
 
 module _ {P O : Type 0} where
-  pub steps_last : (calls : List (Call P O)) (last : Call P O) → steps_with (calls ++ last ∷ []) ≡ steps_with calls ++ steps_of last
+  pub steps_last : (calls : List (Call P O)) (last : Call P O)
+      → steps_with (calls ++ last ∷ []) ≡ steps_with calls ++ steps_of last
   steps_last [] last = append-nil (steps_of last)
   steps_last (call ∷ calls) last =
       ap (λ more. steps_of call ++ more) (steps_last calls last)
@@ -50,7 +55,8 @@ module _ {P O : Type 0} where
 
 module _ {S : Type 0} (shown : S → Shown) (copied : S → S → List ℕ → Result (Unit {0}) CopyRefusal → Type 0)
     (counted : S → S → ℕ → Type 0) where
-  pub read_then : (w : World) (xs ys : List Step) → AllRead shown copied counted w xs → AllRead shown copied counted (world_at w (turns_in xs)) ys
+  pub read_then : (w : World) (xs ys : List Step) → AllRead shown copied counted w xs
+      → AllRead shown copied counted (world_at w (turns_in xs)) ys
       → AllRead shown copied counted w (xs ++ ys)
   read_then w [] ys all more = more
   read_then w (Turned t ∷ xs) ys all more =
@@ -66,7 +72,8 @@ module _ {S : Type 0} (shown : S → Shown) (copied : S → S → List ℕ → R
   no_reads w (x ∷ xs) = no_reads (world_at w (Asked x ∷ [])) xs
 
   -- an operator's line may be one
-  pub read_heard : (tally : Tally) (old new : S) → (shown new).is_honest → (w : World) → (shown old).stands w → (heard : Option Heard)
+  pub read_heard : (tally : Tally) (old new : S) → (shown new).is_honest → (w : World) → (shown old).stands w
+      → (heard : Option Heard)
       → CameIf (copied old new) (IsPinged tally (shown old).failures (shown new).failures (counted old new)) heard
       → AllRead shown copied counted w (steps_if heard)
   read_heard tally old new h w stands None came = tt

@@ -1,30 +1,42 @@
 -- The counts of those who came.
-use Rattle.std.proofs.Common.{◌≡◌, ℕ, ◌+◌, ◌<◌, List, [], ◌∷◌, ◌++◌, length, refl, sym, ap, subst, Option, Some, None, Result, Ok, Err, arith, append_assoc, append-nil}
+use Rattle.std.proofs.Common.{◌≡◌, ℕ, ◌+◌, ◌<◌, List, [], ◌∷◌, ◌++◌, length, refl, sym, ap, subst, Option, Some, None}
+use Rattle.std.proofs.Common.{Result, Ok, Err, arith, append_assoc, append-nil}
 use Rattle.std.specs.Prelude.{Bool, cond, count_by}
 use Rattle.std.proofs.lemmas.List.{length-append}
 use Rattle.std.proofs.lemmas.List.Sums.{sum_by_push, count_by-le-length}
 use Rattle.control.specs.Health.{Answered, AreBelow, IsPinged, is_of_class, is_unanswered, one_if, tally_of, with_one}
 use Rattle.control.specs.Hearing.{Heard, Carried, Copied, Pinged, Stop, NoOrder, NoMemory}
-use Rattle.control.specs.Visits.{Call, OfPeer, OfOperator, Untaken, AllTallied, CameIf, IsTallied, TellsTally, answered_with, peers}
+use Rattle.control.specs.Visits.{Call, OfPeer, OfOperator, Untaken, AllTallied, CameIf, IsTallied, TellsTally}
+use Rattle.control.specs.Visits.{answered_with, peers}
 use Rattle.control.specs.declared.copies.CopyRefusal.{CopyRefusal}
 use Rattle.control.specs.declared.tally.Tally.{Tally}
 
 -- ---- one connection more
 
-counted_push : (test : Answered → Bool) (xs : List Answered) (x : Answered) → count_by test xs + one_if (test x) ≡ count_by test (xs ++ x ∷ [])
+counted_push : (test : Answered → Bool) (xs : List Answered) (x : Answered)
+    → count_by test xs + one_if (test x) ≡ count_by test (xs ++ x ∷ [])
 counted_push test xs x = sym (sum_by_push (λ y. cond (test y) 1 0) xs x)
 
 length_push : (xs : List Answered) (x : Answered) → length xs + 1 ≡ length (xs ++ x ∷ [])
 length_push xs x = sym (length-append xs (x ∷ []))
 
-pub tally_push : (since : List ℕ) (xs : List Answered) (x : Answered) → with_one (tally_of since xs) x ≡ tally_of since (xs ++ x ∷ [])
+pub tally_push : (since : List ℕ) (xs : List Answered) (x : Answered)
+    → with_one (tally_of since xs) x ≡ tally_of since (xs ++ x ∷ [])
 tally_push since xs x =
     let all = length_push xs x in
     let two = counted_push (is_of_class 2) xs x in
     let four = counted_push (is_of_class 4) xs x in
     let five = counted_push (is_of_class 5) xs x in
     let none = counted_push is_unanswered xs x in
-    λ i. record { since = since; connections = all i; succeeded = two i; refused = four i; failed = five i; unanswered = none i }
+    λ i. record {
+      since = since;
+      connections = all i;
+      succeeded = two i;
+      refused = four i;
+      failed = five i;
+      unanswered =
+          none i;
+    }
 
 pub below_of : (since : List ℕ) (xs : List Answered) (most : ℕ) → length xs < most → AreBelow most (tally_of since xs)
 below_of since xs most few = record {
@@ -38,7 +50,8 @@ below_of since xs most few = record {
 -- ---- those who came
 
 module _ {P O : Type 0} where
-  pub answered_last : (calls : List (Call P O)) (last : Call P O) → answered_with (calls ++ last ∷ []) ≡ answered_with calls ++ answered_with (last ∷ [])
+  pub answered_last : (calls : List (Call P O)) (last : Call P O)
+      → answered_with (calls ++ last ∷ []) ≡ answered_with calls ++ answered_with (last ∷ [])
   answered_last [] last = refl
   answered_last (OfPeer visit answered ∷ calls) last = ap (λ more. answered ∷ more) (answered_last calls last)
   answered_last (OfOperator audience ∷ calls) last = answered_last calls last
@@ -60,7 +73,8 @@ module _ {P O : Type 0} where
   )
 
 -- a ping was told the tally of the moment
-pub tells_tally : (copied : List ℕ → Result (Unit {0}) CopyRefusal → Type 0) (tally : Tally) (before now : ℕ) (counted : ℕ → Type 0)
+pub tells_tally : (copied : List ℕ → Result (Unit {0}) CopyRefusal → Type 0) (tally : Tally) (before now : ℕ)
+    (counted : ℕ → Type 0)
     (heard : Option Heard) → CameIf copied (IsPinged tally before now counted) heard → TellsTally tally heard
 tells_tally copied tally before now counted None came = tt
 tells_tally copied tally before now counted (Some (Carried order told)) came = tt

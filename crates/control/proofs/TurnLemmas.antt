@@ -1,6 +1,7 @@
 -- A store goes through turns: none, one, and more after others.
 use Rattle.std.specs.Prelude.{◌||◌}
-use Rattle.std.proofs.Common.{◌≡◌, ◌+◌, ◌≤◌, Bool, true, false, List, [], ◌∷◌, ◌++◌, length, map, refl, sym, subst, ap, ◌∙◌, inl, inr, Result, Ok, Err, arith, append-nil}
+use Rattle.std.proofs.Common.{◌≡◌, ◌+◌, ◌≤◌, Bool, true, false, List, [], ◌∷◌, ◌++◌, length, map, refl, sym, subst, ap}
+use Rattle.std.proofs.Common.{◌∙◌, inl, inr, Result, Ok, Err, arith, append-nil}
 use Rattle.std.proofs.lemmas.List.{map-append}
 use Rattle.world.specs.World.{World}
 use Rattle.world.specs.Store.{Shown, Does, DoesAt}
@@ -16,7 +17,8 @@ use Rattle.engine.specs.Store.{GoesThrough}
 use Rattle.engine.proofs.RunLemmas.{world_more, met_either}
 use Rattle.control.specs.Copying.{IsOnlyRead}
 use Rattle.control.specs.Order.{event_of, outcome_in}
-use Rattle.control.specs.Turns.{Turn, Asked, Ordered, turn_event, turn_answer, messages, AllCalm, LeavesTwo, StandsIf, world_at, GoesThroughTurns}
+use Rattle.control.specs.Turns.{Turn, Asked, Ordered, turn_event, turn_answer, messages, AllCalm, LeavesTwo, StandsIf}
+use Rattle.control.specs.Turns.{world_at, GoesThroughTurns}
 use Rattle.control.specs.declared.order.Order.{Order}
 use Rattle.control.specs.declared.order.Order.TheVariants.{TeamAdd, GroupAdd, KeyAdd, KeyRevoke}
 use Rattle.control.proofs.CrashLemmas.{leaves_still, leaves_more, world_step}
@@ -46,7 +48,8 @@ read_none shown = record {
   no_fewer = omega arith;
 }
 
-read_runs : (old new : Shown) (w : World) → new.stands w → ((x y : World) → old.leaves x y → new.leaves x y) → RunsAt old new w [] []
+read_runs : (old new : Shown) (w : World) → new.stands w → ((x y : World) → old.leaves x y → new.leaves x y)
+    → RunsAt old new w [] []
 read_runs old new w stands left = record {
   run = refl;
   ends = stands;
@@ -78,7 +81,8 @@ stands_first : (b c : Bool) (shown : Shown) → StandsIf (b || c) shown → Stan
 stands_first false c shown some = tt
 stands_first true c shown some = some
 
-stands_next : (b c : Bool) (old mid : Shown) → ((w : World) → old.stands w → (x : World) × mid.stands x) → StandsIf (b || c) old
+stands_next : (b c : Bool) (old mid : Shown) → ((w : World) → old.stands w → (x : World) × mid.stands x)
+    → StandsIf (b || c) old
     → StandsIf c mid
 stands_next b false old mid on some = tt
 stands_next false true old mid on some = on some.0 some.1
@@ -109,8 +113,10 @@ turns_asked old new (x ∷ y ∷ more) few through = absurd (omega (arith, few))
 
 module _ (old new : Shown) (w : World) where
   -- what was done for an order is what the machine does for its event
-  by_event : (o : Order) (told : Result Registered StoreFault) → DoesAt old new w told (outcome_in w o) (after w (event_of o))
-      → (outcome : Registered) × (reply_to w (event_of o) ≡ Registry outcome) × DoesAt old new w told outcome (after w (event_of o))
+  by_event : (o : Order) (told : Result Registered StoreFault)
+      → DoesAt old new w told (outcome_in w o) (after w (event_of o))
+      → (outcome : Registered) × (reply_to w (event_of o) ≡ Registry outcome)
+      × DoesAt old new w told outcome (after w (event_of o))
   by_event (TeamAdd name group) told does = (_, refl, does)
   by_event (GroupAdd name) told does = (_, refl, does)
   by_event (KeyAdd shelf key right) told does = (_, refl, does)
@@ -161,7 +167,8 @@ turns_ordered old new o (Err fault) does = record {
 calm_both : (w : World) (ts us : List Turn) → AllCalm w (ts ++ us) → AllCalm w ts × AllCalm (world_at w ts) us
 calm_both w [] us all = (tt, all)
 calm_both w (t ∷ ts) us all =
-    let both = calm_both (world_at w (t ∷ [])) ts us all.1 in ((all.0, both.0), subst (λ v. AllCalm v us) (world_step w t ts) both.1)
+    let both = calm_both (world_at w (t ∷ [])) ts us all.1 in
+    ((all.0, both.0), subst (λ v. AllCalm v us) (world_step w t ts) both.1)
 
 none_of : (ts us : List Turn) → ts ++ us ≡ [] → (ts ≡ []) × (us ≡ [])
 none_of [] us e = (refl, e)
@@ -174,7 +181,8 @@ messages_append (Ordered o told ∷ ts) us = messages_append ts us
 
 module _ (old mid new : Shown) (ts : List Turn) (b : Bool) (first : GoesThroughTurns old mid ts b) where
   -- a crash after more turns leaves one of two worlds
-  leaves_after : (us : List Turn) (c : Bool) → GoesThroughTurns mid new us c → new.is_honest → (w : World) → old.stands w → old.leaves w w
+  leaves_after : (us : List Turn) (c : Bool) → GoesThroughTurns mid new us c → new.is_honest → (w : World)
+      → old.stands w → old.leaves w w
       → LeavesTwo new w (ts ++ us)
   leaves_after [] c next h w stands was =
       let honest = next.runs.honest h in
@@ -183,19 +191,22 @@ module _ (old mid new : Shown) (ts : List Turn) (b : Bool) (first : GoesThroughT
       (leaves_still mid new (next.untouched refl there h) w ts (first.left honest w stands was))
   leaves_after (u ∷ us) c next h w stands was =
       let honest = next.runs.honest h in
-      leaves_more new w ts u us (λ all. next.left h _ (first.runs.at honest w stands).ends (first.settled honest w stands all was))
+      leaves_more new w ts u us
+      (λ all. next.left h _ (first.runs.at honest w stands).ends (first.settled honest w stands all was))
 
   module _ (us : List Turn) (c : Bool) where
     same_world : mid.is_honest → (w : World) → old.stands w → world_at (world_at w ts) us ≡ world_at w (ts ++ us)
     same_world h w stands =
         rw (map-append turn_event ts us, map-append turn_answer ts us)
-        (world_more w _ (map turn_event ts) (map turn_event us) (map turn_answer ts) (map turn_answer us) (first.runs.at h w stands).run)
+        (world_more w _ (map turn_event ts) (map turn_event us) (map turn_answer ts) (map turn_answer us)
+        (first.runs.at h w stands).run)
 
     -- a store that goes through some turns and then through more goes through all of them
     pub turns_more : GoesThroughTurns mid new us c → GoesThroughTurns old new (ts ++ us) (b || c)
     turns_more next = record {
       runs = rw (map-append turn_event ts us, map-append turn_answer ts us)
-          (runs_joined old mid new (map turn_event ts) (map turn_event us) (map turn_answer ts) (map turn_answer us) first.runs next.runs);
+          (runs_joined old mid new (map turn_event ts) (map turn_event us) (map turn_answer ts) (map turn_answer us)
+          first.runs next.runs);
       left = leaves_after us c next;
       settled = λ h w stands calm was.
           let both = calm_both w ts us calm in
@@ -210,7 +221,8 @@ module _ (old mid new : Shown) (ts : List Turn) (b : Bool) (first : GoesThroughT
           next.untouched both.1 there h w x (first.untouched both.0 (stands_first b c old some) honest w x was);
       no_fewer = omega (arith, first.no_fewer, next.no_fewer);
       device = λ met.
-          let either = met_either (map turn_answer ts) (map turn_answer us) (rw (map-append turn_answer ts us) at met) in
+          let either = met_either (map turn_answer ts) (map turn_answer us)
+          (rw (map-append turn_answer ts us) at met) in
           elim either [
             | inl earlier ↦ grown_more _ _ _ (first.device earlier) next.no_fewer
             | inr later ↦ grown_before _ _ _ first.no_fewer (next.device later)

@@ -45,7 +45,8 @@ accepted decision.Full good = absurd (above 507 (omega arith) good)
 
 -- a GET after an accepted publish gets what the publish handed in, or the 503
 pub accepted_is_written : AcceptedIsWritten
-accepted_is_written old mid new s k later p b resource r put get events answers is own asks body good run later_own targets back again =
+accepted_is_written old mid new s k later p b resource r put get events answers is own asks body good run later_own
+    targets back again =
     by_answer (answer_of put) refl
   where
     asks_again : spec.ask_of get.message ≡ Get later (spec.query_of resource)
@@ -55,7 +56,8 @@ accepted_is_written old mid new s k later p b resource r put get events answers 
     after = subst (λ e. Run mid (e ∷ []) (answer_of get ∷ []) new) (ap Asked asks_again) again
 
     -- the PUT was not answered by a fault, because a 503 is neither 201 nor 200, so its status is that of its decision
-    by_answer : (a : Answer) → answer_of put ≡ a → (text_of get ≡ bytes_of get.message (Replied r)) ⊎ (text_of get ≡ unavailable)
+    by_answer : (a : Answer) → answer_of put ≡ a
+        → (text_of get ≡ bytes_of get.message (Replied r)) ⊎ (text_of get ≡ unavailable)
     by_answer (Failed fault) came =
         absurd (above 503 (omega arith) (subst IsGood (ap (λ a. page_status (page_for put.message a)) came) good))
     by_answer (Replied heard) came =
@@ -63,10 +65,12 @@ accepted_is_written old mid new s k later p b resource r put get events answers 
         subst (λ e. Run old (e ∷ events) (Replied heard ∷ answers) mid) (ap Asked asks)
         (subst (λ a. Run old (event_of put ∷ events) (a ∷ answers) mid) came run) in
         let d : Decision = put_decision old k p in
-        let status : IsGood (fixed_status (fixed_of d)) = subst IsGood (ap (λ a. page_status (page_for put.message a)) (came ∙ ap Replied before.0)) good in
+        let status : IsGood (fixed_status (fixed_of d)) =
+        subst IsGood (ap (λ a. page_status (page_for put.message a)) (came ∙ ap Replied before.0)) good in
         let decided : Run old (Asked (Put k p) ∷ events) (Replied (reply.Decided d) ∷ answers) mid =
         subst (λ x. Run old (Asked (Put k p) ∷ events) (Replied x ∷ answers) mid) before.0 before in
-        elim (accepted_is_served old mid new s k later p b d (spec.query_of resource) r events answers (answer_of get) is own body (accepted d status) decided later_own back after) [
+        elim (accepted_is_served old mid new s k later p b d (spec.query_of resource) r events answers (answer_of get)
+        is own body (accepted d status) decided later_own back after) [
           | inl same ↦ inl (ap (bytes_of get.message) same)
           | inr failed ↦ inr (failed_text get.message (answer_of get) failed)
         ]

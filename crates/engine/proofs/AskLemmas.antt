@@ -20,7 +20,8 @@ many_times [] many = absurd (omega arith)
 many_times (v ∷ []) many = absurd (omega arith)
 many_times (v ∷ w ∷ more) many = refl
 
-time_or_not : (text : List ℕ) (form moment : Bool) → has_time_form text ≡ form → is_moment text ≡ moment → (IsUtf8 text → ⊥) → time_in text ≡ Malformed
+time_or_not : (text : List ℕ) (form moment : Bool) → has_time_form text ≡ form → is_moment text ≡ moment
+    → (IsUtf8 text → ⊥) → time_in text ≡ Malformed
 time_or_not text true moment form m never =
     absurd (never (IsUtf8-from_ascii text (fits_form-ascii (codes "dddd-dd-ddTdd:dd:ddZ") text refl form)))
 time_or_not text false moment form m never = rw form refl

@@ -1,5 +1,6 @@
 -- Two calls that answer one stream, the second without the bytes of others' messages.
-use Rattle.std.proofs.Common.{◌≡◌, ◌≢◌, ◌⊎◌, ℕ, List, [], ◌∷◌, ◌++◌, Bool, true, false, Option, Some, None, Result, Ok, Err, refl, ◌∙◌, sym, ap, subst, inl, inr, append-nil}
+use Rattle.std.proofs.Common.{◌≡◌, ◌≢◌, ◌⊎◌, ℕ, List, [], ◌∷◌, ◌++◌, Bool, true, false, Option, Some, None, Result, Ok}
+use Rattle.std.proofs.Common.{Err, refl, ◌∙◌, sym, ap, subst, inl, inr, append-nil}
 use Rattle.std.specs.Prelude.{map}
 use Rattle.std.specs.List.{concat}
 use Rattle.framing.specs.Message.{Request, ReadsMessages, End, clean, too_large, bad, Ends, IsStream}
@@ -20,10 +21,12 @@ use Rattle.engine.specs.Exchange.{Exchange, message_of, event_of, answer_of}
 use Rattle.engine.specs.Reply.{text_of}
 use Rattle.engine.specs.Store.{world_at}
 use Rattle.engine.specs.Served.{IsClosing, closing_bytes, texts_of, Ended, Serves}
-use Rattle.engine.specs.Calls.{NoneUnavailable, remaining_for, end_bytes, CallsTellAlike, AgreeAsFar, CallsTellAlikeAsFar}
+use Rattle.engine.specs.Calls.{NoneUnavailable, remaining_for, end_bytes, CallsTellAlike, AgreeAsFar}
+use Rattle.engine.specs.Calls.{CallsTellAlikeAsFar}
 use Rattle.engine.specs.declared.fault.Io.{Io}
 use Rattle.engine.specs.declared.fault.Io.TheVariants as io
-use Rattle.engine.proofs.FrontLemmas.{run_front, none_front, texts_front, marks_front, remaining_front, GoesAsFar, EndsBefore, either_ends}
+use Rattle.engine.proofs.FrontLemmas.{run_front, none_front, texts_front, marks_front, remaining_front, GoesAsFar}
+use Rattle.engine.proofs.FrontLemmas.{EndsBefore, either_ends}
 use Rattle.engine.proofs.PurgedLemmas.{remaining_messages, remaining_texts, events_are, exchanges_alike}
 
 -- ---- the stream without some pieces
@@ -59,7 +62,8 @@ record CameToTheEnd (messages : List Request) (end : End) (xs : List Exchange) (
   wrote : out ≡ concat (map text_of xs) ++ end_bytes end
 
 -- a call that returned `Ok` and did not close with the 503 answered each message of its stream
-came_to_the_end : (old new : Shown) (bytes : List ℕ) (unread written written_new : Option (List ℕ)) (messages : List Request) (end : End)
+came_to_the_end : (old new : Shown) (bytes : List ℕ) (unread written written_new : Option (List ℕ))
+    (messages : List Request) (end : End)
     → IsStream bytes messages end → (call : Serves old new (Some bytes) unread written written_new (Ok tt))
     → call.ends.1.0 ≢ Some Unavailable → CameToTheEnd messages end call.exchanges call.out
 came_to_the_end old new bytes unread written written_new messages end stream call other =
@@ -74,46 +78,61 @@ came_to_the_end old new bytes unread written written_new messages end stream cal
     }
 
 -- the marks of a whole stream leave the same texts of its first exchanges as the marks of these
-texts_remaining : (w : World) (ss : List (List ℕ)) (messages : List Request) (xs : List Exchange) (left : List Request) → messages ≡ map message_of xs ++ left
+texts_remaining : (w : World) (ss : List (List ℕ)) (messages : List Request) (xs : List Exchange) (left : List Request)
+    → messages ≡ map message_of xs ++ left
     → marked (remaining_for w ss messages) (map text_of xs) ≡ remaining_texts w ss xs
 texts_remaining w ss messages xs left is =
     ap (λ ms. marked (remaining_for w ss ms) (map text_of xs)) is ∙ marks_front w ss xs left
 
-messages_remaining : (w : World) (ss : List (List ℕ)) (messages : List Request) (xs : List Exchange) → map message_of xs ≡ messages
+messages_remaining : (w : World) (ss : List (List ℕ)) (messages : List Request) (xs : List Exchange)
+    → map message_of xs ≡ messages
     → marked (remaining_for w ss messages) messages ≡ remaining_messages w ss xs
 messages_remaining w ss messages xs is =
-    ap (λ ms. marked (remaining_for w ss ms) ms) (sym is) ∙ ap (λ es. marked (remaining w ss es) (map message_of xs)) (sym (events_are xs))
+    ap (λ ms. marked (remaining_for w ss ms) ms) (sym is)
+    ∙ ap (λ es. marked (remaining w ss es) (map message_of xs)) (sym (events_are xs))
 
 all_asked : (xs : List Exchange) → AllAsked (map event_of xs)
 all_asked [] = tt
 all_asked (x ∷ xs) = all_asked xs
 
--- two calls wrote the same texts for the remaining messages, and their worlds agree, by what s sees in a later world than the first;
+-- two calls wrote the same texts for the remaining messages, and their worlds agree, by what s sees in a later world
+-- than the first;
 -- a stream has no registry command, so what s sees does not change within it
-calls_alike : (w x one two later : World) (s : List ℕ) (full purged : List Exchange) → IsWorld w → Later w later → Agree w x (chain later s)
+calls_alike : (w x one two later : World) (s : List ℕ) (full purged : List Exchange) → IsWorld w → Later w later
+    → Agree w x (chain later s)
     → Run w (map event_of full) (map answer_of full) one → Run x (map event_of purged) (map answer_of purged) two
-    → map message_of purged ≡ remaining_messages w (chain later s) full → NoneUnavailable (remaining_texts w (chain later s) full) → NoneUnavailable (map text_of purged)
+    → map message_of purged ≡ remaining_messages w (chain later s) full
+    → NoneUnavailable (remaining_texts w (chain later s) full) → NoneUnavailable (map text_of purged)
     → (map text_of purged ≡ remaining_texts w (chain later s) full) × Agree one two (chain later s)
 calls_alike w x one two later s full purged is then agree run again same others none =
-    exchanges_alike w x one two later s full purged is (later_than_asked w one later (map event_of full) (map answer_of full) (all_asked full) run then) agree run again same others none
+    exchanges_alike w x one two later s full purged is
+    (later_than_asked w one later (map event_of full) (map answer_of full) (all_asked full) run then) agree run
+    again same others none
 
 -- two calls that both came to the end of their streams wrote alike
-pub calls_tell_alike : (old new old_too new_too : Shown) → ((w : World) → old.stands w → IsWorld w) → CallsTellAlike old new old_too new_too
-calls_tell_alike old new old_too new_too sound w x later s events answers messages end leads calls other other_too others none =
+pub calls_tell_alike : (old new old_too new_too : Shown) → ((w : World) → old.stands w → IsWorld w)
+    → CallsTellAlike old new old_too new_too
+calls_tell_alike old new old_too new_too sound w x later s events answers messages end leads calls other other_too
+    others none =
     let ss : List (List ℕ) = chain later s in
     let marks : List Bool = remaining_for w ss messages in
     let full = calls.full in
     let purged = calls.purged in
     let first = came_to_the_end old new (concat calls.pieces ++ calls.rest) _ _ _ messages end
     (messages_make_a_stream calls.pieces messages calls.rest end calls.are calls.ends) full other in
-    let second = came_to_the_end old_too new_too (concat (marked marks calls.pieces) ++ calls.rest) _ _ _ (marked marks messages) end
-    (messages_make_a_stream (marked marks calls.pieces) (marked marks messages) calls.rest end (marked_messages marks calls.pieces messages calls.are) calls.ends) purged other_too in
-    let remaining_alike = texts_remaining w ss messages full.exchanges [] (sym first.all ∙ sym (append-nil (map message_of full.exchanges))) in
+    let second = came_to_the_end old_too new_too (concat (marked marks calls.pieces) ++ calls.rest) _ _ _
+    (marked marks messages) end
+    (messages_make_a_stream (marked marks calls.pieces) (marked marks messages) calls.rest end
+    (marked_messages marks calls.pieces messages calls.are) calls.ends) purged other_too in
+    let remaining_alike = texts_remaining w ss messages full.exchanges []
+    (sym first.all ∙ sym (append-nil (map message_of full.exchanges))) in
     let run = full.through.runs.at calls.honest w calls.stands in
     let again = purged.through.runs.at calls.honest_too x calls.stands_too in
     let is = sound w calls.stands in
-    let alike = calls_alike w x _ _ later s full.exchanges purged.exchanges is (ends_later w later events answers is leads) calls.agree run.run again.run
-    (second.all ∙ messages_remaining w ss messages full.exchanges first.all) (subst NoneUnavailable remaining_alike others) none in
+    let alike = calls_alike w x _ _ later s full.exchanges purged.exchanges is
+    (ends_later w later events answers is leads) calls.agree run.run again.run
+    (second.all ∙ messages_remaining w ss messages full.exchanges first.all)
+    (subst NoneUnavailable remaining_alike others) none in
     let same = alike.0 ∙ sym remaining_alike in
     record {
       all = first.all;
@@ -131,7 +150,8 @@ calls_tell_alike old new old_too new_too sound w x later s events answers messag
 -- ---- as far as both went
 
 -- the stream of a call begins with the input that it answered
-input_begins : (bytes : List ℕ) (unread : Option (List ℕ)) (xs : List Exchange) (input rest out : List ℕ) (result : Result (Unit {0}) Io)
+input_begins : (bytes : List ℕ) (unread : Option (List ℕ)) (xs : List Exchange) (input rest out : List ℕ)
+    (result : Result (Unit {0}) Io)
     → Ended (Some bytes) unread xs input rest out result → (more : List ℕ) × (bytes ≡ input ++ more)
 input_begins bytes unread xs input rest out (Ok u) (tells, closing) = ([], sym tells ∙ sym (append-nil input))
 input_begins bytes None xs input rest out (Err io.Read) (consumed, waits, is) = absurd consumed
@@ -139,17 +159,21 @@ input_begins bytes (Some left) xs input rest out (Err io.Read) (consumed, waits,
 input_begins bytes unread xs input rest out (Err io.Write) (tells, broken) = ([], sym tells ∙ sym (append-nil input))
 
 -- the messages that a call answered are the first of its stream
-first_messages : (old new : Shown) (bytes : List ℕ) (unread written written_new : Option (List ℕ)) (result : Result (Unit {0}) Io)
-    (messages : List Request) (end : End) → IsStream bytes messages end → (call : Serves old new (Some bytes) unread written written_new result)
+first_messages : (old new : Shown) (bytes : List ℕ) (unread written written_new : Option (List ℕ))
+    (result : Result (Unit {0}) Io)
+    (messages : List Request) (end : End) → IsStream bytes messages end
+    → (call : Serves old new (Some bytes) unread written written_new result)
     → (left : List Request) × (messages ≡ map message_of call.exchanges ++ left)
 first_messages old new bytes unread written written_new result messages end stream call =
     let begins = input_begins bytes unread call.exchanges call.input call.rest call.out result call.ends in
     let reads = ReadsMessages-append call.input (map message_of call.exchanges) call.rest begins.0 call.reads in
     stream_begins bytes (map message_of call.exchanges) messages (call.rest ++ begins.0) end
-    (subst (λ all. ReadsMessages all (map message_of call.exchanges) (call.rest ++ begins.0)) (sym begins.1) reads) stream
+    (subst (λ all. ReadsMessages all (map message_of call.exchanges) (call.rest ++ begins.0)) (sym begins.1) reads)
+    stream
 
 -- whichever of two calls ended first, the texts of one begin with those of the other
-as_far : (w x one two later : World) (s : List ℕ) → IsWorld w → Later w later → Agree w x (chain later s) → (full purged : List Exchange)
+as_far : (w x one two later : World) (s : List ℕ) → IsWorld w → Later w later → Agree w x (chain later s)
+    → (full purged : List Exchange)
     → Run w (map event_of full) (map answer_of full) one → Run x (map event_of purged) (map answer_of purged) two
     → NoneUnavailable (remaining_texts w (chain later s) full) → NoneUnavailable (map text_of purged)
     → GoesAsFar w (chain later s) full purged ⊎ EndsBefore w (chain later s) full purged
@@ -157,31 +181,39 @@ as_far : (w x one two later : World) (s : List ℕ) → IsWorld w → Later w la
 as_far w x one two later s is then agree full purged run again others none (inl (front, more, cut, same)) =
     let all = ap (map text_of) cut ∙ texts_front front more in
     let short = run_front x two front more (subst (λ xs. Run x (map event_of xs) (map answer_of xs) two) cut again) in
-    let alike = calls_alike w x one short.0 later s full front is then agree run short.1 same others (none_front (map text_of front) (map text_of more) (subst NoneUnavailable all none)) in
+    let alike = calls_alike w x one short.0 later s full front is then agree run short.1 same others
+    (none_front (map text_of front) (map text_of more) (subst NoneUnavailable all none)) in
     (map text_of more, inr (all ∙ ap (λ texts. texts ++ map text_of more) alike.0))
 as_far w x one two later s is then agree full purged run again others none (inr (front, more, cut, same)) =
     let ss : List (List ℕ) = chain later s in
     let remaining_so = remaining_front w ss front more in
     let all = ap (remaining_texts w ss) cut ∙ remaining_so.1 in
     let short = run_front w one front more (subst (λ xs. Run w (map event_of xs) (map answer_of xs) one) cut run) in
-    let alike = calls_alike w x short.0 two later s front purged is then agree short.1 again same (none_front (remaining_texts w ss front) remaining_so.0 (subst NoneUnavailable all others)) none in
+    let alike = calls_alike w x short.0 two later s front purged is then agree short.1 again same
+    (none_front (remaining_texts w ss front) remaining_so.0 (subst NoneUnavailable all others)) none in
     (remaining_so.0, inl (all ∙ ap (λ texts. texts ++ remaining_so.0) (sym alike.0)))
 
 -- however two calls ended, they wrote the same texts for the remaining messages as far as both went
-pub calls_tell_alike_as_far : (old new old_too new_too : Shown) → ((w : World) → old.stands w → IsWorld w) → CallsTellAlikeAsFar old new old_too new_too
-calls_tell_alike_as_far old new old_too new_too sound w x later s events answers messages end result result_too leads calls others none =
+pub calls_tell_alike_as_far : (old new old_too new_too : Shown) → ((w : World) → old.stands w → IsWorld w)
+    → CallsTellAlikeAsFar old new old_too new_too
+calls_tell_alike_as_far old new old_too new_too sound w x later s events answers messages end result result_too leads
+    calls others none =
     let ss : List (List ℕ) = chain later s in
     let marks : List Bool = remaining_for w ss messages in
     let full = calls.full in
     let purged = calls.purged in
     let first = first_messages old new (concat calls.pieces ++ calls.rest) _ _ _ result messages end
     (messages_make_a_stream calls.pieces messages calls.rest end calls.are calls.ends) full in
-    let second = first_messages old_too new_too (concat (marked marks calls.pieces) ++ calls.rest) _ _ _ result_too (marked marks messages) end
-    (messages_make_a_stream (marked marks calls.pieces) (marked marks messages) calls.rest end (marked_messages marks calls.pieces messages calls.are) calls.ends) purged in
-    let cut = either_ends w ss full.exchanges purged.exchanges first.0 second.0 (ap (λ ms. marked (remaining_for w ss ms) ms) (sym first.1) ∙ second.1) in
+    let second = first_messages old_too new_too (concat (marked marks calls.pieces) ++ calls.rest) _ _ _ result_too
+    (marked marks messages) end
+    (messages_make_a_stream (marked marks calls.pieces) (marked marks messages) calls.rest end
+    (marked_messages marks calls.pieces messages calls.are) calls.ends) purged in
+    let cut = either_ends w ss full.exchanges purged.exchanges first.0 second.0
+    (ap (λ ms. marked (remaining_for w ss ms) ms) (sym first.1) ∙ second.1) in
     let same = texts_remaining w ss messages full.exchanges first.0 first.1 in
     let run = full.through.runs.at calls.honest w calls.stands in
     let again = purged.through.runs.at calls.honest_too x calls.stands_too in
     let is = sound w calls.stands in
     subst (λ texts. AgreeAsFar texts (map text_of purged.exchanges)) (sym same)
-    (as_far w x _ _ later s is (ends_later w later events answers is leads) calls.agree full.exchanges purged.exchanges run.run again.run (subst NoneUnavailable same others) none cut)
+    (as_far w x _ _ later s is (ends_later w later events answers is leads) calls.agree full.exchanges purged.exchanges
+    run.run again.run (subst NoneUnavailable same others) none cut)

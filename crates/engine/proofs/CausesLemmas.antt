@@ -1,5 +1,6 @@
 -- Which calls of a reader were made, and why a call failed.
-use Rattle.std.proofs.Common.{◌≡◌, ℕ, ◌≤◌, inl, inr, List, [], ◌++◌, Option, Result, Ok, Err, IfOk, IfErr, refl, sym, ◌∙◌, subst, arith}
+use Rattle.std.proofs.Common.{◌≡◌, ℕ, ◌≤◌, inl, inr, List, [], ◌++◌, Option, Result, Ok, Err, IfOk, IfErr, refl, sym}
+use Rattle.std.proofs.Common.{◌∙◌, subst, arith}
 use Rattle.histories.specs.Account.{Account, Gives}
 use Rattle.histories.specs.Calls.{Reads, Writes}
 use Rattle.histories.proofs.AccountLemmas.{Gives-none, Gives-trans, Gives-kept}
@@ -55,21 +56,25 @@ module _ (left : ℕ) (r₀ r₁ : Reads) (w₀ w₁ : Writes) where
   caused_unwritten out out' text (Err io.Write) writes fails = fails
 
 -- what a turn failed of is a cause for the stream
-pub caused_later : (most left : ℕ) (r₀ r₁ r₂ : Reads) (w₀ w₁ w₂ : Writes) (e : Io) → Spends most left r₀ r₁ → r₀.failed ≤ r₁.failed
+pub caused_later : (most left : ℕ) (r₀ r₁ r₂ : Reads) (w₀ w₁ w₂ : Writes) (e : Io) → Spends most left r₀ r₁
+    → r₀.failed ≤ r₁.failed
     → w₀.failed ≤ w₁.failed → IsCausedIn left r₁ r₂ w₁ w₂ e → IsCausedIn most r₀ r₂ w₀ w₂ e
 caused_later most left r₀ r₁ r₂ w₀ w₁ w₂ io.Read spent reads writes (inl failed) = inl (omega (arith, reads, failed))
 caused_later most left r₀ r₁ r₂ w₀ w₁ w₂ io.Read spent reads writes (inr all) = inr (omega (arith, spent, all))
 caused_later most left r₀ r₁ r₂ w₀ w₁ w₂ io.Write spent reads writes failed = omega (arith, writes, failed)
 
 -- if a flush failed, that is a cause
-pub caused_unflushed : {T : Type 0} (most : ℕ) (r₀ r₁ : Reads) (w₀ w₁ w₂ : Writes) (result : Result T Io) → w₀.failed ≤ w₁.failed
-    → IfErr result (λ e. e ≡ io.Write) → FailsWith w₁.failed w₂.failed result → IfErr result (IsCausedIn most r₀ r₁ w₀ w₂)
+pub caused_unflushed : {T : Type 0} (most : ℕ) (r₀ r₁ : Reads) (w₀ w₁ w₂ : Writes) (result : Result T Io)
+    → w₀.failed ≤ w₁.failed
+    → IfErr result (λ e. e ≡ io.Write) → FailsWith w₁.failed w₂.failed result
+    → IfErr result (IsCausedIn most r₀ r₁ w₀ w₂)
 caused_unflushed most r₀ r₁ w₀ w₁ w₂ (Ok x) writes which fails = tt
 caused_unflushed most r₀ r₁ w₀ w₁ w₂ (Err e) writes which fails =
     subst (IsCausedIn most r₀ r₁ w₀ w₂) (sym which) (omega (arith, writes, fails))
 
 -- what a turn failed of is a cause for the stream, and so is a flush that failed after it
-pub caused_ended : (most : ℕ) (r₀ r₁ : Reads) (w₀ w₁ w₂ : Writes) (turned : Result Turn Io) (result : Result (Option ℕ) Io)
+pub caused_ended : (most : ℕ) (r₀ r₁ : Reads) (w₀ w₁ w₂ : Writes) (turned : Result Turn Io)
+    (result : Result (Option ℕ) Io)
     → IfErr turned (IsCausedIn most r₀ r₁ w₀ w₁) → w₀.failed ≤ w₁.failed → w₁.failed ≤ w₂.failed → EndsBy turned result
     → IfOk turned (λ _. FailsWith w₁.failed w₂.failed result) → IfErr result (IsCausedIn most r₀ r₁ w₀ w₂)
 caused_ended most r₀ r₁ w₀ w₁ w₂ (Ok turn) (Ok status) cause before after ends fails = tt

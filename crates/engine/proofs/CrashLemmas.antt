@@ -6,17 +6,21 @@ use Rattle.engine.specs.Exchange.{Exchange, Outcome, Unserved, Met, Served}
 use Rattle.engine.specs.Store.{LeavesTwo, AllCalm, world_at}
 
 -- if each crash that may leave a world before may also leave it now, `LeavesTwo` still holds
-pub leaves_still : (mid new : Shown) → ((w x : World) → mid.leaves w x → new.leaves w x) → (w : World) (xs : List Exchange)
+pub leaves_still : (mid new : Shown) → ((w x : World) → mid.leaves w x → new.leaves w x)
+    → (w : World) (xs : List Exchange)
     → LeavesTwo mid w xs → LeavesTwo new w xs
 leaves_still mid new still w [] leaves = still w w leaves
 leaves_still mid new still w (x ∷ []) leaves = still w _ leaves
-leaves_still mid new still w (x ∷ y ∷ more) leaves = λ unmet. leaves_still mid new still (world_at w (x ∷ [])) (y ∷ more) (leaves unmet)
+leaves_still mid new still w (x ∷ y ∷ more) leaves = λ unmet.
+    leaves_still mid new still (world_at w (x ∷ [])) (y ∷ more) (leaves unmet)
 
-pub world_step : (w : World) (x : Exchange) (xs : List Exchange) → world_at (world_at w (x ∷ [])) xs ≡ world_at w (x ∷ xs)
+pub world_step : (w : World) (x : Exchange) (xs : List Exchange)
+    → world_at (world_at w (x ∷ [])) xs ≡ world_at w (x ∷ xs)
 world_step w x xs = by_outcome x.outcome
   where
     by_outcome : (o : Outcome)
-        → world_at (world_at w (record { message = x.message; outcome = o } ∷ [])) xs ≡ world_at w (record { message = x.message; outcome = o } ∷ xs)
+        → world_at (world_at w (record { message = x.message; outcome = o } ∷ [])) xs
+        ≡ world_at w (record { message = x.message; outcome = o } ∷ xs)
     by_outcome Unserved = refl
     by_outcome (Met fault) = refl
     by_outcome (Served reply) = refl

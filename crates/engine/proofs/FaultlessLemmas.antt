@@ -27,7 +27,8 @@ faultless_events (x ∷ xs) = go x.answer refl (faultless_events xs)
 
 -- ---- the marked events
 
-pub marked_events : (marks : List Bool) (cs : List Coming) → marked marks (map event_in cs) ≡ map event_in (marked marks cs)
+pub marked_events : (marks : List Bool) (cs : List Coming)
+    → marked marks (map event_in cs) ≡ map event_in (marked marks cs)
 marked_events [] cs = refl
 marked_events (true ∷ marks) [] = refl
 marked_events (false ∷ marks) [] = refl
@@ -60,7 +61,8 @@ module _ (text_for : Coming → Answer → List ℕ) where
   none [] = refl
   none (c ∷ cs) = refl
 
-  pub marked_texts : (marks : List Bool) (cs : List Coming) (rs : List Reply) → marked marks (texts cs rs) ≡ texts (marked marks cs) (marked marks rs)
+  pub marked_texts : (marks : List Bool) (cs : List Coming) (rs : List Reply)
+      → marked marks (texts cs rs) ≡ texts (marked marks cs) (marked marks rs)
   marked_texts [] cs rs = refl
   marked_texts (true ∷ marks) [] rs = refl
   marked_texts (false ∷ marks) [] rs = refl
@@ -76,11 +78,16 @@ pub record IsExact (w new : World) (es : List Event) (rs : List Reply) : Type 0 
   pub replies_are : rs ≡ replies w es
   pub ends : new ≡ after_all w es
 
-pub exact : (w new : World) (es : List Event) (answers : List Answer) → Run w es answers new → IsExact w new (answered es answers) (replies_of answers)
+pub exact : (w new : World) (es : List Event) (answers : List Answer) → Run w es answers new
+    → IsExact w new (answered es answers) (replies_of answers)
 exact w new [] [] run = record { replies_are = refl; ends = run }
 exact w new [] (a ∷ answers) run = absurd run
 exact w new (e ∷ es) [] run = absurd run
 exact w new (e ∷ es) (Failed fault ∷ answers) run = exact w new es answers run
 exact w new (e ∷ es) (Replied r ∷ answers) run =
     let rest = exact (after w e) new es answers run.1 in
-    record { replies_are = ap (λ a. a ∷ replies_of answers) run.0 ∙ ap (λ rs. reply_to w e ∷ rs) rest.replies_are; ends = rest.ends }
+    record {
+      replies_are = ap (λ a. a ∷ replies_of answers) run.0
+          ∙ ap (λ rs. reply_to w e ∷ rs) rest.replies_are;
+      ends = rest.ends;
+    }

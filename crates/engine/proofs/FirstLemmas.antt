@@ -15,7 +15,8 @@ use Rattle.engine.specs.declared.fault.Io.TheVariants as io
 use Rattle.engine.specs.declared.session.Turn.{Turn}
 
 -- what comes next comes first if nothing is held
-pub first_next : (old new : Framing) (u u' : Account) (first : First) → old.held ≡ [] → TakesNext old new u u' first → HearsFirst u u' first
+pub first_next : (old new : Framing) (u u' : Account) (first : First) → old.held ≡ [] → TakesNext old new u u' first
+    → HearsFirst u u' first
 first_next old new u u' first none next =
     let near = next.near (unfinished_nothing old.held none) in
     record {
@@ -32,24 +33,50 @@ first_next old new u u' first none next =
     by_first : (first : First) → IsNext old new u' next.bytes first → IsFirstHeard u' next.bytes first
     by_first (Answers x) (reads, sound) =
         (new.held, subst (λ (held : List ℕ). ReadsMessage (held ++ next.bytes) x.message new.held) none reads)
-    by_first (Closes closing) closes = λ more may. subst (λ (held : List ℕ). IsClosing (held ++ (next.bytes ++ more)) closing) none (closes more may)
+    by_first (Closes closing) closes = λ more may.
+        subst (λ (held : List ℕ). IsClosing (held ++ (next.bytes ++ more)) closing) none (closes more may)
 
 status_of_turn : (first : First) → turn_status (turn_of first) ≡ first_status first
 status_of_turn (Answers x) = refl
 status_of_turn (Closes closing) = refl
 
 -- the first turn of a stream and `end_turn` make what `answer_one` promises
-pub first_turned : (old new : Shown) (u u' : Account) (w w' w'' : Option (List ℕ)) (held held_new : Framing) (turned : Result Turn Io)
-    (result : Result (Option ℕ) Io) → held.held ≡ [] → Turns old new u u' w w' held held_new turned → Keeps w' w'' → EndsBy turned result
+pub first_turned : (old new : Shown) (u u' : Account) (w w' w'' : Option (List ℕ)) (held held_new : Framing)
+    (turned : Result Turn Io)
+    (result : Result (Option ℕ) Io) → held.held ≡ [] → Turns old new u u' w w' held held_new turned → Keeps w' w''
+    → EndsBy turned result
     → ServesHeard old new u u' w w'' result
-first_turned old new u u' w w' w'' held held_new (Ok turned) (Ok status) none (first, next, through, is, appends) keeps ends =
-    (first, first_next held held_new u u' first none next, through, ends ∙ ap turn_status is ∙ status_of_turn first, Appends-kept w w' w'' (first_bytes first) appends keeps)
+first_turned old new u u' w w' w'' held held_new (Ok turned) (Ok status) none (first, next, through, is, appends) keeps
+    ends = (
+      first,
+      first_next held held_new u u' first none next,
+      through,
+      ends ∙ ap turn_status is
+          ∙ status_of_turn first,
+      Appends-kept w w' w'' (first_bytes first) appends keeps,
+    )
 first_turned old new u u' w w' w'' held held_new (Ok turned) (Err io.Read) none turns keeps ends = cc
-first_turned old new u u' w w' w'' held held_new (Ok turned) (Err io.Write) none (first, next, through, is, appends) keeps ends =
-    (first, first_next held held_new u u' first none next, through, inr (Appends-kept w w' w'' (first_bytes first) appends keeps))
-first_turned old new u u' w w' w'' held held_new (Err io.Read) result none (bytes, consumed, waits, through, unwritten) keeps ends =
-    subst (ServesHeard old new u u' w w'') (sym ends)
-    (bytes, consumed, subst (λ (held : List ℕ). IsUnfinished (held ++ bytes)) none waits, through, Keeps-trans w w' w'' unwritten keeps)
-first_turned old new u u' w w' w'' held held_new (Err io.Write) result none (first, next, through, (begun, begins, appends)) keeps ends =
-    subst (ServesHeard old new u u' w w'') (sym ends)
-    (first, first_next held held_new u u' first none next, through, inl (begun, begins, Appends-kept w w' w'' begun appends keeps))
+first_turned old new u u' w w' w'' held held_new (Ok turned) (Err io.Write) none (first, next, through, is, appends)
+    keeps ends = (
+      first,
+      first_next held held_new u u' first none next,
+      through,
+      inr (Appends-kept w w' w'' (first_bytes first) appends keeps),
+    )
+first_turned old new u u' w w' w'' held held_new (Err io.Read) result none (bytes, consumed, waits, through, unwritten)
+    keeps ends =
+    subst (ServesHeard old new u u' w w'') (sym ends) (
+      bytes,
+      consumed,
+      subst (λ (held : List ℕ). IsUnfinished (held ++ bytes)) none waits,
+      through,
+      Keeps-trans w w' w'' unwritten keeps,
+    )
+first_turned old new u u' w w' w'' held held_new (Err io.Write) result none
+    (first, next, through, (begun, begins, appends)) keeps ends =
+    subst (ServesHeard old new u u' w w'') (sym ends) (
+      first,
+      first_next held held_new u u' first none next,
+      through,
+      inl (begun, begins, Appends-kept w w' w'' begun appends keeps),
+    )

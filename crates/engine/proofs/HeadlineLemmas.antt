@@ -1,5 +1,6 @@
 -- The laws of runs, in bytes.
-use Rattle.std.proofs.Common.{◌≡◌, ◌⊎◌, ℕ, List, [], ◌∷◌, Bool, Option, Some, None, refl, ◌∙◌, sym, ap, subst, inl, inr, arith}
+use Rattle.std.proofs.Common.{◌≡◌, ◌⊎◌, ℕ, List, [], ◌∷◌, Bool, Option, Some, None, refl, ◌∙◌, sym, ap, subst, inl, inr}
+use Rattle.std.proofs.Common.{arith}
 use Rattle.std.specs.Prelude.{map}
 use Rattle.std.specs.FinMap as fin
 use Rattle.modver.specs.SemanticVersion.{SemanticVersion, version_text}
@@ -15,7 +16,8 @@ use Rattle.shelf.specs.declared.reply.Answer.{Answer}
 use Rattle.shelf.specs.declared.reply.Answer.TheVariants.{Replied, Failed}
 use Rattle.shelf.specs.declared.reply.Reply.{Reply}
 use Rattle.shelf.specs.declared.reply.Reply.TheVariants as reply
-use Rattle.shelf.specs.Machine.{Run, after_all, replies, replies_of, keyed_reply, query_reply, gomod_reply, zip_reply, info_reply, latest_reply}
+use Rattle.shelf.specs.Machine.{Run, after_all, replies, replies_of, keyed_reply, query_reply, gomod_reply, zip_reply}
+use Rattle.shelf.specs.Machine.{info_reply, latest_reply}
 use Rattle.world.specs.Latest.{latest_of}
 use Rattle.shelf.specs.Isolation.{remaining, marked, belongs, Agree}
 use Rattle.shelf.specs.Immutability.{IsOfVersion, IsFound, IsFailed}
@@ -27,30 +29,38 @@ use Rattle.engine.specs.Exchange.{event_of, answer_of}
 use Rattle.engine.specs.Happening.{Coming, Happening, event_in, text_in, coming_of, event_at, answer_at, faultless}
 use Rattle.engine.specs.Reply.{reply_page, page_of, page_for, page_bytes, page_status, bytes_of, text_of}
 use Rattle.engine.specs.Headline.{unavailable, CallersAreAnsweredAlike, BytesStayServed, TellsLatest, LatestIsWritten}
-use Rattle.engine.proofs.FaultlessLemmas.{text_to, texts, events_are, faultless_events, faultless_texts, marked_events, marked_texts, IsExact, exact}
+use Rattle.engine.proofs.FaultlessLemmas.{text_to, texts, events_are, faultless_events, faultless_texts, marked_events}
+use Rattle.engine.proofs.FaultlessLemmas.{marked_texts, IsExact, exact}
 
 -- ---- nothing about others
 
 -- two runs write the same texts for what remains, whatever text is written for what came and its answer
-pub alike_by : (text_for : Coming → Answer → List ℕ) (old old_too new new_too : World) (s : List ℕ) (full purged : List Happening) → IsWorld old
+pub alike_by : (text_for : Coming → Answer → List ℕ) (old old_too new new_too : World) (s : List ℕ)
+    (full purged : List Happening) → IsWorld old
     → Agree old old_too (chain new s)
-    → Run old (map event_at full) (map answer_at full) new → Run old_too (map event_at purged) (map answer_at purged) new_too
+    → Run old (map event_at full) (map answer_at full) new
+    → Run old_too (map event_at purged) (map answer_at purged) new_too
     → let marks : List Bool = remaining old (chain new s) (map event_at (faultless full)) in
     map coming_of (faultless purged) ≡ marked marks (map coming_of (faultless full))
-    → (map (text_to text_for) (faultless purged) ≡ marked marks (map (text_to text_for) (faultless full))) × Agree new new_too (chain new s)
+    → (map (text_to text_for) (faultless purged) ≡ marked marks (map (text_to text_for) (faultless full)))
+    × Agree new new_too (chain new s)
 alike_by text_for old old_too new new_too s full purged is agree run again same =
     let ss : List (List ℕ) = chain new s in
     let marks : List Bool = remaining old ss (map event_at (faultless full)) in
     let cs : List Coming = map coming_of (faultless full) in
     let rs : List Reply = replies_of (map answer_at full) in
     let heard : List Reply = replies_of (map answer_at purged) in
-    let first : (marked marks rs ≡ replies old_too (marked marks (map event_at (faultless full)))) × Agree new (after_all old_too (marked marks (map event_at (faultless full)))) ss =
-    subst (λ es. (marked (remaining old ss es) rs ≡ replies old_too (marked (remaining old ss es) es)) × Agree new (after_all old_too (marked (remaining old ss es) es)) ss) (faultless_events full)
+    let first : (marked marks rs ≡ replies old_too (marked marks (map event_at (faultless full))))
+    × Agree new (after_all old_too (marked marks (map event_at (faultless full)))) ss =
+    subst (λ es. (marked (remaining old ss es) rs ≡ replies old_too (marked (remaining old ss es) es))
+    × Agree new (after_all old_too (marked (remaining old ss es) es)) ss) (faultless_events full)
     (isolated old old_too new s (map event_at full) (map answer_at full) is agree run) in
     let second : IsExact old_too new_too (map event_at (faultless purged)) heard =
-    subst (λ es. IsExact old_too new_too es heard) (faultless_events purged) (exact old_too new_too (map event_at purged) (map answer_at purged) again) in
+    subst (λ es. IsExact old_too new_too es heard) (faultless_events purged)
+    (exact old_too new_too (map event_at purged) (map answer_at purged) again) in
     let events : map event_at (faultless purged) ≡ marked marks (map event_at (faultless full)) =
-    events_are (faultless purged) ∙ ap (λ c. map event_in c) same ∙ sym (marked_events marks cs) ∙ ap (marked marks) (sym (events_are (faultless full))) in
+    events_are (faultless purged) ∙ ap (λ c. map event_in c) same ∙ sym (marked_events marks cs)
+    ∙ ap (marked marks) (sym (events_are (faultless full))) in
     let alike : heard ≡ marked marks rs = second.replies_are ∙ ap (replies old_too) events ∙ sym first.0 in (
       faultless_texts text_for purged
           ∙ ap (λ c. texts text_for c heard) same
@@ -66,11 +76,13 @@ callers_are_answered_alike = alike_by text_in
 -- ---- a query of one version or of the latest
 
 -- the machine's reply to a query by a key of s
-keyed : (w : World) (s k : List ℕ) (q : Query) (r : Reply) → belongs w k s → r ≡ keyed_reply w (fin.get w.keys k) q → r ≡ query_reply w s q
+keyed : (w : World) (s k : List ℕ) (q : Query) (r : Reply) → belongs w k s → r ≡ keyed_reply w (fin.get w.keys k) q
+    → r ≡ query_reply w s q
 keyed w s k q r own is = is ∙ ap (λ o. keyed_reply w o q) own.1 ∙ ap (λ t. query_reply w t q) own.2
 
 -- a reply about a version with status 200 found the version
-found_gomod : (m : Request) (o : Option Heading) → page_status (page_of m (gomod_reply o)) ≡ 200 → IsFound (gomod_reply o)
+found_gomod : (m : Request) (o : Option Heading) → page_status (page_of m (gomod_reply o)) ≡ 200
+    → IsFound (gomod_reply o)
 found_gomod m None is = let wrong : ◌≡◌ {A = ℕ} 404 200 = is in absurd (omega arith)
 found_gomod m (Some shown) is = tt
 
@@ -78,18 +90,21 @@ found_zip : (m : Request) (o : Option Seen) → page_status (page_of m (zip_repl
 found_zip m None is = let wrong : ◌≡◌ {A = ℕ} 404 200 = is in absurd (omega arith)
 found_zip m (Some seen) is = tt
 
-found_info : (m : Request) (v : SemanticVersion) (o : Option Heading) → page_status (page_of m (info_reply v o)) ≡ 200 → IsFound (info_reply v o)
+found_info : (m : Request) (v : SemanticVersion) (o : Option Heading) → page_status (page_of m (info_reply v o)) ≡ 200
+    → IsFound (info_reply v o)
 found_info m v None is = let wrong : ◌≡◌ {A = ℕ} 404 200 = is in absurd (omega arith)
 found_info m v (Some shown) is = tt
 
-found_reply : (m : Request) (w : World) (s : List ℕ) (q : Query) → IsOfVersion q → page_status (page_of m (query_reply w s q)) ≡ 200
+found_reply : (m : Request) (w : World) (s : List ℕ) (q : Query) → IsOfVersion q
+    → page_status (page_of m (query_reply w s q)) ≡ 200
     → IsFound (query_reply w s q)
 found_reply m w s (query.GoMod p v) one is = found_gomod m (heading w s p (version_text v)) is
 found_reply m w s (query.Zip p v) one is = found_zip m (view w s p (version_text v)) is
 found_reply m w s (query.Info p v) one is = found_info m v (heading w s p (version_text v)) is
 found_reply m w s q one is = absurd one
 
-found_bytes : (m n : Request) (r : Reply) → spec.sum_of m ≡ spec.sum_of n → IsFound r → bytes_of m (Replied r) ≡ bytes_of n (Replied r)
+found_bytes : (m n : Request) (r : Reply) → spec.sum_of m ≡ spec.sum_of n → IsFound r
+    → bytes_of m (Replied r) ≡ bytes_of n (Replied r)
 found_bytes m n (reply.GoMod b) same is = ap (λ sum. page_bytes (reply_page sum (reply.GoMod b))) same
 found_bytes m n (reply.Zip b) same is = refl
 found_bytes m n (reply.Info v time) same is = refl
@@ -101,7 +116,8 @@ failed_text m (Failed fault) failed = refl
 
 -- a GET after one that was answered 200 gets the same text or the 503
 pub bytes_stay_served : BytesStayServed
-bytes_stay_served old mid new s k later resource first last events answers is own one targets ok run later_own targets_again again =
+bytes_stay_served old mid new s k later resource first last events answers is own one targets ok run later_own
+    targets_again again =
     by_answer (answer_of first) refl
   where
     q : Query
@@ -119,31 +135,42 @@ bytes_stay_served old mid new s k later resource first last events answers is ow
     -- the first GET was not answered by a fault, because a 503 is not 200
     by_answer : (a : Answer) → answer_of first ≡ a → (text_of last ≡ text_of first) ⊎ (text_of last ≡ unavailable)
     by_answer (Failed fault) came =
-        let wrong : ◌≡◌ {A = ℕ} 503 200 = sym (ap (λ a. page_status (page_for first.message a)) came) ∙ ok in absurd (omega arith)
+        let wrong : ◌≡◌ {A = ℕ} 503 200 = sym (ap (λ a. page_status (page_for first.message a)) came)
+        ∙ ok in absurd (omega arith)
     by_answer (Replied r) came =
         let before : Run old (Asked (Get k q) ∷ events) (Replied r ∷ answers) mid =
         subst (λ e. Run old (e ∷ events) (Replied r ∷ answers) mid) (ap Asked asks)
         (subst (λ a. Run old (event_of first ∷ events) (a ∷ answers) mid) came run) in
-        let after : Run mid (Asked (Get later q) ∷ []) (answer_of last ∷ []) new = subst (λ e. Run mid (e ∷ []) (answer_of last ∷ []) new) (ap Asked asks_again) again in
+        let after : Run mid (Asked (Get later q) ∷ []) (answer_of last ∷ []) new =
+        subst (λ e. Run mid (e ∷ []) (answer_of last ∷ []) new) (ap Asked asks_again) again in
         let reply : r ≡ query_reply old s q = keyed old s k q r own before.0 in
         let status = sym (ap (λ a. page_status (page_for first.message a)) (came ∙ ap Replied reply)) ∙ ok in
         let found : IsFound r = subst IsFound (sym reply) (found_reply first.message old s q one status) in
-        elim (stays_served old mid new s k later q r events answers (answer_of last) is own one found before later_own after) [
-          | inl same ↦ inl (ap (bytes_of last.message) same ∙ found_bytes last.message first.message r sums found ∙ ap (bytes_of first.message) (sym came))
+        elim (stays_served old mid new s k later q r events answers (answer_of last) is own one found before later_own
+        after) [
+          | inl same ↦ inl (ap (bytes_of last.message) same ∙ found_bytes last.message first.message r sums found
+              ∙ ap (bytes_of first.message) (sym came))
           | inr failed ↦ inr (failed_text last.message (answer_of last) failed)
         ]
 
 -- ---- the latest version
 
 -- the machine's reply for the latest version is written as the rules say
-latest_text : (w : World) → IsWorld w → (s path : List ℕ) (m : Request) → TellsLatest w s path (bytes_of m (Replied (query_reply w s (query.Latest path))))
+latest_text : (w : World) → IsWorld w → (s path : List ℕ) (m : Request)
+    → TellsLatest w s path (bytes_of m (Replied (query_reply w s (query.Latest path))))
 latest_text w is s path m =
-    elim (latest_of w s path) as (λ o. latest_of w s path ≡ o → TellsLatest w s path (bytes_of m (Replied (query_reply w s (query.Latest path))))) [
-      | None ↦ λ none. inr ((none_is_latest w s path is).0 none, ap (λ o. bytes_of m (Replied (latest_reply w s path o))) none)
+    elim (latest_of w s path) as
+    (λ o. latest_of w s path ≡ o
+    → TellsLatest w s path (bytes_of m (Replied (query_reply w s (query.Latest path))))) [
+      | None ↦ λ none. inr (
+        (none_is_latest w s path is).0 none,
+        ap (λ o. bytes_of m (Replied (latest_reply w s path o))) none,
+      )
       | Some v ↦ λ some.
           let top = (latest_is_the_top w s path v is).0 some in
           let seen = top.member.2.1 in
-          let came = ap (λ o. bytes_of m (Replied (latest_reply w s path o))) some ∙ ap (λ o. bytes_of m (Replied (info_reply v (without_zip o)))) seen.1 in
+          let came = ap (λ o. bytes_of m (Replied (latest_reply w s path o))) some
+          ∙ ap (λ o. bytes_of m (Replied (info_reply v (without_zip o)))) seen.1 in
           inl (v, seen.0.entry.time, top, (seen.0, seen.1, refl), came)
     ] refl
 
@@ -155,6 +182,8 @@ latest_is_written old new s k path x is own asks run = by_answer (answer_of x) r
     by_answer (Failed fault) came = inr (ap (bytes_of x.message) came)
     by_answer (Replied r) came =
         let at : Run old (Asked (Get k (query.Latest path)) ∷ []) (Replied r ∷ []) new =
-        subst (λ e. Run old (e ∷ []) (Replied r ∷ []) new) (ap Asked asks) (subst (λ a. Run old (event_of x ∷ []) (a ∷ []) new) came run) in
+        subst (λ e. Run old (e ∷ []) (Replied r ∷ []) new) (ap Asked asks)
+        (subst (λ a. Run old (event_of x ∷ []) (a ∷ []) new) came run) in
         let reply : r ≡ query_reply old s (query.Latest path) = keyed old s k (query.Latest path) r own at.0 in
-        inl (subst (TellsLatest old s path) (sym (ap (bytes_of x.message) (came ∙ ap Replied reply))) (latest_text old is s path x.message))
+        inl (subst (TellsLatest old s path) (sym (ap (bytes_of x.message) (came ∙ ap Replied reply)))
+        (latest_text old is s path x.message))

@@ -1,5 +1,6 @@
 -- Reading until the next message is whole.
-use Rattle.std.proofs.Common.{◌≡◌, ℕ, ◌<◌, ◌≤◌, ◌+◌, List, [], ◌++◌, Option, Some, None, Ok, Err, length, refl, sym, ap, ◌∙◌, subst, arith, append_assoc, append-nil}
+use Rattle.std.proofs.Common.{◌≡◌, ℕ, ◌<◌, ◌≤◌, ◌+◌, List, [], ◌++◌, Option, Some, None, Ok, Err, length, refl, sym, ap}
+use Rattle.std.proofs.Common.{◌∙◌, subst, arith, append_assoc, append-nil}
 use Rattle.histories.specs.Account.{Account}
 use Rattle.histories.proofs.AccountLemmas.{Gives-none, Gives-trans, Gives-kept}
 use Rattle.framing.specs.Message.{ReadsMessage}
@@ -19,7 +20,8 @@ use Rattle.engine.proofs.MessageLemmas.{message_shortens}
 use Rattle.engine.proofs.ReadLemmas.{near_few}
 
 -- at first nothing was read
-pub none_read : (held : Framing) (unread : Account) (reads : ℕ) → held.failure ≡ None → ReadSoFar held held unread unread reads reads
+pub none_read : (held : Framing) (unread : Account) (reads : ℕ) → held.failure ≡ None
+    → ReadSoFar held held unread unread reads reads
 none_read held unread reads sound = record {
   bytes = [];
   consumed = Gives-none unread;
@@ -35,7 +37,8 @@ module _
   behind : (more : List ℕ) → now.held ++ more ≡ old.held ++ (far.bytes ++ more)
   behind more = ap (λ (held : List ℕ). held ++ more) far.held ∙ append_assoc old.held far.bytes more
 
-  near_now : (bytes : List ℕ) → StaysNear now.held bytes → IsUnfinished old.held → StaysNear old.held (far.bytes ++ bytes)
+  near_now : (bytes : List ℕ) → StaysNear now.held bytes → IsUnfinished old.held
+      → StaysNear old.held (far.bytes ++ bytes)
   near_now bytes near waits = record {
     early = far.bytes ++ near.early;
     late = near.late;
@@ -45,10 +48,17 @@ module _
   }
 
   -- what is taken comes next: a message that is whole, or the end if the bytes held can't go on
-  pub taken_comes : (new : Framing) (next : Incoming) → Takes now (Some next) new → Comes old new reads reads_now u₀ u₁ (Ok next)
+  pub taken_comes : (new : Framing) (next : Incoming) → Takes now (Some next) new
+      → Comes old new reads reads_now u₀ u₁ (Ok next)
   taken_comes new (incoming.Message message) (reads_it, sound) =
-      let shorter : length new.held < length now.held = message_shortens now.held (view message) new.held reads_it in
-      (far.bytes, far.consumed, far.near, subst (λ (bytes : List ℕ). ReadsMessage bytes (view message) new.held) far.held reads_it, sound, omega (arith, shorter, far.less))
+      let shorter : length new.held < length now.held = message_shortens now.held (view message) new.held reads_it in (
+        far.bytes,
+        far.consumed,
+        far.near,
+        subst (λ (bytes : List ℕ). ReadsMessage bytes (view message) new.held) far.held reads_it,
+        sound,
+        omega (arith, shorter, far.less),
+      )
   taken_comes new (incoming.End None) none = absurd none
   taken_comes new (incoming.End (Some closing)) (closes, memory) = record {
     bytes = far.bytes;
@@ -63,7 +73,8 @@ module _
 
   module _ (u₂ : Account) (next : Framing) where
     -- if a read fails, the call fails
-    pub read_fails : (e : Io) (left : ℕ) → IsUnfinished now.held → ReadsOn now next u₁ u₂ (Err e) → Comes old next reads left u₀ u₂ (Err e)
+    pub read_fails : (e : Io) (left : ℕ) → IsUnfinished now.held → ReadsOn now next u₁ u₂ (Err e)
+        → Comes old next reads left u₀ u₂ (Err e)
     read_fails e left waits (is, keeps) =
         (is, (far.bytes, Gives-kept u₀ u₁ u₂ far.bytes far.consumed keeps, subst IsUnfinished far.held waits))
 
@@ -92,7 +103,8 @@ module _
     }
 
 -- a message that was taken comes next, whatever its outcome
-pub message_next : (old new : Framing) (reads left : ℕ) (u u' : Account) (message : Message) (x : Exchange) → x.message ≡ view message
+pub message_next : (old new : Framing) (reads left : ℕ) (u u' : Account) (message : Message) (x : Exchange)
+    → x.message ≡ view message
     → Comes old new reads left u u' (Ok (incoming.Message message)) → TakesNext old new u u' (Answers x)
 message_next old new reads left u u' message x is (bytes, consumed, near, reads_it, sound, less) = record {
   bytes = bytes;

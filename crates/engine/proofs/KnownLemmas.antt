@@ -28,7 +28,8 @@ followed a b bytes others more gives too =
     let same = ap (λ (l : List ℕ). l ++ more) (Gives-one a b bytes others gives too) in
     record { consumed = sym same; tells = same }
 
-takes_of : (a b : Account) (first : First) (hears : HearsFirst a b first) (u u' : Option (List ℕ)) (more : List ℕ) → MayFollow b more
+takes_of : (a b : Account) (first : First) (hears : HearsFirst a b first) (u u' : Option (List ℕ)) (more : List ℕ)
+    → MayFollow b more
     → Had u u' hears.bytes more → TakesFirst u u' first
 takes_of a b (Answers x) hears u u' more may was = record {
   input = hears.bytes ++ more;
@@ -54,27 +55,49 @@ takes_of a b (Closes closing) hears u u' more may was = record {
 -- the first message of a reader whose bytes are known
 pub first_known : (old new : Shown) (a b : Account) (w w' : Option (List ℕ)) (result : Result (Option ℕ) Io) → IsSound b
     → ServesHeard old new a b w w' result → ServesFirst old new a.left b.left w w' result
-first_known old new a b w w' (Ok status) sound (first, hears, through, is, appends) =
-    (first, takes_of a b first hears a.left b.left _ (left_follows b sound) (known a b hears.bytes hears.gives), through, is, appends)
-first_known old new a b w w' (Err io.Read) sound (got, gives, waits, through, keeps) = (got, gives.left, waits, through, keeps)
-first_known old new a b w w' (Err io.Write) sound (first, hears, through, ended) =
-    (first, takes_of a b first hears a.left b.left _ (left_follows b sound) (known a b hears.bytes hears.gives), through, ended)
+first_known old new a b w w' (Ok status) sound (first, hears, through, is, appends) = (
+  first,
+  takes_of a b first hears a.left b.left _ (left_follows b sound) (known a b hears.bytes hears.gives),
+  through,
+  is,
+  appends,
+)
+first_known old new a b w w' (Err io.Read) sound (got, gives, waits, through, keeps) =
+    (got, gives.left, waits, through, keeps)
+first_known old new a b w w' (Err io.Write) sound (first, hears, through, ended) = (
+  first,
+  takes_of a b first hears a.left b.left _ (left_follows b sound) (known a b hears.bytes hears.gives),
+  through,
+  ended,
+)
 
 -- the first message of a reader that had what was heard, and then more
-pub first_followed : (old new : Shown) (a b : Account) (w w' : Option (List ℕ)) (result : Result (Option ℕ) Io) (bytes more : List ℕ)
+pub first_followed : (old new : Shown) (a b : Account) (w w' : Option (List ℕ)) (result : Result (Option ℕ) Io)
+    (bytes more : List ℕ)
     → Gives a b bytes → MayFollow b more → ServesHeard old new a b w w' result
     → ServesFirst old new (Some (bytes ++ more)) (Some more) w w' result
-first_followed old new a b w w' (Ok status) bytes more gives may (first, hears, through, is, appends) =
-    (first, takes_of a b first hears _ _ more may (followed a b hears.bytes bytes more hears.gives gives), through, is, appends)
+first_followed old new a b w w' (Ok status) bytes more gives may (first, hears, through, is, appends) = (
+  first,
+  takes_of a b first hears _ _ more may (followed a b hears.bytes bytes more hears.gives gives),
+  through,
+  is,
+  appends,
+)
 first_followed old new a b w w' (Err io.Read) bytes more gives may (got, heard, waits, through, keeps) =
     (got, (followed a b got bytes more heard gives).consumed, waits, through, keeps)
-first_followed old new a b w w' (Err io.Write) bytes more gives may (first, hears, through, ended) =
-    (first, takes_of a b first hears _ _ more may (followed a b hears.bytes bytes more hears.gives gives), through, ended)
+first_followed old new a b w w' (Err io.Write) bytes more gives may (first, hears, through, ended) = (
+  first,
+  takes_of a b first hears _ _ more may (followed a b hears.bytes bytes more hears.gives gives),
+  through,
+  ended,
+)
 
-broken_off : (b : Account) (xs : List Exchange) (rest out more : List ℕ) → MayFollow b more → IsBrokenOffAfter b xs rest out
+broken_off : (b : Account) (xs : List Exchange) (rest out more : List ℕ) → MayFollow b more
+    → IsBrokenOffAfter b xs rest out
     → IsBrokenOff xs (rest ++ more) out
 broken_off b xs rest out more may (inl cut) = inl cut
-broken_off b xs rest out more may (inr (inl (closing, front, closes, begins, is))) = inr (inl (closing, front, closes more may, begins, is))
+broken_off b xs rest out more may (inr (inl (closing, front, closes, begins, is))) =
+    inr (inl (closing, front, closes more may, begins, is))
 broken_off b xs rest out more may (inr (inr (closing, closes, is))) = inr (inr (closing, closes more may, is))
 
 -- all messages of a reader whose bytes are known
@@ -113,5 +136,8 @@ all_known old new a b w w' (Err io.Write) sound s =
       reads = ReadsMessages-append s.bytes _ s.rest more s.reads;
       through = s.through;
       appended = s.appended;
-      ends = ((known a b s.bytes s.gives).tells, broken_off b s.exchanges s.rest s.out more (left_follows b sound) s.ends);
+      ends = (
+        (known a b s.bytes s.gives).tells,
+        broken_off b s.exchanges s.rest s.out more (left_follows b sound) s.ends,
+      );
     }

@@ -27,11 +27,13 @@ use Rattle.engine.proofs.FaultlessLemmas.{texts, events_are, faultless_events, f
 -- two runs that answered the same messages and commands answered the same events
 pub answered_alike : (xs ys : List Happening) → map coming_of (faultless xs) ≡ map coming_of (faultless ys)
     → answered (map event_at xs) (map answer_at xs) ≡ answered (map event_at ys) (map answer_at ys)
-answered_alike xs ys same = faultless_events xs ∙ (events_are (faultless xs) ∙ ap (map event_in) same ∙ sym (events_are (faultless ys))) ∙ sym (faultless_events ys)
+answered_alike xs ys same = faultless_events xs
+    ∙ (events_are (faultless xs) ∙ ap (map event_in) same ∙ sym (events_are (faultless ys))) ∙ sym (faultless_events ys)
 
 -- two runs that answered the same messages and commands with the same replies wrote the same texts
 pub written_alike : (xs ys : List Happening) → map coming_of (faultless xs) ≡ map coming_of (faultless ys)
-    → replies_of (map answer_at xs) ≡ replies_of (map answer_at ys) → map text_at (faultless xs) ≡ map text_at (faultless ys)
+    → replies_of (map answer_at xs) ≡ replies_of (map answer_at ys)
+    → map text_at (faultless xs) ≡ map text_at (faultless ys)
 written_alike xs ys same replies =
     faultless_texts text_in xs
     ∙ ap (λ cs. texts text_in cs (replies_of (map answer_at xs))) same
@@ -43,7 +45,8 @@ written_alike xs ys same replies =
 pub part_writes_the_same : PartWritesTheSame
 part_writes_the_same w new other s xs ys is run again same own =
     written_alike xs ys same
-    (part_tells_the_same w new other s (map event_at xs) (map event_at ys) (map answer_at xs) (map answer_at ys) is run again (answered_alike xs ys same)
+    (part_tells_the_same w new other s (map event_at xs) (map event_at ys) (map answer_at xs) (map answer_at ys) is run
+    again (answered_alike xs ys same)
     (subst (AllOwn w s) (sym (faultless_events xs)) own))
 
 -- ---- requests of others
@@ -52,7 +55,8 @@ pub all_asked : (xs : List Exchange) → AllAsked (answered (map event_of xs) (m
 all_asked [] = tt
 all_asked (x ∷ xs) = go x.outcome refl (all_asked xs)
   where
-    go : (o : Outcome) → x.outcome ≡ o → AllAsked (answered (map event_of xs) (map answer_of xs)) → AllAsked (answered (map event_of (x ∷ xs)) (map answer_of (x ∷ xs)))
+    go : (o : Outcome) → x.outcome ≡ o → AllAsked (answered (map event_of xs) (map answer_of xs))
+        → AllAsked (answered (map event_of (x ∷ xs)) (map answer_of (x ∷ xs)))
     go Unserved is rest = rw is rest
     go (Met fault) is rest = rw is rest
     go (Served reply) is rest = rw is rest
@@ -76,6 +80,8 @@ not_found_or_unavailable mid new x found last = go (answer_of x) refl
 pub others_are_written_not_found : OthersAreWrittenNotFound
 others_are_written_not_found w mid new s k before x far by run last =
     let es = answered (map event_of before) (map answer_of before) in
-    let at : mid ≡ after_all (part w s) es = run_leads (part w s) mid (map event_of before) (map answer_of before) run in
+    let at : mid ≡ after_all (part w s) es =
+    run_leads (part w s) mid (map event_of before) (map answer_of before) run in
     let found = others_are_not_found w s k es (spec.ask_of x.message) far by (all_asked before) in
-    not_found_or_unavailable mid new x (subst (λ u. IsNotFound (ask_reply u (spec.ask_of x.message))) (sym at) found) last
+    not_found_or_unavailable mid new x (subst (λ u. IsNotFound (ask_reply u (spec.ask_of x.message))) (sym at) found)
+    last

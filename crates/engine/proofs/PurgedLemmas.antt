@@ -6,7 +6,8 @@ use Rattle.world.specs.World.{World, IsWorld, chain}
 use Rattle.shelf.specs.declared.reply.Answer.{Answer}
 use Rattle.shelf.specs.declared.reply.Answer.TheVariants.{Replied, Failed}
 use Rattle.shelf.specs.Machine.{Run, after}
-use Rattle.shelf.specs.Isolation.{is_remaining, remaining, marked, Agree, IsAnsweredIfItRemains, RemainingAnswered, IsReplied, AllReplied}
+use Rattle.shelf.specs.Isolation.{is_remaining, remaining, marked, Agree, IsAnsweredIfItRemains, RemainingAnswered}
+use Rattle.shelf.specs.Isolation.{IsReplied, AllReplied}
 use Rattle.shelf.proofs.Chains.{Later}
 use Rattle.shelf.proofs.Isolated.{purged_runs_agree_so_far}
 use Rattle.engine.specs.Ask as spec
@@ -38,14 +39,16 @@ texts_are : (xs : List Exchange) → map text_of xs ≡ texts_for (map message_o
 texts_are [] = refl
 texts_are (x ∷ xs) = ap (λ ts. text_of x ∷ ts) (texts_are xs)
 
-marked_events : (marks : List Bool) (ms : List Request) → marked marks (map spec.event_of_message ms) ≡ map spec.event_of_message (marked marks ms)
+marked_events : (marks : List Bool) (ms : List Request)
+    → marked marks (map spec.event_of_message ms) ≡ map spec.event_of_message (marked marks ms)
 marked_events [] ms = refl
 marked_events (true ∷ marks) [] = refl
 marked_events (false ∷ marks) [] = refl
 marked_events (true ∷ marks) (m ∷ ms) = ap (λ es. spec.event_of_message m ∷ es) (marked_events marks ms)
 marked_events (false ∷ marks) (m ∷ ms) = marked_events marks ms
 
-marked_texts : (marks : List Bool) (xs : List Exchange) → marked marks (map text_of xs) ≡ texts_for (marked marks (map message_of xs)) (marked marks (map answer_of xs))
+marked_texts : (marks : List Bool) (xs : List Exchange)
+    → marked marks (map text_of xs) ≡ texts_for (marked marks (map message_of xs)) (marked marks (map answer_of xs))
 marked_texts [] xs = refl
 marked_texts (true ∷ marks) [] = refl
 marked_texts (false ∷ marks) [] = refl
@@ -78,19 +81,24 @@ all_replied : (xs : List Exchange) → NoneUnavailable (map text_of xs) → AllR
 all_replied [] none = tt
 all_replied (x ∷ xs) none = (replied x.message (answer_of x) none.0, all_replied xs none.1)
 
--- Two runs from worlds that agree, one over all messages and one over the remaining ones, write the same texts for the remaining ones if
+-- Two runs from worlds that agree, one over all messages and one over the remaining ones, write the same texts for the
+-- remaining ones if
 -- none of these is the 503, and the worlds after both agree. A later world says what s sees, and so what remains.
-pub exchanges_alike : (old old_too new new_too later : World) (s : List ℕ) (full purged : List Exchange) → IsWorld old → Later new later → Agree old old_too (chain later s)
-    → Run old (map event_of full) (map answer_of full) new → Run old_too (map event_of purged) (map answer_of purged) new_too
+pub exchanges_alike : (old old_too new new_too later : World) (s : List ℕ) (full purged : List Exchange) → IsWorld old
+    → Later new later → Agree old old_too (chain later s)
+    → Run old (map event_of full) (map answer_of full) new
+    → Run old_too (map event_of purged) (map answer_of purged) new_too
     → map message_of purged ≡ remaining_messages old (chain later s) full
     → NoneUnavailable (remaining_texts old (chain later s) full) → NoneUnavailable (map text_of purged)
     → (map text_of purged ≡ remaining_texts old (chain later s) full) × Agree new new_too (chain later s)
 exchanges_alike old old_too new new_too later s full purged is then agree run again same others none =
     let marks : List Bool = which_remain old (chain later s) full in
     let events : map event_of purged ≡ marked marks (map event_of full) =
-    events_are purged ∙ ap (λ ms. map spec.event_of_message ms) same ∙ sym (marked_events marks (map message_of full)) ∙ ap (marked marks) (sym (events_are full)) in
+    events_are purged ∙ ap (λ ms. map spec.event_of_message ms) same ∙ sym (marked_events marks (map message_of full))
+    ∙ ap (marked marks) (sym (events_are full)) in
     let alike =
-    purged_runs_agree_so_far old old_too new new_too later s (map event_of full) (map answer_of full) (map answer_of purged) is then agree run (remaining_answered old (chain later s) full others)
+    purged_runs_agree_so_far old old_too new new_too later s (map event_of full) (map answer_of full)
+    (map answer_of purged) is then agree run (remaining_answered old (chain later s) full others)
     (subst (λ es. Run old_too es (map answer_of purged) new_too) events again) (all_replied purged none) in (
       texts_are purged
           ∙ ap (λ ms. texts_for ms (map answer_of purged)) same

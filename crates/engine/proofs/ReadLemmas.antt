@@ -15,7 +15,13 @@ ends_badly held waits some = subst (λ bytes. Ends bytes bad) (sym (append-nil h
 -- if a byte came, the bytes held with all that follow are not empty
 pub some_came : (held bytes more : List ℕ) (n : ℕ) → 0 < n → n ≤ length bytes → held ++ (take n bytes ++ more) ≢ []
 some_came held bytes more n some within e =
-    absurd (omega (arith, ap length e, length-append held (take n bytes ++ more), length-append (take n bytes) more, length-take-le n bytes within))
+    absurd (omega (
+      arith,
+      ap length e,
+      length-append held (take n bytes ++ more),
+      length-append (take n bytes) more,
+      length-take-le n bytes within,
+    ))
 
 -- if a byte came, the bytes that came are not empty
 pub are_some : (bytes : List ℕ) (n : ℕ) → 0 < n → n ≤ length bytes → take n bytes ≢ []
@@ -26,7 +32,8 @@ pub are_few : (bytes : List ℕ) (n most : ℕ) → n ≤ length bytes → lengt
 are_few bytes n most within room = omega (arith, length-take-le n bytes within)
 
 -- the framer grows by at most the bytes that it is fed
-pub fed_few : (old new : Framing) (bytes : List ℕ) (most : ℕ) → new ≡ record old { held = old.held ++ bytes } → length bytes ≤ most
+pub fed_few : (old new : Framing) (bytes : List ℕ) (most : ℕ) → new ≡ record old { held = old.held ++ bytes }
+    → length bytes ≤ most
     → length new.held ≤ length old.held + most
 fed_few old new bytes most is few = rw is (omega (arith, length-append old.held bytes, few))
 
@@ -41,7 +48,8 @@ near_few held bytes waits few = record {
 }
 
 -- a read of at most the bytes that are missing of a message stays near
-pub near_missing : (held bytes : List ℕ) (missing : ℕ) → ((more : List ℕ) → length more < missing → IsUnfinished (held ++ more))
+pub near_missing : (held bytes : List ℕ) (missing : ℕ)
+    → ((more : List ℕ) → length more < missing → IsUnfinished (held ++ more))
     → read_limit < missing → length bytes ≤ missing → StaysNear held bytes
 near_missing held bytes missing waits long few =
     let n : ℕ = length bytes - read_limit in

@@ -12,7 +12,8 @@ pub world_more : (old mid : World) (events more : List Event) (answers last : Li
 world_more old mid [] more [] last run = refl
 world_more old mid [] more (a ∷ answers) last run = absurd run
 world_more old mid (e ∷ es) more [] last run = absurd run
-world_more old mid (e ∷ es) more (Replied r ∷ answers) last run = world_more (after old e) mid es more answers last run.1
+world_more old mid (e ∷ es) more (Replied r ∷ answers) last run =
+    world_more (after old e) mid es more answers last run.1
 world_more old mid (e ∷ es) more (Failed fault ∷ answers) last run = world_more old mid es more answers last run
 
 pub met_either : (answers last : List Answer) → MetDevice (answers ++ last) → MetDevice answers ⊎ MetDevice last

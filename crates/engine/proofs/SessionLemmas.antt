@@ -24,7 +24,8 @@ use Rattle.engine.proofs.StoreLemmas.{through_none}
 
 module _ (u u' : Account) (w w' : Option (List ℕ)) (held held_new : Framing) (reads left : ℕ) where
   -- a turn that took a message and wrote its reply, or failed at it, does as `Turns` says
-  pub turned_message : (old new : Shown) (message : Message) (x : Exchange) (result : Result Turn Io) → x.message ≡ view message
+  pub turned_message : (old new : Shown) (message : Message) (x : Exchange) (result : Result Turn Io)
+      → x.message ≡ view message
       → Comes held held_new reads left u u' (Ok (incoming.Message message)) → GoesThrough old new (x ∷ [])
       → Writes w w' (text_of x) result → IfOk result (λ t. t ≡ turn.Answered (status_of x))
       → Turns old new u u' w w' held held_new result
@@ -36,8 +37,10 @@ module _ (u u' : Account) (w w' : Option (List ℕ)) (held held_new : Framing) (
 
   -- a turn that took a message and wrote the page for it, or failed at it, does as `Turns` says
   pub turned_page : (old new : Shown) (message : Message) (x : Exchange) (page : Page) (result : Result Turn Io)
-      → x.message ≡ view message → Comes held held_new reads left u u' (Ok (incoming.Message message)) → GoesThrough old new (x ∷ [])
-      → page ≡ page_to x → Writes w w' (page_bytes page) result → IfOk result (λ t. t ≡ turn.Answered (page_status page))
+      → x.message ≡ view message → Comes held held_new reads left u u' (Ok (incoming.Message message))
+      → GoesThrough old new (x ∷ [])
+      → page ≡ page_to x → Writes w w' (page_bytes page) result
+      → IfOk result (λ t. t ≡ turn.Answered (page_status page))
       → Turns old new u u' w w' held held_new result
   turned_page old new message x page result same comes through shown writes is = turned_message
       old new message x result same comes through (subst (λ (p : Page). Writes w w' (page_bytes p) result) shown writes)
@@ -52,7 +55,8 @@ module _ (u u' : Account) (w w' : Option (List ℕ)) (held held_new : Framing) (
   turned_end shown closing (Err io.Write) comes (_, begun) is = (Closes closing, comes, through_none shown, begun)
 
 -- a turn whose read failed does as `Turns` says
-pub turned_unread : (shown : Shown) (u u' : Account) (w : Option (List ℕ)) (held held_new : Framing) (reads left : ℕ) (e : Io) (result : Result Turn Io)
+pub turned_unread : (shown : Shown) (u u' : Account) (w : Option (List ℕ)) (held held_new : Framing) (reads left : ℕ)
+    (e : Io) (result : Result Turn Io)
     → Comes held held_new reads left u u' (Err e) → result ≡ Err e → Turns shown shown u u' w w held held_new result
 turned_unread shown u u' w held held_new reads left io.Read result (_, (bytes, consumed, waits)) is =
     subst (Turns shown shown u u' w w held held_new) (sym is) (bytes, consumed, waits, through_none shown, Keeps-refl w)

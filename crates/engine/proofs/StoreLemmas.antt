@@ -1,5 +1,6 @@
 -- A store goes through messages: none, one, and more after others.
-use Rattle.std.proofs.Common.{◌≡◌, ℕ, List, [], ◌∷◌, ◌++◌, map, Option, refl, sym, subst, ap, ◌∙◌, inl, inr, Result, Ok, Err, arith, append-nil}
+use Rattle.std.proofs.Common.{◌≡◌, ℕ, List, [], ◌∷◌, ◌++◌, map, Option, refl, sym, subst, ap, ◌∙◌, inl, inr, Result, Ok}
+use Rattle.std.proofs.Common.{Err, arith, append-nil}
 use Rattle.std.proofs.lemmas.List.{map-append}
 use Rattle.modver.specs.SemanticVersion.{SemanticVersion}
 use Rattle.framing.specs.Message.{Request}
@@ -18,12 +19,14 @@ use Rattle.engine.specs.Reply.{IsComposed, IsOutcome}
 use Rattle.engine.specs.Store.{GoesThrough, LeavesTwo, AllCalm, world_at}
 use Rattle.engine.proofs.CrashLemmas.{leaves_still, leaves_more, world_step}
 use Rattle.engine.proofs.RunLemmas.{world_more, met_either}
-use Rattle.shelf.proofs.Runs.{runs_none, runs_unasked, runs_failed, runs_replied, runs_lost, runs_joined, grown_more, grown_before}
+use Rattle.shelf.proofs.Runs.{runs_none, runs_unasked, runs_failed, runs_replied, runs_lost, runs_joined, grown_more}
+use Rattle.shelf.proofs.Runs.{grown_before}
 
 calm_both : (w : World) (xs ys : List Exchange) → AllCalm w (xs ++ ys) → AllCalm w xs × AllCalm (world_at w xs) ys
 calm_both w [] ys all = (tt, all)
 calm_both w (x ∷ xs) ys all =
-    let both = calm_both (world_at w (x ∷ [])) xs ys all.1 in ((all.0, both.0), subst (λ v. AllCalm v ys) (world_step w x xs) both.1)
+    let both = calm_both (world_at w (x ∷ [])) xs ys all.1 in
+    ((all.0, both.0), subst (λ v. AllCalm v ys) (world_step w x xs) both.1)
 
 -- a reply whose body is composed has a body
 composed_body : (sum : Option (List ℕ × SemanticVersion)) (r : Reply) → IsComposed sum r → HasBody r
@@ -71,17 +74,20 @@ module _ (old new : Shown) (m : Request) (ask : Ask) (is : ask ≡ ask_of m) whe
   asked : new.is_honest → (w : World) → old.stands w → (answer : Result Reply StoreFault)
       → Does {T = Reply} old new answer (λ w. ask_reply w ask) (λ w. after_ask w ask)
       → DoesAt {T = Reply} old new w answer (reply_to w (event_of_message m)) (after w (event_of_message m))
-  asked h w stands answer does = subst (λ a. DoesAt {T = Reply} old new w answer (ask_reply w a) (after_ask w a)) is (does.at h w stands tt)
+  asked h w stands answer does =
+      subst (λ a. DoesAt {T = Reply} old new w answer (ask_reply w a) (after_ask w a)) is (does.at h w stands tt)
 
   -- the store goes through a message at which it met a fault
-  pub through_met : (fault : StoreFault) → Does {T = Reply} old new (Err fault) (λ w. ask_reply w ask) (λ w. after_ask w ask)
+  pub through_met : (fault : StoreFault)
+      → Does {T = Reply} old new (Err fault) (λ w. ask_reply w ask) (λ w. after_ask w ask)
       → GoesThrough old new (record { message = m; outcome = Met fault } ∷ [])
   through_met fault does = record {
     runs = record {
       honest = λ h. does.honest h;
       at = λ h w stands. runs_failed old new w _ fault _ (asked h w stands (Err fault) does);
     };
-    left = λ h w stands was. subst (λ x. new.leaves w x) (ap (after_ask w) is) ((does.at h w stands tt).crash.either was);
+    left = λ h w stands was.
+        subst (λ x. new.leaves w x) (ap (after_ask w) is) ((does.at h w stands tt).crash.either was);
     settled = λ h w stands calm was. elim calm.0 [
       | inl never ↦ absurd never
       | inr idle ↦ subst (λ x. new.leaves w x) (ap (after_ask w) is ∙ idle) ((does.at h w stands tt).crash.either was)
@@ -92,32 +98,38 @@ module _ (old new : Shown) (m : Request) (ask : Ask) (is : ask ≡ ask_of m) whe
   }
 
   -- the store goes through a message that got a reply
-  pub through_reply : (reply : Reply) → Does {T = Reply} old new (Ok reply) (λ w. ask_reply w ask) (λ w. after_ask w ask)
+  pub through_reply : (reply : Reply)
+      → Does {T = Reply} old new (Ok reply) (λ w. ask_reply w ask) (λ w. after_ask w ask)
       → GoesThrough old new (record { message = m; outcome = Served reply } ∷ [])
   through_reply reply does = record {
     runs = record {
       honest = λ h. does.honest h;
       at = λ h w stands. runs_replied old new w _ reply (asked h w stands (Ok reply) does);
     };
-    left = λ h w stands was. subst (λ x. new.leaves w x) (ap (after_ask w) is) ((does.at h w stands tt).crash.either was);
+    left = λ h w stands was.
+        subst (λ x. new.leaves w x) (ap (after_ask w) is) ((does.at h w stands tt).crash.either was);
     settled = λ h w stands calm was. still w ((does.at h w stands tt).crash.alone was);
     untouched = λ none. cc;
     no_fewer = does.cause.no_fewer;
     device = λ met. elim met [ inl same ↦ cc | inr never ↦ absurd never ];
   }
     where
-      still : (w : World) → new.leaves (after_ask w ask) (after_ask w ask) → new.leaves (after_ask w (ask_of m)) (after_ask w (ask_of m))
+      still : (w : World) → new.leaves (after_ask w ask) (after_ask w ask)
+          → new.leaves (after_ask w (ask_of m)) (after_ask w (ask_of m))
       still w leaves = subst (λ x. new.leaves x x) (ap (after_ask w) is) leaves
 
   -- the store goes through a message whose reply had a body that memory ran out for: the world is unchanged
-  pub through_unshown : (reply : Reply) → HasBody reply → Does {T = Reply} old new (Ok reply) (λ w. ask_reply w ask) (λ w. after_ask w ask)
+  pub through_unshown : (reply : Reply) → HasBody reply
+      → Does {T = Reply} old new (Ok reply) (λ w. ask_reply w ask) (λ w. after_ask w ask)
       → GoesThrough old new (record { message = m; outcome = Unserved } ∷ [])
   through_unshown reply body does = record {
     runs = record {
       honest = λ h. does.honest h;
-      at = λ h w stands. runs_lost old new w _ reply _ _ (asked h w stands (Ok reply) does) (ap (after_ask w) (sym is) ∙ same h w stands);
+      at = λ h w stands. runs_lost old new w _ reply _ _ (asked h w stands (Ok reply) does)
+          (ap (after_ask w) (sym is) ∙ same h w stands);
     };
-    left = λ h w stands was. subst (λ x. new.leaves w x) (ap (after_ask w) is) ((does.at h w stands tt).crash.either was);
+    left = λ h w stands was.
+        subst (λ x. new.leaves w x) (ap (after_ask w) is) ((does.at h w stands tt).crash.either was);
     settled = λ h w stands calm was. still h w stands was;
     untouched = λ none. cc;
     no_fewer = does.cause.no_fewer;
@@ -149,26 +161,30 @@ none_of (x ∷ xs) ys e = cc
 
 module _ (old mid new : Shown) (xs : List Exchange) (first : GoesThrough old mid xs) where
   -- a crash after more messages leaves one of two worlds
-  leaves_after : (ys : List Exchange) → GoesThrough mid new ys → new.is_honest → (w : World) → old.stands w → old.leaves w w
+  leaves_after : (ys : List Exchange) → GoesThrough mid new ys → new.is_honest → (w : World) → old.stands w
+      → old.leaves w w
       → LeavesTwo new w (xs ++ ys)
   leaves_after [] next h w stands was =
       subst (LeavesTwo new w) (sym (append-nil xs))
       (leaves_still mid new (next.untouched refl h) w xs (first.left (next.runs.honest h) w stands was))
   leaves_after (y ∷ ys) next h w stands was =
       let honest = next.runs.honest h in
-      leaves_more new w xs y ys (λ all. next.left h _ (first.runs.at honest w stands).ends (first.settled honest w stands all was))
+      leaves_more new w xs y ys
+      (λ all. next.left h _ (first.runs.at honest w stands).ends (first.settled honest w stands all was))
 
   module _ (ys : List Exchange) where
     same_world : mid.is_honest → (w : World) → old.stands w → world_at (world_at w xs) ys ≡ world_at w (xs ++ ys)
     same_world h w stands =
         rw (map-append event_of xs ys, map-append answer_of xs ys)
-        (world_more w _ (map event_of xs) (map event_of ys) (map answer_of xs) (map answer_of ys) (first.runs.at h w stands).run)
+        (world_more w _ (map event_of xs) (map event_of ys) (map answer_of xs) (map answer_of ys)
+        (first.runs.at h w stands).run)
 
     -- a store that goes through some messages and then through more goes through all of them
     pub through_more : GoesThrough mid new ys → GoesThrough old new (xs ++ ys)
     through_more next = record {
       runs = rw (map-append event_of xs ys, map-append answer_of xs ys)
-          (runs_joined old mid new (map event_of xs) (map event_of ys) (map answer_of xs) (map answer_of ys) first.runs next.runs);
+          (runs_joined old mid new (map event_of xs) (map event_of ys) (map answer_of xs) (map answer_of ys) first.runs
+          next.runs);
       left = leaves_after ys next;
       settled = λ h w stands calm was.
           let both = calm_both w xs ys calm in

@@ -1,5 +1,6 @@
 -- Answering goes on from what was answered so far.
-use Rattle.std.proofs.Common.{◌≡◌, ℕ, List, [], ◌∷◌, ◌++◌, Option, map, refl, sym, ap, ◌∙◌, subst, append_assoc, append-nil}
+use Rattle.std.proofs.Common.{◌≡◌, ℕ, List, [], ◌∷◌, ◌++◌, Option, map, refl, sym, ap, ◌∙◌, subst, append_assoc}
+use Rattle.std.proofs.Common.{append-nil}
 use Rattle.std.specs.Io.KnownBytes.{Appends}
 use Rattle.std.proofs.KnownBytes.{Appends-trans, Appends-nil}
 use Rattle.std.proofs.lemmas.List.{map-append}
@@ -16,7 +17,8 @@ use Rattle.framing.proofs.PieceLemmas.{ReadsMessages-append, ReadsMessages-join}
 use Rattle.engine.proofs.StoreLemmas.{through_none, through_more}
 
 -- at first nothing was answered
-pub answered_none : (shown : Shown) (written : Option (List ℕ)) (input : List ℕ) → Answered shown shown written written input input
+pub answered_none : (shown : Shown) (written : Option (List ℕ)) (input : List ℕ)
+    → Answered shown shown written written input input
 answered_none shown written input = record {
   exchanges = [];
   reads = refl;
@@ -92,7 +94,8 @@ module _
     reads = rw (map-append message_of far.exchanges next.exchanges)
         (ReadsMessages-join input _ _ rest after far.reads next.reads);
     through = through_more old mid new _ far.through _ next.through;
-    appended = subst (Appends w₀ w₂) (sym (flat_map-append text_of far.exchanges next.exchanges)) (Appends-trans w₀ w₁ w₂ _ _ far.appended next.appended);
+    appended = subst (Appends w₀ w₂) (sym (flat_map-append text_of far.exchanges next.exchanges))
+        (Appends-trans w₀ w₁ w₂ _ _ far.appended next.appended);
   }
 
   -- if more messages were answered and the last of them was cut short, all of them were answered up to that
@@ -111,6 +114,7 @@ module _
             (through_more old mid new _ far.through _ next.through);
         begins = next.begins;
         appended = subst (Appends w₀ w₂)
-            (sym (append_assoc (texts_of far.exchanges) (texts_of next.first) next.front) ∙ ap (λ bytes. bytes ++ next.front) (sym (flat_map-append text_of far.exchanges next.first)))
+            (sym (append_assoc (texts_of far.exchanges) (texts_of next.first) next.front)
+            ∙ ap (λ bytes. bytes ++ next.front) (sym (flat_map-append text_of far.exchanges next.first)))
             (Appends-trans w₀ w₁ w₂ _ _ far.appended next.appended);
       }

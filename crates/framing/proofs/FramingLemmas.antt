@@ -16,7 +16,8 @@ use Rattle.framing.proofs.HeadLemmas.{values_at_head}
 -- bytes that fail the stream still do when more come
 pub IsBad-append : (bytes more : List ℕ) (failure : Bad) → IsBad bytes failure → IsBad (bytes ++ more) failure
 IsBad-append bytes more failure is = record {
-  ends = λ others. subst (λ all. Ends all (end_of failure)) (sym (append_assoc bytes more others)) (is.ends (more ++ others));
+  ends = λ others. subst (λ all. Ends all (end_of failure)) (sym (append_assoc bytes more others))
+      (is.ends (more ++ others));
 }
 
 -- what is read of a whole message is the message
@@ -31,7 +32,8 @@ pub message_at : (bytes : List ℕ) (headers : List HeaderSpan) (found : Head) (
 message_at bytes headers found message at whole method target body mod_lengths version_times =
     let split = drop_split bytes found.spans.len (found.spans.len + found.body) (omega arith) in
     let long = length-slice_range bytes found.spans.len (found.spans.len + found.body) (omega arith) whole in
-    let reads = subst (λ rest. ReadsRequest bytes at.head rest) (split ∙ ap (λ b. b ++ drop (found.spans.len + found.body) bytes) (sym body)) at.at.reads in
+    let reads = subst (λ rest. ReadsRequest bytes at.head rest)
+    (split ∙ ap (λ b. b ++ drop (found.spans.len + found.body) bytes) (sym body)) at.at.reads in
     let values = values_at_head bytes headers found.spans at.head at.at in (
       at.head,
       found.body,

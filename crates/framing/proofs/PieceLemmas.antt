@@ -16,7 +16,8 @@ ReadsMessages-append bytes (m ∷ ms) rest more (after, first, others) =
 
 -- more messages
 pub ReadsMessages-join : (bytes : List ℕ) (messages more : List Request) (between rest : List ℕ)
-    → ReadsMessages bytes messages between → ReadsMessages between more rest → ReadsMessages bytes (messages ++ more) rest
+    → ReadsMessages bytes messages between → ReadsMessages between more rest
+    → ReadsMessages bytes (messages ++ more) rest
 ReadsMessages-join bytes [] more between rest e next = subst (λ all. ReadsMessages all more rest) (sym e) next
 ReadsMessages-join bytes (m ∷ ms) more between rest (after, first, others) next =
     (after, first, ReadsMessages-join after ms more between rest others next)
@@ -36,7 +37,8 @@ pieces_read (piece ∷ pieces) (m ∷ ms) rest (first, others) = (
   pieces_read pieces ms rest others,
 )
 
-pub messages_make_a_stream : (pieces : List (List ℕ)) (messages : List Request) (rest : List ℕ) (end : End) → AreMessages pieces messages
+pub messages_make_a_stream : (pieces : List (List ℕ)) (messages : List Request) (rest : List ℕ) (end : End)
+    → AreMessages pieces messages
     → Ends rest end → IsStream (concat pieces ++ rest) messages end
 messages_make_a_stream pieces messages rest end are ends = (rest, pieces_read pieces messages rest are, ends)
 
@@ -72,37 +74,50 @@ pieces_of bytes (m ∷ ms) rest (after, first, others) =
     )
 
 pub a_stream_is_made_of_messages : (bytes : List ℕ) (messages : List Request) (end : End) → IsStream bytes messages end
-    → (pieces : List (List ℕ)) × (rest : List ℕ) × (bytes ≡ concat pieces ++ rest) × AreMessages pieces messages × Ends rest end
+    → (pieces : List (List ℕ)) × (rest : List ℕ) × (bytes ≡ concat pieces ++ rest) × AreMessages pieces messages
+    × Ends rest end
 a_stream_is_made_of_messages bytes messages end (rest, reads, ends) =
     let made = pieces_of bytes messages rest reads in (made.0, rest, made.1, made.2, ends)
 
 -- ---- what stands at the front of a stream
 
 -- messages that stand there are the first of its messages
-pub stream_begins : (bytes : List ℕ) (front messages : List Request) (rest : List ℕ) (end : End) → ReadsMessages bytes front rest
+pub stream_begins : (bytes : List ℕ) (front messages : List Request) (rest : List ℕ) (end : End)
+    → ReadsMessages bytes front rest
     → IsStream bytes messages end → (more : List Request) × (messages ≡ front ++ more)
 stream_begins bytes [] messages rest end e stream = (messages, refl)
 stream_begins bytes (a ∷ as') [] rest end (after, first, others) (last, e, ends) =
     absurd (no_message_at_end last end ends a after (subst (λ all. ReadsMessage all a after) e first))
 stream_begins bytes (a ∷ as') (b ∷ bs) rest end (after, first, others) (last, (behind, again, next), ends) =
     let same = message_unique bytes a b after behind first again in
-    let more = stream_begins after as' bs rest end others (last, subst (λ all. ReadsMessages all bs last) (sym same.1) next, ends) in
+    let more = stream_begins after as' bs rest end others
+    (last, subst (λ all. ReadsMessages all bs last) (sym same.1) next, ends) in
     (more.0, λ i. sym same.0 i ∷ more.1 i)
 
 -- ---- a message that is taken out
 
 -- what follows the first messages of a stream is the stream of the others
-stream_after : (bytes : List ℕ) (before more : List Request) (rest : List ℕ) (end : End) → ReadsMessages bytes before rest
+stream_after : (bytes : List ℕ) (before more : List Request) (rest : List ℕ) (end : End)
+    → ReadsMessages bytes before rest
     → IsStream bytes (before ++ more) end → IsStream rest more end
 stream_after bytes [] more rest end e stream = subst (λ all. IsStream all more end) e stream
 stream_after bytes (m ∷ ms) more rest end (after, first, others) (last, (behind, again, next), ends) =
     let same = message_unique bytes m m behind after again first in
-    stream_after after ms more rest end others (last, subst (λ all. ReadsMessages all (ms ++ more) last) same.1 next, ends)
+    stream_after after ms more rest end others
+    (last, subst (λ all. ReadsMessages all (ms ++ more) last) same.1 next, ends)
 
-pub a_message_may_be_taken_out : (front bytes back : List ℕ) (before after : List Request) (message : Request) (end : End)
+pub a_message_may_be_taken_out : (front bytes back : List ℕ) (before after : List Request) (message : Request)
+    (end : End)
     → ReadsMessages front before [] → IsMessage bytes message
-    → IsStream (front ++ (bytes ++ back)) (before ++ message ∷ after) end → IsStream (front ++ back) (before ++ after) end
+    → IsStream (front ++ (bytes ++ back)) (before ++ message ∷ after) end
+    → IsStream (front ++ back) (before ++ after) end
 a_message_may_be_taken_out front bytes back before after message end first is stream =
-    let at = stream_after (front ++ (bytes ++ back)) before (message ∷ after) (bytes ++ back) end (ReadsMessages-append front before [] (bytes ++ back) first) stream in
-    let left = stream_after (bytes ++ back) (message ∷ []) after back end (back, ReadsMessage-append bytes back message [] is, refl) at in
-    (left.0, ReadsMessages-join (front ++ back) before after back left.0 (ReadsMessages-append front before [] back first) left.1, left.2)
+    let at = stream_after (front ++ (bytes ++ back)) before (message ∷ after) (bytes ++ back) end
+    (ReadsMessages-append front before [] (bytes ++ back) first) stream in
+    let left = stream_after (bytes ++ back) (message ∷ []) after back end
+    (back, ReadsMessage-append bytes back message [] is, refl) at in (
+      left.0,
+      ReadsMessages-join (front ++ back) before after back left.0
+          (ReadsMessages-append front before [] back first) left.1,
+      left.2,
+    )

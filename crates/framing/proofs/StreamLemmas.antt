@@ -1,14 +1,17 @@
 -- A stream is one list of messages, and has one end.
-use Rattle.std.proofs.Common.{◌≡◌, ◌≢◌, ℕ, inl, inr, List, [], ◌∷◌, ◌++◌, length, take, drop, refl, sym, ap, ◌∙◌, subst, arith, length-append, ◌-◌, ◌==◌, true, false}
+use Rattle.std.proofs.Common.{◌≡◌, ◌≢◌, ℕ, inl, inr, List, [], ◌∷◌, ◌++◌, length, take, drop, refl, sym, ap, ◌∙◌, subst}
+use Rattle.std.proofs.Common.{arith, length-append, ◌-◌, ◌==◌, true, false}
 use Rattle.std.proofs.lemmas.Bool.{eqb-true, eqb-false}
 use Rattle.std.proofs.lemmas.List.{nil_from_length, take_at, drop_at, append_assoc, append-nil}
 use Rattle.std.proofs.lemmas.List.Elements.{All-nil}
 use Rattle.std.proofs.lemmas.List.Sums.{AllPass-from_list_all}
 use Rattle.std.proofs.lemmas.Str.{IsUtf8-from_ascii}
 use Rattle.std.proofs.lemmas.Str.Ascii.{IsAscii-nil, IsAscii-cons}
-use Rattle.httparse.specs.Grammar.{RequestHead, ReadsRequest, HasNoRequest, MayBecomeRequest, is_token_byte, is_uri_byte, lf, print_request, print_blank, print_version, print_end, print_section}
+use Rattle.httparse.specs.Grammar.{RequestHead, ReadsRequest, HasNoRequest, MayBecomeRequest, is_token_byte}
+use Rattle.httparse.specs.Grammar.{is_uri_byte, lf, print_request, print_blank, print_version, print_end, print_section}
 use Rattle.httparse.proofs.GrammarLemmas.{print_request-append}
-use Rattle.framing.specs.Message.{Request, request_of, BeginsWith, ReadsMessage, ReadsMessages, IsTooLarge, End, clean, too_large, bad, Ends, IsStream}
+use Rattle.framing.specs.Message.{Request, request_of, BeginsWith, ReadsMessage, ReadsMessages, IsTooLarge, End, clean}
+use Rattle.framing.specs.Message.{too_large, bad, Ends, IsStream}
 use Rattle.framing.specs.Never.{NeverBegins}
 use Rattle.framing.specs.Framing.{MayBeginHead, IsOpen, IsBad, IsUnfinished}
 use Rattle.framing.specs.declared.framer.Bad.TheVariants.{BadRequest, TooLarge}
@@ -21,8 +24,12 @@ nothing_reads h rest e =
     absurd (omega (
       arith,
       long,
-      length-append (print_blank h.blank) (h.method ++ 32 ∷ (h.target ++ 32 ∷ (print_version h.minor ++ (print_end h.line_end ++ (print_section h.fields h.last ++ rest))))),
-      length-append h.method (32 ∷ (h.target ++ 32 ∷ (print_version h.minor ++ (print_end h.line_end ++ (print_section h.fields h.last ++ rest))))),
+      length-append (print_blank h.blank)
+          (h.method ++ 32 ∷ (h.target ++ 32
+          ∷ (print_version h.minor ++ (print_end h.line_end ++ (print_section h.fields h.last ++ rest))))),
+      length-append h.method (32
+          ∷ (h.target ++ 32 ∷ (print_version h.minor
+          ++ (print_end h.line_end ++ (print_section h.fields h.last ++ rest))))),
     ))
 
 pub no_request_in_nothing : HasNoRequest []
@@ -43,22 +50,26 @@ message_unique bytes a b r q (h, m, x, _, long_a, is_a) (k, n, y, _, long_b, is_
     let fronts = same_front a.body b.body r q (long_a ∙ heads.1 ∙ sym long_b) heads.2 in
     (is_a ∙ (λ i. request_of (heads.0 i) (fronts.0 i)) ∙ sym is_b, fronts.1)
 
-pub ReadsMessage-append : (bytes more : List ℕ) (a : Request) (rest : List ℕ) → ReadsMessage bytes a rest → ReadsMessage (bytes ++ more) a (rest ++ more)
+pub ReadsMessage-append : (bytes more : List ℕ) (a : Request) (rest : List ℕ) → ReadsMessage bytes a rest
+    → ReadsMessage (bytes ++ more) a (rest ++ more)
 ReadsMessage-append bytes more a rest (h, n, x, small, long, is) = (
   h,
   n,
-  subst (λ all. BeginsWith (bytes ++ more) h n all) (append_assoc a.body rest more) (BeginsWith-append bytes h n (a.body ++ rest) more x),
+  subst (λ all. BeginsWith (bytes ++ more) h n all) (append_assoc a.body rest more)
+      (BeginsWith-append bytes h n (a.body ++ rest) more x),
   small,
   long,
   is,
 )
 
-pub no_message_begins_another : (bytes more : List ℕ) (a b : Request) → ReadsMessage bytes a [] → ReadsMessage (bytes ++ more) b [] → more ≡ []
+pub no_message_begins_another : (bytes more : List ℕ) (a b : Request) → ReadsMessage bytes a []
+    → ReadsMessage (bytes ++ more) b [] → more ≡ []
 no_message_begins_another bytes more a b x y =
     (message_unique (bytes ++ more) a b more [] (ReadsMessage-append bytes more a [] x) y).1
 
 -- what ends a stream begins with no message
-pub no_message_at_end : (bytes : List ℕ) (end : End) → Ends bytes end → (a : Request) (rest : List ℕ) → ReadsMessage bytes a rest → ⊥
+pub no_message_at_end : (bytes : List ℕ) (end : End) → Ends bytes end → (a : Request) (rest : List ℕ)
+    → ReadsMessage bytes a rest → ⊥
 no_message_at_end bytes clean empty a rest (h, n, x, small, long, is) =
     nothing_reads h (a.body ++ rest) (sym empty ∙ x.reads.1)
 no_message_at_end bytes too_large (k, m, q, y, large) a rest (h, n, x, small, long, is) =
@@ -80,7 +91,8 @@ end_unique bytes bad too_large p q = absurd (p.2 q)
 end_unique bytes bad bad p q = refl
 
 -- a stream has at most one list of messages and one end
-pub stream_unique : (bytes : List ℕ) (a b : List Request) (x y : End) → IsStream bytes a x → IsStream bytes b y → (a ≡ b) × (x ≡ y)
+pub stream_unique : (bytes : List ℕ) (a b : List Request) (x y : End) → IsStream bytes a x → IsStream bytes b y
+    → (a ≡ b) × (x ≡ y)
 stream_unique bytes [] [] x y (r, e, p) (q, f, s) =
     (refl, end_unique r x y p (subst (λ rest. Ends rest y) (sym f ∙ e) s))
 stream_unique bytes [] (b ∷ bs) x y (r, e, p) (q, (after, f, more), s) =
@@ -89,7 +101,8 @@ stream_unique bytes (a ∷ as') [] x y (r, (after, f, more), p) (q, e, s) =
     absurd (no_message_at_end q y s a after (subst (λ all. ReadsMessage all a after) e f))
 stream_unique bytes (a ∷ as') (b ∷ bs) x y (r, (after, e, more), p) (q, (behind, f, others), s) =
     let first = message_unique bytes a b after behind e f in
-    let rest = stream_unique behind as' bs x y (r, subst (λ all. ReadsMessages all as' r) first.1 more, p) (q, others, s) in
+    let rest = stream_unique behind as' bs x y (r, subst (λ all. ReadsMessages all as' r) first.1 more, p)
+    (q, others, s) in
     ((λ i. first.0 i ∷ rest.0 i), rest.1)
 
 -- ---- what the framer's answers say of the stream
@@ -166,7 +179,8 @@ pub unfinished_nothing : (bytes : List ℕ) → bytes ≡ [] → IsUnfinished by
 unfinished_nothing bytes e = unfinished bytes (inl (nothing_may_begin bytes e))
 
 -- a whole head that is not good
-pub bad_head : (bytes : List ℕ) (h : RequestHead) (rest : List ℕ) → ReadsRequest bytes h rest → NeverBegins bytes → IsBad bytes BadRequest
+pub bad_head : (bytes : List ℕ) (h : RequestHead) (rest : List ℕ) → ReadsRequest bytes h rest → NeverBegins bytes
+    → IsBad bytes BadRequest
 bad_head bytes h rest reads never = never_ends bytes (λ e. nothing_reads h rest (sym e ∙ reads.1)) never
 
 -- what `is_empty` says

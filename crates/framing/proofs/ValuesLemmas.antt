@@ -1,5 +1,6 @@
 -- The values of a header, one header at a time.
-use Rattle.std.proofs.Common.{◌≡◌, ℕ, ◌+◌, ◌<◌, Bool, true, false, cond, List, [], ◌∷◌, ◌++◌, length, map, take, get_or, refl, ap, sym, ◌≢◌, ◌∙◌, append-nil}
+use Rattle.std.proofs.Common.{◌≡◌, ℕ, ◌+◌, ◌<◌, Bool, true, false, cond, List, [], ◌∷◌, ◌++◌, length, map, take, get_or}
+use Rattle.std.proofs.Common.{refl, ap, sym, ◌≢◌, ◌∙◌, append-nil}
 use Rattle.std.specs.Str.{str_eq_ignore_ascii_case}
 use Rattle.std.proofs.lemmas.List.{take_more, map-append}
 use Rattle.httparse.specs.Spans.{header_bytes, span_bytes}
@@ -29,24 +30,28 @@ values_of-push name (x ∷ xs) y = by (str_eq_ignore_ascii_case x.0 name) (value
     by false e = e
 
 pub values_at_more : (name bytes : List ℕ) (headers : List HeaderSpan) (i : ℕ) (d : HeaderSpan) → i < length headers
-    → values_at name bytes (take (i + 1) headers) ≡ values_at name bytes (take i headers) ++ value_of name (header_bytes bytes (get_or headers i d))
+    → values_at name bytes (take (i + 1) headers) ≡ values_at name bytes (take i headers)
+    ++ value_of name (header_bytes bytes (get_or headers i d))
 values_at_more name bytes headers i d h =
     rw (take_more headers i d h, map-append (header_bytes bytes) (take i headers) (get_or headers i d ∷ []))
     (values_of-push name (map (header_bytes bytes) (take i headers)) (header_bytes bytes (get_or headers i d)))
 
 pub values_at_hit : (name bytes : List ℕ) (headers : List HeaderSpan) (i : ℕ) (d : HeaderSpan) → i < length headers
     → true ≡ str_eq_ignore_ascii_case (header_bytes bytes (get_or headers i d)).0 name
-    → values_at name bytes (take (i + 1) headers) ≡ values_at name bytes (take i headers) ++ (header_bytes bytes (get_or headers i d)).1 ∷ []
+    → values_at name bytes (take (i + 1) headers) ≡ values_at name bytes (take i headers)
+    ++ (header_bytes bytes (get_or headers i d)).1 ∷ []
 values_at_hit name bytes headers i d h e =
     values_at_more name bytes headers i d h
-    ∙ ap (λ b. values_at name bytes (take i headers) ++ cond b ((header_bytes bytes (get_or headers i d)).1 ∷ []) []) (sym e)
+    ∙ ap (λ b. values_at name bytes (take i headers) ++ cond b ((header_bytes bytes (get_or headers i d)).1 ∷ []) [])
+    (sym e)
 
 pub values_at_miss : (name bytes : List ℕ) (headers : List HeaderSpan) (i : ℕ) (d : HeaderSpan) → i < length headers
     → false ≡ str_eq_ignore_ascii_case (header_bytes bytes (get_or headers i d)).0 name
     → values_at name bytes (take (i + 1) headers) ≡ values_at name bytes (take i headers)
 values_at_miss name bytes headers i d h e =
     values_at_more name bytes headers i d h
-    ∙ ap (λ b. values_at name bytes (take i headers) ++ cond b ((header_bytes bytes (get_or headers i d)).1 ∷ []) []) (sym e)
+    ∙ ap (λ b. values_at name bytes (take i headers) ++ cond b ((header_bytes bytes (get_or headers i d)).1 ∷ []) [])
+    (sym e)
     ∙ append-nil (values_at name bytes (take i headers))
 
 -- a value more, after one or several

@@ -1,11 +1,14 @@
 -- The test of a Go version passes just those that have the form of one.
-use Rattle.std.proofs.Common.{◌≡◌, ◌↔◌, ℕ, zero, suc, ◌+◌, ◌<◌, ◌≤◌, true, false, ◌==◌, ◌&&◌, not, cond, ltb, Option, Some, None, List, [], ◌∷◌, ◌++◌, length, take, drop, codes, arith}
-use Rattle.std.proofs.Common.{refl, ap, sym, ◌∙◌, subst, append_assoc, length-append, inl, inr, ⊎_elim, nat_eq, rules, tests}
+use Rattle.std.proofs.Common.{◌≡◌, ◌↔◌, ℕ, zero, suc, ◌+◌, ◌<◌, ◌≤◌, true, false, ◌==◌, ◌&&◌, not, cond, ltb, Option}
+use Rattle.std.proofs.Common.{Some, None, List, [], ◌∷◌, ◌++◌, length, take, drop, codes, arith}
+use Rattle.std.proofs.Common.{refl, ap, sym, ◌∙◌, subst, append_assoc, length-append, inl, inr, ⊎_elim, nat_eq, rules}
+use Rattle.std.proofs.Common.{tests}
 use Rattle.std.specs.List.{list_all, starts_with}
 use Rattle.std.specs.Char.{is_ascii_digit}
 use Rattle.std.proofs.lemmas.Slice.Eq.{bytes_eq-Decides}
 use Rattle.std.proofs.lemmas.List.{take_at, drop_at}
-use Rattle.std.proofs.lemmas.Bool.{and_parts, and_from, or_cases, cases_Bool, cases_lt, ltb-true, lt-ltb, le-ltb, eqb-true}
+use Rattle.std.proofs.lemmas.Bool.{and_parts, and_from, or_cases, cases_Bool, cases_lt, ltb-true, lt-ltb, le-ltb}
+use Rattle.std.proofs.lemmas.Bool.{eqb-true}
 use Rattle.std.proofs.lemmas.List.Sums.{prefix_len-le-length}
 use Rattle.std.specs.Option.{unwrap_or}
 use Rattle.gomod.specs.GoVersion.{is_decimal, is_tail, is_minor, digits_len, dot_at, is_go_version}
@@ -18,13 +21,15 @@ split_at (suc n) [] = refl
 split_at (suc n) (x ∷ xs) = ap (λ l. x ∷ l) (split_at n xs)
 
 -- a text round its first dot
-dot_split : (text : List ℕ) → dot_at text < length text → text ≡ take (dot_at text) text ++ 46 ∷ drop (dot_at text + 1) text
+dot_split : (text : List ℕ) → dot_at text < length text
+    → text ≡ take (dot_at text) text ++ 46 ∷ drop (dot_at text + 1) text
 dot_split [] h = absurd (omega (arith, h))
 dot_split (b ∷ bs) h =
     ⊎_elim
     (λ yes.
     let here : dot_at (b ∷ bs) ≡ 0 = rw yes refl in
-    subst (λ n. b ∷ bs ≡ take n (b ∷ bs) ++ 46 ∷ drop (n + 1) (b ∷ bs)) (sym here) (ap (λ x. x ∷ bs) (eqb-true b 46 yes)))
+    subst (λ n. b ∷ bs ≡ take n (b ∷ bs) ++ 46 ∷ drop (n + 1) (b ∷ bs)) (sym here)
+    (ap (λ x. x ∷ bs) (eqb-true b 46 yes)))
     (λ no.
     let here : dot_at (b ∷ bs) ≡ suc (dot_at bs) = rw no (omega arith) in
     let number : suc (dot_at bs + 1) ≡ suc (dot_at bs) + 1 = omega arith in
@@ -45,7 +50,8 @@ dot_at-digits (b ∷ a) r h =
     let here : dot_at (b ∷ (a ++ 46 ∷ r)) ≡ dot_at (a ++ 46 ∷ r) + 1 = rw no (omega arith) in
     omega (arith, more, here)
 
-digits_len-front : (b tail : List ℕ) → list_all is_ascii_digit b ≡ true → digits_len tail ≡ 0 → digits_len (b ++ tail) ≡ length b
+digits_len-front : (b tail : List ℕ) → list_all is_ascii_digit b ≡ true → digits_len tail ≡ 0
+    → digits_len (b ++ tail) ≡ length b
 digits_len-front [] tail h none = none
 digits_len-front (x ∷ b) tail h none =
     let halves = and_parts (is_ascii_digit x) (list_all is_ascii_digit b) h in
@@ -91,30 +97,36 @@ tail_form tail h =
     (λ a. ⊎_elim
     (λ b. ⊎_elim
     (λ none. inl ((bytes_eq-Decides tail []).0 none))
-    (λ dot. (let x = and_parts (starts_with nat_eq tail (codes ".")) (is_decimal (drop 1 tail)) dot in inr (drop 1 tail, x.1, inl (starts tail (codes ".") x.0))))
+    (λ dot. (let x = and_parts (starts_with nat_eq tail (codes ".")) (is_decimal (drop 1 tail)) dot in
+    inr (drop 1 tail, x.1, inl (starts tail (codes ".") x.0))))
     (or_cases _ _ b))
-    (λ rc. (let x = and_parts (starts_with nat_eq tail (codes "rc")) (is_decimal (drop 2 tail)) rc in inr (drop 2 tail, x.1, inr (inl (starts tail (codes "rc") x.0)))))
+    (λ rc. (let x = and_parts (starts_with nat_eq tail (codes "rc")) (is_decimal (drop 2 tail)) rc in
+    inr (drop 2 tail, x.1, inr (inl (starts tail (codes "rc") x.0)))))
     (or_cases _ _ a))
-    (λ beta. (let x = and_parts (starts_with nat_eq tail (codes "beta")) (is_decimal (drop 4 tail)) beta in inr (drop 4 tail, x.1, inr (inr (starts tail (codes "beta") x.0)))))
+    (λ beta. (let x = and_parts (starts_with nat_eq tail (codes "beta")) (is_decimal (drop 4 tail)) beta in
+    inr (drop 4 tail, x.1, inr (inr (starts tail (codes "beta") x.0)))))
     (or_cases _ _ h)
 
 minor_from : (b tail : List ℕ) → is_decimal b ≡ true → IsTail tail → is_minor (b ++ tail) ≡ true
 unfolding is_minor
 minor_from b tail hb ht =
     let len = digits_len-front b tail (decimal_digits b hb) (tail_no_digit tail ht) in
-    and_from (is_decimal (take (digits_len (b ++ tail)) (b ++ tail))) (is_tail (drop (digits_len (b ++ tail)) (b ++ tail)))
+    and_from (is_decimal (take (digits_len (b ++ tail)) (b ++ tail)))
+    (is_tail (drop (digits_len (b ++ tail)) (b ++ tail)))
     (ap (λ n. is_decimal (take n (b ++ tail))) len ∙ ap is_decimal (take_at b tail (length b) refl) ∙ hb)
     (ap (λ n. is_tail (drop n (b ++ tail))) len ∙ ap is_tail (drop_at b tail (length b) refl) ∙ is_tail-from tail ht)
 
 -- two decimals with a dot between them and a tail after them pass the test of a Go version
-version_from : (a b tail : List ℕ) → is_decimal a ≡ true → is_decimal b ≡ true → IsTail tail → is_go_version (a ++ 46 ∷ (b ++ tail)) ≡ true
+version_from : (a b tail : List ℕ) → is_decimal a ≡ true → is_decimal b ≡ true → IsTail tail
+    → is_go_version (a ++ 46 ∷ (b ++ tail)) ≡ true
 unfolding is_go_version
 version_from a b tail ha hb ht =
     let rest : List ℕ = b ++ tail in
     let len : dot_at (a ++ 46 ∷ rest) ≡ length a = dot_at-digits a rest (decimal_digits a ha) in
     let size = length-append a (46 ∷ rest) in
     let cut : drop (length a + 1) (a ++ 46 ∷ rest) ≡ rest =
-    ap (drop (length a + 1)) (sym (append_assoc a (46 ∷ []) rest)) ∙ drop_at (a ++ 46 ∷ []) rest (length a + 1) (length-append a (46 ∷ [])) in
+    ap (drop (length a + 1)) (sym (append_assoc a (46 ∷ []) rest))
+    ∙ drop_at (a ++ 46 ∷ []) rest (length a + 1) (length-append a (46 ∷ [])) in
     and_from _ _
     (and_from _ _
     (lt-ltb (dot_at (a ++ 46 ∷ rest)) (length (a ++ 46 ∷ rest)) (omega (arith, len, size)))
@@ -136,7 +148,8 @@ version_form text h =
       is_major = inner.1;
       is_minor = behind.0;
       is_tail = tail_form (drop (digits_len rest) rest) behind.1;
-      spelled = dot_split text (ltb-true (dot_at text) (length text) inner.0) ∙ ap (λ l. take (dot_at text) text ++ 46 ∷ l) (sym (split_at (digits_len rest) rest));
+      spelled = dot_split text (ltb-true (dot_at text) (length text) inner.0)
+          ∙ ap (λ l. take (dot_at text) text ++ 46 ∷ l) (sym (split_at (digits_len rest) rest));
     }
 
 -- ---- what a search returns
@@ -149,7 +162,9 @@ first_at n len i h = elim (cases_lt n len) [
 ]
 
 -- a text without a dot
-pub no_dot : (text : List ℕ) → ◌≡◌ {A = Option ℕ} None (cond (ltb (dot_at text) (length text)) (Some (dot_at text)) None) → false ≡ is_go_version text
+pub no_dot : (text : List ℕ)
+    → ◌≡◌ {A = Option ℕ} None (cond (ltb (dot_at text) (length text)) (Some (dot_at text)) None)
+    → false ≡ is_go_version text
 unfolding is_go_version
 no_dot text h = elim (cases_lt (dot_at text) (length text)) [
   | inl lt ↦ cc (rw (lt-ltb (dot_at text) (length text) lt) at h)
@@ -164,19 +179,24 @@ dot_is text i h =
     let found = first_at (dot_at text) (length text) i h in
     rw (found.0, lt-ltb (dot_at text) (length text) found.1) refl
 
-pub dot_within : (text : List ℕ) (i : ℕ) → Some i ≡ cond (ltb (dot_at text) (length text)) (Some (dot_at text)) None → i + 1 ≤ length text
+pub dot_within : (text : List ℕ) (i : ℕ) → Some i ≡ cond (ltb (dot_at text) (length text)) (Some (dot_at text)) None
+    → i + 1 ≤ length text
 dot_within text i h = let found = first_at (dot_at text) (length text) i h in omega (arith, found.0, found.1)
 
 -- a text by the number of digits that it begins with
-pub minor_is : (rest : List ℕ) (n : ℕ) → n ≡ digits_len rest → (is_decimal (take n rest) && is_tail (drop n rest)) ≡ is_minor rest
+pub minor_is : (rest : List ℕ) (n : ℕ) → n ≡ digits_len rest
+    → (is_decimal (take n rest) && is_tail (drop n rest)) ≡ is_minor rest
 unfolding is_minor
 minor_is rest n h = rw h refl
 
 -- the number of digits, where the search for another byte returns its index or none
-pub digits_are : (text : List ℕ) → unwrap_or (cond (ltb (digits_len text) (length text)) (Some (digits_len text)) None) (length text) ≡ digits_len text
+pub digits_are : (text : List ℕ)
+    → unwrap_or (cond (ltb (digits_len text) (length text)) (Some (digits_len text)) None) (length text)
+    ≡ digits_len text
 digits_are text = elim (cases_lt (digits_len text) (length text)) [
   | inl lt ↦ rw (lt-ltb (digits_len text) (length text) lt) refl
-  | inr le ↦ (let most = prefix_len-le-length (λ b. not (not (is_ascii_digit b))) text in rw (le-ltb (digits_len text) (length text) le) (omega (arith, le, most)))
+  | inr le ↦ (let most = prefix_len-le-length (λ b. not (not (is_ascii_digit b))) text in
+      rw (le-ltb (digits_len text) (length text) le) (omega (arith, le, most)))
 ]
 
 pub is_go_version-exact : (text : List ℕ) → (is_go_version text ≡ true) ↔ IsGoVersion text

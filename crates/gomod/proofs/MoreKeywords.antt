@@ -9,12 +9,14 @@ use Rattle.gomod.specs.Grammar.{IsKnown}
 use Rattle.gomod.specs.Reads.{Reads}
 use Rattle.gomod.specs.FileLaws.{IsWithin}
 
-all_known : (known more : Keywords) (ks : List Keyword) → IsWithin known more → AllByRecursion (IsKnown known) ks → AllByRecursion (IsKnown more) ks
+all_known : (known more : Keywords) (ks : List Keyword) → IsWithin known more → AllByRecursion (IsKnown known) ks
+    → AllByRecursion (IsKnown more) ks
 all_known known more [] within h = tt
 all_known known more (k ∷ ks) within h = (within k h.0, all_known known more ks within h.1)
 
 -- a file that can be read in a profile has the same meaning in a profile with more keywords
-pub reads_more : (known more : Keywords) (bytes : List ℕ) (m : GoModule) → IsWithin known more → Reads known bytes m → Reads more bytes m
+pub reads_more : (known more : Keywords) (bytes : List ℕ) (m : GoModule) → IsWithin known more → Reads known bytes m
+    → Reads more bytes m
 reads_more known more bytes m within r = record {
   utf8 = r.utf8;
   tokens = r.tokens;

@@ -26,22 +26,29 @@ unfolding is_below IsBelow
 is_below-from u v h = ap is_lt h
 
 -- the version found in a canonical text is its version, and in a faulty text there is none
-pub version_of-canonical : (line : ℕ) (text : List ℕ) (v : Version) → IsCanonical text v → version_found line (version_of text) ≡ Ok v
+pub version_of-canonical : (line : ℕ) (text : List ℕ) (v : Version) → IsCanonical text v
+    → version_found line (version_of text) ≡ Ok v
 unfolding version_of
 version_of-canonical line text v h = ap (version_found line) ((modver.version-of text v).1 h)
 
-no_version : (line : ℕ) (text : List ℕ) (f : VersionFault) (o : Option Version) → version_of text ≡ o → IsFault text f → version_found line o ≡ Err (faults.Version line)
+no_version : (line : ℕ) (text : List ℕ) (f : VersionFault) (o : Option Version) → version_of text ≡ o → IsFault text f
+    → version_found line o ≡ Err (faults.Version line)
 unfolding version_of
 no_version line text f None is h = refl
 no_version line text f (Some v) is h = absurd (modver.not-faulty text v f ((modver.version-of text v).0 is) h)
 
-pub version_of-fault : (line : ℕ) (text : List ℕ) (f : VersionFault) → IsFault text f → version_found line (version_of text) ≡ Err (faults.Version line)
+pub version_of-fault : (line : ℕ) (text : List ℕ) (f : VersionFault) → IsFault text f
+    → version_found line (version_of text) ≡ Err (faults.Version line)
 version_of-fault line text f h = no_version line text f (version_of text) refl h
 
 -- a text that was read as no version
-pub version_of-unread : (line : ℕ) (text : List ℕ) (f : VersionFault) → IsFault text f ⊎ ((f ≡ version_faults.Memory) × IsHeld text)
+pub version_of-unread : (line : ℕ) (text : List ℕ) (f : VersionFault)
+    → IsFault text f ⊎ ((f ≡ version_faults.Memory) × IsHeld text)
     → Fails (version_fault line f) (version_found line (version_of text))
-version_of-unread line text version_faults.Form h = ⊎_elim (λ fault. version_of-fault line text version_faults.Form fault) (λ m. (let bad = m.0 in cc)) h
-version_of-unread line text version_faults.Build h = ⊎_elim (λ fault. version_of-fault line text version_faults.Build fault) (λ m. (let bad = m.0 in cc)) h
-version_of-unread line text version_faults.TooLong h = ⊎_elim (λ fault. version_of-fault line text version_faults.TooLong fault) (λ m. (let bad = m.0 in cc)) h
+version_of-unread line text version_faults.Form h =
+    ⊎_elim (λ fault. version_of-fault line text version_faults.Form fault) (λ m. (let bad = m.0 in cc)) h
+version_of-unread line text version_faults.Build h =
+    ⊎_elim (λ fault. version_of-fault line text version_faults.Build fault) (λ m. (let bad = m.0 in cc)) h
+version_of-unread line text version_faults.TooLong h =
+    ⊎_elim (λ fault. version_of-fault line text version_faults.TooLong fault) (λ m. (let bad = m.0 in cc)) h
 version_of-unread line text version_faults.Memory h = tt

@@ -14,8 +14,11 @@ covers-from v i h =
 
 covers-true : (v : Version) (i : Interval) → covers v i ≡ true → Covers v i
 covers-true v i h =
-    let both = and_parts _ _ h in
-    (λ b. both_ways _ (not-true _ both.0) (is_below-from v i.low b), λ b. both_ways _ (not-true _ both.1) (is_below-from i.high v b))
+    let both = and_parts _ _ h in (
+      λ b. both_ways _ (not-true _ both.0) (is_below-from v i.low b),
+      λ b.
+          both_ways _ (not-true _ both.1) (is_below-from i.high v b),
+    )
 
 pub is_retracted-decides : (m : GoModule) (v : Version) → (is_retracted m v ≡ true) ↔ IsRetracted m v
 is_retracted-decides m v = (

@@ -4,12 +4,14 @@ use Rattle.gomod.specs.declared.fault.GoModFault.{GoModFault}
 use Rattle.gomod.specs.Reading.{◌>>=◌}
 
 -- both steps of a chain that does not fail
-pub bound : {A B : Type 0} (r : Result A GoModFault) (f : A → Result B GoModFault) (y : B) → r >>= f ≡ Ok y → (x : A) × (r ≡ Ok x) × (f x ≡ Ok y)
+pub bound : {A B : Type 0} (r : Result A GoModFault) (f : A → Result B GoModFault) (y : B) → r >>= f ≡ Ok y
+    → (x : A) × (r ≡ Ok x) × (f x ≡ Ok y)
 bound (Ok x) f y h = (x, refl, h)
 bound (Err e) f y h = cc
 
 -- a chain fails at its first step, or behind it
-pub fails : {A B : Type 0} (r : Result A GoModFault) (g : A → Result B GoModFault) (f : GoModFault) → r >>= g ≡ Err f → (r ≡ Err f) ⊎ ((x : A) × (r ≡ Ok x) × (g x ≡ Err f))
+pub fails : {A B : Type 0} (r : Result A GoModFault) (g : A → Result B GoModFault) (f : GoModFault) → r >>= g ≡ Err f
+    → (r ≡ Err f) ⊎ ((x : A) × (r ≡ Ok x) × (g x ≡ Err f))
 fails (Ok x) g f h = inr (x, refl, h)
 fails (Err e) g f h = inl (let same : e ≡ f = cc in ap (λ k. Err k) same)
 
@@ -28,6 +30,7 @@ ok_or_err (Ok x) = inl (x, refl)
 ok_or_err (Err e) = inr (e, refl)
 
 -- a step behind a test, where the other way fails
-pub guarded : {A : Type 0} (b : Bool) (r : Result A GoModFault) (e : GoModFault) (y : A) → cond b r (Err e) ≡ Ok y → (b ≡ true) × (r ≡ Ok y)
+pub guarded : {A : Type 0} (b : Bool) (r : Result A GoModFault) (e : GoModFault) (y : A) → cond b r (Err e) ≡ Ok y
+    → (b ≡ true) × (r ≡ Ok y)
 guarded true r e y h = (refl, h)
 guarded false r e y h = cc

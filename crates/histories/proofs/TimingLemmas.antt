@@ -1,5 +1,6 @@
 -- One more call of a stream in time.
-use Rattle.std.proofs.Common.{ℕ, ◌+◌, ◌-◌, ◌<◌, ◌≤◌, ◌≡◌, refl, sym, ap, ◌∙◌, subst, List, ◌∷◌, Bool, false, Option, Some, None, Result, Ok, Err, MatchOption, MatchResult, IfSome, OnOk, arith}
+use Rattle.std.proofs.Common.{ℕ, ◌+◌, ◌-◌, ◌<◌, ◌≤◌, ◌≡◌, refl, sym, ap, ◌∙◌, subst, List, ◌∷◌, Bool, false, Option}
+use Rattle.std.proofs.Common.{Some, None, Result, Ok, Err, MatchOption, MatchResult, IfSome, OnOk, arith}
 use Rattle.std.proofs.Math.Logic.{∥∥₁_map}
 use Rattle.std.specs.Duration.{as_nanos}
 use Rattle.std.specs.Time.{instant_nanos}
@@ -8,25 +9,29 @@ use Rattle.std.specs.declared.time.Instant.{Instant}
 use Rattle.histories.specs.declared.call.Call.{Call}
 use Rattle.histories.specs.declared.call.Call.TheVariants.{Shows, Bounds, Stops, Begins, Moves}
 use Rattle.histories.specs.declared.calls.Calls.{Calls}
-use Rattle.histories.specs.Timing.{moved_in, first_shown, IsStopped, IsLeft, MayBegin, KeepsTime, BeganAt, Since, IsReady}
+use Rattle.histories.specs.Timing.{moved_in, first_shown, IsStopped, IsLeft, MayBegin, KeepsTime, BeganAt, Since}
+use Rattle.histories.specs.Timing.{IsReady}
 
 -- the time began at this reading, or before
 abbrev pub BeginsBy : Option Instant → Option Instant → Instant → Type 0
 BeginsBy first first_new now = MatchOption first (first_new ≡ Some now) (λ t. first_new ≡ Some t)
 
-pub shown_began : (first first_new : Option Instant) (now : Instant) (since : List Call) → BeginsBy first first_new now → BeganAt first since
+pub shown_began : (first first_new : Option Instant) (now : Instant) (since : List Call) → BeginsBy first first_new now
+    → BeganAt first since
     → BeganAt first_new (Shows now ∷ since)
 shown_began None first_new now since is at = rw is (λ n. at (instant_nanos now))
 shown_began (Some t) first_new now since is at = rw is (λ n. at (instant_nanos now))
 
 -- a call that is no reading of the clock
-pub still_began : (first : Option Instant) (since since_new : List Call) → ((now : ℕ) → first_shown now since_new ≡ first_shown now since)
+pub still_began : (first : Option Instant) (since since_new : List Call)
+    → ((now : ℕ) → first_shown now since_new ≡ first_shown now since)
     → BeganAt first since → BeganAt first since_new
 still_began None since since_new same at = λ n. same n ∙ at n
 still_began (Some t) since since_new same at = λ n. same n ∙ at n
 
 module _ {allowed : ℕ → ℕ} {start : List Call} where
-  abbrev pub shown : (first first_new : Option Instant) (moved moved_new : ℕ) (waits : Bool) (calls calls_new : List Call) (now : Instant)
+  abbrev pub shown : (first first_new : Option Instant) (moved moved_new : ℕ) (waits : Bool)
+      (calls calls_new : List Call) (now : Instant)
       → BeginsBy first first_new now → moved_new ≡ moved → calls_new ≡ Shows now ∷ calls
       → Since allowed start first moved waits calls → Since allowed start first_new moved_new waits calls_new
   shown first first_new moved moved_new waits calls calls_new now is unmoved same s = record {
@@ -38,7 +43,8 @@ module _ {allowed : ℕ → ℕ} {start : List Call} where
     stopped = λ w. subst IsStopped (sym same) (s.stopped w);
   }
 
-  abbrev pub bounded : (first : Option Instant) (moved : ℕ) (waits : Bool) (calls calls_new : List Call) (longest : Duration)
+  abbrev pub bounded : (first : Option Instant) (moved : ℕ) (waits : Bool) (calls calls_new : List Call)
+      (longest : Duration)
       → calls_new ≡ Bounds longest ∷ calls
       → Since allowed start first moved waits calls → Since allowed start first moved waits calls_new
   bounded first moved waits calls calls_new longest same s = record {
@@ -50,7 +56,8 @@ module _ {allowed : ℕ → ℕ} {start : List Call} where
     stopped = λ w. subst IsStopped (sym same) (s.stopped w);
   }
 
-  pub stops : (first : Option Instant) (moved : ℕ) (waits : Bool) (calls calls_new : List Call) → calls_new ≡ Stops ∷ calls
+  pub stops : (first : Option Instant) (moved : ℕ) (waits : Bool) (calls calls_new : List Call)
+      → calls_new ≡ Stops ∷ calls
       → Since allowed start first moved waits calls → Since allowed start first moved false calls_new
   stops first moved waits calls calls_new same s = record {
     since = Stops ∷ s.since;
@@ -104,16 +111,19 @@ module _ {allowed : ℕ → ℕ} {start : List Call} where
   module _ (first first_new : Option Instant) (moved moved_new : ℕ) (a b : Calls) (now : Instant)
       (is : BeginsBy first first_new now) (unmoved : moved_new ≡ moved) (looked : b.calls ≡ Shows now ∷ a.calls) where
     -- no time was left
-    pub late : (waits : Bool) → ∥ Since allowed start first moved waits a.calls ∥₁ → ∥ Since allowed start first_new moved_new waits b.calls ∥₁
+    pub late : (waits : Bool) → ∥ Since allowed start first moved waits a.calls ∥₁
+        → ∥ Since allowed start first_new moved_new waits b.calls ∥₁
     late waits since = ∥∥₁_map since (shown first first_new moved moved_new waits a.calls b.calls now is unmoved looked)
 
-    module _ (left : Duration) (grows : (few many : ℕ) → few ≤ many → allowed few ≤ allowed many) (some : 0 < as_nanos left)
+    module _ (left : Duration) (grows : (few many : ℕ) → few ≤ many → allowed few ≤ allowed many)
+        (some : 0 < as_nanos left)
         (within : IfSome first_new (λ t. (instant_nanos now - instant_nanos t) + as_nanos left ≤ allowed moved)) where
       module _ (waits : Bool) (c : Calls) {E : Type 0} where
         -- the wait was bounded, or could not be
         pub ready : (result : Result (Unit {0}) E)
             → MatchResult result (λ u. c.calls ≡ Bounds left ∷ b.calls) (λ e. c ≡ b)
-            → ∥ Since allowed start first moved waits a.calls ∥₁ → OnOk result (IsReady allowed start first_new moved_new waits c.calls)
+            → ∥ Since allowed start first moved waits a.calls ∥₁
+            → OnOk result (IsReady allowed start first_new moved_new waits c.calls)
         ready (Ok u) same since = ∥∥₁_map since (λ s. (
           bounded first_new moved_new waits b.calls c.calls left same
               (shown first first_new moved moved_new waits a.calls b.calls now is unmoved looked s),
@@ -123,11 +133,13 @@ module _ {allowed : ℕ → ℕ} {start : List Call} where
 
         pub after : (result : Result (Unit {0}) E)
             → MatchResult result (λ u. c.calls ≡ Bounds left ∷ b.calls) (λ e. c ≡ b)
-            → ∥ Since allowed start first moved waits a.calls ∥₁ → ∥ Since allowed start first_new moved_new waits c.calls ∥₁
+            → ∥ Since allowed start first moved waits a.calls ∥₁
+            → ∥ Since allowed start first_new moved_new waits c.calls ∥₁
         after (Ok u) same since = ∥∥₁_map since (λ s. bounded first_new moved_new waits b.calls c.calls left same
             (shown first first_new moved moved_new waits a.calls b.calls now is unmoved looked s))
         after (Err e) same since = ∥∥₁_map since
-            (shown first first_new moved moved_new waits a.calls c.calls now is unmoved (ap (λ (l : Calls). l.calls) same ∙ looked))
+            (shown first first_new moved moved_new waits a.calls c.calls now is unmoved
+            (ap (λ (l : Calls). l.calls) same ∙ looked))
 
       -- no wait is to be bounded
       pub ready_at_once : (waits : Bool) → waits ≡ false
@@ -142,7 +154,8 @@ module _ {allowed : ℕ → ℕ} {start : List Call} where
 
 module _ {allowed : ℕ → ℕ} {start : List Call} (first : Option Instant) (moved : ℕ) (waits : Bool) where
   -- it moved these bytes
-  pub moves : (calls calls_new : List Call) (moved_new n : ℕ) → calls_new ≡ Moves n ∷ Begins ∷ calls → moved_new ≤ moved + n
+  pub moves : (calls calls_new : List Call) (moved_new n : ℕ) → calls_new ≡ Moves n ∷ Begins ∷ calls
+      → moved_new ≤ moved + n
       → IsReady allowed start first moved waits calls → ∥ Since allowed start first moved_new waits calls_new ∥₁
   moves calls calls_new moved_new n same most ready = ∥∥₁_map ready (λ r.
       ended first moved moved_new waits (Begins ∷ calls) calls_new n same most

@@ -1,5 +1,6 @@
 -- How many counts there are after one more is cached.
-use Rattle.std.proofs.Common.{◌≡◌, ◌∙◌, ◌+◌, ◌⊎◌, ℕ, List, [], ◌∷◌, Bool, true, false, cond, Option, Some, None, inl, inr, refl, sym, ap, subst, arith, Contains}
+use Rattle.std.proofs.Common.{◌≡◌, ◌∙◌, ◌+◌, ◌⊎◌, ℕ, List, [], ◌∷◌, Bool, true, false, cond, Option, Some, None, inl}
+use Rattle.std.proofs.Common.{inr, refl, sym, ap, subst, arith, Contains}
 use Rattle.std.specs.Prelude.{◌≤◌, option_and_then}
 use Rattle.std.specs.Ordering.{eq_by_cmp}
 use Rattle.std.specs.FinMap as map
@@ -17,26 +18,33 @@ none_counted t none n = (
   [],
   omega arith,
   λ s p m at. let never : ◌≡◌ {A = Option ℕ} None (Some m) =
-      sym (ap (λ x. get_under x s p) none ∙ ap (option_and_then (λ i. map.get i p)) (map.get-empty text_cmp s)) ∙ at in cc never,
+      sym (ap (λ x. get_under x s p) none ∙ ap (option_and_then (λ i. map.get i p)) (map.get-empty text_cmp s))
+      ∙ at in cc never,
 )
 
 -- what is there after a count is put is that count, or was there before
-put_or_before : (b d : Bool) (m k : ℕ) (old : Option ℕ) → cond b (cond d (Some m) old) old ≡ Some k → ((b ≡ true) × (d ≡ true)) ⊎ (old ≡ Some k)
+put_or_before : (b d : Bool) (m k : ℕ) (old : Option ℕ) → cond b (cond d (Some m) old) old ≡ Some k
+    → ((b ≡ true) × (d ≡ true)) ⊎ (old ≡ Some k)
 put_or_before true true m k old e = inl (refl, refl)
 put_or_before true false m k old e = inr e
 put_or_before false d m k old e = inr e
 
 module _ (t : Tally) (s p : List ℕ) (m : ℕ) where
-  there : (s' p' : List ℕ) (k : ℕ) → get_under (put_under t s p m) s' p' ≡ Some k → ((s' ≡ s) × (p' ≡ p)) ⊎ (get_under t s' p' ≡ Some k)
-  there s' p' k at = elim (put_or_before (eq_by_cmp text_cmp s' s) (eq_by_cmp text_cmp p' p) m k (get_under t s' p') (sym (get_put_under t s p m s' p') ∙ at)) [
-    | inl here ↦ inl (tells_apart texts_exact s' s here.0, tells_apart texts_exact p' p here.1)
-    | inr before ↦ inr before
-  ]
+  there : (s' p' : List ℕ) (k : ℕ) → get_under (put_under t s p m) s' p' ≡ Some k
+      → ((s' ≡ s) × (p' ≡ p)) ⊎ (get_under t s' p' ≡ Some k)
+  there s' p' k at = elim (put_or_before (eq_by_cmp text_cmp s' s) (eq_by_cmp text_cmp p' p) m k (get_under t s' p')
+      (sym (get_put_under t s p m s' p') ∙ at)) [
+        | inl here ↦ inl (tells_apart texts_exact s' s here.0, tells_apart texts_exact p' p here.1)
+        | inr before ↦ inr before
+      ]
 
-  at_pair : (pairs : List (List ℕ × List ℕ)) (s' p' : List ℕ) → s' ≡ s → p' ≡ p → Contains pairs (s, p) → Contains pairs (s', p')
-  at_pair pairs s' p' shelf path has = subst (λ x. Contains pairs (x, p')) (sym shelf) (subst (λ x. Contains pairs (s, x)) (sym path) has)
+  at_pair : (pairs : List (List ℕ × List ℕ)) (s' p' : List ℕ) → s' ≡ s → p' ≡ p → Contains pairs (s, p)
+      → Contains pairs (s', p')
+  at_pair pairs s' p' shelf path has =
+      subst (λ x. Contains pairs (x, p')) (sym shelf) (subst (λ x. Contains pairs (s, x)) (sym path) has)
 
-  pub one_more_counted : (after : Tally) (n : ℕ) → (after ≡ put_under t s p m) ⊎ (after ≡ map.empty) → HasAtMost t n → HasAtMost after (n + 1)
+  pub one_more_counted : (after : Tally) (n : ℕ) → (after ≡ put_under t s p m) ⊎ (after ≡ map.empty) → HasAtMost t n
+      → HasAtMost after (n + 1)
   one_more_counted after n (inr none) has = none_counted after none (n + 1)
   one_more_counted after n (inl put) has = subst (λ x. HasAtMost x (n + 1)) (sym put) (
     (s, p) ∷ has.0,
@@ -47,7 +55,8 @@ module _ (t : Tally) (s p : List ℕ) (m : ℕ) where
     ],
   )
 
-  pub as_many_counted : (after : Tally) (n k : ℕ) → (after ≡ put_under t s p m) ⊎ (after ≡ map.empty) → get_under t s p ≡ Some k → HasAtMost t n → HasAtMost after n
+  pub as_many_counted : (after : Tally) (n k : ℕ) → (after ≡ put_under t s p m) ⊎ (after ≡ map.empty)
+      → get_under t s p ≡ Some k → HasAtMost t n → HasAtMost after n
   as_many_counted after n k (inr none) kept has = none_counted after none n
   as_many_counted after n k (inl put) kept has = subst (λ x. HasAtMost x n) (sym put) (
     has.0,

@@ -1,5 +1,7 @@
--- Cached groups stay right when one more is cached and when a shelf is added; what a shelf sees stays when a group is added.
-use Rattle.std.proofs.Common.{◌≡◌, ◌≤◌, ◌<◌, ◌⊎◌, ◌+◌, ◌∙◌, arith, subst, ℕ, List, [], ◌∷◌, Bool, true, false, cond, true≢false, Option, Some, None, is_some, inl, inr, refl, sym, ap}
+-- Cached groups stay right when one more is cached and when a shelf is added; what a shelf sees stays when a group is
+-- added.
+use Rattle.std.proofs.Common.{◌≡◌, ◌≤◌, ◌<◌, ◌⊎◌, ◌+◌, ◌∙◌, arith, subst, ℕ, List, [], ◌∷◌, Bool, true, false, cond}
+use Rattle.std.proofs.Common.{true≢false, Option, Some, None, is_some, inl, inr, refl, sym, ap}
 use Rattle.std.specs.FinMap as map
 use Rattle.std.specs.FinSet as set
 use Rattle.std.specs.Option.{option_or}
@@ -8,15 +10,18 @@ use Rattle.std.proofs.lemmas.Map.Views.{tells_apart}
 use Rattle.world.specs.Lines.{in_order}
 use Rattle.world.specs.Versions.{named, by_precedence, versions_of}
 use Rattle.world.specs.Visible.{versions_among, versions_on}
-use Rattle.world.specs.World.{World, text_cmp, group_in, group_of, above, chain, place, seen_at, first_on, view, with_shelf, with_group}
+use Rattle.world.specs.World.{World, text_cmp, group_in, group_of, above, chain, place, seen_at, first_on, view}
+use Rattle.world.specs.World.{with_shelf, with_group}
 use Rattle.world.proofs.Orders.{texts_total, texts_exact}
 use Rattle.world.proofs.Sound.{at_or_before, stands_still, parent_still}
 use Rattle.kept.specs.Groups.{Grouping, IsGroupOf, AreGroups}
 
 pub no_groups : (w : World) (groups : Grouping) → groups ≡ map.empty → AreGroups w groups
-no_groups w groups none s g at = let never : ◌≡◌ {A = Option (Option (List ℕ))} None (Some g) = sym (ap (λ m. map.get m s) none ∙ map.get-empty text_cmp s) ∙ at in cc never
+no_groups w groups none s g at = let never : ◌≡◌ {A = Option (Option (List ℕ))} None (Some g) =
+    sym (ap (λ m. map.get m s) none ∙ map.get-empty text_cmp s) ∙ at in cc never
 
-pub one_more : (w : World) (old new : Grouping) (s : List ℕ) (g : Option (List ℕ)) → new ≡ map.insert old s g → AreGroups w old → IsGroupOf w s g → AreGroups w new
+pub one_more : (w : World) (old new : Grouping) (s : List ℕ) (g : Option (List ℕ)) → new ≡ map.insert old s g
+    → AreGroups w old → IsGroupOf w s g → AreGroups w new
 one_more w old new s g put are is t h at =
     elim (at_or_before texts_total texts_exact old s t g h (sym (ap (λ m. map.get m t) put) ∙ at)) [
       | inl here ↦ (ap (map.contains_key w.shelves) (sym here.0) ∙ is.0, ap (group_of w) (sym here.0) ∙ (is.1 ∙ here.1))
@@ -24,7 +29,8 @@ one_more w old new s g put are is t h at =
     ]
 
 -- one more has room where there were fewer than the most
-pub one_more_fits : (old new : Grouping) (s : List ℕ) (g : Option (List ℕ)) (most : ℕ) → new ≡ map.insert old s g → map.len old < most → map.len new ≤ most
+pub one_more_fits : (old new : Grouping) (s : List ℕ) (g : Option (List ℕ)) (most : ℕ) → new ≡ map.insert old s g
+    → map.len old < most → map.len new ≤ most
 one_more_fits old new s g most put room =
     elim (map.contains_key old s) as (λ b. map.len new ≡ cond b (map.len old) (map.len old + 1) → map.len new ≤ most) [
       | true ↦ λ e. omega (arith, e, room)
@@ -32,12 +38,14 @@ one_more_fits old new s g most put room =
     ] (ap map.len put ∙ map.len-insert texts_total old s g)
 
 -- the groups that were cached, or none, are right
-pub same_or_none : (w : World) (old new : Grouping) → (new ≡ old) ⊎ (new ≡ map.empty) → AreGroups w old → AreGroups w new
+pub same_or_none : (w : World) (old new : Grouping) → (new ≡ old) ⊎ (new ≡ map.empty) → AreGroups w old
+    → AreGroups w new
 same_or_none w old new (inl same) are = subst (AreGroups w) (sym same) are
 same_or_none w old new (inr none) are = no_groups w new none
 
 -- when a shelf is added, each other shelf has the group that it had
-pub groups_still : (w : World) (s : List ℕ) (parent : Option (List ℕ)) (groups : Grouping) → map.contains_key w.shelves s ≡ false → AreGroups w groups → AreGroups (with_shelf w s parent) groups
+pub groups_still : (w : World) (s : List ℕ) (parent : Option (List ℕ)) (groups : Grouping)
+    → map.contains_key w.shelves s ≡ false → AreGroups w groups → AreGroups (with_shelf w s parent) groups
 groups_still w s parent groups free are t g at =
     let it = are t g at in
     (stands_still w s parent t it.0, ap group_in (parent_still w s parent free t it.0) ∙ it.1)
@@ -49,14 +57,16 @@ none_there None e = refl
 none_there (Some x) e = absurd (true≢false e)
 
 module _ (w : World) (g : List ℕ) (free : map.contains_key w.shelves g ≡ false) where
-  no_group_put : (b : Bool) (o : Option (Option (List ℕ))) → (b ≡ true → o ≡ None) → group_in (cond b (Some None) o) ≡ group_in o
+  no_group_put : (b : Bool) (o : Option (Option (List ℕ))) → (b ≡ true → o ≡ None)
+      → group_in (cond b (Some None) o) ≡ group_in o
   no_group_put true o none = ap group_in (sym (none refl))
   no_group_put false o none = refl
 
   same_group : (s : List ℕ) → group_of (with_group w g) s ≡ group_of w s
   same_group s =
       ap group_in (map.get-insert texts_total w.shelves g None s)
-      ∙ no_group_put (eq_by_cmp text_cmp s g) (map.get w.shelves s) (λ same. ap (map.get w.shelves) (tells_apart texts_exact s g same) ∙ none_there (map.get w.shelves g) free)
+      ∙ no_group_put (eq_by_cmp text_cmp s g) (map.get w.shelves s)
+      (λ same. ap (map.get w.shelves) (tells_apart texts_exact s g same) ∙ none_there (map.get w.shelves g) free)
 
   on_same : (ss : List (List ℕ)) (p : List ℕ) → versions_on (with_group w g) ss p ≡ versions_on w ss p
   on_same [] p = refl

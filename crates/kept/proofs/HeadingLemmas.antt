@@ -16,14 +16,18 @@ use Rattle.kept.proofs.RecentLemmas.{Held}
 abbrev IsSeen : World → KeptHeading → List ℕ → List ℕ → List ℕ → Type 0
 IsSeen w it s p v = Some it.seen ≡ seen_heading (view w s p v)
 
-pub found_heading : (w : World) (headings : Held KeptHeading) (it : KeptHeading) (s p v : List ℕ) → Holds headings it → IsTrue (is_of s p v it) → AreHeadings w headings
+pub found_heading : (w : World) (headings : Held KeptHeading) (it : KeptHeading) (s p v : List ℕ) → Holds headings it
+    → IsTrue (is_of s p v it) → AreHeadings w headings
     → Some it.seen ≡ seen_heading (view w s p v)
 found_heading w headings it s p v at is are =
     let two = and_parts _ _ is in
     let one = and_parts _ _ two.0 in
     subst (λ t. IsSeen w it t p v) (text_same it.shelf s one.0)
-    (subst (λ t. IsSeen w it it.shelf t v) (text_same it.path p one.1) (subst (IsSeen w it it.shelf it.path) (text_same it.version v two.1) (are it at)))
+    (subst (λ t. IsSeen w it it.shelf t v) (text_same it.path p one.1)
+    (subst (IsSeen w it it.shelf it.path) (text_same it.version v two.1) (are it at)))
 
 -- headings stay right when a group is added
-pub headings_still : (w : World) (g : List ℕ) → map.contains_key w.shelves g ≡ false → (headings : Held KeptHeading) → AreHeadings w headings → AreHeadings (with_group w g) headings
-headings_still w g free headings are it at = are it at ∙ ap seen_heading (sym (same_view w g free it.shelf it.path it.version))
+pub headings_still : (w : World) (g : List ℕ) → map.contains_key w.shelves g ≡ false → (headings : Held KeptHeading)
+    → AreHeadings w headings → AreHeadings (with_group w g) headings
+headings_still w g free headings are it at = are it at
+    ∙ ap seen_heading (sym (same_view w g free it.shelf it.path it.version))

@@ -1,5 +1,6 @@
 -- Cached lists stay right when one more is cached, when some are dropped, and when the world grows.
-use Rattle.std.proofs.Common.{◌≡◌, ◌∙◌, ◌⊎◌, ℕ, List, [], false, Option, None, Some, inl, inr, refl, sym, ap, subst, IfSome}
+use Rattle.std.proofs.Common.{◌≡◌, ◌∙◌, ◌⊎◌, ℕ, List, [], false, Option, None, Some, inl, inr, refl, sym, ap, subst}
+use Rattle.std.proofs.Common.{IfSome}
 use Rattle.std.specs.Prelude.{bytes_eq, Contains, IsTrue}
 use Rattle.std.specs.FinMap as map
 use Rattle.std.proofs.lemmas.Bool.{and_parts}
@@ -22,19 +23,23 @@ use Rattle.kept.proofs.RecentLemmas.{holds_none}
 abbrev pub Kept : Type 0
 Kept = List (ℕ × (ℕ × KeptList))
 
--- the list has the versions of the path that the shelf sees, and its latest version, if cached, is the one that the shelf sees
+-- the list has the versions of the path that the shelf sees, and its latest version, if cached, is the one that the
+-- shelf sees
 abbrev pub IsListOf : World → KeptList → List ℕ → List ℕ → Type 0
 IsListOf w list s p = (list.versions ≡ versions_of w s p) × IfSome list.latest (λ latest. latest ≡ latest_of w s p)
 
 -- ---- fewer lists, none, and one more
 
-pub fewer : (w : World) (old new : Kept) → ((list : KeptList) → Holds new list → Holds old list) → AreLists w old → AreLists w new
+pub fewer : (w : World) (old new : Kept) → ((list : KeptList) → Holds new list → Holds old list) → AreLists w old
+    → AreLists w new
 fewer w old new among are list at = are list (among list at)
 
 pub no_lists : (w : World) (lists : Kept) → lists ≡ [] → AreLists w lists
 no_lists w lists none list at = absurd (holds_none list (subst (λ l. Holds l list) none at))
 
-pub one_more : (w : World) (old new : Kept) (it : KeptList) → ((list : KeptList) → Holds new list → Holds old list ⊎ (list ≡ it)) → AreLists w old → IsListIn w it → AreLists w new
+pub one_more : (w : World) (old new : Kept) (it : KeptList)
+    → ((list : KeptList) → Holds new list → Holds old list ⊎ (list ≡ it)) → AreLists w old → IsListIn w it
+    → AreLists w new
 one_more w old new it split are is list at = elim (split list at) [
   | inl was ↦ are list was
   | inr same ↦ subst (IsListIn w) (sym same) is
@@ -42,10 +47,12 @@ one_more w old new it split are is list at = elim (split list at) [
 
 -- ---- a list that is found
 
-pub found : (w : World) (lists : Kept) (list : KeptList) (s p : List ℕ) → Holds lists list → IsTrue (is_of s p list) → AreLists w lists → IsListOf w list s p
+pub found : (w : World) (lists : Kept) (list : KeptList) (s p : List ℕ) → Holds lists list → IsTrue (is_of s p list)
+    → AreLists w lists → IsListOf w list s p
 found w lists list s p at is are =
     let both = and_parts (bytes_eq list.shelf s) (bytes_eq list.path p) is in
-    subst (λ t. IsListOf w list t p) (text_same list.shelf s both.0) (subst (IsListOf w list list.shelf) (text_same list.path p both.1) (are list at))
+    subst (λ t. IsListOf w list t p) (text_same list.shelf s both.0)
+    (subst (IsListOf w list list.shelf) (text_same list.path p both.1) (are list at))
 
 -- ---- a version that a shelf does not see
 
@@ -66,10 +73,12 @@ none_seen w is s p t vs same other = go (view w s p t) refl
 -- ---- the world grows
 
 -- a list is right in x if it is right in w, and the shelf sees the same versions and headings of the path in both
-module _ (w x : World) (s p : List ℕ) (versions : versions_of w s p ≡ versions_of x s p) (headings : (u : List ℕ) → heading w s p u ≡ heading x s p u) where
+module _ (w x : World) (s p : List ℕ) (versions : versions_of w s p ≡ versions_of x s p)
+    (headings : (u : List ℕ) → heading w s p u ≡ heading x s p u) where
   by_same : (top : Option SemanticVersion) → latest_by w s p top ≡ latest_by x s p top
   by_same None = refl
-  by_same (Some top) = ap (λ shown. highest_left (module_of shown) (versions_of w s p)) (headings (version_text top)) ∙ ap (highest_left (module_of (heading x s p (version_text top)))) versions
+  by_same (Some top) = ap (λ shown. highest_left (module_of shown) (versions_of w s p)) (headings (version_text top))
+      ∙ ap (highest_left (module_of (heading x s p (version_text top)))) versions
 
   same_latest : latest_of w s p ≡ latest_of x s p
   same_latest = by_same (highest (versions_of w s p)) ∙ ap (λ vs. latest_by x s p (highest vs)) versions
@@ -86,11 +95,13 @@ still w s p v e other apart t list is =
     (λ u. ap without_zip (sym (on_others w s p v e other apart (chain w t) u))) list is
 
 pub others_still : (w : World) (s p v : List ℕ) (e : Entry) (lists : Kept)
-    → ((list : KeptList) → Holds lists list → bytes_eq list.path p ≡ false) → AreLists w lists → AreLists (with_entry w (place s p v) e) lists
+    → ((list : KeptList) → Holds lists list → bytes_eq list.path p ≡ false) → AreLists w lists
+    → AreLists (with_entry w (place s p v) e) lists
 others_still w s p v e lists apart are list at = still w s p v e list.path (apart list at) list.shelf list (are list at)
 
 -- lists stay right when a group is added
-pub lists_still : (w : World) (g : List ℕ) → map.contains_key w.shelves g ≡ false → (lists : Kept) → AreLists w lists → AreLists (with_group w g) lists
+pub lists_still : (w : World) (g : List ℕ) → map.contains_key w.shelves g ≡ false → (lists : Kept) → AreLists w lists
+    → AreLists (with_group w g) lists
 lists_still w g free lists are list at =
     same_list w (with_group w g) list.shelf list.path (sym (same_versions w g free list.shelf list.path))
     (λ u. ap without_zip (sym (same_view w g free list.shelf list.path u))) list (are list at)

@@ -40,14 +40,16 @@ module _ {X T : Type 0} (f : World → X → List T) (before : List T) (goal : W
 
   -- if the items of one more piece were added, gathering goes on
   pub gathered_more : (a b c : Shown) (items more : List T) (x : X) (rest : List X)
-      → HoldsThroughout a b (Gathers items (x ∷ rest)) → Adds b c items more (Ok tt) (λ w. f w x) → HoldsThroughout a c (Gathers more rest)
+      → HoldsThroughout a b (Gathers items (x ∷ rest)) → Adds b c items more (Ok tt) (λ w. f w x)
+      → HoldsThroughout a c (Gathers more rest)
   gathered_more a b c items more x rest far adds = record {
     honest = λ h. far.honest (adds.honest h);
     at = λ h w stands.
         let was = far.at (adds.honest h) w stands in
         let added = adds.at h w was.stays in
         record {
-          holds = ap (λ l. l ++ flat_map (f w) rest) added.answer ∙ append_assoc items (f w x) (flat_map (f w) rest) ∙ was.holds;
+          holds = ap (λ l. l ++ flat_map (f w) rest) added.answer ∙ append_assoc items (f w x) (flat_map (f w) rest)
+              ∙ was.holds;
           stays = added.stays;
           left = λ x y before. added.left x y (was.left x y before);
         };
@@ -56,7 +58,8 @@ module _ {X T : Type 0} (f : World → X → List T) (before : List T) (goal : W
 
   -- if the items of the next piece of what is left were added, gathering goes on
   pub gathered_next : (a b c : Shown) (items more : List T) (x y : X) (left rest : List X) → left ≡ x ∷ rest → y ≡ x
-      → HoldsThroughout a b (Gathers items left) → Adds b c items more (Ok tt) (λ w. f w y) → HoldsThroughout a c (Gathers more rest)
+      → HoldsThroughout a b (Gathers items left) → Adds b c items more (Ok tt) (λ w. f w y)
+      → HoldsThroughout a c (Gathers more rest)
   gathered_next a b c items more x y left rest begins is far adds =
       gathered_more a b c items more x rest (subst (λ l. HoldsThroughout a b (Gathers items l)) begins far)
       (subst (λ z. Adds b c items more (Ok tt) (λ w. f w z)) is adds)

@@ -1,5 +1,6 @@
 -- What the queries of all keys and of all shelves answer.
-use Rattle.std.proofs.Common.{◌≡◌, ◌↔◌, ◌∙◌, ℕ, Bool, true, false, List, [], ◌∷◌, ◌++◌, take, get_or, length, ◌+◌, ◌<◌, Some, is_some, inl, inr, refl, sym, ap, subst}
+use Rattle.std.proofs.Common.{◌≡◌, ◌↔◌, ◌∙◌, ℕ, Bool, true, false, List, [], ◌∷◌, ◌++◌, take, get_or, length, ◌+◌, ◌<◌}
+use Rattle.std.proofs.Common.{Some, is_some, inl, inr, refl, sym, ap, subst}
 use Rattle.std.specs.FinMap as map
 use Rattle.std.specs.FinSet as set
 use Rattle.std.specs.FinSet.{same_set}
@@ -33,14 +34,18 @@ abbrev pub first_column : ℕ → Query
 first_column tree = lookup tree [] (col 1 1 ∷ [])
 
 -- a table has a row for each key of a map, and shows it in its first column
-module _ {X : Type 0} (m : map.FinMap text_cmp X) (IsRow : Row → List ℕ × X → Type 0) (shows : (row : Row) (it : List ℕ × X) → IsRow row it → column row 1 ≡ Text it.0)
-    (db : Database) (tree : ℕ) (table : Tabulates IsRow (db.trees tree) (λ it. map.get m it.0 ≡ Some it.1)) (out : List Row) where
-  shown : AreFound (db.trees tree) [] (col 1 1 ∷ []) [] out → (t : List ℕ) → IsShown out t ↔ (map.contains_key m t ≡ true)
+module _ {X : Type 0} (m : map.FinMap text_cmp X) (IsRow : Row → List ℕ × X → Type 0)
+    (shows : (row : Row) (it : List ℕ × X) → IsRow row it → column row 1 ≡ Text it.0)
+    (db : Database) (tree : ℕ) (table : Tabulates IsRow (db.trees tree) (λ it. map.get m it.0 ≡ Some it.1))
+    (out : List Row) where
+  shown : AreFound (db.trees tree) [] (col 1 1 ∷ []) [] out → (t : List ℕ)
+      → IsShown out t ↔ (map.contains_key m t ≡ true)
   shown found t = (
     λ is.
         let row = found.sound is.0 is.1 in
         let it = table.each row.0 row.1 in
-        let same : it.0.0 ≡ t = let e = sym (shows row.0 it.0 it.1) ∙ (sym (ap (λ (r : Row). column r 0) row.3) ∙ is.2) in cc in
+        let same : it.0.0 ≡ t = let e = sym (shows row.0 it.0 it.1)
+        ∙ (sym (ap (λ (r : Row). column r 0) row.3) ∙ is.2) in cc in
         ap is_some (ap (map.get m) (sym same) ∙ it.2),
     λ h.
         let e = (some_of (map.get m t)).0 h in
@@ -51,24 +56,31 @@ module _ {X : Type 0} (m : map.FinMap text_cmp X) (IsRow : Row → List ℕ × X
   has_key : (t : List ℕ) → set.contains (set.from_list {R = text_cmp} (map.keys m)) t ≡ map.contains_key m t
   has_key t = set.contains-from_list texts_total (map.keys m) t ∙ sym (map.contains_key-keys m t)
 
-  keys_of_map : AreFound (db.trees tree) [] (col 1 1 ∷ []) [] out → (texts : set.FinSet text_cmp) → AddsTexts out set.empty texts → texts ≡ set.from_list (map.keys m)
+  keys_of_map : AreFound (db.trees tree) [] (col 1 1 ∷ []) [] out → (texts : set.FinSet text_cmp)
+      → AddsTexts out set.empty texts → texts ≡ set.from_list (map.keys m)
   keys_of_map found texts adds = same_set texts_total texts_exact texts (set.from_list (map.keys m)) (λ t.
       same_truth (set.contains texts t) (set.contains (set.from_list {R = text_cmp} (map.keys m)) t) (
         λ h. has_key t ∙ elim ((adds t).0 h) [ inl none ↦ absurd (no_text t none) | inr is ↦ (shown found t).0 is ],
         λ h. (adds t).1 (inr ((shown found t).1 (sym (has_key t) ∙ h))),
       ))
 
-module _ (db : Database) (w : World) (means : Means db.trees w) (out : List Row) (texts : set.FinSet text_cmp) (adds : AddsTexts out set.empty texts) where
+module _ (db : Database) (w : World) (means : Means db.trees w) (out : List Row) (texts : set.FinSet text_cmp)
+    (adds : AddsTexts out set.empty texts) where
   pub all_keys : Reads (asks (first_column 4)) db [] out → texts ≡ keys_in w
-  all_keys read = keys_of_map w.keys _ (λ row it is. is.0) db 4 means.access out (all_found [] db 4 [] (col 1 1 ∷ []) [] (λ _. refl) out read) texts adds
+  all_keys read = keys_of_map w.keys _ (λ row it is. is.0) db 4 means.access out
+      (all_found [] db 4 [] (col 1 1 ∷ []) [] (λ _. refl) out read) texts adds
 
   pub all_shelves : Reads (asks (first_column 2)) db [] out → texts ≡ shelves_in w
-  all_shelves read = keys_of_map w.shelves _ (λ row it is. is.0) db 2 means.shelves out (all_found [] db 2 [] (col 1 1 ∷ []) [] (λ _. refl) out read) texts adds
+  all_shelves read = keys_of_map w.shelves _ (λ row it is. is.0) db 2 means.shelves out
+      (all_found [] db 2 [] (col 1 1 ∷ []) [] (λ _. refl) out read) texts adds
 
 -- ---- row by row
 
 -- the texts of some rows and the text of the next one are those of the rows with the next one
-pub texts_at : (rows : List Row) (at : ℕ) (row : Row) (text : List ℕ) (mid new : set.FinSet text_cmp) → at < length rows → row ≡ get_or rows at row → column row 0 ≡ Text text
+pub texts_at : (rows : List Row) (at : ℕ) (row : Row) (text : List ℕ) (mid new : set.FinSet text_cmp) → at < length rows
+    → row ≡ get_or rows at row → column row 0 ≡ Text text
     → new ≡ set.insert mid text → AddsTexts (take at rows) set.empty mid → AddsTexts (take (at + 1) rows) set.empty new
 texts_at rows at row text mid new within is shows made adds =
-    subst (λ l. AddsTexts l set.empty new) (sym (take_more rows at row within ∙ ap (λ r. take at rows ++ r ∷ []) (sym is))) (one_more (take at rows) row text set.empty mid new shows made adds)
+    subst (λ l. AddsTexts l set.empty new)
+    (sym (take_more rows at row within ∙ ap (λ r. take at rows ++ r ∷ []) (sym is)))
+    (one_more (take at rows) row text set.empty mid new shows made adds)

@@ -1,5 +1,6 @@
 -- The highest of the first versions of a list.
-use Rattle.std.proofs.Common.{◌≡◌, ◌<◌, ◌+◌, ℕ, zero, suc, List, [], ◌∷◌, Bool, true, false, refl, sym, ◌∙◌, ap, subst, Option, Some, None, length, inl, inr, ◌⊎◌, arith, get_or}
+use Rattle.std.proofs.Common.{◌≡◌, ◌<◌, ◌+◌, ℕ, zero, suc, List, [], ◌∷◌, Bool, true, false, refl, sym, ◌∙◌, ap, subst}
+use Rattle.std.proofs.Common.{Option, Some, None, length, inl, inr, ◌⊎◌, arith, get_or}
 use Rattle.std.specs.Prelude.{slice_get, unwrap_or}
 use Rattle.std.specs.declared.cmp.Ordering.{Ordering}
 use Rattle.std.specs.declared.cmp.Ordering.TheVariants.{Less, Equal, Greater}
@@ -10,7 +11,8 @@ use Rattle.modver.specs.Fits.{IsVersionOf}
 use Rattle.modver.specs.Rank.{IsAbove, rank_cmp}
 use Rattle.modver.specs.SemanticVersion.{SemanticVersion}
 use Rattle.modver.proofs.Ranks.{rank-orders}
-use Rattle.latest.specs.Latest.{IsBest, IsTop, NamesTop, TopIsOne, Versions, among, unretracted, is_above_at, is_greater, is_higher, counting, counts}
+use Rattle.latest.specs.Latest.{IsBest, IsTop, NamesTop, TopIsOne, Versions, among, unretracted, is_above_at}
+use Rattle.latest.specs.Latest.{is_greater, is_higher, counting, counts}
 
 -- ---- indexes of a list
 
@@ -71,7 +73,9 @@ module _ (vs : List SemanticVersion) (m : Option GoModule) where
       b.1,
       b.2,
       λ k u less e h. elim (last_or_before k n less) [
-        | inl same ↦ λ above. true≢false (sym (ap is_greater (ap (λ y. rank_cmp y b.0) (is_last k u same e) ∙ above)) ∙ ap (is_above_at x) (sym b.1) ∙ low)
+        | inl same ↦ λ above. true≢false
+            (sym (ap is_greater (ap (λ y. rank_cmp y b.0) (is_last k u same e) ∙ above)) ∙ ap (is_above_at x) (sym b.1)
+            ∙ low)
         | inr before ↦ b.3 k u before e h
       ],
     )
@@ -85,7 +89,8 @@ module _ (vs : List SemanticVersion) (m : Option GoModule) where
     itself = (rank-orders []).irreflexive x
 
     -- a version that counts and is above the best is the new best
-    pub above : (best : Option ℕ) → IsBest vs m n best → counts m x ≡ true → is_higher vs x best ≡ true → IsBest vs m (n + 1) (Some n)
+    pub above : (best : Option ℕ) → IsBest vs m n best → counts m x ≡ true → is_higher vs x best ≡ true
+        → IsBest vs m (n + 1) (Some n)
     above None none h high = (
       x,
       at,
@@ -120,7 +125,8 @@ module _ (vs : List SemanticVersion) (m : Option GoModule) where
       )
 
 -- the top of a set is that of another with the same versions
-pub named_alike : (vs : List SemanticVersion) (one other : Versions) → ((v : SemanticVersion) → one v → other v) → ((v : SemanticVersion) → other v → one v)
+pub named_alike : (vs : List SemanticVersion) (one other : Versions) → ((v : SemanticVersion) → one v → other v)
+    → ((v : SemanticVersion) → other v → one v)
     → (answer : Option ℕ) → NamesTop vs one answer → NamesTop vs other answer
 named_alike vs one other to from None none = λ v h. none v (from v h)
 named_alike vs one other to from (Some p) top = (
@@ -132,7 +138,8 @@ named_alike vs one other to from (Some p) top = (
   },
 )
 
-one_top : (path : List ℕ) (set : Versions) → ((x : SemanticVersion) → set x → IsVersionOf path x) → (u v : SemanticVersion)
+one_top : (path : List ℕ) (set : Versions) → ((x : SemanticVersion) → set x → IsVersionOf path x)
+    → (u v : SemanticVersion)
     → IsTop set u → IsTop set v → u ≡ v
 one_top path set fit u v one other = elim ((rank-orders path).total u v (fit u one.member) (fit v other.member)) [
   | inl above ↦ absurd (other.highest u one.member above)

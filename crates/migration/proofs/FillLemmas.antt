@@ -24,4 +24,11 @@ fills format old db after it blank sound =
     let keys = third.2 shelves in
     let entries = fourth.2 keys in
     let all = it.2 entries sound in
-    record { world = all.world; is = all.is; means = record { named = named.0; shelves = all.shelves; access = all.keys; entries = all.entries }; stands = all.stands }
+    record {
+      world = all.world;
+      is = all.is;
+      means =
+          record { named = named.0; shelves = all.shelves; access = all.keys; entries = all.entries };
+      stands =
+          all.stands;
+    }

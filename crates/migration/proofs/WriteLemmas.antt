@@ -25,9 +25,12 @@ pub record HasWritten (format : Format) (old last : State) (done : Bool) : Type 
   pub writing : IsTrue done → Writing last world
 
 -- after a fill inside a transaction that began with `common` alone, there is such a world
-pub written : (format : Format) (old read start last : State) (done : Bool) → Moves format (Fills format) old read start last done
-    → HasCleanDisk read → HasCleanDisk last → IsReadyAs format old → Writing start only_common → HasWritten format old last done
-written format old read start last false fills clean late ready begun = record { world = only_common; was = inr (refl, refl); writing = λ done. absurd (true≢false (sym done)) }
+pub written : (format : Format) (old read start last : State) (done : Bool)
+    → Moves format (Fills format) old read start last done
+    → HasCleanDisk read → HasCleanDisk last → IsReadyAs format old → Writing start only_common
+    → HasWritten format old last done
+written format old read start last false fills clean late ready begun =
+    record { world = only_common; was = inr (refl, refl); writing = λ done. absurd (true≢false (sym done)) }
 written format old read start last true fills clean late ready begun =
     let it = fills.makes clean late ready (filling_of start only_common begun) (refl) in
     let has = it.0 begun.trees it.1.sound in
@@ -40,22 +43,26 @@ written format old read start last true fills clean late ready begun =
 -- ---- the call `write_world`
 
 -- a world that may be written may be written too if less is done
-of_fewer : (format : Format) (db : Database) (w : World) (done end : Bool) → (IsTrue end → IsTrue done) → IsOfTables format db done w → IsOfTables format db end w
+of_fewer : (format : Format) (db : Database) (w : World) (done end : Bool) → (IsTrue end → IsTrue done)
+    → IsOfTables format db done w → IsOfTables format db end w
 of_fewer format db w done end less (inl is) = inl is
 of_fewer format db w done true less (inr rest) = absurd (true≢false (sym (less refl) ∙ rest.0))
 of_fewer format db w done false less (inr rest) = inr (refl, rest.1)
 
-ended_clean : (P : Trees → Type 0) (last exit : State) (done : Bool) → (IsTrue done → Survives last exit P) → (done ≡ false → Survives last exit (λ _. ⊥)) → doubt last.is_clean ≤ doubt exit.is_clean
+ended_clean : (P : Trees → Type 0) (last exit : State) (done : Bool) → (IsTrue done → Survives last exit P)
+    → (done ≡ false → Survives last exit (λ _. ⊥)) → doubt last.is_clean ≤ doubt exit.is_clean
 ended_clean P last exit true whole lost = (whole refl).clean
 ended_clean P last exit false whole lost = (lost refl).clean
 
 module _ {S : Type 0} (g : Ghosts S) (h : Held S) (format : Format) (old read last exit : State) (done : Bool)
     (fills : Moves format (Fills format) old read (state g (record h { in_transaction = true })) last done)
-    (whole : IsTrue done → Survives last exit (λ db. db ≡ last.now.trees)) (lost : done ≡ false → Survives last exit (λ _. ⊥)) where
+    (whole : IsTrue done → Survives last exit (λ db. db ≡ last.now.trees))
+    (lost : done ≡ false → Survives last exit (λ _. ⊥)) where
   -- the call migrates, whichever way its transaction ended
   pub migrates : (end : Bool) → (IsTrue end → IsTrue done) → (IsReadBy old read done → IsReadBy old read end)
       → ((next : World) → (HasCleanDisk (state g h) → IsTrue (state g h).is_open)
-      → (HasCleanDisk last → Stands (state g h) only_common → IsTrue done → Writing last next) → ChangesAt (state g h) exit end only_common next)
+      → (HasCleanDisk last → Stands (state g h) only_common → IsTrue done → Writing last next)
+      → ChangesAt (state g h) exit end only_common next)
       → Migrates format old read (state g h) exit end
   migrates end less reads changes =
       let start = state g (record h { in_transaction = true }) in
@@ -67,7 +74,11 @@ module _ {S : Type 0} (g : Ghosts S) (h : Held S) (format : Format) (old read la
         clean_too = omega (arith, quiet, up);
         at = λ clean good ready opened stands.
             let late = was_clean last exit up good in
-            let begun = begins_writing g h last exit only_common only_common opened (was_clean start last quiet late) stands in
-            let has = written format old read start last done fills clean late ready begun in
-            (has.world, of_fewer format old.now has.world done end less has.was, changes has.world opened (λ _ _ all. has.writing all));
+            let begun = begins_writing g h last exit only_common only_common opened (was_clean start last quiet late)
+            stands in
+            let has = written format old read start last done fills clean late ready begun in (
+              has.world,
+              of_fewer format old.now has.world done end less has.was,
+              changes has.world opened (λ _ _ all. has.writing all),
+            );
       }

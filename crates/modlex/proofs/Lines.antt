@@ -1,5 +1,6 @@
 -- Where a newline cuts a text into lines.
-use Rattle.std.proofs.Common.{◌≡◌, ℕ, suc, ◌<◌, false, ◌==◌, List, [], ◌∷◌, ◌++◌, length, get_or, arith, refl, ap, ◌∙◌, rules, tests, Option, Some, None, MatchOption, lit<}
+use Rattle.std.proofs.Common.{◌≡◌, ℕ, suc, ◌<◌, false, ◌==◌, List, [], ◌∷◌, ◌++◌, length, get_or, arith, refl, ap, ◌∙◌}
+use Rattle.std.proofs.Common.{rules, tests, Option, Some, None, MatchOption, lit<}
 use denote.Ref.{Bor}
 use Rattle.std.proofs.lemmas.Str.Pattern.{IsSplitOnceResult, split_parts}
 use Rattle.modlex.specs.Lines.{lines}
@@ -27,7 +28,8 @@ lines-newline (b ∷ l) rest one =
     simp (other, lines-newline l rest (tail_is_one b l one))
 
 -- what `split_once` at a newline says of the lines
-pub cut_lines : (text : List ℕ) (r : Option (Bor (List ℕ) × Bor (List ℕ))) → IsSplitOnceResult 10 text r → MatchOption r (lines text ≡ text ∷ []) (λ x. lines text ≡ x.0.now ∷ lines x.1.now)
+pub cut_lines : (text : List ℕ) (r : Option (Bor (List ℕ) × Bor (List ℕ))) → IsSplitOnceResult 10 text r
+    → MatchOption r (lines text ≡ text ∷ []) (λ x. lines text ≡ x.0.now ∷ lines x.1.now)
 cut_lines text None h = lines-one text (record { none = split_parts 10 text None h (lit< tt) })
 cut_lines text (Some x) h =
     let halves = split_parts 10 text (Some x) h (lit< tt) in

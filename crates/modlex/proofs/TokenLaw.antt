@@ -1,15 +1,19 @@
 -- A line has the tokens that the definition computes, and no others.
-use Rattle.std.proofs.Common.{◌≡◌, ◌≢◌, ℕ, suc, ◌+◌, ◌<◌, Bool, true, false, not, ◌==◌, cond, List, [], ◌∷◌, ◌++◌, length, take, drop, arith, sym}
-use Rattle.std.proofs.Common.{ap, ◌∙◌, refl, rules, tests, add-one, append_assoc, Option, Some, None, Ok, ⊎_elim, codes, length-append, MatchBool}
+use Rattle.std.proofs.Common.{◌≡◌, ◌≢◌, ℕ, suc, ◌+◌, ◌<◌, Bool, true, false, not, ◌==◌, cond, List, [], ◌∷◌, ◌++◌}
+use Rattle.std.proofs.Common.{length, take, drop, arith, sym}
+use Rattle.std.proofs.Common.{ap, ◌∙◌, refl, rules, tests, add-one, append_assoc, Option, Some, None, Ok, ⊎_elim, codes}
+use Rattle.std.proofs.Common.{length-append, MatchBool}
 use Rattle.std.proofs.lemmas.Bool.{ne_eqb}
 use Rattle.std.proofs.lemmas.List.{take_at, drop_at}
 use Rattle.std.specs.Option.{option_map}
 use Rattle.std.specs.Str.{bytes_eq}
 use Rattle.std.proofs.lemmas.Slice.Eq.{bytes_eq-Decides}
 use Rattle.modlex.specs.declared.lexer.Kind.{Kind}
-use Rattle.modlex.specs.declared.lexer.Kind.TheVariants.{Name, Quoted, Raw, Arrow, Comma, ParenLeft, ParenRight, BracketLeft, BracketRight}
+use Rattle.modlex.specs.declared.lexer.Kind.TheVariants.{Name, Quoted, Raw, Arrow, Comma, ParenLeft, ParenRight}
+use Rattle.modlex.specs.declared.lexer.Kind.TheVariants.{BracketLeft, BracketRight}
 use Rattle.modlex.specs.Bytes.{is_blank, is_string_byte, is_name_byte, is_slash_and, quoted_len, raw_len, name_len}
-use Rattle.modlex.specs.Lexer.{Lexeme, lexeme, lexeme_at, punctuation_kind, word_at, name_kind, tokens_then, tokens_behind}
+use Rattle.modlex.specs.Lexer.{Lexeme, lexeme, lexeme_at, punctuation_kind, word_at, name_kind, tokens_then}
+use Rattle.modlex.specs.Lexer.{tokens_behind}
 use Rattle.modlex.specs.Tokens.{AreBlank, IsEnd, IsQuoted, IsRaw, IsRun, IsLexeme, AreTokens}
 use Rattle.modlex.proofs.TokenLoop.{tokens_behind-token, tokens_behind-blank, tokens_behind-comment}
 
@@ -31,11 +35,13 @@ unfolding is_slash_and
 no_slash second b bs h = rw h refl
 
 -- blanks are stepped over
-tokens_behind-gap : (line at : ℕ) (gap rest : List ℕ) → AreBlank gap → tokens_behind 0 line at (gap ++ rest) ≡ tokens_behind 0 line (at + length gap) rest
+tokens_behind-gap : (line at : ℕ) (gap rest : List ℕ) → AreBlank gap
+    → tokens_behind 0 line at (gap ++ rest) ≡ tokens_behind 0 line (at + length gap) rest
 tokens_behind-gap line at [] rest blank = let e : at ≡ at + 0 = omega arith in ap (λ n. tokens_behind 0 line n rest) e
 tokens_behind-gap line at (b ∷ gap) rest blank =
     let e : at + 1 + length gap ≡ at + length (b ∷ gap) = omega arith in
-    tokens_behind-blank line at b (gap ++ rest) blank.0 ∙ tokens_behind-gap line (at + 1) gap rest blank.1 ∙ ap (λ n. tokens_behind 0 line n rest) e
+    tokens_behind-blank line at b (gap ++ rest) blank.0 ∙ tokens_behind-gap line (at + 1) gap rest blank.1
+    ∙ ap (λ n. tokens_behind 0 line n rest) e
 
 -- the end of a line has no tokens
 tokens_behind-end : (line at : ℕ) (rest : List ℕ) → IsEnd rest → tokens_behind 0 line at rest ≡ Ok []
@@ -55,18 +61,23 @@ string_34 = refl
 one_more : (o : Option ℕ) (n : ℕ) → o ≡ Some n → option_map (λ k. k + 1) o ≡ Some (suc n)
 one_more o n h = ap (option_map (λ k. k + 1)) h ∙ ap (λ k. Some k) (add-one n)
 
-pub raw_len-content : (content rest : List ℕ) → IsRaw content → raw_len (content ++ 96 ∷ rest) ≡ Some (suc (length content))
+pub raw_len-content : (content rest : List ℕ) → IsRaw content
+    → raw_len (content ++ 96 ∷ rest) ≡ Some (suc (length content))
 raw_len-content [] rest raw = rw string_96 refl
 raw_len-content (b ∷ content) rest raw =
     let other = ne_eqb b 96 raw.0.1 in
     rw (raw.0.0, other) (one_more _ _ (raw_len-content content rest raw.1))
 
-escape_by : (b c : ℕ) (bs rest : List ℕ) (t : Bool) → (IsQuoted bs → quoted_len false (bs ++ 34 ∷ rest) ≡ Some (suc (length bs))) → (IsQuoted (c ∷ bs) → quoted_len false (c ∷ (bs ++ 34 ∷ rest))
-    ≡ Some (suc (length (c ∷ bs)))) → MatchBool t ((is_string_byte c ≡ true) × IsQuoted bs) (IsQuoted (c ∷ bs)) → quoted_len t (c ∷ (bs ++ 34 ∷ rest)) ≡ Some (suc (length (c ∷ bs)))
+escape_by : (b c : ℕ) (bs rest : List ℕ) (t : Bool)
+    → (IsQuoted bs → quoted_len false (bs ++ 34 ∷ rest) ≡ Some (suc (length bs)))
+    → (IsQuoted (c ∷ bs) → quoted_len false (c ∷ (bs ++ 34 ∷ rest))
+    ≡ Some (suc (length (c ∷ bs)))) → MatchBool t ((is_string_byte c ≡ true) × IsQuoted bs) (IsQuoted (c ∷ bs))
+    → quoted_len t (c ∷ (bs ++ 34 ∷ rest)) ≡ Some (suc (length (c ∷ bs)))
 escape_by b c bs rest true short long h = rw h.0 (one_more _ _ (short h.1))
 escape_by b c bs rest false short long h = long h
 
-pub quoted_len-content : (content rest : List ℕ) → IsQuoted content → quoted_len false (content ++ 34 ∷ rest) ≡ Some (suc (length content))
+pub quoted_len-content : (content rest : List ℕ) → IsQuoted content
+    → quoted_len false (content ++ 34 ∷ rest) ≡ Some (suc (length content))
 quoted_len-content [] rest quoted = rw string_34 refl
 quoted_len-content (b ∷ []) rest quoted =
     let mark = ne_eqb b 34 quoted.1 in
@@ -74,13 +85,15 @@ quoted_len-content (b ∷ []) rest quoted =
     rw (quoted.0, mark, slash) (one_more _ 1 (rw string_34 refl))
 quoted_len-content (b ∷ c ∷ bs) rest quoted =
     let mark = ne_eqb b 34 quoted.1 in
-    rw (quoted.0, mark) (one_more _ _ (escape_by b c bs rest (b == 92) (quoted_len-content bs rest) (quoted_len-content (c ∷ bs) rest) quoted.2))
+    rw (quoted.0, mark) (one_more _ _
+    (escape_by b c bs rest (b == 92) (quoted_len-content bs rest) (quoted_len-content (c ∷ bs) rest) quoted.2))
 
 name_len-comment : (c : ℕ) (cs : List ℕ) → is_slash_and 47 c cs ≡ true → name_len (c ∷ cs) ≡ Some 0
 name_len-comment c cs comment = choose_same (is_name_byte c) comment
   where
     choose_same : (t : Bool) → is_slash_and 47 c cs ≡ true
-        → cond (not t) (Some 0) (cond (is_slash_and 47 c cs) (Some 0) (cond (is_slash_and 42 c cs) None (option_map (λ n. n + 1) (name_len cs)))) ≡ Some 0
+        → cond (not t) (Some 0) (cond (is_slash_and 47 c cs) (Some 0)
+        (cond (is_slash_and 42 c cs) None (option_map (λ n. n + 1) (name_len cs)))) ≡ Some 0
     choose_same true h = rw h refl
     choose_same false h = refl
 
@@ -131,20 +144,23 @@ name_no_mark b name =
     let o44 = name_other b 44 no_name_44 name in
     rw (o40, o41, o91, o93, o44) refl
 
-word_at-name : (b : ℕ) (bs : List ℕ) → is_name_byte b ≡ true → is_slash_and 42 b bs ≡ false → word_at b bs ≡ option_map (λ n. (name_kind (b ∷ take n bs), n + 1)) (name_len bs)
+word_at-name : (b : ℕ) (bs : List ℕ) → is_name_byte b ≡ true → is_slash_and 42 b bs ≡ false
+    → word_at b bs ≡ option_map (λ n. (name_kind (b ∷ take n bs), n + 1)) (name_len bs)
 word_at-name b bs name star =
     let o34 = name_other b 34 no_name_34 name in
     let o96 = name_other b 96 no_name_96 name in
     rw (o34, o96, name, star) refl
 
-name_word : (b : ℕ) (bs : List ℕ) → is_name_byte b ≡ true → is_slash_and 42 b bs ≡ false → lexeme_at (b ∷ bs) ≡ option_map (λ n. (name_kind (b ∷ take n bs), n + 1)) (name_len bs)
+name_word : (b : ℕ) (bs : List ℕ) → is_name_byte b ≡ true → is_slash_and 42 b bs ≡ false
+    → lexeme_at (b ∷ bs) ≡ option_map (λ n. (name_kind (b ∷ take n bs), n + 1)) (name_len bs)
 unfolding lexeme_at
 name_word b bs name star =
     let mark_or_word : Option Kind → Option (Kind × ℕ) = λ m. elim m [ Some k ↦ Some (k, 1) | None ↦ word_at b bs ] in
     ap mark_or_word (name_no_mark b name) ∙ word_at-name b bs name star
 
 -- a run of name bytes is one token
-lexeme_at-run : (b : ℕ) (text rest : List ℕ) → IsRun (b ∷ text) rest → lexeme_at (b ∷ (text ++ rest)) ≡ Some (name_kind (b ∷ text), suc (length text))
+lexeme_at-run : (b : ℕ) (text rest : List ℕ) → IsRun (b ∷ text) rest
+    → lexeme_at (b ∷ (text ++ rest)) ≡ Some (name_kind (b ∷ text), suc (length text))
 lexeme_at-run b text rest run =
     name_word b (text ++ rest) run.0 run.2
     ∙ ap (option_map (λ n. (name_kind (b ∷ take n (text ++ rest)), n + 1))) (name_len-run text rest run.3)
@@ -159,12 +175,17 @@ name_kind-name text other = kind_by (bytes_eq text (codes "=>")) (λ e. other ((
     kind_by false no_arrow = refl
 
 -- the function finds what the relation says
-pub lexeme_at-lexeme : (kind : Kind) (text rest : List ℕ) → IsLexeme kind text rest → lexeme_at (text ++ rest) ≡ Some (kind, length text)
+pub lexeme_at-lexeme : (kind : Kind) (text rest : List ℕ) → IsLexeme kind text rest
+    → lexeme_at (text ++ rest) ≡ Some (kind, length text)
 unfolding lexeme_at
-lexeme_at-lexeme ParenLeft text rest h = ap (λ t. lexeme_at (t ++ rest)) h ∙ ap (λ t. Some (ParenLeft, length t)) (sym h)
-lexeme_at-lexeme ParenRight text rest h = ap (λ t. lexeme_at (t ++ rest)) h ∙ ap (λ t. Some (ParenRight, length t)) (sym h)
-lexeme_at-lexeme BracketLeft text rest h = ap (λ t. lexeme_at (t ++ rest)) h ∙ ap (λ t. Some (BracketLeft, length t)) (sym h)
-lexeme_at-lexeme BracketRight text rest h = ap (λ t. lexeme_at (t ++ rest)) h ∙ ap (λ t. Some (BracketRight, length t)) (sym h)
+lexeme_at-lexeme ParenLeft text rest h = ap (λ t. lexeme_at (t ++ rest)) h
+    ∙ ap (λ t. Some (ParenLeft, length t)) (sym h)
+lexeme_at-lexeme ParenRight text rest h = ap (λ t. lexeme_at (t ++ rest)) h
+    ∙ ap (λ t. Some (ParenRight, length t)) (sym h)
+lexeme_at-lexeme BracketLeft text rest h = ap (λ t. lexeme_at (t ++ rest)) h
+    ∙ ap (λ t. Some (BracketLeft, length t)) (sym h)
+lexeme_at-lexeme BracketRight text rest h = ap (λ t. lexeme_at (t ++ rest)) h
+    ∙ ap (λ t. Some (BracketRight, length t)) (sym h)
 lexeme_at-lexeme Comma text rest h = ap (λ t. lexeme_at (t ++ rest)) h ∙ ap (λ t. Some (Comma, length t)) (sym h)
 lexeme_at-lexeme Quoted text rest h =
     let len : suc (length h.0) + 1 ≡ length text = omega (arith, ap length h.2, length-append h.0 (34 ∷ [])) in
@@ -189,12 +210,15 @@ pub record Begins (text rest : List ℕ) : Type 0 where
   pub no_blank : is_blank first ≡ false
   pub no_comment : is_slash_and 47 first (others ++ rest) ≡ false
 
-begins_mark : (c : ℕ) (text others rest : List ℕ) → text ≡ c ∷ others → is_blank c ≡ false → (c == 47) ≡ false → Begins text rest
-begins_mark c text others rest is blank slash = record { first = c; others = others; is = is; no_blank = blank; no_comment = no_slash 47 c (others ++ rest) slash }
+begins_mark : (c : ℕ) (text others rest : List ℕ) → text ≡ c ∷ others → is_blank c ≡ false → (c == 47) ≡ false
+    → Begins text rest
+begins_mark c text others rest is blank slash =
+    record { first = c; others = others; is = is; no_blank = blank; no_comment = no_slash 47 c (others ++ rest) slash }
 
 begins_run : (text rest : List ℕ) → 0 < length text → IsRun text rest → Begins text rest
 begins_run [] rest some run = absurd (omega (arith, some))
-begins_run (b ∷ text) rest some run = record { first = b; others = text; is = refl; no_blank = name_no_blank b run.0; no_comment = run.1 }
+begins_run (b ∷ text) rest some run =
+    record { first = b; others = text; is = refl; no_blank = name_no_blank b run.0; no_comment = run.1 }
 
 -- a token begins with neither a blank nor a comment
 pub lexeme_begins : (kind : Kind) (text rest : List ℕ) → IsLexeme kind text rest → Begins text rest
@@ -211,24 +235,34 @@ lexeme_begins Name text rest h = begins_run text rest h.0 h.2
 
 -- a token at the front
 token_front : (line at : ℕ) (kind : Kind) (text rest : List ℕ) → IsLexeme kind text rest
-    → tokens_behind 0 line at (text ++ rest) ≡ tokens_then (lexeme kind line at text ∷ []) (tokens_behind 0 line (at + length text) rest)
+    → tokens_behind 0 line at (text ++ rest)
+    ≡ tokens_then (lexeme kind line at text ∷ []) (tokens_behind 0 line (at + length text) rest)
 token_front line at kind text rest h =
     let begins = lexeme_begins kind text rest h in
     let front : text ++ rest ≡ begins.first ∷ (begins.others ++ rest) = ap (λ t. t ++ rest) begins.is in
-    let found : lexeme_at (begins.first ∷ (begins.others ++ rest)) ≡ Some (kind, length text) = ap lexeme_at (sym front) ∙ lexeme_at-lexeme kind text rest h in
+    let found : lexeme_at (begins.first ∷ (begins.others ++ rest)) ≡ Some (kind, length text) = ap lexeme_at (sym front)
+    ∙ lexeme_at-lexeme kind text rest h in
     let some : 0 < length text = omega (arith, ap length begins.is) in
     ap (tokens_behind 0 line at) front
-    ∙ tokens_behind-token line at begins.first (begins.others ++ rest) kind (length text) begins.no_blank begins.no_comment found some
-    ∙ ap (λ l. tokens_then (lexeme kind line at (take (length text) l) ∷ []) (tokens_behind 0 line (at + length text) (drop (length text) l))) (sym front)
-    ∙ ap (λ t. tokens_then (lexeme kind line at t ∷ []) (tokens_behind 0 line (at + length text) (drop (length text) (text ++ rest)))) (take_at text rest (length text) refl)
-    ∙ ap (λ l. tokens_then (lexeme kind line at text ∷ []) (tokens_behind 0 line (at + length text) l)) (drop_at text rest (length text) refl)
+    ∙ tokens_behind-token line at begins.first (begins.others ++ rest) kind (length text) begins.no_blank
+    begins.no_comment found some
+    ∙ ap (λ l. tokens_then (lexeme kind line at (take (length text) l) ∷ [])
+    (tokens_behind 0 line (at + length text) (drop (length text) l))) (sym front)
+    ∙ ap (λ t. tokens_then (lexeme kind line at t ∷ [])
+    (tokens_behind 0 line (at + length text) (drop (length text) (text ++ rest))))
+    (take_at text rest (length text) refl)
+    ∙ ap (λ l. tokens_then (lexeme kind line at text ∷ []) (tokens_behind 0 line (at + length text) l))
+    (drop_at text rest (length text) refl)
 
 -- the tokens that a line has are those computed
-pub tokens_behind-all : (line at : ℕ) (bytes : List ℕ) (ts : List Lexeme) → AreTokens line at bytes ts → tokens_behind 0 line at bytes ≡ Ok ts
+pub tokens_behind-all : (line at : ℕ) (bytes : List ℕ) (ts : List Lexeme) → AreTokens line at bytes ts
+    → tokens_behind 0 line at bytes ≡ Ok ts
 tokens_behind-all line at bytes [] h =
-    ap (tokens_behind 0 line at) h.4 ∙ tokens_behind-gap line at h.0 h.1 h.2 ∙ tokens_behind-end line (at + length h.0) h.1 h.3
+    ap (tokens_behind 0 line at) h.4 ∙ tokens_behind-gap line at h.0 h.1 h.2
+    ∙ tokens_behind-end line (at + length h.0) h.1 h.3
 tokens_behind-all line at bytes (t ∷ ts) h =
     ap (tokens_behind 0 line at) h.4 ∙ tokens_behind-gap line at h.0 (t.text ++ h.1) h.2
     ∙ token_front line (at + length h.0) t.kind t.text h.1 h.3
-    ∙ ap (tokens_then (lexeme t.kind line (at + length h.0) t.text ∷ [])) (tokens_behind-all line (at + length h.0 + length t.text) h.1 ts h.6)
+    ∙ ap (tokens_then (lexeme t.kind line (at + length h.0) t.text ∷ []))
+    (tokens_behind-all line (at + length h.0 + length t.text) h.1 ts h.6)
     ∙ ap (λ u. Ok (u ∷ ts)) (sym h.5)

@@ -16,7 +16,8 @@ use Rattle.modpath.proofs.StemLaw.{elements_are_exact}
 abbrev pub is_path_byte : ℕ → Bool
 is_path_byte b = is_element_byte b || (b == 47)
 
-all-weaker : (p q : ℕ → Bool) → ((x : ℕ) → p x ≡ true → q x ≡ true) → (xs : List ℕ) → list_all p xs ≡ true → list_all q xs ≡ true
+all-weaker : (p q : ℕ → Bool) → ((x : ℕ) → p x ≡ true → q x ≡ true) → (xs : List ℕ) → list_all p xs ≡ true
+    → list_all q xs ≡ true
 all-weaker p q each [] h = refl
 all-weaker p q each (x ∷ xs) h = let a = and_parts _ _ h in and_from _ _ (each x a.0) (all-weaker p q each xs a.1)
 
@@ -31,13 +32,16 @@ join-all p sep h (x ∷ y ∷ es) all =
 
 element-all : (e : List ℕ) → IsElement e → list_all is_path_byte e ≡ true
 element-all e u =
-    all-weaker is_element_byte is_path_byte (λ x h. or_left _ _ h) e (and_parts _ _ ((element_bytes_are_exact e).1 u.bytes)).1
+    all-weaker is_element_byte is_path_byte (λ x h. or_left _ _ h) e
+    (and_parts _ _ ((element_bytes_are_exact e).1 u.bytes)).1
 
 -- each byte of a path is such a byte
 pub all_path_bytes : (text : List ℕ) → IsLoosePath text → list_all is_path_byte text ≡ true
 all_path_bytes text h =
-    let each = All-weaker IsElement (λ e. list_all is_path_byte e ≡ true) element-all (elements text) ((loose_check_is_exact text).0 h).each in
-    subst (λ (t : List ℕ). list_all is_path_byte t ≡ true) (elements_are_exact text).joined (join-all is_path_byte 47 refl (elements text) each)
+    let each = All-weaker IsElement (λ e. list_all is_path_byte e ≡ true) element-all (elements text)
+    ((loose_check_is_exact text).0 h).each in
+    subst (λ (t : List ℕ). list_all is_path_byte t ≡ true) (elements_are_exact text).joined
+    (join-all is_path_byte 47 refl (elements text) each)
 
 pub path_bytes : PathBytes
 path_bytes text h =
@@ -47,7 +51,10 @@ path_bytes text h =
     )) text).0 (all_path_bytes text h)
   where
     path_byte-from : (b : ℕ) → IsElementByte b ⊎ (b ≡ 47) → is_path_byte b ≡ true
-    path_byte-from b u = elim u [ inl byte ↦ or_left _ _ (element_byte-from b byte) | inr slash ↦ ap is_path_byte slash ]
+    path_byte-from b u = elim u [
+      | inl byte ↦ or_left _ _ (element_byte-from b byte)
+      | inr slash ↦ ap is_path_byte slash
+    ]
 
 -- a path has no byte but these
 pub path-has_no : (c : ℕ) → is_path_byte c ≡ false → (text : List ℕ) → IsLoosePath text → has c text ≡ false

@@ -1,6 +1,8 @@
 -- The tests of an element are the rules of an element.
-use Rattle.std.proofs.Common.{◌≡◌, ◌==◌, ◌↔◌, ◌⊎◌, ◌<◌, ◌++◌, ◌+◌, ◌-◌, ℕ, zero, suc, List, [], ◌∷◌, length, get_or, take, Bool, true, false, not, ltb, refl, sym, ap, ◌∙◌, inl, inr, arith, subst}
-use Rattle.std.proofs.lemmas.Bool.{and_from, and_parts, cases_Bool, eq-eqb, eqb-true, lt-ltb, ltb-true, or_cases, or_left, or_right}
+use Rattle.std.proofs.Common.{◌≡◌, ◌==◌, ◌↔◌, ◌⊎◌, ◌<◌, ◌++◌, ◌+◌, ◌-◌, ℕ, zero, suc, List, [], ◌∷◌, length, get_or}
+use Rattle.std.proofs.Common.{take, Bool, true, false, not, ltb, refl, sym, ap, ◌∙◌, inl, inr, arith, subst}
+use Rattle.std.proofs.lemmas.Bool.{and_from, and_parts, cases_Bool, eq-eqb, eqb-true, lt-ltb, ltb-true, or_cases}
+use Rattle.std.proofs.lemmas.Bool.{or_left, or_right}
 use Rattle.std.proofs.lemmas.List.{get_or_push, length_push, take_all, take_more}
 use Rattle.std.proofs.lemmas.List.Elements.{All-weaker}
 use Rattle.std.proofs.lemmas.List.Folds.{Any-from_list_any, list_any_at}
@@ -13,14 +15,16 @@ use Rattle.modpath.specs.PathLaws.{DotEndsAreExact, ElementBytesAreExact, FirstE
 -- ---- lists
 
 -- a test of each element, by the fact that it tests
-pub all_exact : (p : ℕ → Bool) (P : ℕ → Type 0) → ((x : ℕ) → (p x ≡ true) ↔ P x) → (xs : List ℕ) → (list_all p xs ≡ true) ↔ All P xs
+pub all_exact : (p : ℕ → Bool) (P : ℕ → Type 0) → ((x : ℕ) → (p x ≡ true) ↔ P x) → (xs : List ℕ)
+    → (list_all p xs ≡ true) ↔ All P xs
 all_exact p P each xs = (
   λ h. All-weaker (λ x. p x ≡ true) P (λ x. (each x).0) xs (AllPass-from_list_all p xs h),
   λ a. list_all-from_AllPass p xs (All-weaker P (λ x. p x ≡ true) (λ x. (each x).1) xs a),
 )
 
 -- a list that contains an element has it in front or behind
-cons-at : {X : Type 0} (x : X) (xs : List X) (y : X) (k : ℕ) → k < length (x ∷ xs) → get_or (x ∷ xs) k y ≡ y → (x ≡ y) ⊎ Contains xs y
+cons-at : {X : Type 0} (x : X) (xs : List X) (y : X) (k : ℕ) → k < length (x ∷ xs) → get_or (x ∷ xs) k y ≡ y
+    → (x ≡ y) ⊎ Contains xs y
 cons-at x xs y zero lt e = inl e
 cons-at x xs y (suc k) lt e = inr (k, omega arith, e)
 
@@ -39,7 +43,8 @@ contains_there x xs y c = (suc c.0, omega (arith, c.1), c.2)
 -- a test for one byte
 pub any_exact : (c : ℕ) (xs : List ℕ) → (list_any (λ b. b == c) xs ≡ true) ↔ Contains xs c
 any_exact c xs = (
-  λ h. let a = Any-from_list_any (λ b. b == c) xs h in (a.0, a.2, subst (λ y. get_or xs a.0 y ≡ y) (eqb-true a.1 c a.4) a.3),
+  λ h. let a = Any-from_list_any (λ b. b == c) xs h in
+      (a.0, a.2, subst (λ y. get_or xs a.0 y ≡ y) (eqb-true a.1 c a.4) a.3),
   λ u. list_any_at (λ b. b == c) xs u.0 c u.1 (eq-eqb (get_or xs u.0 c) c u.2),
 )
 
@@ -71,7 +76,8 @@ ends_exact c e some = (
   λ h. elim (cases_Bool (ltb 0 (length e))) [
     | inl more ↦ (
       take (length e - 1) e,
-      last_byte e (ltb-true 0 (length e) more) ∙ ap (λ x. take (length e - 1) e ++ x ∷ []) (eqb-true (get_or e (length e - 1) 0) c h),
+      last_byte e (ltb-true 0 (length e) more)
+          ∙ ap (λ x. take (length e - 1) e ++ x ∷ []) (eqb-true (get_or e (length e - 1) 0) c h),
     )
     | inr none ↦ absurd (nil-last c e some (no-length none) h)
   ],
@@ -85,18 +91,23 @@ ends_exact c e some = (
     ends-from front e' =
         let n : length e ≡ length front + 1 = ap length e' ∙ length_push front c in
         let at : length front ≡ length e - 1 = omega arith in
-        eq-eqb (get_or e (length e - 1) 0) c (ap (λ (l : List ℕ). get_or l (length e - 1) 0) e' ∙ get_or_push front c 0 (length e - 1) at)
+        eq-eqb (get_or e (length e - 1) 0) c
+        (ap (λ (l : List ℕ). get_or l (length e - 1) 0) e' ∙ get_or_push front c 0 (length e - 1) at)
 
 -- ---- bytes
 
 -- the test of an element byte passes only letters, digits and `-`, `.`, `_`, `~`
 pub element_byte-to : (b : ℕ) → is_element_byte b ≡ true → IsElementByte b
 element_byte-to b h = elim (or_cases _ _ h) [
-  | inr tilde ↦ inr (contains_there 45 (46 ∷ 95 ∷ 126 ∷ []) b (contains_there 46 (95 ∷ 126 ∷ []) b (contains_there 95 (126 ∷ []) b (contains_here 126 [] b (sym (eqb-true b 126 tilde))))))
+  | inr tilde ↦ inr (contains_there 45 (46 ∷ 95 ∷ 126 ∷ []) b
+      (contains_there 46 (95 ∷ 126 ∷ []) b
+      (contains_there 95 (126 ∷ []) b (contains_here 126 [] b (sym (eqb-true b 126 tilde))))))
   | inl h₁ ↦ elim (or_cases _ _ h₁) [
-    | inr low ↦ inr (contains_there 45 (46 ∷ 95 ∷ 126 ∷ []) b (contains_there 46 (95 ∷ 126 ∷ []) b (contains_here 95 (126 ∷ []) b (sym (eqb-true b 95 low)))))
+    | inr low ↦ inr (contains_there 45 (46 ∷ 95 ∷ 126 ∷ []) b
+        (contains_there 46 (95 ∷ 126 ∷ []) b (contains_here 95 (126 ∷ []) b (sym (eqb-true b 95 low)))))
     | inl h₂ ↦ elim (or_cases _ _ h₂) [
-      | inr dot ↦ inr (contains_there 45 (46 ∷ 95 ∷ 126 ∷ []) b (contains_here 46 (95 ∷ 126 ∷ []) b (sym (eqb-true b 46 dot))))
+      | inr dot ↦ inr (contains_there 45 (46 ∷ 95 ∷ 126 ∷ []) b
+          (contains_here 46 (95 ∷ 126 ∷ []) b (sym (eqb-true b 46 dot))))
       | inl h₃ ↦ elim (or_cases _ _ h₃) [
         | inr dash ↦ inr (contains_here 45 (46 ∷ 95 ∷ 126 ∷ []) b (sym (eqb-true b 45 dash)))
         | inl letter ↦ inl letter
@@ -159,7 +170,10 @@ first_byte-from b (inl letter) = or_left _ _ (or_left _ _ (or_left _ _ letter))
 first_byte-from b (inr (inl digit)) = or_left _ _ (or_left _ _ (or_right _ _ digit))
 first_byte-from b (inr (inr among)) = elim (contains_cases 45 (46 ∷ []) b among) [
   | inl e ↦ first-among b 45 e refl
-  | inr c₁ ↦ elim (contains_cases 46 [] b c₁) [ inl e ↦ first-among b 46 e refl | inr none ↦ absurd (contains_none b none) ]
+  | inr c₁ ↦ elim (contains_cases 46 [] b c₁) [
+    | inl e ↦ first-among b 46 e refl
+    | inr none ↦ absurd (contains_none b none)
+  ]
 ]
 
 not-to : (b : Bool) → not b ≡ true → b ≡ true → ⊥

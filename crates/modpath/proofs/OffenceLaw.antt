@@ -1,5 +1,6 @@
 -- The fault of a text is its leftmost offence.
-use Rattle.std.proofs.Common.{◌≡◌, ◌⊎◌, ◌==◌, ◌<◌, ℕ, zero, suc, List, [], ◌∷◌, drop, Option, Some, None, true, refl, sym, ap, ◌∙◌, inl, inr, arith, subst}
+use Rattle.std.proofs.Common.{◌≡◌, ◌⊎◌, ◌==◌, ◌<◌, ℕ, zero, suc, List, [], ◌∷◌, drop, Option, Some, None, true, refl}
+use Rattle.std.proofs.Common.{sym, ap, ◌∙◌, inl, inr, arith, subst}
 use Rattle.std.proofs.lemmas.Bool.{cases_Bool, eqb-true}
 use Rattle.std.specs.Char.{is_ascii_lowercase, is_ascii_uppercase}
 use Rattle.std.specs.Option.{unwrap_or}
@@ -11,11 +12,13 @@ use Rattle.modpath.specs.EscapeLaws.{EscapeFaultIsLeftmost}
 some-same : (f g : EscapeFault) → Some f ≡ Some g → f ≡ g
 some-same f g h = ap (λ o. unwrap_or o f) h
 
-starts-lower : (rest : List ℕ) → starts_lower rest ≡ true → (b : ℕ) × (after : List ℕ) × (rest ≡ b ∷ after) × (is_ascii_lowercase b ≡ true)
+starts-lower : (rest : List ℕ) → starts_lower rest ≡ true
+    → (b : ℕ) × (after : List ℕ) × (rest ≡ b ∷ after) × (is_ascii_lowercase b ≡ true)
 starts-lower [] h = cc h
 starts-lower (b ∷ after) h = (b, after, refl, h)
 
-lower-starts : (rest : List ℕ) → (b : ℕ) × (after : List ℕ) × (rest ≡ b ∷ after) × (is_ascii_lowercase b ≡ true) → starts_lower rest ≡ true
+lower-starts : (rest : List ℕ) → (b : ℕ) × (after : List ℕ) × (rest ≡ b ∷ after) × (is_ascii_lowercase b ≡ true)
+    → starts_lower rest ≡ true
 lower-starts rest u = ap starts_lower u.2 ∙ u.3
 
 -- a fault found at the start of a text is an offence there
@@ -39,7 +42,8 @@ here-from : (text : List ℕ) (f : EscapeFault) → Offends text f → fault_her
 here-from text fault.Upper u = ap fault_here u.2 ∙ rw u.3 refl
 here-from text fault.Bang u = ap fault_here u.1 ∙ no-letter u.0 u.2
   where
-    no-letter : (rest : List ℕ) → ((b : ℕ) × (after : List ℕ) × (rest ≡ b ∷ after) × (is_ascii_lowercase b ≡ true) → ⊥) → fault_here (33 ∷ rest) ≡ Some fault.Bang
+    no-letter : (rest : List ℕ) → ((b : ℕ) × (after : List ℕ) × (rest ≡ b ∷ after) × (is_ascii_lowercase b ≡ true) → ⊥)
+        → fault_here (33 ∷ rest) ≡ Some fault.Bang
     no-letter rest none = elim (cases_Bool (starts_lower rest)) [
       | inl letter ↦ absurd (none (starts-lower rest letter))
       | inr other ↦ rw other refl
@@ -59,13 +63,19 @@ leftmost-to [] f h = cc h
 leftmost-to (b ∷ rest) f h = elim (option-cases (fault_here (b ∷ rest))) [
   | inr g ↦
       let same : g.0 ≡ f = some-same g.0 f (sym (ap (λ o. or_else o (escape_fault rest)) g.1) ∙ h) in
-      record { at = 0; offence = here-to (b ∷ rest) f (g.1 ∙ ap (λ x. Some x) same); none_before = λ k e lt. absurd (omega arith) }
+      record {
+        at = 0;
+        offence = here-to (b ∷ rest) f (g.1 ∙ ap (λ x. Some x) same);
+        none_before = λ k e lt.
+            absurd (omega arith);
+      }
   | inl none ↦
       let later = leftmost-to rest f (sym (ap (λ o. or_else o (escape_fault rest)) none) ∙ h) in
       record { at = suc later.at; offence = later.offence; none_before = before b rest later.at none later.none_before }
 ]
   where
-    before : (b : ℕ) (rest : List ℕ) (at : ℕ) → fault_here (b ∷ rest) ≡ None → ((k : ℕ) (g : EscapeFault) → k < at → Offends (drop k rest) g → ⊥)
+    before : (b : ℕ) (rest : List ℕ) (at : ℕ) → fault_here (b ∷ rest) ≡ None
+        → ((k : ℕ) (g : EscapeFault) → k < at → Offends (drop k rest) g → ⊥)
         → (k : ℕ) (g : EscapeFault) → k < suc at → Offends (drop k (b ∷ rest)) g → ⊥
     before b rest at none later zero g lt u = fault-here-none (b ∷ rest) none g u
     before b rest at none later (suc k) g lt u = later k g (omega arith) u
@@ -76,7 +86,8 @@ no-offence fault.Bang u = cc u.1
 no-offence fault.Memory u = u
 
 -- an offence before which there is no other is the fault of the text
-leftmost-from : (text : List ℕ) (f : EscapeFault) (at : ℕ) → Offends (drop at text) f → ((k : ℕ) (g : EscapeFault) → k < at → Offends (drop k text) g → ⊥)
+leftmost-from : (text : List ℕ) (f : EscapeFault) (at : ℕ) → Offends (drop at text) f
+    → ((k : ℕ) (g : EscapeFault) → k < at → Offends (drop k text) g → ⊥)
     → escape_fault text ≡ Some f
 leftmost-from [] f zero u none = absurd (no-offence f u)
 leftmost-from [] f (suc at) u none = absurd (no-offence f u)

@@ -1,5 +1,6 @@
 -- The test of reserved names passes exactly the 22 names, in any case.
-use Rattle.std.proofs.Common.{◌≡◌, ◌<◌, ◌≤◌, ◌++◌, ◌+◌, ◌-◌, ℕ, List, [], ◌∷◌, length, get_or, map, take, codes, nat_eq, true, refl, sym, ap, ◌∙◌, inl, inr, arith, subst, lit<}
+use Rattle.std.proofs.Common.{◌≡◌, ◌<◌, ◌≤◌, ◌++◌, ◌+◌, ◌-◌, ℕ, List, [], ◌∷◌, length, get_or, map, take, codes, nat_eq}
+use Rattle.std.proofs.Common.{true, refl, sym, ap, ◌∙◌, inl, inr, arith, subst, lit<}
 use Rattle.std.proofs.lemmas.Bool.{and_from, and_parts, cases_eq, le-leb, leb-true, or_cases, or_left, or_right}
 use Rattle.std.proofs.lemmas.Bool.Decides.{Decides-eqb, nat_tests}
 use Rattle.std.proofs.lemmas.List.{length-map, length_push, map_push, same_from_push}
@@ -64,22 +65,27 @@ digit-upper c d e low high = grind (arith, nat_tests)
 split-upper : (name : List ℕ) → 0 < length name → upper name ≡ upper (rest name) ++ to_ascii_uppercase (last name) ∷ []
 split-upper name some = ap upper (last_byte name some) ∙ map_push to_ascii_uppercase (rest name) (last name)
 
-port-text : (name word : List ℕ) → upper (rest name) ≡ word → 49 ≤ last name → last name ≤ 57 → upper name ≡ word ++ last name ∷ []
+port-text : (name word : List ℕ) → upper (rest name) ≡ word → 49 ≤ last name → last name ≤ 57
+    → upper name ≡ word ++ last name ∷ []
 port-text name word e low high =
     split-upper name (some-bytes name low)
     ∙ ap (λ (l : List ℕ). l ++ to_ascii_uppercase (last name) ∷ []) e
     ∙ ap (λ b. word ++ b ∷ []) (upper-digit (last name) low high)
 
-port-cut : (name word : List ℕ) (d : ℕ) → upper name ≡ word ++ d ∷ [] → 49 ≤ d → d ≤ 57 → (upper (rest name) ≡ word) × (last name ≡ d)
+port-cut : (name word : List ℕ) (d : ℕ) → upper name ≡ word ++ d ∷ [] → 49 ≤ d → d ≤ 57
+    → (upper (rest name) ≡ word) × (last name ≡ d)
 port-cut name word d e low high =
-    let n : length name ≡ length word + 1 = sym (length-map name to_ascii_uppercase) ∙ ap length e ∙ length_push word d in
-    let p = same_from_push (upper (rest name)) word (to_ascii_uppercase (last name)) d (sym (split-upper name (omega arith)) ∙ e) in
+    let n : length name ≡ length word + 1 = sym (length-map name to_ascii_uppercase) ∙ ap length e
+    ∙ length_push word d in
+    let p = same_from_push (upper (rest name)) word (to_ascii_uppercase (last name)) d
+    (sym (split-upper name (omega arith)) ∙ e) in
     (p.0, digit-upper (last name) d p.1 low high)
 
 -- ---- the names
 
 -- what holds of each byte from `1` to `9` holds of every byte between them
-one-to-nine : (P : ℕ → Type 0) → P 49 → P 50 → P 51 → P 52 → P 53 → P 54 → P 55 → P 56 → P 57 → (d : ℕ) → 49 ≤ d → d ≤ 57 → P d
+one-to-nine : (P : ℕ → Type 0) → P 49 → P 50 → P 51 → P 52 → P 53 → P 54 → P 55 → P 56 → P 57 → (d : ℕ) → 49 ≤ d
+    → d ≤ 57 → P d
 one-to-nine P p1 p2 p3 p4 p5 p6 p7 p8 p9 d low high = elim (cases_eq d 49) [
   | inl e ↦ subst P (sym e) p1
   | inr n1 ↦
@@ -104,7 +110,10 @@ one-to-nine P p1 p2 p3 p4 p5 p6 p7 p8 p9 d low high = elim (cases_eq d 49) [
                                           elim (cases_eq d 56) [
                                             | inl e ↦ subst P (sym e) p8
                                             | inr n8 ↦
-                                                elim (cases_eq d 57) [ inl e ↦ subst P (sym e) p9 | inr n9 ↦ absurd (omega arith) ]
+                                                elim (cases_eq d 57) [
+                                                  | inl e ↦ subst P (sym e) p9
+                                                  | inr n9 ↦ absurd (omega arith)
+                                                ]
                                           ]
                                     ]
                               ]
@@ -147,10 +156,12 @@ reserved-to name h = elim (or_cases _ _ h) [
       let high = leb-true (last name) 57 p.1 in
       elim (or_cases _ _ q.0) [
         | inl com_word ↦
-            named name (codes "COM" ++ last name ∷ []) (port-text name (codes "COM") (same-to (rest name) (codes "COM") com_word) low high)
+            named name (codes "COM" ++ last name ∷ [])
+            (port-text name (codes "COM") (same-to (rest name) (codes "COM") com_word) low high)
             (com-name (last name) low high)
         | inr lpt ↦
-            named name (codes "LPT" ++ last name ∷ []) (port-text name (codes "LPT") (same-to (rest name) (codes "LPT") lpt) low high)
+            named name (codes "LPT" ++ last name ∷ [])
+            (port-text name (codes "LPT") (same-to (rest name) (codes "LPT") lpt) low high)
             (lpt-name (last name) low high)
       ]
 ]
@@ -158,12 +169,16 @@ reserved-to name h = elim (or_cases _ _ h) [
 com-from : (name : List ℕ) (d : ℕ) → 49 ≤ d → d ≤ 57 → upper name ≡ codes "COM" ++ d ∷ [] → is_reserved name ≡ true
 com-from name d low high e =
     let p = port-cut name (codes "COM") d e low high in
-    or_right _ _ (and_from _ _ (and_from _ _ (or_left _ _ (same-from (rest name) (codes "COM") p.0)) (le-leb 49 (last name) (omega (arith, p.1)))) (le-leb (last name) 57 (omega (arith, p.1))))
+    or_right _ _ (and_from _ _
+    (and_from _ _ (or_left _ _ (same-from (rest name) (codes "COM") p.0))
+    (le-leb 49 (last name) (omega (arith, p.1)))) (le-leb (last name) 57 (omega (arith, p.1))))
 
 lpt-from : (name : List ℕ) (d : ℕ) → 49 ≤ d → d ≤ 57 → upper name ≡ codes "LPT" ++ d ∷ [] → is_reserved name ≡ true
 lpt-from name d low high e =
     let p = port-cut name (codes "LPT") d e low high in
-    or_right _ _ (and_from _ _ (and_from _ _ (or_right _ _ (same-from (rest name) (codes "LPT") p.0)) (le-leb 49 (last name) (omega (arith, p.1)))) (le-leb (last name) 57 (omega (arith, p.1))))
+    or_right _ _ (and_from _ _
+    (and_from _ _ (or_right _ _ (same-from (rest name) (codes "LPT") p.0))
+    (le-leb 49 (last name) (omega (arith, p.1)))) (le-leb (last name) 57 (omega (arith, p.1))))
 
 -- the test of reserved names finds each of the 22 names, in any case
 reserved-from : (name : List ℕ) → IsReserved name → is_reserved name ≡ true
@@ -209,7 +224,13 @@ reserved-from name c =
                                         lpt_at 53 (omega arith) (omega arith),
                                         (
                                           lpt_at 54 (omega arith) (omega arith),
-                                          (lpt_at 55 (omega arith) (omega arith), (lpt_at 56 (omega arith) (omega arith), (lpt_at 57 (omega arith) (omega arith), tt))),
+                                          (
+                                            lpt_at 55 (omega arith) (omega arith),
+                                            (
+                                              lpt_at 56 (omega arith) (omega arith),
+                                              (lpt_at 57 (omega arith) (omega arith), tt),
+                                            ),
+                                          ),
                                         ),
                                       ),
                                     ),

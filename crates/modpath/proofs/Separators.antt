@@ -1,5 +1,6 @@
 -- A text around its first separator, and around its last.
-use Rattle.std.proofs.Common.{◌≡◌, ◌==◌, ◌⊎◌, ◌++◌, ℕ, List, [], ◌∷◌, Bool, true, false, refl, sym, ap, ◌∙◌, inl, inr, append_assoc}
+use Rattle.std.proofs.Common.{◌≡◌, ◌==◌, ◌⊎◌, ◌++◌, ℕ, List, [], ◌∷◌, Bool, true, false, refl, sym, ap, ◌∙◌, inl, inr}
+use Rattle.std.proofs.Common.{append_assoc}
 use Rattle.std.proofs.lemmas.Bool.{cases_Bool, eq-eqb, eqb-true}
 use Rattle.std.proofs.lemmas.List.{same_from_push}
 use Rattle.std.specs.List.{list_all, list_any, onto_first, slice_split}
@@ -27,7 +28,8 @@ split_first sep (b ∷ first) rest h = elim (cases_Bool (b == sep)) [
   | inr other ↦ rw (other, split_first sep first rest (rw other at h)) refl
 ]
 
-onto-push : (b : ℕ) (fields : List (List ℕ)) (first : List ℕ) (others : List (List ℕ)) (last : List ℕ) → fields ≡ first ∷ others
+onto-push : (b : ℕ) (fields : List (List ℕ)) (first : List ℕ) (others : List (List ℕ)) (last : List ℕ)
+    → fields ≡ first ∷ others
     → onto_first b (fields ++ last ∷ []) ≡ onto_first b fields ++ last ∷ []
 onto-push b fields first others last e = rw e refl
 
@@ -45,10 +47,13 @@ split_last sep (b ∷ front) last h =
     ]
 
 -- what stands around the last separator is one front and one last field
-pub last_unique : (sep : ℕ) (front last other_front other_last : List ℕ) → front ++ sep ∷ last ≡ other_front ++ sep ∷ other_last
+pub last_unique : (sep : ℕ) (front last other_front other_last : List ℕ)
+    → front ++ sep ∷ last ≡ other_front ++ sep ∷ other_last
     → has sep last ≡ false → has sep other_last ≡ false → last ≡ other_last
 last_unique sep front last other_front other_last e h k =
-    (same_from_push _ _ last other_last (sym (split_last sep front last h) ∙ ap (slice_split (λ b. b == sep)) e ∙ split_last sep other_front other_last k)).1
+    (same_from_push _ _ last other_last
+    (sym (split_last sep front last h) ∙ ap (slice_split (λ b. b == sep)) e
+    ∙ split_last sep other_front other_last k)).1
 
 -- a text that has a separator has a first and a last
 pub record Cut (sep : ℕ) (text : List ℕ) : Type 0 where
@@ -74,7 +79,8 @@ cut-first sep (b ∷ text) h = elim (cases_Bool (b == sep)) [
 
 -- a text has no separator, or it is a front, a separator and a last field without one
 pub cut-last : (sep : ℕ) (text : List ℕ)
-    → (has sep text ≡ false) ⊎ ((front : List ℕ) × (last : List ℕ) × (text ≡ front ++ sep ∷ last) × (has sep last ≡ false))
+    → (has sep text ≡ false)
+    ⊎ ((front : List ℕ) × (last : List ℕ) × (text ≡ front ++ sep ∷ last) × (has sep last ≡ false))
 cut-last sep [] = inl refl
 cut-last sep (b ∷ text) = elim (cut-last sep text) [
   | inr r ↦ inr (b ∷ r.0, r.1, ap (λ (l : List ℕ). b ∷ l) r.2, r.3)
@@ -109,7 +115,8 @@ cut sep text h =
         at_last = f.2 ∙ ap (λ (r : List ℕ). f.0 ++ sep ∷ r) l.2 ∙ sym (append_assoc f.0 (sep ∷ l.0) (sep ∷ l.1));
         none_in_first = f.3;
         none_in_last = l.3;
-        is_last = ap (λ r. last_or [] (slice_split (λ b. b == sep) r)) l.2 ∙ ap (last_or []) (split_last sep l.0 l.1 l.3)
+        is_last = ap (λ r. last_or [] (slice_split (λ b. b == sep) r)) l.2
+            ∙ ap (last_or []) (split_last sep l.0 l.1 l.3)
             ∙ last_or-push [] (slice_split (λ b. b == sep) l.0) l.1;
       }
     ]

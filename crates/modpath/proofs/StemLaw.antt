@@ -1,5 +1,6 @@
 -- The elements of a text are what stands between its slashes, and a stem is what stands before the first dot.
-use Rattle.std.proofs.Common.{◌≡◌, ◌==◌, ◌++◌, ℕ, List, [], ◌∷◌, false, not, refl, sym, ap, ◌∙◌, inl, inr, append_assoc, subst}
+use Rattle.std.proofs.Common.{◌≡◌, ◌==◌, ◌++◌, ℕ, List, [], ◌∷◌, false, not, refl, sym, ap, ◌∙◌, inl, inr, append_assoc}
+use Rattle.std.proofs.Common.{subst}
 use Rattle.std.proofs.lemmas.Bool.{cases_Bool, false_from_ne_true}
 use Rattle.std.proofs.lemmas.List.Elements.{All-cons, All-head, All-nil, All-tail, All-weaker}
 use Rattle.std.proofs.lemmas.List.Splits.{join_with_byte-slice_split}
@@ -21,11 +22,13 @@ none-has sep text n = false_from_ne_true (has sep text) (λ h. n ((any_exact sep
 
 -- ---- elements
 
-onto-none : (sep b : ℕ) (fields : List (List ℕ)) (first : List ℕ) (others : List (List ℕ)) → fields ≡ first ∷ others → (b == sep) ≡ false
+onto-none : (sep b : ℕ) (fields : List (List ℕ)) (first : List ℕ) (others : List (List ℕ)) → fields ≡ first ∷ others
+    → (b == sep) ≡ false
     → All (λ e. has sep e ≡ false) fields → All (λ e. has sep e ≡ false) (onto_first b fields)
 onto-none sep b fields first others shape other all =
     let none : All (λ e. has sep e ≡ false) (first ∷ others) = rw shape at all in
-    rw shape (All-cons (λ e. has sep e ≡ false) (b ∷ first) others (rw other (All-head (λ e. has sep e ≡ false) first others none))
+    rw shape (All-cons (λ e. has sep e ≡ false) (b ∷ first) others
+    (rw other (All-head (λ e. has sep e ≡ false) first others none))
     (All-tail (λ e. has sep e ≡ false) first others none))
 
 -- no field of a text that is split at a separator has one
@@ -43,7 +46,8 @@ none-in-fields sep (b ∷ text) =
 pub elements_are_exact : ElementsAreExact
 elements_are_exact text = record {
   joined = join_with_byte-slice_split 47 text;
-  no_slash = All-weaker (λ e. has 47 e ≡ false) (λ e. ¬ Contains e 47) (has-none 47) (elements text) (none-in-fields 47 text);
+  no_slash = All-weaker (λ e. has 47 e ≡ false) (λ e. ¬ Contains e 47) (has-none 47) (elements text)
+      (none-in-fields 47 text);
 }
 
 -- ---- stems
@@ -70,11 +74,18 @@ dot-after name rest = sym (append_assoc name (46 ∷ []) rest)
 
 own-stem : (e : List ℕ) → IsStem e (stem e)
 own-stem e = elim (cases_Bool (has 46 e)) [
-  | inr none ↦ record { no_dot = subst (λ (n : List ℕ). ¬ Contains n 46) (sym (stem-whole e none)) (has-none 46 e none); beginning = inl (sym (stem-whole e none)) }
+  | inr none ↦ record {
+    no_dot = subst (λ (n : List ℕ). ¬ Contains n 46) (sym (stem-whole e none)) (has-none 46 e none);
+    beginning = inl (sym (stem-whole e none));
+  }
   | inl some ↦
       let c = cut-first 46 e some in
       let s : stem e ≡ c.0 = ap stem c.2 ∙ stem-cut c.0 c.1 c.3 in
-      record { no_dot = rw s (has-none 46 c.0 c.3); beginning = inr (c.1, c.2 ∙ dot-after c.0 c.1 ∙ ap (λ (n : List ℕ). n ++ (46 ∷ []) ++ c.1) (sym s)) }
+      record {
+        no_dot = rw s (has-none 46 c.0 c.3);
+        beginning =
+            inr (c.1, c.2 ∙ dot-after c.0 c.1 ∙ ap (λ (n : List ℕ). n ++ (46 ∷ []) ++ c.1) (sym s));
+      }
 ]
 
 stem-from : (e name : List ℕ) → IsStem e name → stem e ≡ name

@@ -1,7 +1,10 @@
 -- The suffix that is computed of a text is the one that it has.
-use Rattle.std.proofs.Common.{◌≡◌, ◌==◌, ◌&&◌, ◌||◌, ◌↔◌, ◌⊎◌, ◌^◌, ◌<◌, ◌≤◌, ◌++◌, ℕ, List, [], ◌∷◌, length, codes, nat_eq, Option}
-use Rattle.std.proofs.Common.{Some, None, Bool, true, false, ltb, refl, sym, ap, ◌∙◌, inl, inr, append_assoc, subst, if◌then◌else◌}
-use Rattle.std.proofs.lemmas.Bool.{and_from, and_parts, cases_Bool, eq-eqb, eqb-true, false_from_ne_true, le-ltb, lt-ltb, ltb-false, ltb-true, or_cases, or_left, or_right}
+use Rattle.std.proofs.Common.{◌≡◌, ◌==◌, ◌&&◌, ◌||◌, ◌↔◌, ◌⊎◌, ◌^◌, ◌<◌, ◌≤◌, ◌++◌, ℕ, List, [], ◌∷◌, length, codes}
+use Rattle.std.proofs.Common.{nat_eq, Option}
+use Rattle.std.proofs.Common.{Some, None, Bool, true, false, ltb, refl, sym, ap, ◌∙◌, inl, inr, append_assoc, subst}
+use Rattle.std.proofs.Common.{if◌then◌else◌}
+use Rattle.std.proofs.lemmas.Bool.{and_from, and_parts, cases_Bool, eq-eqb, eqb-true, false_from_ne_true, le-ltb}
+use Rattle.std.proofs.lemmas.Bool.{lt-ltb, ltb-false, ltb-true, or_cases, or_left, or_right}
 use Rattle.std.proofs.lemmas.Fmt.{decimal_nonempty}
 use Rattle.std.proofs.lemmas.List.Folds.{list_any-append}
 use Rattle.std.specs.Char.{is_ascii_digit}
@@ -13,7 +16,8 @@ use Rattle.std.specs.Prelude.{IsTrue}
 use Rattle.modpath.specs.declared.major.Suffix.{Suffix}
 use Rattle.modpath.specs.declared.major.Suffix.TheVariants as suffix
 use Rattle.modpath.specs.ModulePath.{BeginsWith, EndsWith, HasSuffix, LooksVersioned}
-use Rattle.modpath.specs.Path.{dot_suffix, dot_suffix_after, elements, first_element, number_of, slash_number, slash_suffix, suffix_of_elements}
+use Rattle.modpath.specs.Path.{dot_suffix, dot_suffix_after, elements, first_element, number_of, slash_number}
+use Rattle.modpath.specs.Path.{slash_suffix, suffix_of_elements}
 use Rattle.modpath.specs.PathLaws.{SuffixesAreExact}
 use Rattle.modpath.proofs.ElementLaw.{all_exact}
 use Rattle.modpath.proofs.NumberLaw.{decimal-digits, numbers_are_exact}
@@ -34,12 +38,15 @@ decimal-has-no c h n bound = digits-have_no c is_ascii_digit h (decimal n) (deci
 
 -- a text has the separator at which it is cut
 has-cut : (sep : ℕ) (front back : List ℕ) → has sep (front ++ sep ∷ back) ≡ true
-has-cut sep front back = list_any-append (λ b. b == sep) front (sep ∷ back) ∙ or_right _ _ (or_left _ _ (eq-eqb sep sep refl))
+has-cut sep front back = list_any-append (λ b. b == sep) front (sep ∷ back)
+    ∙ or_right _ _ (or_left _ _ (eq-eqb sep sep refl))
 
 -- ---- the dot suffix
 
--- a text after the last dot that gives a suffix is a `v` and the decimal of a number of at most 64 bits, and the suffix is that number's
-dot_after-to : (l : List ℕ) (s : Suffix) → dot_suffix_after l ≡ Some s → (n : ℕ) × (suffix.Dot n ≡ s) × (l ≡ 118 ∷ decimal n) × (n < 2 ^ 64)
+-- a text after the last dot that gives a suffix is a `v` and the decimal of a number of at most 64 bits, and the
+-- suffix is that number's
+dot_after-to : (l : List ℕ) (s : Suffix) → dot_suffix_after l ≡ Some s
+    → (n : ℕ) × (suffix.Dot n ≡ s) × (l ≡ 118 ∷ decimal n) × (n < 2 ^ 64)
 dot_after-to [] s h = cc h
 dot_after-to (b ∷ rest) s h = elim (cases_Bool (b == 118)) [
   | inr other ↦ cc (rw other at h)
@@ -62,7 +69,8 @@ dot_after-from n bound = ap (option_map suffix.Dot) ((numbers_are_exact (decimal
 
 dot-after-last : (e : List ℕ) (c : Cut 46 e) → dot_suffix e ≡ dot_suffix_after c.last
 dot-after-last e c =
-    dot-split e c.first c.rest (ap (slice_split (λ b. b == 46)) c.at_first ∙ split_first 46 c.first c.rest c.none_in_first)
+    dot-split e c.first c.rest
+    (ap (slice_split (λ b. b == 46)) c.at_first ∙ split_first 46 c.first c.rest c.none_in_first)
     ∙ ap dot_suffix_after c.is_last
 
 dot-to : (e : List ℕ) (s : Suffix) → dot_suffix e ≡ Some s
@@ -80,7 +88,8 @@ dot-from : (e : List ℕ) (n : ℕ) → EndsWith e (codes ".v" ++ decimal n) →
 dot-from e n u bound =
     let some : has 46 e ≡ true = ap (has 46) u.1 ∙ has-cut 46 u.0 (118 ∷ decimal n) in
     let c = cut 46 e some in
-    let last = last_unique 46 c.front c.last u.0 (118 ∷ decimal n) (sym c.at_last ∙ u.1) c.none_in_last (decimal-has-no 46 refl n bound) in
+    let last = last_unique 46 c.front c.last u.0 (118 ∷ decimal n) (sym c.at_last ∙ u.1) c.none_in_last
+    (decimal-has-no 46 refl n bound) in
     dot-after-last e c ∙ ap dot_suffix_after last ∙ dot_after-from n bound
 
 -- ---- the slash suffix
@@ -126,7 +135,8 @@ numbered_exact b rest = (
     numbered-from number ending some each =
         let v : b ≡ 118 = ap (λ (l : List ℕ). first_byte l) ending in
         let same : rest ≡ number = cc ending in
-        rw same (and_from _ _ (and_from _ _ (eq-eqb b 118 v) (lt-ltb 0 (length number) some)) ((dotted_exact number).1 each))
+        rw same (and_from _ _ (and_from _ _ (eq-eqb b 118 v) (lt-ltb 0 (length number) some))
+        ((dotted_exact number).1 each))
 
 -- what the last element of a path tells of its suffix
 abbrev Ending : List ℕ → Suffix → Type 0
@@ -144,7 +154,8 @@ nil-numbered u = nil-cons u.number u.ending
 slash-to : (e : List ℕ) (s : Suffix) → slash_suffix e ≡ Some s → Ending e s
 slash-to [] s h = subst (Ending []) (same-suffix suffix.None s h) nil-numbered
 slash-to (b ∷ rest) s h = elim (cases_Bool (numbered b rest)) [
-  | inr plain ↦ subst (Ending (b ∷ rest)) (same-suffix suffix.None s (rw plain at h)) (λ u. cc ((numbered_exact b rest).1 u, plain))
+  | inr plain ↦ subst (Ending (b ∷ rest)) (same-suffix suffix.None s (rw plain at h))
+      (λ u. cc ((numbered_exact b rest).1 u, plain))
   | inl looks ↦
       let m : slash_number (number_of rest) ≡ Some s = rw looks at h in
       let v : b ≡ 118 = eqb-true b 118 (and_parts _ _ (and_parts _ _ looks).0).0 in
@@ -154,7 +165,8 @@ slash-to (b ∷ rest) s h = elim (cases_Bool (numbered b rest)) [
           | inl small ↦ cc (sym (small-none n.0 small) ∙ sym (ap slash_number n.1) ∙ m)
           | inr large ↦
               let d = (numbers_are_exact rest n.0).0 n.1 in
-              subst (Ending (b ∷ rest)) (same-suffix (suffix.Slash n.0) s (sym (large-some n.0 large) ∙ sym (ap slash_number n.1) ∙ m))
+              subst (Ending (b ∷ rest))
+              (same-suffix (suffix.Slash n.0) s (sym (large-some n.0 large) ∙ sym (ap slash_number n.1) ∙ m))
               (ap (λ x. x ∷ rest) v ∙ ap (λ (l : List ℕ). 118 ∷ l) d.0, ltb-false n.0 2 large, d.1)
         ]
       ]
@@ -176,7 +188,9 @@ decimal-dotted (d ∷ ds) h =
 slash-from : (e : List ℕ) (s : Suffix) → Ending e s → slash_suffix e ≡ Some s
 slash-from e (suffix.Dot n) u = absurd u
 slash-from e (suffix.Slash n) u =
-    let looks : numbered 118 (decimal n) ≡ true = and_from _ _ (lt-ltb 0 (length (decimal n)) (decimal_nonempty n u.2)) (decimal-dotted (decimal n) (decimal-digits n u.2)) in
+    let looks : numbered 118 (decimal n) ≡ true =
+    and_from _ _ (lt-ltb 0 (length (decimal n)) (decimal_nonempty n u.2))
+    (decimal-dotted (decimal n) (decimal-digits n u.2)) in
     let number : number_of (decimal n) ≡ Some n = (numbers_are_exact (decimal n) n).1 (refl, u.2) in
     ap slash_suffix u.0 ∙ rw (looks, number, le-ltb n 2 u.1) refl
 slash-from [] suffix.None u = refl
@@ -191,7 +205,8 @@ slash-from (b ∷ rest) suffix.None u = elim (cases_Bool (numbered b rest)) [
 ends-last : (text back : List ℕ) (c : Cut 47 text) → has 47 back ≡ false → EndsWith text back → EndsWith c.last back
 ends-last text back c none u = elim (cut-last 47 u.0) [
   | inl no_slash ↦
-      let no : has 47 text ≡ false = ap (has 47) u.1 ∙ list_any-append (λ b. b == 47) u.0 back ∙ rw (no_slash, none) refl in
+      let no : has 47 text ≡ false = ap (has 47) u.1 ∙ list_any-append (λ b. b == 47) u.0 back
+      ∙ rw (no_slash, none) refl in
       let yes_slash : has 47 text ≡ true = ap (has 47) c.at_last ∙ has-cut 47 c.front c.last in
       cc (yes_slash, no)
   | inr l ↦
@@ -202,8 +217,11 @@ ends-last text back c none u = elim (cut-last 47 u.0) [
 ]
 
 last-ends : (text back : List ℕ) (c : Cut 47 text) → EndsWith c.last back → EndsWith text back
-last-ends text back c u =
-    (c.front ++ 47 ∷ u.0, c.at_last ∙ ap (λ (l : List ℕ). c.front ++ 47 ∷ l) u.1 ∙ sym (append_assoc c.front (47 ∷ u.0) back))
+last-ends text back c u = (
+  c.front ++ 47 ∷ u.0,
+  c.at_last ∙ ap (λ (l : List ℕ). c.front ++ 47 ∷ l) u.1
+      ∙ sym (append_assoc c.front (47 ∷ u.0) back),
+)
 
 dotted-has-no : (ds : List ℕ) → dotted ds ≡ true → has 47 ds ≡ false
 dotted-has-no ds h = digits-have_no 47 (λ d. is_ascii_digit d || (d == 46)) refl ds h
@@ -249,7 +267,8 @@ suffix-whole text none = ap suffix_of_elements (split_none 47 text none)
 suffix-cut : (text : List ℕ) (c : Cut 47 text)
     → suffix_of_elements (elements text) ≡ (if is_gopkg c.first then dot_suffix c.last else slash_suffix c.last)
 suffix-cut text c =
-    suffix-split text c.first c.rest (ap (slice_split (λ b. b == 47)) c.at_first ∙ split_first 47 c.first c.rest c.none_in_first)
+    suffix-split text c.first c.rest
+    (ap (slice_split (λ b. b == 47)) c.at_first ∙ split_first 47 c.first c.rest c.none_in_first)
     ∙ ap (λ (l : List ℕ). if is_gopkg c.first then dot_suffix l else slash_suffix l) c.is_last
 
 whole-none : (text : List ℕ) → has 47 text ≡ false → HasSuffix text suffix.None
@@ -258,7 +277,8 @@ whole-none text none = (
   λ u. cc (sym (ap (has 47) u.ending.1 ∙ has-cut 47 u.ending.0 (118 ∷ u.number)) ∙ none),
 )
 
-ending-suffix : (text : List ℕ) (c : Cut 47 text) → is_gopkg c.first ≡ false → (s : Suffix) → Ending c.last s → HasSuffix text s
+ending-suffix : (text : List ℕ) (c : Cut 47 text) → is_gopkg c.first ≡ false → (s : Suffix) → Ending c.last s
+    → HasSuffix text s
 ending-suffix text c other (suffix.Dot n) u = absurd u
 ending-suffix text c other (suffix.Slash n) u =
     (λ b. cc (gopkg-from text c b, other), (c.front, c.at_last ∙ ap (λ (l : List ℕ). c.front ++ 47 ∷ l) u.0), u.1, u.2)
@@ -267,7 +287,8 @@ ending-suffix text c other suffix.None u = (λ b. cc (gopkg-from text c b, other
 -- the computed suffix of a text is a suffix that the text has
 suffix-to : (text : List ℕ) (s : Suffix) → suffix_of_elements (elements text) ≡ Some s → HasSuffix text s
 suffix-to text s h = elim (cases_Bool (has 47 text)) [
-  | inr none ↦ subst (HasSuffix text) (same-suffix suffix.None s (sym (suffix-whole text none) ∙ h)) (whole-none text none)
+  | inr none ↦ subst (HasSuffix text) (same-suffix suffix.None s (sym (suffix-whole text none) ∙ h))
+      (whole-none text none)
   | inl some ↦
       let c = cut 47 text some in
       let m = sym (suffix-cut text c) ∙ h in
@@ -290,7 +311,8 @@ suffix-from text (suffix.Slash n) u =
     let some : has 47 text ≡ true = ap (has 47) u.1.1 ∙ has-cut 47 u.1.0 (118 ∷ decimal n) in
     let c = cut 47 text some in
     let other : is_gopkg c.first ≡ false = false_from_ne_true (is_gopkg c.first) (λ g. u.0 (gopkg-to text c g)) in
-    let last = last_unique 47 c.front c.last u.1.0 (118 ∷ decimal n) (sym c.at_last ∙ u.1.1) c.none_in_last (decimal-has-no 47 refl n u.3) in
+    let last = last_unique 47 c.front c.last u.1.0 (118 ∷ decimal n) (sym c.at_last ∙ u.1.1) c.none_in_last
+    (decimal-has-no 47 refl n u.3) in
     suffix-cut text c ∙ rw other (slash-from c.last (suffix.Slash n) (last, u.2, u.3))
 suffix-from text suffix.None u = elim (cases_Bool (has 47 text)) [
   | inr none ↦ suffix-whole text none

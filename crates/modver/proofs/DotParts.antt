@@ -1,6 +1,8 @@
 -- What stands between the dots of a text that is cut at its last dot.
-use Rattle.std.proofs.Common.{◌≡◌, ◌==◌, ◌+◌, ◌-◌, ◌<◌, ◌++◌, ℕ, suc, List, [], ◌∷◌, length, take, drop, get_or, length-append}
-use Rattle.std.proofs.Common.{length-drop, ◌&&◌, reverse, None, Bool, true, false, refl, sym, ap, ◌∙◌, inl, inr, arith, add-one, drop-cons}
+use Rattle.std.proofs.Common.{◌≡◌, ◌==◌, ◌+◌, ◌-◌, ◌<◌, ◌++◌, ℕ, suc, List, [], ◌∷◌, length, take, drop, get_or}
+use Rattle.std.proofs.Common.{length-append}
+use Rattle.std.proofs.Common.{length-drop, ◌&&◌, reverse, None, Bool, true, false, refl, sym, ap, ◌∙◌, inl, inr, arith}
+use Rattle.std.proofs.Common.{add-one, drop-cons}
 use Rattle.std.proofs.lemmas.Bool.{cases_Bool}
 use Rattle.std.proofs.lemmas.List.{get_or-drop, reverse-append, take-append-drop}
 use Rattle.std.specs.List.{slice_split}
@@ -41,11 +43,15 @@ pub cut-at : (text : List ℕ) (at : ℕ) → at < length text → get_or text a
     → between_dots text ≡ between_dots (take at text) ++ drop (at + 1) text ∷ []
 cut-at text at lt dot later =
     let rest = drop (at + 1) text in
-    let here : drop at text ≡ 46 ∷ rest = rw add-one (drop-cons text at 0 lt ∙ ap (λ (b : ℕ). b ∷ drop (suc at) text) dot) in
-    let whole : take at text ++ 46 ∷ rest ≡ text = ap (λ (t : List ℕ). take at text ++ t) (sym here) ∙ take-append-drop at text in
+    let here : drop at text ≡ 46 ∷ rest =
+    rw add-one (drop-cons text at 0 lt ∙ ap (λ (b : ℕ). b ∷ drop (suc at) text) dot) in
+    let whole : take at text ++ 46 ∷ rest ≡ text = ap (λ (t : List ℕ). take at text ++ t) (sym here)
+    ∙ take-append-drop at text in
     let size : length rest ≡ length text - (at + 1) = length-drop (at + 1) text in
-    let last : between_dots rest ≡ rest ∷ [] = no-dots rest (λ k h. rw (get_or-drop (at + 1) text k 0) (later (at + 1 + k) (omega arith) (omega arith))) in
-    ap between_dots (sym whole) ∙ dots-append (take at text) rest ∙ ap (λ (l : List (List ℕ)). between_dots (take at text) ++ l) last
+    let last : between_dots rest ≡ rest ∷ [] =
+    no-dots rest (λ k h. rw (get_or-drop (at + 1) text k 0) (later (at + 1 + k) (omega arith) (omega arith))) in
+    ap between_dots (sym whole) ∙ dots-append (take at text) rest
+    ∙ ap (λ (l : List (List ℕ)). between_dots (take at text) ++ l) last
 
 -- ---- the identifiers of a pre-release, from the last to the first
 
@@ -75,7 +81,8 @@ pub may-more : (minor patch : ℕ) (front rest before : List ℕ) → between_do
 may-more minor patch front rest before cut =
     let more = dots-some rest in
     let all : reverse (between_dots front) ≡ before ∷ more.0 ∷ more.1
-    = ap (λ (l : List (List ℕ)). reverse l) cut ∙ reverse-snoc (between_dots rest) before ∙ ap (λ (l : List (List ℕ)). before ∷ l) more.2 in
+    = ap (λ (l : List (List ℕ)). reverse l) cut ∙ reverse-snoc (between_dots rest) before
+    ∙ ap (λ (l : List (List ℕ)). before ∷ l) more.2 in
     rw all refl
 
 if-none : (b : Bool) → None ≡ (if b then stamp_of_identifier [] else None)
@@ -92,12 +99,14 @@ stamp-one v (b ∷ rest) ids one = rw (← ids, one) refl
 -- and of one with more
 pub stamp-more : (v : SemanticVersion) (pre front last : List ℕ) → identifiers_of pre ≡ v.identifiers
     → between_dots pre ≡ between_dots front ++ last ∷ []
-    → stamp_of v ≡ (if may_precede v.minor v.patch (reverse (between_dots front)) then stamp_of_identifier last else None)
+    → stamp_of v ≡ (if may_precede v.minor v.patch (reverse (between_dots front)) then stamp_of_identifier last else
+    None)
 unfolding stamp_of
 stamp-more v [] front last ids cut =
     let s = parts-shape front in
     let shape : slice_split (λ x. x == 46) front ≡ s.0 ∷ s.1 = s.2 in
-    let sizes : 1 ≡ length (s.0 ∷ s.1) + 1 = ap length (cut ∙ ap (λ (l : List (List ℕ)). l ++ last ∷ []) shape) ∙ length-append (s.0 ∷ s.1) (last ∷ []) in
+    let sizes : 1 ≡ length (s.0 ∷ s.1) + 1 = ap length (cut ∙ ap (λ (l : List (List ℕ)). l ++ last ∷ []) shape)
+    ∙ length-append (s.0 ∷ s.1) (last ∷ []) in
     absurd (omega arith)
 stamp-more v (b ∷ rest) front last ids cut =
     rw (← ids, cut, reverse-snoc (between_dots front) last) refl
@@ -114,8 +123,10 @@ pub time-more : (v : SemanticVersion) (pre front last : List ℕ) → identifier
     → between_dots pre ≡ between_dots front ++ last ∷ []
     → (m : Bool) → m ≡ may_precede v.minor v.patch (reverse (between_dots front))
     → (if m then option_map time_of_stamp (stamp_of_identifier last) else None) ≡ option_map time_of_stamp (stamp_of v)
-time-more v pre front last ids cut true m = sym (ap (option_map time_of_stamp) (rw (← m) at (stamp-more v pre front last ids cut)))
-time-more v pre front last ids cut false m = sym (ap (option_map time_of_stamp) (rw (← m) at (stamp-more v pre front last ids cut)))
+time-more v pre front last ids cut true m =
+    sym (ap (option_map time_of_stamp) (rw (← m) at (stamp-more v pre front last ids cut)))
+time-more v pre front last ids cut false m =
+    sym (ap (option_map time_of_stamp) (rw (← m) at (stamp-more v pre front last ids cut)))
 
 -- a version without identifiers has none
 pub no-stamp : (v : SemanticVersion) → v.identifiers ≡ [] → stamp_of v ≡ None

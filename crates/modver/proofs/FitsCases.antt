@@ -1,5 +1,6 @@
 -- The computed test of what fits, by cases.
-use Rattle.std.proofs.Common.{◌≡◌, ◌≢◌, ◌⊎◌, ◌==◌, ◌&&◌, ◌||◌, ◌<◌, ◌≤◌, ℕ, List, [], ◌∷◌, Bool, true, false, not, refl, inl, inr, nat_lt}
+use Rattle.std.proofs.Common.{◌≡◌, ◌≢◌, ◌⊎◌, ◌==◌, ◌&&◌, ◌||◌, ◌<◌, ◌≤◌, ℕ, List, [], ◌∷◌, Bool, true, false, not, refl}
+use Rattle.std.proofs.Common.{inl, inr, nat_lt}
 use Rattle.std.proofs.lemmas.Bool.{eq-eqb, eqb-true, lt-ltb, ltb-true}
 use Rattle.std.specs.Prelude.{if◌then◌else◌, nat_le}
 use Rattle.modpath.specs.declared.major.Suffix.TheVariants as suffix
@@ -24,11 +25,13 @@ or-second true y h = refl
 or-second false y h = h
 
 -- without a suffix
-none-fits : (m : Bool) (a : ℕ) → (if m then nat_le 2 a else nat_lt a 2) ≡ true → ((m ≡ false) × (a < 2)) ⊎ ((m ≡ true) × (2 ≤ a))
+none-fits : (m : Bool) (a : ℕ) → (if m then nat_le 2 a else nat_lt a 2) ≡ true
+    → ((m ≡ false) × (a < 2)) ⊎ ((m ≡ true) × (2 ≤ a))
 none-fits true a h = inr (refl, nat_le-true 2 a h)
 none-fits false a h = inl (refl, ltb-true a 2 h)
 
-fits-none : (m : Bool) (a : ℕ) → ((m ≡ false) × (a < 2)) ⊎ ((m ≡ true) × (2 ≤ a)) → (if m then nat_le 2 a else nat_lt a 2) ≡ true
+fits-none : (m : Bool) (a : ℕ) → ((m ≡ false) × (a < 2)) ⊎ ((m ≡ true) × (2 ≤ a))
+    → (if m then nat_le 2 a else nat_lt a 2) ≡ true
 fits-none m a (inl p) = rw p.0 (lt-ltb a 2 p.1)
 fits-none m a (inr p) = rw p.0 (le-nat_le 2 a p.1)
 
@@ -46,7 +49,12 @@ zero-of v h =
     let a = and-both _ _ h in
     let b = and-both _ _ a.0 in
     let c = and-both _ _ b.0 in
-    record { major = eqb-true v.major 0 c.0; minor = eqb-true v.minor 0 c.1; patch = eqb-true v.patch 0 b.1; identifiers = some-identifiers v.identifiers a.1 }
+    record {
+      major = eqb-true v.major 0 c.0;
+      minor = eqb-true v.minor 0 c.1;
+      patch = eqb-true v.patch 0 b.1;
+      identifiers = some-identifiers v.identifiers a.1;
+    }
 
 of-zero : (v : SemanticVersion) → IsZeroPreRelease v → is_zero_pre_release v ≡ true
 of-zero v z = rw (z.major, z.minor, z.patch) (identifiers-some v.identifiers z.identifiers)
@@ -64,8 +72,10 @@ dot-fits n v h =
 fits-dot : (n : ℕ) (v : SemanticVersion) → Fits (suffix.Dot n) v → fits (suffix.Dot n) v ≡ true
 fits-dot n v (inl major, mark) = rw (eq-eqb v.major n major, mark) refl
 fits-dot n v (inr old, mark) =
-    let one : ((n == 1) && is_zero_pre_release v) ≡ true = and-intro (n == 1) (is_zero_pre_release v) (eq-eqb n 1 old.0) (of-zero v old.1) in
-    let either : ((v.major == n) || ((n == 1) && is_zero_pre_release v)) ≡ true = or-second (v.major == n) ((n == 1) && is_zero_pre_release v) one in
+    let one : ((n == 1) && is_zero_pre_release v) ≡ true =
+    and-intro (n == 1) (is_zero_pre_release v) (eq-eqb n 1 old.0) (of-zero v old.1) in
+    let either : ((v.major == n) || ((n == 1) && is_zero_pre_release v)) ≡ true =
+    or-second (v.major == n) ((n == 1) && is_zero_pre_release v) one in
     and-intro ((v.major == n) || ((n == 1) && is_zero_pre_release v)) (not v.marked) either (rw mark refl)
 
 pub fits-exact : FitsIsExact

@@ -1,5 +1,6 @@
 -- Keys of rank, and the laws of both keys.
-use Rattle.std.proofs.Common.{◌≡◌, ◌++◌, ℕ, List, [], ◌∷◌, Option, Some, None, Bool, true, false, if◌then◌else◌, nat_le, nat_lt, refl, sym, ap, ◌∙◌, arith}
+use Rattle.std.proofs.Common.{◌≡◌, ◌++◌, ℕ, List, [], ◌∷◌, Option, Some, None, Bool, true, false, if◌then◌else◌, nat_le}
+use Rattle.std.proofs.Common.{nat_lt, refl, sym, ap, ◌∙◌, arith}
 use Rattle.std.proofs.lemmas.Bool.Decides.{nat_tests}
 use Rattle.std.proofs.lemmas.Cmp.{nat_list_cmp_total, tied_itself}
 use Rattle.std.specs.Option.{unwrap_or}
@@ -26,9 +27,11 @@ use Rattle.modver.proofs.StrictOrders.{precedence-tied, turned, turned-back}
 -- ---- rank
 
 -- keys that begin with a class compare by rank of class, then by stamp as a number, and then by what follows the class
-ranked : (xs ys : List (List ℕ)) (s t : Option (List ℕ)) (a b : List ℕ) → IsDigits s → IsDigits t → (xs ≡ [] → s ≡ None) → (ys ≡ [] → t ≡ None)
+ranked : (xs ys : List (List ℕ)) (s t : Option (List ℕ)) (a b : List ℕ) → IsDigits s → IsDigits t → (xs ≡ [] → s ≡ None)
+    → (ys ≡ [] → t ≡ None)
     → bytes_cmp (rank_of (class_from xs s) ∷ (unwrap_or s [] ++ a)) (rank_of (class_from ys t) ∷ (unwrap_or t [] ++ b))
-    ≡ ordering_then (nat_cmp (rank_of (class_from xs s)) (rank_of (class_from ys t))) (ordering_then (nat_cmp (number_of_stamp s) (number_of_stamp t)) (bytes_cmp a b))
+    ≡ ordering_then (nat_cmp (rank_of (class_from xs s)) (rank_of (class_from ys t)))
+    (ordering_then (nat_cmp (number_of_stamp s) (number_of_stamp t)) (bytes_cmp a b))
 ranked [] [] None None a b p q f g = refl
 ranked [] [] None (Some y) a b p q f g = cc (g refl)
 ranked [] [] (Some x) t a b p q f g = cc (f refl)
@@ -40,13 +43,17 @@ ranked (i ∷ xs) (j ∷ ys) None None a b p q f g = refl
 ranked (i ∷ xs) (j ∷ ys) None (Some y) a b p q f g = refl
 ranked (i ∷ xs) (j ∷ ys) (Some x) None a b p q f g = refl
 ranked (i ∷ xs) (j ∷ ys) (Some x) (Some y) a b p q f g =
-    first-lists x y a b (p.0 ∙ sym q.0) ∙ ap (λ (o : Ordering). ordering_then o (bytes_cmp a b)) (sym (same_length x y p.1 q.1 (p.0 ∙ sym q.0)))
+    first-lists x y a b (p.0 ∙ sym q.0)
+    ∙ ap (λ (o : Ordering). ordering_then o (bytes_cmp a b)) (sym (same_length x y p.1 q.1 (p.0 ∙ sym q.0)))
 
-rank-key : (u v : SemanticVersion) → IsVersion u → IsVersion v → bytes_cmp (rank_key_of u) (rank_key_of v) ≡ rank_cmp u v
+rank-key : (u v : SemanticVersion) → IsVersion u → IsVersion v
+    → bytes_cmp (rank_key_of u) (rank_key_of v) ≡ rank_cmp u v
 unfolding rank_key_of
 rank-key u v p q =
-    ranked u.identifiers v.identifiers (stamp_of u) (stamp_of v) (order_key_of u) (order_key_of v) (stamp-digits u) (stamp-digits v) (no-stamp u) (no-stamp v)
-    ∙ ap (λ (o : Ordering). ordering_then (nat_cmp (class_rank u) (class_rank v)) (ordering_then (nat_cmp (stamp_number u) (stamp_number v)) o)) (order-key u v p q)
+    ranked u.identifiers v.identifiers (stamp_of u) (stamp_of v) (order_key_of u) (order_key_of v) (stamp-digits u)
+    (stamp-digits v) (no-stamp u) (no-stamp v)
+    ∙ ap (λ (o : Ordering). ordering_then (nat_cmp (class_rank u) (class_rank v))
+    (ordering_then (nat_cmp (stamp_number u) (stamp_number v)) o)) (order-key u v p q)
 
 -- ---- equal keys
 
@@ -56,22 +63,34 @@ tied xs ys o h e = sym h ∙ ap (bytes_cmp xs) (sym e) ∙ tied_itself nat_list_
 
 -- a version with the mark that lets it fit a path without suffix
 abbrev fitting : SemanticVersion → SemanticVersion
-fitting v = record { major = v.major; minor = v.minor; patch = v.patch; identifiers = v.identifiers; marked = nat_le 2 v.major }
+fitting v = record {
+  major = v.major;
+  minor = v.minor;
+  patch = v.patch;
+  identifiers = v.identifiers;
+  marked =
+      nat_le 2 v.major;
+}
 
 mark-fits : (m : Bool) (n : ℕ) → m ≡ nat_le 2 n → (if m then nat_le 2 n else nat_lt n 2) ≡ true
 mark-fits true n h = sym h
 mark-fits false n h = grind (arith, nat_tests)
 
 fitting-fits : (v : SemanticVersion) → IsVersion v → IsVersion (fitting v) × (fits suffix.None (fitting v) ≡ true)
-fitting-fits v p = (record { major = p.major; minor = p.minor; patch = p.patch; identifiers = p.identifiers }, mark-fits (nat_le 2 v.major) v.major refl)
+fitting-fits v p = (
+  record { major = p.major; minor = p.minor; patch = p.patch; identifiers = p.identifiers },
+  mark-fits (nat_le 2 v.major) v.major refl,
+)
 
 -- versions that tie are the same but for the mark
 same-unmarked : (u v : SemanticVersion) → IsVersion u → IsVersion v → precedence u v ≡ Equal → unmarked u ≡ unmarked v
-same-unmarked u v p q e = ap unmarked (precedence-tied suffix.None (fitting u) (fitting v) (fitting-fits u p) (fitting-fits v q) e)
+same-unmarked u v p q e =
+    ap unmarked (precedence-tied suffix.None (fitting u) (fitting v) (fitting-fits u p) (fitting-fits v q) e)
 
 rank-unmarked : (u v : SemanticVersion) → IsVersion u → IsVersion v → rank_cmp u v ≡ Equal → unmarked u ≡ unmarked v
 rank-unmarked u v p q e =
-    same-unmarked u v p q (then_second (nat_cmp (stamp_number u) (stamp_number v)) _ (then_second (nat_cmp (class_rank u) (class_rank v)) _ e))
+    same-unmarked u v p q (then_second (nat_cmp (stamp_number u) (stamp_number v)) _
+    (then_second (nat_cmp (class_rank u) (class_rank v)) _ e))
 
 -- the mark enters no key
 order-unmarked : (v : SemanticVersion) → order_key_of v ≡ order_key_of (unmarked v)
@@ -94,7 +113,11 @@ order-law u v p q =
     let h = order-key u v p q in
     record {
       compared = h;
-      below = (λ b. sym h ∙ lower-bytes (order_key_of u) (order_key_of v) b, λ b. bytes-lower (order_key_of u) (order_key_of v) (h ∙ b));
+      below = (
+        λ b. sym h ∙ lower-bytes (order_key_of u) (order_key_of v) b,
+        λ b.
+            bytes-lower (order_key_of u) (order_key_of v) (h ∙ b),
+      );
       same = (
         λ e. same-unmarked u v p q (tied (order_key_of u) (order_key_of v) (precedence u v) h e),
         λ e. order-unmarked u ∙ ap order_key_of e ∙ sym (order-unmarked v),
@@ -108,8 +131,10 @@ rank-law u v p q =
     record {
       compared = h;
       above = (
-        λ b. sym h ∙ turned-back bytes_cmp nat_list_cmp_total (rank_key_of u) (rank_key_of v) (lower-bytes (rank_key_of v) (rank_key_of u) b),
-        λ g. bytes-lower (rank_key_of v) (rank_key_of u) (turned bytes_cmp nat_list_cmp_total (rank_key_of u) (rank_key_of v) (h ∙ g)),
+        λ b. sym h ∙ turned-back bytes_cmp nat_list_cmp_total (rank_key_of u) (rank_key_of v)
+            (lower-bytes (rank_key_of v) (rank_key_of u) b),
+        λ g. bytes-lower (rank_key_of v) (rank_key_of u)
+            (turned bytes_cmp nat_list_cmp_total (rank_key_of u) (rank_key_of v) (h ∙ g)),
       );
       same = (
         λ e. rank-unmarked u v p q (tied (rank_key_of u) (rank_key_of v) (rank_cmp u v) h e),
@@ -120,7 +145,8 @@ rank-law u v p q =
 pub own-keys : KeysAreOneToOneAtAPath
 own-keys path u v p q =
     let order : order_key_of u ≡ order_key_of v → u ≡ v
-    = λ e. precedence-tied (suffix_of path) u v p q (tied (order_key_of u) (order_key_of v) (precedence u v) (order-key u v p.0 q.0) e) in
+    = λ e. precedence-tied (suffix_of path) u v p q
+    (tied (order_key_of u) (order_key_of v) (precedence u v) (order-key u v p.0 q.0) e) in
     record {
       order = order;
       rank = λ e. order ((order-law u v p.0 q.0).same.1 ((rank-law u v p.0 q.0).same.0 e));

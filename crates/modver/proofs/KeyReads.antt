@@ -1,5 +1,6 @@
 -- The identifiers that are read in a key are those that it was made of.
-use Rattle.std.proofs.Common.{get_or, ◌≡◌, ◌≤◌, ◌<◌, ◌+◌, ◌++◌, ℕ, zero, suc, List, [], ◌∷◌, length, length-append, drop, true, false, append_assoc, add-one, refl, sym, ap, ◌∙◌, inl, inr, arith}
+use Rattle.std.proofs.Common.{get_or, ◌≡◌, ◌≤◌, ◌<◌, ◌+◌, ◌++◌, ℕ, zero, suc, List, [], ◌∷◌, length, length-append}
+use Rattle.std.proofs.Common.{drop, true, false, append_assoc, add-one, refl, sym, ap, ◌∙◌, inl, inr, arith}
 use Rattle.std.proofs.Math.ListN.{drop_of_length-le}
 use Rattle.std.proofs.Math.Seq.{drop-append_seam, take-append_seam}
 use Rattle.std.proofs.lemmas.Bool.{cases_Bool}
@@ -11,7 +12,8 @@ use Rattle.std.specs.Int.{from_be_bytes, to_be_bytes, w64}
 use Rattle.std.specs.List.{flat_map, list_all, position_or_len}
 use Rattle.std.specs.Prelude.{nat_eq}
 use Rattle.std.specs.declared.cmp.Ordering.TheVariants.{Equal}
-use Rattle.modver.specs.Keys.{AreBytes, front_identifiers, head_of, identifier_key, identifiers_in, identifiers_in_head, padded, pre_release_key}
+use Rattle.modver.specs.Keys.{AreBytes, front_identifiers, head_of, identifier_key, identifiers_in, identifiers_in_head}
+use Rattle.modver.specs.Keys.{padded, pre_release_key}
 use Rattle.modver.specs.Precedence.{pre_release_cmp}
 use Rattle.modver.specs.SemanticVersion.{is_identifier, is_identifier_byte, is_numeric}
 use Rattle.modver.proofs.Conditions.{and-first, and-second}
@@ -35,10 +37,17 @@ behind x s b = rw add-one (past x)
     past (a ∷ x) = past x
 
 -- the identifier at the front, and what follows it
-reads-first : (x s : List ℕ) (n : ℕ) → is_identifier x ≡ true → front_identifiers (suc n) (identifier_key x ++ s) ≡ x ∷ front_identifiers n s
+reads-first : (x s : List ℕ) (n : ℕ) → is_identifier x ≡ true
+    → front_identifiers (suc n) (identifier_key x ++ s) ≡ x ∷ front_identifiers n s
 reads-first x s n h = elim (cases_Bool (is_numeric x)) [
   | inl nx ↦ rw nx (rw (take-append_seam x s, add-one, drop-append_seam x s) refl)
-  | inr nx ↦ rw (nx, append_assoc x (0 ∷ []) s, first-zero x s (identifier-bytes x h), take-append_seam x (0 ∷ s), behind x s 0) refl
+  | inr nx ↦ rw (
+    nx,
+    append_assoc x (0 ∷ []) s,
+    first-zero x s (identifier-bytes x h),
+    take-append_seam x (0 ∷ s),
+    behind x s 0,
+  ) refl
 ]
 
 -- ---- a key
@@ -50,12 +59,14 @@ reads-identifiers [] (suc n) s p h = refl
 reads-identifiers (x ∷ xs) zero s p h = absurd (omega arith)
 reads-identifiers (x ∷ xs) (suc n) s p h =
     let t = flat_map identifier_key xs ++ 0 ∷ [] in
-    ap (λ (l : List ℕ). front_identifiers (suc n) (l ++ s)) (cut x xs) ∙ ap (front_identifiers (suc n)) (append_assoc (identifier_key x) t s)
+    ap (λ (l : List ℕ). front_identifiers (suc n) (l ++ s)) (cut x xs)
+    ∙ ap (front_identifiers (suc n)) (append_assoc (identifier_key x) t s)
     ∙ reads-first x (t ++ s) n (and-first _ _ p)
     ∙ ap (λ (l : List (List ℕ)). x ∷ l) (reads-identifiers xs n s (and-second _ _ p) (omega arith))
 
 -- the identifiers of a key are read in it, whatever follows it
-reads-key : (xs : List (List ℕ)) (n : ℕ) (s : List ℕ) → list_all is_identifier xs ≡ true → length xs ≤ n → front_identifiers n (pre_release_key xs ++ s) ≡ xs
+reads-key : (xs : List (List ℕ)) (n : ℕ) (s : List ℕ) → list_all is_identifier xs ≡ true → length xs ≤ n
+    → front_identifiers n (pre_release_key xs ++ s) ≡ xs
 reads-key [] zero s p h = refl
 reads-key [] (suc n) s p h = refl
 reads-key (x ∷ xs) n s p h = reads-identifiers (x ∷ xs) n s p h
@@ -74,7 +85,8 @@ key-size : (xs : List (List ℕ)) → length xs ≤ length (pre_release_key xs)
 key-size [] = omega arith
 key-size (x ∷ xs) = identifiers-size (x ∷ xs)
 
-pub identifiers_in-key : (xs : List (List ℕ)) → list_all is_identifier xs ≡ true → identifiers_in (pre_release_key xs) ≡ xs
+pub identifiers_in-key : (xs : List (List ℕ)) → list_all is_identifier xs ≡ true
+    → identifiers_in (pre_release_key xs) ≡ xs
 unfolding identifiers_in
 identifiers_in-key xs p =
     ap (front_identifiers (length (pre_release_key xs))) (sym (append-nil (pre_release_key xs)))
@@ -95,12 +107,14 @@ padding-short n x h =
     let r = padding n x in
     (r.0, sym (r.1 ∙ ap (λ (l : List ℕ). padded n x ++ l) (drop_of_length-le x h) ∙ append-nil (padded n x)))
 
-identifiers_in-padded : (n : ℕ) (xs : List (List ℕ)) → list_all is_identifier xs ≡ true → length (pre_release_key xs) ≤ n
+identifiers_in-padded : (n : ℕ) (xs : List (List ℕ)) → list_all is_identifier xs ≡ true
+    → length (pre_release_key xs) ≤ n
     → identifiers_in (padded n (pre_release_key xs)) ≡ xs
 unfolding identifiers_in
 identifiers_in-padded n xs p h =
     let r = padding-short n (pre_release_key xs) h in
-    let size : length xs ≤ length (padded n (pre_release_key xs)) = omega (arith, key-size xs, padded-length n (pre_release_key xs)) in
+    let size : length xs ≤ length (padded n (pre_release_key xs)) =
+    omega (arith, key-size xs, padded-length n (pre_release_key xs)) in
     ap (front_identifiers (length (padded n (pre_release_key xs)))) r.1
     ∙ reads-key xs (length (padded n (pre_release_key xs))) r.0 p size
 
@@ -114,7 +128,8 @@ same-front n xs ys p q h e =
     let m = length xs + length ys in
     let same : pre_release_key xs ++ (r.0 ++ end) ≡ pre_release_key ys ++ s.0
     = sym (append_assoc (pre_release_key xs) r.0 end) ∙ ap (λ (l : List ℕ). l ++ end) (sym r.1 ∙ e) ∙ sym s.1 in
-    sym (reads-key xs m (r.0 ++ end) p (omega arith)) ∙ ap (front_identifiers m) same ∙ reads-key ys m s.0 q (omega arith)
+    sym (reads-key xs m (r.0 ++ end) p (omega arith)) ∙ ap (front_identifiers m) same
+    ∙ reads-key ys m s.0 q (omega arith)
 
 -- ---- the head of a key
 
@@ -126,10 +141,12 @@ small-bytes (b ∷ bs) p (suc i) = small-bytes bs p.1 i
 -- a head writes the first 8 bytes
 head-bytes : (x : List ℕ) → AreBytes (padded 8 x) → to_be_bytes w64 (head_of x) ≡ padded 8 x
 unfolding head_of
-head-bytes x p = be_bytes_8 (padded 8 x) (from_be_bytes w64 (padded 8 x)) (padded-length 8 x) (small-bytes (padded 8 x) p) refl
+head-bytes x p = be_bytes_8 (padded 8 x) (from_be_bytes w64 (padded 8 x)) (padded-length 8 x)
+    (small-bytes (padded 8 x) p) refl
 
 -- the head of a key of at most 8 bytes has its identifiers
-pub identifiers_in-head : (xs : List (List ℕ)) → list_all is_identifier xs ≡ true → AreBytes (padded 8 (pre_release_key xs)) → length (pre_release_key xs) ≤ 8
+pub identifiers_in-head : (xs : List (List ℕ)) → list_all is_identifier xs ≡ true
+    → AreBytes (padded 8 (pre_release_key xs)) → length (pre_release_key xs) ≤ 8
     → identifiers_in_head (head_of (pre_release_key xs)) ≡ xs
 unfolding identifiers_in_head
 identifiers_in-head xs p b h = ap identifiers_in (head-bytes (pre_release_key xs) b) ∙ identifiers_in-padded 8 xs p h
@@ -139,9 +156,12 @@ pub same-heads : (xs ys : List (List ℕ)) → list_all is_identifier xs ≡ tru
     → AreBytes (padded 8 (pre_release_key xs)) → AreBytes (padded 8 (pre_release_key ys))
     → length (pre_release_key xs) ≤ 8 → head_of (pre_release_key xs) ≡ head_of (pre_release_key ys) → xs ≡ ys
 same-heads xs ys p q b d h e =
-    same-front 8 xs ys p q h (sym (head-bytes (pre_release_key xs) b) ∙ ap (to_be_bytes w64) e ∙ head-bytes (pre_release_key ys) d)
+    same-front 8 xs ys p q h
+    (sym (head-bytes (pre_release_key xs) b) ∙ ap (to_be_bytes w64) e ∙ head-bytes (pre_release_key ys) d)
 
 -- pre-releases of the same identifiers tie
-pub same-pre_releases : (xs ys : List (List ℕ)) → list_all is_identifier xs ≡ true → xs ≡ ys → pre_release_cmp xs ys ≡ Equal
+pub same-pre_releases : (xs ys : List (List ℕ)) → list_all is_identifier xs ≡ true → xs ≡ ys
+    → pre_release_cmp xs ys ≡ Equal
 same-pre_releases xs ys p e =
-    ap (pre_release_cmp xs) (sym e) ∙ sym (pre_release-order xs xs p p) ∙ tied_itself nat_list_cmp_total (pre_release_key xs)
+    ap (pre_release_cmp xs) (sym e) ∙ sym (pre_release-order xs xs p p)
+    ∙ tied_itself nat_list_cmp_total (pre_release_key xs)

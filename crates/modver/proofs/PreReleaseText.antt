@@ -1,6 +1,8 @@
 -- Where the pre-release stands in the text of a version: between the first hyphen and the mark.
-use Rattle.std.proofs.Common.{◌≡◌, ◌==◌, ◌<◌, ◌≤◌, ◌^◌, ◌+◌, ◌-◌, ◌++◌, ℕ, zero, suc, List, [], ◌∷◌, length, take, drop, Option, Some, None, Bool}
-use Rattle.std.proofs.Common.{true, false, not, cond, ltb, refl, sym, ap, ◌∙◌, inl, inr, arith, append_assoc, append-nil, length-append, length-drop}
+use Rattle.std.proofs.Common.{◌≡◌, ◌==◌, ◌<◌, ◌≤◌, ◌^◌, ◌+◌, ◌-◌, ◌++◌, ℕ, zero, suc, List, [], ◌∷◌, length, take, drop}
+use Rattle.std.proofs.Common.{Option, Some, None, Bool}
+use Rattle.std.proofs.Common.{true, false, not, cond, ltb, refl, sym, ap, ◌∙◌, inl, inr, arith, append_assoc}
+use Rattle.std.proofs.Common.{append-nil, length-append, length-drop}
 use Rattle.std.proofs.lemmas.Bool.{cases_lt, eq-eqb, le-ltb, lt-ltb}
 use Rattle.std.proofs.lemmas.Bool.Decides.{nat_tests}
 use Rattle.std.proofs.Math.Seq.{drop-append-add}
@@ -15,7 +17,8 @@ use Rattle.std.specs.Str.Parse.{AllDigits}
 use Rattle.modver.proofs.Conditions.{and-first, and-second}
 use Rattle.modver.proofs.SemVerText.{pre_release-of}
 use Rattle.modver.specs.Parts.{identifiers_of}
-use Rattle.modver.specs.SemanticVersion.{IsVersion, SemanticVersion, build_text, incompatible, is_identifier, mark_of, pre_release_text, text_with_build, version_text}
+use Rattle.modver.specs.SemanticVersion.{IsVersion, SemanticVersion, build_text, incompatible, is_identifier, mark_of}
+use Rattle.modver.specs.SemanticVersion.{pre_release_text, text_with_build, version_text}
 
 -- ---- texts that lack a byte
 
@@ -40,15 +43,23 @@ numbers a b c = 118 ∷ (decimal a ++ (46 ∷ (decimal b ++ (46 ∷ decimal c)))
 
 numbers-lack : (a b c : ℕ) → a < 2 ^ 64 → b < 2 ^ 64 → c < 2 ^ 64 → lacks 45 (numbers a b c) ≡ true
 numbers-lack a b c x y z =
-    rw (list_all-append (λ b. not (b == 45)), decimal-lacks a x, list_all-append (λ b. not (b == 45)), decimal-lacks b y, decimal-lacks c z) refl
+    rw (
+      list_all-append (λ b. not (b == 45)),
+      decimal-lacks a x,
+      list_all-append (λ b. not (b == 45)),
+      decimal-lacks b y,
+      decimal-lacks c z,
+    ) refl
 
-numbers-append : (a b c : ℕ) (rest : List ℕ) → 118 ∷ (decimal a ++ (46 ∷ (decimal b ++ (46 ∷ (decimal c ++ rest))))) ≡ numbers a b c ++ rest
+numbers-append : (a b c : ℕ) (rest : List ℕ)
+    → 118 ∷ (decimal a ++ (46 ∷ (decimal b ++ (46 ∷ (decimal c ++ rest))))) ≡ numbers a b c ++ rest
 numbers-append a b c rest = simp append_assoc
 
 -- ---- the first hyphen
 
 -- a byte that stands nowhere before is found there
-first-at : (c : ℕ) (front back : List ℕ) → lacks c front ≡ true → position_or_len (λ b. b == c) (front ++ c ∷ back) ≡ length front
+first-at : (c : ℕ) (front back : List ℕ) → lacks c front ≡ true
+    → position_or_len (λ b. b == c) (front ++ c ∷ back) ≡ length front
 first-at c [] back h = rw (eq-eqb c c refl) refl
 first-at c (b ∷ front) back h =
     let ih = first-at c front back (and-second (not (b == c)) _ h) in
@@ -85,7 +96,8 @@ after-front front [] text (Some at) free e p =
 after-front front (i ∷ rest) text None free e p =
     let back = join_with_byte 46 (i ∷ rest) in
     let long = missed (position_or_len (λ b. b == 45) text) (length text) p in
-    let first : position_or_len (λ b. b == 45) text ≡ length front = ap (position_or_len (λ b. b == 45)) e ∙ first-at 45 front back free in
+    let first : position_or_len (λ b. b == 45) text ≡ length front = ap (position_or_len (λ b. b == 45)) e
+    ∙ first-at 45 front back free in
     let size : length text ≡ length front + length (45 ∷ back) = ap length e ∙ length-append front (45 ∷ back) in
     absurd (omega arith)
 after-front front (i ∷ rest) text (Some at) free e p =
@@ -132,20 +144,26 @@ pub text-long : (v : SemanticVersion) (text : List ℕ) → IsVersion v → text
 text-long v text valid e =
     let long = numbers-long v.major v.minor v.patch valid.major valid.minor valid.patch in
     let size : length text ≡ length (numbers v.major v.minor v.patch) + length (pre_release_text v.identifiers)
-    = ap length (e ∙ unmarked-is v) ∙ length-append (numbers v.major v.minor v.patch) (pre_release_text v.identifiers) in
+    = ap length (e ∙ unmarked-is v)
+    ∙ length-append (numbers v.major v.minor v.patch) (pre_release_text v.identifiers) in
     omega arith
 
 -- from the sixth byte on
-pub after-hyphen : (v : SemanticVersion) (text ending : List ℕ) (r : Option ℕ) → IsVersion v → text ≡ unmarked v → ending ≡ take (length text - 6) (drop 6 text)
+pub after-hyphen : (v : SemanticVersion) (text ending : List ℕ) (r : Option ℕ) → IsVersion v → text ≡ unmarked v
+    → ending ≡ take (length text - 6) (drop 6 text)
     → r ≡ position (λ b. b == 45) ending
-    → MatchOption r ([] ≡ v.identifiers) (λ at. identifiers_of (take (length ending - (at + 1)) (drop (at + 1) ending)) ≡ v.identifiers)
+    → MatchOption r ([] ≡ v.identifiers)
+    (λ at. identifiers_of (take (length ending - (at + 1)) (drop (at + 1) ending)) ≡ v.identifiers)
 after-hyphen v text ending r valid e f p =
     let n = numbers v.major v.minor v.patch in
     let long = numbers-long v.major v.minor v.patch valid.major valid.minor valid.patch in
-    let all : take (length text - 6) (drop 6 text) ≡ drop 6 text = take_all (length text - 6) (drop 6 text) (omega (arith, length-drop 6 text)) in
-    let cut : drop 6 (n ++ pre_release_text v.identifiers) ≡ drop 6 n ++ pre_release_text v.identifiers = drop-append-le 6 n (pre_release_text v.identifiers) long in
+    let all : take (length text - 6) (drop 6 text) ≡ drop 6 text =
+    take_all (length text - 6) (drop 6 text) (omega (arith, length-drop 6 text)) in
+    let cut : drop 6 (n ++ pre_release_text v.identifiers) ≡ drop 6 n ++ pre_release_text v.identifiers =
+    drop-append-le 6 n (pre_release_text v.identifiers) long in
     behind v.identifiers ending r valid.identifiers
-    (after-front (drop 6 n) v.identifiers ending r (lacks-drop 45 6 n (numbers-lack v.major v.minor v.patch valid.major valid.minor valid.patch))
+    (after-front (drop 6 n) v.identifiers ending r
+    (lacks-drop 45 6 n (numbers-lack v.major v.minor v.patch valid.major valid.minor valid.patch))
     (f ∙ all ∙ ap (drop 6) (e ∙ unmarked-is v) ∙ cut) p)
 
 -- ---- the mark
@@ -157,7 +175,8 @@ mark-behind v =
     ∙ sym (append_assoc (numbers v.major v.minor v.patch) (pre_release_text v.identifiers) mark)
     ∙ ap (λ (t : List ℕ). t ++ mark) (sym (unmarked-is v))
 
-cut : (front text : List ℕ) (m : Bool) → text ≡ front ++ build_text (mark_of m) → m ≡ true → (13 ≤ length text) × (take (length text - 13) text ≡ front)
+cut : (front text : List ℕ) (m : Bool) → text ≡ front ++ build_text (mark_of m) → m ≡ true
+    → (13 ≤ length text) × (take (length text - 13) text ≡ front)
 cut front text true e h =
     let size : length text ≡ length front + 13 = ap length e ∙ length-append front (build_text incompatible) in
     let left : length text - 13 ≡ length front = omega arith in

@@ -20,7 +20,8 @@ then-greater Greater s h = inl refl
 
 -- the order of rank, from the numbers of the classes and the stamps
 abbrev rank : List (List ℕ) → List (List ℕ) → Option (List ℕ) → Option (List ℕ) → Ordering → Ordering
-rank xs ys s t r = ordering_then (nat_cmp (rank_of (class_from xs s)) (rank_of (class_from ys t))) (ordering_then (nat_cmp (number_of_stamp s) (number_of_stamp t)) r)
+rank xs ys s t r = ordering_then (nat_cmp (rank_of (class_from xs s)) (rank_of (class_from ys t)))
+    (ordering_then (nat_cmp (number_of_stamp s) (number_of_stamp t)) r)
 
 -- a version that compares as greater by rank is above the other by class
 above-class : (u v : SemanticVersion) (xs ys : List (List ℕ)) (s t : Option (List ℕ)) → s ≡ stamp_of u → t ≡ stamp_of v
@@ -55,9 +56,11 @@ class-above u v (i ∷ xs) [] (Some x) t a b f g h = absurd h
 class-above u v (i ∷ xs) (j ∷ ys) None None a b f g h = turned-back precedence precedence_total u v h
 class-above u v (i ∷ xs) (j ∷ ys) None (Some y) a b f g h = refl
 class-above u v (i ∷ xs) (j ∷ ys) (Some x) None a b f g h = absurd h
-class-above u v (i ∷ xs) (j ∷ ys) (Some x) (Some y) a b f g (inl later) = rw (nat_cmp-gt (number_of_stamp (Some x)) (number_of_stamp (Some y)) (rw (← a, ← b) at later)) refl
+class-above u v (i ∷ xs) (j ∷ ys) (Some x) (Some y) a b f g (inl later) =
+    rw (nat_cmp-gt (number_of_stamp (Some x)) (number_of_stamp (Some y)) (rw (← a, ← b) at later)) refl
 class-above u v (i ∷ xs) (j ∷ ys) (Some x) (Some y) a b f g (inr both) =
-    rw (nat_cmp-eq (number_of_stamp (Some x)) (number_of_stamp (Some y)) (rw (← a, ← b) at both.0)) (turned-back precedence precedence_total u v both.1)
+    rw (nat_cmp-eq (number_of_stamp (Some x)) (number_of_stamp (Some y)) (rw (← a, ← b) at both.0))
+    (turned-back precedence precedence_total u v both.1)
 
 pub rank-by_class : RankIsByClass
 rank-by_class u v = (

@@ -2,8 +2,10 @@
 use Rattle.std.proofs.Common.{◌≢◌, ◌+◌, ◌-◌, ◌*◌, ◌^◌, ◌==◌, ℕ, List, [], ◌∷◌, length, Ok, Err, Bool, true, false, ap}
 use Rattle.std.specs.Char.{is_ascii_digit}
 use Rattle.std.specs.Prelude.{Result, ⊤, nat_le, nat_lt, if◌then◌else◌}
-use Rattle.semver.specs.Parse.{◌>>=◌, digits_from, dot_of, end_error, identifier_of, is_bad_zero, is_leading_zero, is_letter}
-use Rattle.semver.specs.Parse.{memory_error, numeric, part_end, scan, starts_zero, tail_build, tail_end, tail_pre, version_parts}
+use Rattle.semver.specs.Parse.{◌>>=◌, digits_from, dot_of, end_error, identifier_of, is_bad_zero, is_leading_zero}
+use Rattle.semver.specs.Parse.{is_letter}
+use Rattle.semver.specs.Parse.{memory_error, numeric, part_end, scan, starts_zero, tail_build, tail_end, tail_pre}
+use Rattle.semver.specs.Parse.{version_parts}
 use Rattle.semver.specs.declared.error.Error.{Error}
 use Rattle.semver.specs.declared.error.Position.{Position}
 use Rattle.semver.specs.declared.error.Position.TheVariants as position
@@ -12,7 +14,8 @@ abbrev pub BlamesText : {A : Type 0} → Result A Error → Type 0
 BlamesText (Ok x) = ⊤
 BlamesText (Err e) = e ≢ memory_error
 
-chain : {A B : Type 0} (r : Result A Error) (f : A → Result B Error) → BlamesText r → ((x : A) → BlamesText (f x)) → BlamesText (r >>= f)
+chain : {A B : Type 0} (r : Result A Error) (f : A → Result B Error) → BlamesText r → ((x : A) → BlamesText (f x))
+    → BlamesText (r >>= f)
 chain (Ok x) f h k = k x
 chain (Err e) f h k = h
 
@@ -30,7 +33,8 @@ digits pos value len [] = either (nat_lt 0 len) _ _ tt (end pos [])
 digits pos value len (b ∷ rest) =
     either (is_ascii_digit b) _ _
     (either (is_leading_zero value len) _ _ (λ e. cc (ap (λ (x : Error). x.kind) e))
-    (either (nat_le (2 ^ 64) (value * 10 + (b - 48))) _ _ (λ e. cc (ap (λ (x : Error). x.kind) e)) (digits pos (value * 10 + (b - 48)) (len + 1) rest)))
+    (either (nat_le (2 ^ 64) (value * 10 + (b - 48))) _ _ (λ e. cc (ap (λ (x : Error). x.kind) e))
+    (digits pos (value * 10 + (b - 48)) (len + 1) rest)))
     (either (nat_lt 0 len) _ _ tt (end pos (b ∷ rest)))
 
 dot : (pos : Position) (xs : List ℕ) → BlamesText (dot_of pos xs)
@@ -43,7 +47,8 @@ piece pos acc seg nondigit lead =
     (either (is_bad_zero pos seg nondigit lead) _ _ (λ e. cc (ap (λ (x : Error). x.kind) e)) tt)
 
 -- scanning a text never fails for want of memory
-scans : (pos : Position) (acc seg : ℕ) (nondigit lead : Bool) (xs : List ℕ) → BlamesText (scan pos acc seg nondigit lead xs)
+scans : (pos : Position) (acc seg : ℕ) (nondigit lead : Bool) (xs : List ℕ)
+    → BlamesText (scan pos acc seg nondigit lead xs)
 unfolding scan
 scans pos acc seg nondigit lead [] = piece pos acc seg nondigit lead
 scans pos acc seg nondigit lead (b ∷ rest) =
@@ -51,7 +56,8 @@ scans pos acc seg nondigit lead (b ∷ rest) =
     (either (is_ascii_digit b) _ _ (scans pos acc (seg + 1) nondigit (starts_zero lead seg b) rest)
     (either (b == 46) _ _
     (either (seg == 0) _ _ (λ e. cc (ap (λ (x : Error). x.kind) e))
-    (either (is_bad_zero pos seg nondigit lead) _ _ (λ e. cc (ap (λ (x : Error). x.kind) e)) (scans pos (acc + seg + 1) 0 false false rest)))
+    (either (is_bad_zero pos seg nondigit lead) _ _ (λ e. cc (ap (λ (x : Error). x.kind) e))
+    (scans pos (acc + seg + 1) 0 false false rest)))
     (piece pos acc seg nondigit lead)))
 
 identifier : (pos : Position) (xs : List ℕ) → BlamesText (identifier_of pos xs)
@@ -65,13 +71,15 @@ tail-ends pos a b c pre build (x ∷ rest) = λ e. cc (ap (λ (x : Error). x.kin
 tail-builds : (pos : Position) (a b c : ℕ) (pre xs : List ℕ) → BlamesText (tail_build pos a b c pre xs)
 tail-builds pos a b c pre [] = tt
 tail-builds pos a b c pre (x ∷ rest) =
-    either (x == 43) _ _ (chain (identifier_of position.Build rest) _ (identifier position.Build rest) (λ y. tail-ends position.Build a b c pre y.0 y.1))
+    either (x == 43) _ _ (chain (identifier_of position.Build rest) _ (identifier position.Build rest)
+    (λ y. tail-ends position.Build a b c pre y.0 y.1))
     (tail-ends pos a b c pre [] (x ∷ rest))
 
 tail-pres : (a b c : ℕ) (xs : List ℕ) → BlamesText (tail_pre a b c xs)
 tail-pres a b c [] = tt
 tail-pres a b c (x ∷ rest) =
-    either (x == 45) _ _ (chain (identifier_of position.Pre rest) _ (identifier position.Pre rest) (λ y. tail-builds position.Pre a b c y.0 y.1))
+    either (x == 45) _ _ (chain (identifier_of position.Pre rest) _ (identifier position.Pre rest)
+    (λ y. tail-builds position.Pre a b c y.0 y.1))
     (tail-builds position.Patch a b c [] (x ∷ rest))
 
 pub text-to-blame : (text : List ℕ) → BlamesText (version_parts text)

@@ -1,6 +1,8 @@
 -- Times and stamps are the digits of their numbers.
-use Rattle.std.proofs.Common.{◌≡◌, ◌==◌, ◌&&◌, ◌<◌, ◌+◌, ◌*◌, ◌/◌, ◌%◌, ◌^◌, ◌⊎◌, pow-suc, ℕ, zero, suc, List, [], ◌∷◌, ◌++◌, append_assoc}
-use Rattle.std.proofs.Common.{append-nil, length, take, drop, Bool, true, false, refl, sym, ap, ◌∙◌, subst, inl, inr, arith, lit<}
+use Rattle.std.proofs.Common.{◌≡◌, ◌==◌, ◌&&◌, ◌<◌, ◌+◌, ◌*◌, ◌/◌, ◌%◌, ◌^◌, ◌⊎◌, pow-suc, ℕ, zero, suc, List, [], ◌∷◌}
+use Rattle.std.proofs.Common.{◌++◌, append_assoc}
+use Rattle.std.proofs.Common.{append-nil, length, take, drop, Bool, true, false, refl, sym, ap, ◌∙◌, subst, inl, inr}
+use Rattle.std.proofs.Common.{arith, lit<}
 use Rattle.std.proofs.Math.Nat.{mod-lt}
 use Rattle.std.proofs.lemmas.Bool.{cases_Bool, eqb-true, lt-ltb}
 use Rattle.std.proofs.lemmas.Bool.Decides.{nat_tests}
@@ -12,8 +14,10 @@ use Rattle.std.specs.Char.{digit_value, is_ascii_digit}
 use Rattle.std.specs.List.{list_all}
 use Rattle.std.specs.Prelude.{codes, nat_le, nat_lt}
 use Rattle.std.specs.Str.Parse.{digits_value, digits_value_after}
-use Rattle.modver.specs.Time.{DateTime, Exists, HasDigits, IsStamp, IsTime, IsTimeFault, days_in_month, fits_byte, fits_form, has_stamp_form}
-use Rattle.modver.specs.Time.{has_time_form, is_date, is_moment, is_time_of_day, number_at, padded, stamp_text, time_of_stamp, time_text}
+use Rattle.modver.specs.Time.{DateTime, Exists, HasDigits, IsStamp, IsTime, IsTimeFault, days_in_month, fits_byte}
+use Rattle.modver.specs.Time.{fits_form, has_stamp_form}
+use Rattle.modver.specs.Time.{has_time_form, is_date, is_moment, is_time_of_day, number_at, padded, stamp_text}
+use Rattle.modver.specs.Time.{time_of_stamp, time_text}
 use Rattle.modver.specs.TimeLaws.{EachTextIsATimeOrFaulty, IsTimeIsExact, TimeOfStampIsExact, TimeTextIsOneToOne}
 use Rattle.modver.specs.declared.time.TimeFault.{TimeFault}
 use Rattle.modver.specs.declared.time.TimeFault.TheVariants as fault
@@ -50,7 +54,8 @@ push n m c h =
     rw (quotient, rest) refl
 
 -- the digits behind a number
-written-after : (n k m : ℕ) (ds : List ℕ) → k ≡ n + length ds → list_all is_ascii_digit ds ≡ true → padded k (digits_value_after 10 m ds) ≡ padded n m ++ ds
+written-after : (n k m : ℕ) (ds : List ℕ) → k ≡ n + length ds → list_all is_ascii_digit ds ≡ true
+    → padded k (digits_value_after 10 m ds) ≡ padded n m ++ ds
 written-after n k m [] e h = let same : k ≡ n = omega arith in rw same (sym (append-nil (padded n m)))
 written-after n k m (c ∷ ds) e h =
     written-after (suc n) k (m * 10 + digit_value c) ds (omega arith) (and-second _ _ h)
@@ -67,7 +72,8 @@ record IsNumber (text : List ℕ) (index n : ℕ) : Type 0 where
   pub bound : number_at text index n < 10 ^ n
 
 -- where a form has n digits at an index, a text of the form has there the n digits of the number at that index
-number : (form text : List ℕ) (index n : ℕ) → fits_form form text ≡ true → list_all (λ f. f == 100) (take n (drop index form)) ≡ true → length (take n (drop index form)) ≡ n
+number : (form text : List ℕ) (index n : ℕ) → fits_form form text ≡ true
+    → list_all (λ f. f == 100) (take n (drop index form)) ≡ true → length (take n (drop index form)) ≡ n
     → IsNumber text index n
 number form text index n fits letters size =
     let ds = take n (drop index text) in
@@ -79,7 +85,8 @@ number form text index n fits letters size =
       bound = rw long at (digits_value-lt 10 ds (all-digits ds digits));
     }
 
-single : (c : ℕ) (text : List ℕ) → fits_form (c ∷ []) text ≡ true → (c == 100) ≡ false → (c == 104) ≡ false → text ≡ c ∷ []
+single : (c : ℕ) (text : List ℕ) → fits_form (c ∷ []) text ≡ true → (c == 100) ≡ false → (c == 104) ≡ false
+    → text ≡ c ∷ []
 single c [] h p q = cc h
 single c (b ∷ x ∷ rest) h p q = cc (and-second (fits_byte c b) _ h)
 single c (b ∷ []) h p q =
@@ -87,15 +94,20 @@ single c (b ∷ []) h p q =
     ap (λ (x : ℕ). x ∷ []) (eqb-true b c same)
 
 -- and another byte is itself
-byte : (form text : List ℕ) (index c : ℕ) → fits_form form text ≡ true → take 1 (drop index form) ≡ c ∷ [] → (c == 100) ≡ false → (c == 104) ≡ false
+byte : (form text : List ℕ) (index c : ℕ) → fits_form form text ≡ true → take 1 (drop index form) ≡ c ∷ []
+    → (c == 100) ≡ false → (c == 104) ≡ false
     → take 1 (drop index text) ≡ c ∷ []
 byte form text index c fits at p q =
-    single c (take 1 (drop index text)) (subst (λ (f : List ℕ). fits_form f (take 1 (drop index text)) ≡ true) at (fits_form-slice form text index 1 fits)) p q
+    single c (take 1 (drop index text))
+    (subst (λ (f : List ℕ). fits_form f (take 1 (drop index text))
+    ≡ true) at (fits_form-slice form text index 1 fits)) p q
 
 -- a piece of a text, and what follows
-next : (text piece rest : List ℕ) (index n : ℕ) → take n (drop index text) ≡ piece → drop (index + n) text ≡ rest → drop index text ≡ piece ++ rest
+next : (text piece rest : List ℕ) (index n : ℕ) → take n (drop index text) ≡ piece → drop (index + n) text ≡ rest
+    → drop index text ≡ piece ++ rest
 next text piece rest index n p r =
-    sym (take-append-drop n (drop index text)) ∙ ap (λ (t : List ℕ). t ++ drop n (drop index text)) p ∙ ap (λ (t : List ℕ). piece ++ t) (drop-drop n index text ∙ r)
+    sym (take-append-drop n (drop index text)) ∙ ap (λ (t : List ℕ). t ++ drop n (drop index text)) p
+    ∙ ap (λ (t : List ℕ). piece ++ t) (drop-drop n index text ∙ r)
 
 -- ---- a text of the form of a time is that of its numbers
 
@@ -125,7 +137,8 @@ numbers-digits text h = record {
 -- a text of the form of a time is the text of the numbers in it
 numbers-same : (text : List ℕ) → has_time_form text ≡ true → text ≡ time_text (numbers text)
 numbers-same text h =
-    let number-at : (index n : ℕ) → list_all (λ f. f == 100) (take n (drop index time_form)) ≡ true → length (take n (drop index time_form)) ≡ n
+    let number-at : (index n : ℕ) → list_all (λ f. f == 100) (take n (drop index time_form)) ≡ true
+    → length (take n (drop index time_form)) ≡ n
     → take n (drop index text) ≡ padded n (number_at text index n)
     = λ index n letters size. (number time_form text index n h letters size).same in
     let size : 20 ≡ length text = length-fits time_form text h in
@@ -158,7 +171,8 @@ text-form at =
     let from_hour = padded 2 at.hour ++ codes ":" ++ from_minute in
     let from_day = padded 2 at.day ++ codes "T" ++ from_hour in
     let from_month = padded 2 at.month ++ codes "-" ++ from_day in
-    fits_form-append (codes "dddd") (codes "-dd-ddTdd:dd:ddZ") (padded 4 at.year) (codes "-" ++ from_month) (four at.year)
+    fits_form-append (codes "dddd") (codes "-dd-ddTdd:dd:ddZ") (padded 4 at.year) (codes "-" ++ from_month)
+    (four at.year)
     (fits_form-append (codes "dd") (codes "-ddTdd:dd:ddZ") (padded 2 at.month) (codes "-" ++ from_day) (two at.month)
     (fits_form-append (codes "dd") (codes "Tdd:dd:ddZ") (padded 2 at.day) (codes "T" ++ from_hour) (two at.day)
     (fits_form-append (codes "dd") (codes ":dd:ddZ") (padded 2 at.hour) (codes ":" ++ from_minute) (two at.hour)
@@ -212,7 +226,14 @@ exists-passes at e =
 
 pub time-of_tests : (text : List ℕ) → has_time_form text ≡ true → is_moment text ≡ true → IsTime text
 unfolding is_moment
-time-of_tests text form moment = record { at = numbers text; digits = numbers-digits text form; exists = exists-so (numbers text) moment; same = numbers-same text form }
+time-of_tests text form moment =
+    record {
+      at = numbers text;
+      digits = numbers-digits text form;
+      exists = exists-so (numbers text) moment;
+      same =
+          numbers-same text form;
+    }
 
 text-moment : (at : DateTime) → HasDigits at → Exists at → is_moment (time_text at) ≡ true
 unfolding is_moment
@@ -240,7 +261,8 @@ form-fault text h at digits same = cc (h, ap has_time_form same ∙ text-form at
 
 pub date-fault : (text : List ℕ) → has_time_form text ≡ true → is_moment text ≡ false → IsTimeFault text fault.Date
 unfolding is_moment
-date-fault text form none = (numbers text, numbers-digits text form, numbers-same text form, λ e. cc (none, exists-passes (numbers text) e))
+date-fault text form none =
+    (numbers text, numbers-digits text form, numbers-same text form, λ e. cc (none, exists-passes (numbers text) e))
 
 no-fault : (text : List ℕ) (f : TimeFault) → IsTime text → ¬ (IsTimeFault text f)
 no-fault text fault.Form is h = h is.at is.digits is.same
@@ -292,21 +314,31 @@ stamp-numbers_digits stamp h = record {
 stamp-numbers_same : (stamp : List ℕ) → has_stamp_form stamp ≡ true → stamp ≡ stamp_text (stamp_numbers stamp)
 stamp-numbers_same stamp h =
     let size : 14 ≡ length stamp = length-fits stamp_form stamp h in
-    let last : drop 12 stamp ≡ padded 2 (number_at stamp 12 2) = sym (take_all 2 (drop 12 stamp) (omega (arith, length-drop 12 stamp))) ∙ (number stamp_form stamp 12 2 h refl refl).same in
+    let last : drop 12 stamp ≡ padded 2 (number_at stamp 12 2) =
+    sym (take_all 2 (drop 12 stamp) (omega (arith, length-drop 12 stamp)))
+    ∙ (number stamp_form stamp 12 2 h refl refl).same in
     next stamp _ _ 0 4 (number stamp_form stamp 0 4 h refl refl).same
     (next stamp _ _ 4 2 (number stamp_form stamp 4 2 h refl refl).same
     (next stamp _ _ 6 2 (number stamp_form stamp 6 2 h refl refl).same
     (next stamp _ _ 8 2 (number stamp_form stamp 8 2 h refl refl).same
     (next stamp _ _ 10 2 (number stamp_form stamp 10 2 h refl refl).same last))))
 
-pub stamp-of_digits : (stamp : List ℕ) → has_stamp_form stamp ≡ true → is_moment (time_of_stamp stamp) ≡ true → IsStamp stamp
+pub stamp-of_digits : (stamp : List ℕ) → has_stamp_form stamp ≡ true → is_moment (time_of_stamp stamp) ≡ true
+    → IsStamp stamp
 unfolding is_moment
 stamp-of_digits stamp form moment =
     let at = stamp_numbers stamp in
     let digits = stamp-numbers_digits stamp form in
     let same = stamp-numbers_same stamp form in
-    let named : is_moment (time_text at) ≡ true = sym (ap (λ (s : List ℕ). is_moment (time_of_stamp s)) same) ∙ moment in
-    record { at = at; digits = digits; exists = subst Exists (text-numbers at digits) (exists-so (numbers (time_text at)) named); same = same }
+    let named : is_moment (time_text at) ≡ true = sym (ap (λ (s : List ℕ). is_moment (time_of_stamp s)) same)
+    ∙ moment in
+    record {
+      at = at;
+      digits = digits;
+      exists =
+          subst Exists (text-numbers at digits) (exists-so (numbers (time_text at)) named);
+      same = same;
+    }
 
 -- the stamp of a date and a time of day has the form of a stamp
 stamp-text_form : (at : DateTime) → has_stamp_form (stamp_text at) ≡ true
@@ -314,13 +346,16 @@ stamp-text_form at =
     let from_minute = padded 2 at.minute ++ padded 2 at.second in
     let from_hour = padded 2 at.hour ++ from_minute in
     let from_day = padded 2 at.day ++ from_hour in
-    fits_form-append (codes "dddd") (codes "dddddddddd") (padded 4 at.year) (padded 2 at.month ++ from_day) (four at.year)
+    fits_form-append (codes "dddd") (codes "dddddddddd") (padded 4 at.year) (padded 2 at.month ++ from_day)
+    (four at.year)
     (fits_form-append (codes "dd") (codes "dddddddd") (padded 2 at.month) from_day (two at.month)
     (fits_form-append (codes "dd") (codes "dddddd") (padded 2 at.day) from_hour (two at.day)
     (fits_form-append (codes "dd") (codes "dddd") (padded 2 at.hour) from_minute (two at.hour)
-    (fits_form-append (codes "dd") (codes "dd") (padded 2 at.minute) (padded 2 at.second) (two at.minute) (two at.second)))))
+    (fits_form-append (codes "dd") (codes "dd") (padded 2 at.minute) (padded 2 at.second) (two at.minute)
+    (two at.second)))))
 
-pub stamp-passes : (stamp : List ℕ) → IsStamp stamp → (has_stamp_form stamp ≡ true) × (is_moment (time_of_stamp stamp) ≡ true)
+pub stamp-passes : (stamp : List ℕ) → IsStamp stamp
+    → (has_stamp_form stamp ≡ true) × (is_moment (time_of_stamp stamp) ≡ true)
 stamp-passes stamp is = (
   ap has_stamp_form is.same ∙ stamp-text_form is.at,
   ap (λ (s : List ℕ). is_moment (time_of_stamp s)) is.same ∙ text-moment is.at is.digits is.exists,
@@ -328,6 +363,13 @@ stamp-passes stamp is = (
 
 pub stamp-exact : TimeOfStampIsExact
 stamp-exact stamp time is = (
-  λ e. record { at = is.at; digits = is.digits; exists = is.exists; stamp_is = is.same; time_is = sym e ∙ ap time_of_stamp is.same },
+  λ e. record {
+    at = is.at;
+    digits = is.digits;
+    exists = is.exists;
+    stamp_is = is.same;
+    time_is = sym e
+        ∙ ap time_of_stamp is.same;
+  },
   λ one. ap time_of_stamp one.stamp_is ∙ sym one.time_is,
 )

@@ -18,7 +18,8 @@ mean_no_group format db w means g = go (is_group w g) refl
     go true is =
         let parts = and_parts (is_top (map.get w.shelves g)) (not (bytes_eq g common)) is in
         let it = means.shelves.found (g, None) (top_is (map.get w.shelves g) parts.0) in
-        let never : ◌≡◌ {A = Option (List ℕ)} None (Some common) = it.2.1 ∙ ap (λ b. cond b None (Some common)) (not-true (bytes_eq g common) parts.1) in
+        let never : ◌≡◌ {A = Option (List ℕ)} None (Some common) = it.2.1
+        ∙ ap (λ b. cond b None (Some common)) (not-true (bytes_eq g common) parts.1) in
         absurd (cc)
 
 pub answers_as_before : AnswersAsBefore

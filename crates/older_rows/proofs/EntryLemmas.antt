@@ -1,5 +1,6 @@
 -- The rows of `version` in the order of their places, put into a store that has no entry.
-use Rattle.std.proofs.Common.{◌≡◌, ◌≤◌, ◌+◌, ◌++◌, ◌∙◌, ℕ, ℤ, Bool, true, false, cond, List, [], ◌∷◌, Option, Some, None, is_some}
+use Rattle.std.proofs.Common.{◌≡◌, ◌≤◌, ◌+◌, ◌++◌, ◌∙◌, ℕ, ℤ, Bool, true, false, cond, List, [], ◌∷◌, Option, Some}
+use Rattle.std.proofs.Common.{None, is_some}
 use Rattle.std.proofs.Common.{inl, inr, refl, sym, ap, subst, arith, append_assoc, append-nil, Less}
 use Rattle.std.specs.Prelude.{bytes_eq, ◌&&◌}
 use Rattle.std.specs.FinMap as map
@@ -47,20 +48,27 @@ use Rattle.older_rows.specs.Entries.{ShowsEntry, ShowsZip, ShowsKeys, IsFitRow, 
 use Rattle.older_rows.specs.Visits.{Visits}
 
 abbrev pub Puts : EntryRows → Row → Trees → EntryRows → Trees → Type 0
-Puts so_far row db next after = (next.format ≡ so_far.format) × PutsEntry so_far.format so_far.last so_far.many row db after next.last next.many
+Puts so_far row db next after = (next.format ≡ so_far.format)
+    × PutsEntry so_far.format so_far.last so_far.many row db after next.last next.many
 
 -- ---- places
 
 -- a row shows one place
 pub place_is : (row : Row) (q : Place) (e : Entry) → ShowsEntry row q e → place_in row ≡ q
-place_is row q e shows = λ i. record { shelf = text_in (shows.shelf i); path = text_in (shows.path i); version = text_in (shows.version i) }
+place_is row q e shows = λ i.
+    record { shelf = text_in (shows.shelf i); path = text_in (shows.path i); version = text_in (shows.version i) }
 
 placed : (row : Row) (q : Place) (e : Entry) → ShowsEntry row q e → IsPlaced row
-placed row q e shows = (held_text (column row 0) q.shelf shows.shelf, held_text (column row 1) q.path shows.path, held_text (column row 2) q.version shows.version)
+placed row q e shows = (
+  held_text (column row 0) q.shelf shows.shelf,
+  held_text (column row 1) q.path shows.path,
+  held_text (column row 2) q.version shows.version,
+)
 
 -- a row that shows an entry that may stand, its zip and its number is fit
 pub fit_row : (format : Format) (row : Row) (id : ℤ) (s p v zip : List ℕ) (e : Entry) (x : SemanticVersion)
-    → ShowsZip format row zip → ShowsEntry row (place_of s p v) e × (e.zip ≡ zip) → Some x ≡ fitting_version p v e → column row 5 ≡ Int id
+    → ShowsZip format row zip → ShowsEntry row (place_of s p v) e × (e.zip ≡ zip) → Some x ≡ fitting_version p v e
+    → column row 5 ≡ Int id
     → (version_text x ≡ v) × IsFitRow format row id (place_of s p v) e
 fit_row format row id s p v zip e x shows_zip shows fits number =
     let it = fitting_some p v e x fits in (
@@ -82,7 +90,8 @@ abbrev Keeps : EntryRows → Row → EntryRows → Type 0
 Keeps x row next = (next.last ≡ Some (place_in row)) × (next.many ≡ run_with x.last x.many (place_in row))
 
 -- rows that are visited pass the test of a walk: each shows a place that may follow the last one
-passed : (so_far : EntryRows) (db : Trees) (rows : List Row) (end : EntryRows) (after : Trees) → Visits Puts so_far db rows end after → Pass Fits Keeps so_far rows end
+passed : (so_far : EntryRows) (db : Trees) (rows : List Row) (end : EntryRows) (after : Trees)
+    → Visits Puts so_far db rows end after → Pass Fits Keeps so_far rows end
 passed so_far db [] end after same = same.0
 passed so_far db (row ∷ rows) end after visited =
     let it = visited.2.1 in
@@ -97,23 +106,31 @@ abbrev pub Rises : List Row → Type 0
 Rises = IsAscending (λ a b. place_cmp (place_in a) (place_in b) ≡ Less)
 
 abbrev pub InPlaces : List Row → Type 0
-InPlaces = Adjacent (λ a b. is_lt (key_cmp 0 (ascending Binary ∷ ascending Binary ∷ ascending Binary ∷ []) (place_columns b) (place_columns a)) ≡ false)
+InPlaces = Adjacent (λ a b.
+    is_lt (key_cmp 0 (ascending Binary ∷ ascending Binary ∷ ascending Binary ∷ []) (place_columns b) (place_columns a))
+    ≡ false)
 
 module _ (start end : EntryRows) (rows : List Row) (sorted : InPlaces rows) (p : Pass Fits Keeps start rows end) where
   rise : Rises rows
   rise =
-      let apart = adjacent_apart Fits Keeps (λ (x : EntryRows). x.last) place_in (λ x row next keeps. keeps.0) (λ x row fits. may_differ x.last x.many (place_in row) fits.1) start rows end p in
+      let apart = adjacent_apart Fits Keeps (λ (x : EntryRows). x.last) place_in (λ x row next keeps. keeps.0)
+      (λ x row fits. may_differ x.last x.many (place_in row) fits.1) start rows end p in
       let each = λ (r : Row) (there : Has rows r). (pass_each Fits Keeps start rows end p r there).1.0 in
       let upto =
-      adjacent_among _ (λ a b. is_lt (place_cmp (place_in b) (place_in a)) ≡ false) rows (λ a b here there h. ap is_lt (sym (places_in_order b a (each b there) (each a here))) ∙ h) sorted in
-      ascends (λ a b. place_cmp (place_in a) (place_in b) ≡ Less) (λ a b c. places_total.trans (place_in a) (place_in b) (place_in c)) rows
-      (adjacent_both _ _ _ (λ a b upto apart. apart_below places_total places_exact (place_in a) (place_in b) upto apart) rows upto apart)
+      adjacent_among _ (λ a b. is_lt (place_cmp (place_in b) (place_in a)) ≡ false) rows
+      (λ a b here there h. ap is_lt (sym (places_in_order b a (each b there) (each a here))) ∙ h) sorted in
+      ascends (λ a b. place_cmp (place_in a) (place_in b) ≡ Less)
+      (λ a b c. places_total.trans (place_in a) (place_in b) (place_in c)) rows
+      (adjacent_both _ _ _ (λ a b upto apart.
+      apart_below places_total places_exact (place_in a) (place_in b) upto apart) rows upto apart)
 
   few : start.last ≡ None → (s p : List ℕ) → many_on s p rows ≤ version_limit
-  few new = few_in_all Fits Keeps (λ (x : EntryRows). x.last) (λ (x : EntryRows). x.many) (λ x row next keeps. keeps) (λ x row fits. fits.1) start rows end new rise p
+  few new = few_in_all Fits Keeps (λ (x : EntryRows). x.last) (λ (x : EntryRows). x.many) (λ x row next keeps. keeps)
+      (λ x row fits. fits.1) start rows end new rise p
 
 -- if all rows are visited, their places rise
-pub all_rise : (rows : List Row) → InPlaces rows → (start end : EntryRows) (db after : Trees) → Visits Puts start db rows end after → Rises rows
+pub all_rise : (rows : List Row) → InPlaces rows → (start end : EntryRows) (db after : Trees)
+    → Visits Puts start db rows end after → Rises rows
 all_rise rows sorted start end db after visited = rise start end rows sorted (passed start db rows end after visited)
 
 -- ---- the tables and the world, row by row
@@ -131,32 +148,40 @@ pub record IsIn (format : Format) (x : World) (db : Trees) (row : Row) : Type 0 
 -- the entries of a world, and the rows of `version`, are those that the rows so far show
 pub record Shows (format : Format) (x : World) (db : Trees) (done : List Row) : Type 0 where
   pub each : (row : Row) → Has done row → IsIn format x db row
-  pub entry : (q : Place) (e : Entry) → map.get x.entries q ≡ Some e → (row : Row) × Has done row × ((id : ℤ) × IsFitRow format row id q e)
-  pub version : (r : Row) → Has (db 6) r → (row : Row) × Has done row × ((it : IsIn format x db row) × (r ≡ version_row it.id it.place it.entry))
+  pub entry : (q : Place) (e : Entry) → map.get x.entries q ≡ Some e
+      → (row : Row) × Has done row × ((id : ℤ) × IsFitRow format row id q e)
+  pub version : (r : Row) → Has (db 6) r
+      → (row : Row) × Has done row × ((it : IsIn format x db row) × (r ≡ version_row it.id it.place it.entry))
   pub counted : (s p : List ℕ) → count x s p ≤ many_on s p done
 
 -- one more entry adds at most one to the versions of its path on its shelf, and nothing to those of others
-count_more : (x : World) (q : Place) (e : Entry) (s p : List ℕ) → count (with_entry x q e) s p ≤ count x s p + cond (is_on s p q) 1 0
+count_more : (x : World) (q : Place) (e : Entry) (s p : List ℕ)
+    → count (with_entry x q e) s p ≤ count x s p + cond (is_on s p q) 1 0
 count_more x q e s p =
     let test : Place → Bool = λ r. bytes_eq r.shelf s && bytes_eq r.path p in
     elim (test q) as (λ b. test q ≡ b → count (with_entry x q e) s p ≤ count x s p + cond b 1 0) [
       | true ↦ λ passes.
-          let grown : count (with_entry x q e) s p ≡ cond (map.contains_key (map.retain_keys x.entries test) q) (count x s p) (count x s p + 1) =
-          ap map.len (stays places_total places_exact test x.entries q e passes) ∙ map.len-insert places_total (map.retain_keys x.entries test) q e in
+          let grown : count (with_entry x q e) s p
+          ≡ cond (map.contains_key (map.retain_keys x.entries test) q) (count x s p) (count x s p + 1) =
+          ap map.len (stays places_total places_exact test x.entries q e passes)
+          ∙ map.len-insert places_total (map.retain_keys x.entries test) q e in
           let most = at_most_one_more (map.contains_key (map.retain_keys x.entries test) q) (count x s p) in
           let it : count (with_entry x q e) s p ≤ count x s p + 1 = omega (arith, grown, most) in
           it
       | false ↦ λ fails.
-          let same : count (with_entry x q e) s p ≡ count x s p = ap map.len (goes places_total places_exact test x.entries q e fails) in
+          let same : count (with_entry x q e) s p ≡ count x s p =
+          ap map.len (goes places_total places_exact test x.entries q e fails) in
           let it : count (with_entry x q e) s p ≤ count x s p + 0 = omega (arith, same) in
           it
     ] refl
 
-many_push : (s p : List ℕ) (done : List Row) (row : Row) → many_on s p (done ++ row ∷ []) ≡ many_on s p done + cond (is_on s p (place_in row)) 1 0
+many_push : (s p : List ℕ) (done : List Row) (row : Row)
+    → many_on s p (done ++ row ∷ []) ≡ many_on s p done + cond (is_on s p (place_in row)) 1 0
 many_push s p done row = filter_push (λ r. is_on s p (place_in r)) done row
 
 -- the shelf of an entry exists, because the tables obey the schema
-shelf_there : (after : Trees) (y : World) → StandFor after y → (q : Place) (e : Entry) → map.get y.entries q ≡ Some e → map.contains_key y.shelves q.shelf ≡ true
+shelf_there : (after : Trees) (y : World) → StandFor after y → (q : Place) (e : Entry) → map.get y.entries q ≡ Some e
+    → map.contains_key y.shelves q.shelf ≡ true
 shelf_there after y stand q e at =
     let row = stand.means.entries.found (q, e) at in
     let shelf = version_shelf after stand.sound row.0 row.1 q.shelf row.2.place.0 in
@@ -167,7 +192,8 @@ shelf_there after y stand q e at =
 module _ (format : Format) (x : World) (db after : Trees) (done : List Row) (row : Row) (rows : List Row)
     (up : Rises (done ++ row ∷ rows)) (small : (s p : List ℕ) → many_on s p (done ++ row ∷ rows) ≤ version_limit)
     (is : IsWorld x) (stand : StandFor db x) (shows : Shows format x db done) (id : ℤ) (q : Place) (e : Entry)
-    (fits : IsFitRow format row id q e) (keys : ShowsKeys format row q.version) (adds : HasAdded (Some id) db after q e) (sound : IsSound store_schema after) where
+    (fits : IsFitRow format row id q e) (keys : ShowsKeys format row q.version) (adds : HasAdded (Some id) db after q e)
+    (sound : IsSound store_schema after) where
   abbrev next : World
   next = with_entry x q e
 
@@ -183,7 +209,8 @@ module _ (format : Format) (x : World) (db after : Trees) (done : List Row) (row
       go (Some d) was =
           let it = shows.entry q d was in
           let below = across _ done (row ∷ rows) up it.0 row it.1 (inl refl) in
-          absurd (not_itself places_total (place_in it.0) (place_in row) below (place_is it.0 q d it.2.1.shows ∙ sym at))
+          absurd (not_itself places_total (place_in it.0) (place_in row) below
+          (place_is it.0 q d it.2.1.shows ∙ sym at))
 
   pub next_stands : StandFor after next
   next_stands = record { sound = sound; means = entry_means x q e free (Some id) db after stand.sound adds stand.means }
@@ -197,7 +224,8 @@ module _ (format : Format) (x : World) (db after : Trees) (done : List Row) (row
         let was = shows.counted q.shelf q.path in
         let one = push_on q.shelf q.path done row (ap (is_on q.shelf q.path) at ∙ is_on_itself q) in
         let more = many_more q.shelf q.path (done ++ row ∷ []) rows in
-        let most = subst (λ l. many_on q.shelf q.path l ≤ version_limit) (sym (append_assoc done (row ∷ []) rows)) (small q.shelf q.path) in
+        let most = subst (λ l. many_on q.shelf q.path l ≤ version_limit) (sym (append_assoc done (row ∷ []) rows))
+        (small q.shelf q.path) in
         omega (arith, was, one, more, most);
     entry = fits.may;
   })
@@ -208,7 +236,8 @@ module _ (format : Format) (x : World) (db after : Trees) (done : List Row) (row
 
   rows_are : after 6 ≡ put_all (db 6) (new ∷ [])
   rows_are =
-      adds.zip.tables.1.1.1.0 (λ f. omega (arith, f)) ∙ (adds.version.rows ∙ ap (λ n. put_all (db 6) (version_row n q e ∷ [])) adds.is_given)
+      adds.zip.tables.1.1.1.0 (λ f. omega (arith, f))
+      ∙ (adds.version.rows ∙ ap (λ n. put_all (db 6) (version_row n q e ∷ [])) adds.is_given)
 
   is_fresh : are_fresh (db 6) (new ∷ []) ≡ true
   is_fresh = ap (λ n. are_fresh (db 6) (version_row n q e ∷ [])) (sym adds.is_given) ∙ adds.version.fresh
@@ -232,7 +261,15 @@ module _ (format : Format) (x : World) (db after : Trees) (done : List Row) (row
       }
 
   own : IsIn format next after row
-  own = record { id = id; place = q; entry = e; fits = fits; keys = keys; holds = get_put places_total x.entries q e; there = new_row }
+  own = record {
+    id = id;
+    place = q;
+    entry = e;
+    fits = fits;
+    keys = keys;
+    holds = get_put places_total x.entries q e;
+    there = new_row;
+  }
 
   -- the entries of the next world, and the rows of `version`, are those that the rows up to this one show
   pub next_shows : Shows format next after (done ++ row ∷ [])
@@ -244,13 +281,18 @@ module _ (format : Format) (x : World) (db after : Trees) (done : List Row) (row
       | inr (inr none) ↦ absurd none
     ];
     entry = λ p d holds. elim (put_splits places_total places_exact x.entries q e (p, d) holds) [
-      | inl here ↦ (row, has_right done (row ∷ []) row (inl refl), (id, subst (λ (it : Place × Entry). IsFitRow format row id it.0 it.1) (sym here) fits))
+      | inl here ↦ (
+        row,
+        has_right done (row ∷ []) row (inl refl),
+        (id, subst (λ (it : Place × Entry). IsFitRow format row id it.0 it.1) (sym here) fits),
+      )
       | inr before ↦ (let it = shows.entry p d before in (it.0, has_left done (row ∷ []) it.0 it.1, it.2))
     ];
     version = λ r there. elim (put_all_has (new ∷ []) (db 6) r (subst (λ l. Has l r) rows_are there)) [
       | inl (inl same) ↦ (row, has_right done (row ∷ []) row (inl refl), (own, same))
       | inl (inr none) ↦ absurd none
-      | inr was ↦ (let it = shows.version r was in (it.0, has_left done (row ∷ []) it.0 it.1, (still it.0 it.2.0, it.2.1)))
+      | inr was ↦ (let it = shows.version r was in
+          (it.0, has_left done (row ∷ []) it.0 it.1, (still it.0 it.2.0, it.2.1)))
     ];
     counted = λ s p.
         let was = shows.counted s p in
@@ -268,9 +310,11 @@ pub record Entered (format : Format) (x y : World) (after : Trees) (rows : List 
   pub shows : Shows format y after rows
 
 -- if the rows that remain are visited, the tables come to stand for a world with the entries of all rows
-entered : (format : Format) (done rows : List Row) → Rises (done ++ rows) → ((s p : List ℕ) → many_on s p (done ++ rows) ≤ version_limit)
+entered : (format : Format) (done rows : List Row) → Rises (done ++ rows)
+    → ((s p : List ℕ) → many_on s p (done ++ rows) ≤ version_limit)
     → (so_far end : EntryRows) (db after : Trees) → so_far.format ≡ format → Visits Puts so_far db rows end after
-    → (x : World) → IsWorld x → StandFor db x → Shows format x db done → (y : World) × Entered format x y after (done ++ rows)
+    → (x : World) → IsWorld x → StandFor db x → Shows format x db done
+    → (y : World) × Entered format x y after (done ++ rows)
 entered format done [] up small so_far end db after own same x is stand shows =
     let all = append-nil done in (
       x,
@@ -284,28 +328,47 @@ entered format done [] up small so_far end db after own same x is stand shows =
     )
 entered format done (row ∷ rows) up small so_far end db after own visited x is stand shows =
     let put = visited.2.1 in
-    let fits : IsFitRow format row put.id put.place put.entry = subst (λ f. IsFitRow f row put.id put.place put.entry) own put.fits in
+    let fits : IsFitRow format row put.id put.place put.entry =
+    subst (λ f. IsFitRow f row put.id put.place put.entry) own put.fits in
     let keys : ShowsKeys format row put.place.version = subst (λ f. ShowsKeys f row put.place.version) own put.keys in
     let mid = visited.1 in
     let assoc = append_assoc done (row ∷ []) rows in
     let rest = entered format (done ++ row ∷ []) rows (subst Rises (sym assoc) up)
-    (λ s p. subst (λ l. many_on s p l ≤ version_limit) (sym assoc) (small s p)) visited.0 end mid after (visited.2.0 ∙ own) visited.3
+    (λ s p. subst (λ l. many_on s p l ≤ version_limit) (sym assoc) (small s p)) visited.0 end mid after
+    (visited.2.0 ∙ own) visited.3
     (with_entry x put.place put.entry)
-    (next_is format x db mid done row rows up small is stand shows put.id put.place put.entry fits keys put.adds put.sound)
-    (next_stands format x db mid done row rows up small is stand shows put.id put.place put.entry fits keys put.adds put.sound)
-    (next_shows format x db mid done row rows up small is stand shows put.id put.place put.entry fits keys put.adds put.sound) in
-    let it = rest.1 in
-    (rest.0, record { is = it.is; stand = it.stand; keys = it.keys; shelves = it.shelves; shows = subst (λ l. Shows format rest.0 after l) assoc it.shows })
+    (next_is format x db mid done row rows up small is stand shows put.id put.place put.entry fits keys put.adds
+    put.sound)
+    (next_stands format x db mid done row rows up small is stand shows put.id put.place put.entry fits keys put.adds
+    put.sound)
+    (next_shows format x db mid done row rows up small is stand shows put.id put.place put.entry fits keys put.adds
+    put.sound) in
+    let it = rest.1 in (
+      rest.0,
+      record {
+        is = it.is;
+        stand = it.stand;
+        keys = it.keys;
+        shelves = it.shelves;
+        shows =
+            subst (λ l. Shows format rest.0 after l) assoc it.shows;
+      },
+    )
 
--- if all rows are visited in the order of their places, tables without entries come to stand for a world with the rows' entries
-pub all_entered : (format : Format) (rows : List Row) → InPlaces rows → (start end : EntryRows) (db after : Trees) → start.format ≡ format → start.last ≡ None → Visits Puts start db rows end after
+-- if all rows are visited in the order of their places, tables without entries come to stand for a world with the
+-- rows' entries
+pub all_entered : (format : Format) (rows : List Row) → InPlaces rows → (start end : EntryRows) (db after : Trees)
+    → start.format ≡ format → start.last ≡ None → Visits Puts start db rows end after
     → (x : World) → IsWorld x → StandFor db x → x.entries ≡ map.empty → (y : World) × Entered format x y after rows
 all_entered format rows sorted start end db after own new visited x is stand none =
     let pass = passed start db rows end after visited in
-    entered format [] rows (rise start end rows sorted pass) (few start end rows sorted pass new) start end db after own visited x is stand (record {
+    entered format [] rows (rise start end rows sorted pass) (few start end rows sorted pass new) start end db after own
+    visited x is stand (record {
       each = λ row there. absurd there;
       entry = λ q e at. absurd (none_in_empty place_cmp q e (ap (λ m. map.get m q) (sym none) ∙ at));
-      version = λ r there. absurd (let it = stand.means.entries.each r there in none_in_empty place_cmp it.0.0 it.0.1 (ap (λ m. map.get m it.0.0) (sym none) ∙ it.2));
+      version = λ r there. absurd
+          (let it = stand.means.entries.each r there in
+          none_in_empty place_cmp it.0.0 it.0.1 (ap (λ m. map.get m it.0.0) (sym none) ∙ it.2));
       counted = λ s p. let e = ap (λ m. map.len (map.retain_keys m (λ q. bytes_eq q.shelf s && bytes_eq q.path p))) none
           ∙ none_retained (λ q. bytes_eq q.shelf s && bytes_eq q.path p) in omega (arith, e);
     })

@@ -15,7 +15,8 @@ use Rattle.older.specs.Schemas.{schema_of}
 
 -- a text is one query over a table, in each format
 pub record IsWhole (sql : List ℕ) (tree : ℕ) (project : List Term) (names : List (List ℕ)) : Type 0 where
-  pub is : (f : Format) → command_of (understood (schema_of f) sql) ≡ Select (record { lets = []; body = lookup tree [] project }) names
+  pub is : (f : Format) → command_of (understood (schema_of f) sql)
+      ≡ Select (record { lets = []; body = lookup tree [] project }) names
   pub plain : (f : Format) → IsPlain (understood (schema_of f) sql)
   pub unlisted : (f : Format) → reads_listing (schema_of f) sql ≡ false
 
@@ -25,7 +26,8 @@ meta_text = codes "SELECT name, value FROM meta"
 abbrev pub meta_columns : List Term
 meta_columns = col 1 1 ∷ col 1 2 ∷ []
 
-meta_is : (f : Format) → command_of (understood (schema_of f) meta_text) ≡ Select (record { lets = []; body = lookup 0 [] meta_columns }) (codes "name" ∷ codes "value" ∷ [])
+meta_is : (f : Format) → command_of (understood (schema_of f) meta_text)
+    ≡ Select (record { lets = []; body = lookup 0 [] meta_columns }) (codes "name" ∷ codes "value" ∷ [])
 unfolding understood everything
 meta_is One = refl
 meta_is Two = refl
@@ -49,7 +51,8 @@ shelf_text = codes "SELECT name FROM shelf"
 abbrev pub shelf_columns : List Term
 shelf_columns = col 1 1 ∷ []
 
-shelf_is : (f : Format) → command_of (understood (schema_of f) shelf_text) ≡ Select (record { lets = []; body = lookup 2 [] shelf_columns }) (codes "name" ∷ [])
+shelf_is : (f : Format) → command_of (understood (schema_of f) shelf_text)
+    ≡ Select (record { lets = []; body = lookup 2 [] shelf_columns }) (codes "name" ∷ [])
 unfolding understood everything
 shelf_is One = refl
 shelf_is Two = refl
@@ -76,7 +79,8 @@ key_columns = col 1 1 ∷ col 1 2 ∷ col 1 3 ∷ []
 abbrev pub key_names : List (List ℕ)
 key_names = codes "token" ∷ codes "shelf" ∷ codes "publish" ∷ []
 
-key_is : (f : Format) → command_of (understood (schema_of f) key_text) ≡ Select (record { lets = []; body = lookup 4 [] key_columns }) key_names
+key_is : (f : Format) → command_of (understood (schema_of f) key_text)
+    ≡ Select (record { lets = []; body = lookup 4 [] key_columns }) key_names
 unfolding understood everything
 key_is One = refl
 key_is Two = refl
@@ -97,5 +101,7 @@ key_whole = record { is = key_is; plain = key_plain; unlisted = key_unlisted }
 -- the rows that it shows are those of the table
 pub all_of : (sql : List ℕ) (tree : ℕ) (project : List Term) (names : List (List ℕ)) → IsWhole sql tree project names
     → (own : (trees : _) → Rattle.sqlite.specs.Program.overlay trees [] tree ≡ trees tree)
-    → (f : Format) (db : Database) (rows : List Row) → Reads (command_of (understood (schema_of f) sql)) db [] rows → AreFound (db.trees tree) [] project [] rows
-all_of sql tree project names whole own f db rows read = all_found [] db tree [] project [] own rows (subst (λ k. Reads k db [] rows) (whole.is f) read)
+    → (f : Format) (db : Database) (rows : List Row) → Reads (command_of (understood (schema_of f) sql)) db [] rows
+    → AreFound (db.trees tree) [] project [] rows
+all_of sql tree project names whole own f db rows read =
+    all_found [] db tree [] project [] own rows (subst (λ k. Reads k db [] rows) (whole.is f) read)

@@ -1,8 +1,11 @@
 -- What changes do to what is shown, and where it is still the file's own.
-use Rattle.std.proofs.Common.{◌≡◌, ℕ, ◌+◌, ◌-◌, ◌<◌, ◌≤◌, List, [], ◌∷◌, ◌++◌, length, take, drop, replicate, slice_index, refl, sym, ap, inl, inr, ◌∙◌, arith, length-append, length-take, length-drop, get_or, get_or-take, get_or-drop}
+use Rattle.std.proofs.Common.{◌≡◌, ℕ, ◌+◌, ◌-◌, ◌<◌, ◌≤◌, List, [], ◌∷◌, ◌++◌, length, take, drop, replicate}
+use Rattle.std.proofs.Common.{slice_index, refl, sym, ap, inl, inr, ◌∙◌, arith, length-append, length-take, length-drop}
+use Rattle.std.proofs.Common.{get_or, get_or-take, get_or-drop}
 use Rattle.std.specs.Prelude.{max}
 use Rattle.std.proofs.lemmas.Bool.{cases_lt}
-use Rattle.std.proofs.lemmas.List.{ext_get_or, get_or_append_left, get_or-append_right, get_or-replicate, get_or_past, take_more}
+use Rattle.std.proofs.lemmas.List.{ext_get_or, get_or_append_left, get_or-append_right, get_or-replicate, get_or_past}
+use Rattle.std.proofs.lemmas.List.{take_more}
 use Rattle.sqlite_disk.specs.Disk.{Holds}
 use Rattle.sqlite_disk.specs.Events.{overlaid, padded}
 use Rattle.sqlite_disk.proofs.EventLemmas.{Holds-overlaid, Torn-overlaid, Cut-padded, length-padded}
@@ -10,7 +13,8 @@ use Rattle.peek.specs.declared.Edit.{Edit}
 use Rattle.peek.specs.Edits.{shown, after, Fronts, IsPart}
 
 -- the newest change comes last
-pub shown_more : (file : List ℕ) (edits : List Edit) (edit : Edit) → shown file (edits ++ edit ∷ []) ≡ after edit (shown file edits)
+pub shown_more : (file : List ℕ) (edits : List Edit) (edit : Edit)
+    → shown file (edits ++ edit ∷ []) ≡ after edit (shown file edits)
 shown_more file [] edit = refl
 shown_more file (first ∷ more) edit = shown_more (after first file) more edit
 
@@ -33,20 +37,29 @@ module _ (front next : ℕ) (file now : List ℕ) (it : Fronts front file now) (
         each = λ i inside. cut.below i (omega (arith, it.within)) (omega arith) ∙ it.each i (omega arith);
       }
 
-pub length_put : (now : List ℕ) (at : ℕ) (bytes : List ℕ) → length (overlaid now at bytes) ≡ max (length now) (at + length bytes)
+pub length_put : (now : List ℕ) (at : ℕ) (bytes : List ℕ)
+    → length (overlaid now at bytes) ≡ max (length now) (at + length bytes)
 length_put now at bytes =
     let torn = Torn-overlaid now at bytes in
     omega (arith, torn.no_shorter, torn.no_longer, (Holds-overlaid now at bytes).within)
 
 -- what is read below the changes is shown
-pub holds_front : (front at : ℕ) (file now bytes : List ℕ) → Fronts front file now → at + length bytes ≤ front → Holds file at bytes → Holds now at bytes
+pub holds_front : (front at : ℕ) (file now bytes : List ℕ) → Fronts front file now → at + length bytes ≤ front
+    → Holds file at bytes → Holds now at bytes
 holds_front front at file now bytes it low holds =
-    record { within = omega (arith, it.within); each = λ i inside. it.each (at + i) (omega arith) ∙ holds.each i inside }
+    record {
+      within = omega (arith, it.within);
+      each = λ i inside. it.each (at + i) (omega arith)
+          ∙ holds.each i inside;
+    }
 
-pub same_part : (front at n : ℕ) (file now : List ℕ) → Fronts front file now → at + n ≤ front → take n (drop at now) ≡ take n (drop at file)
+pub same_part : (front at n : ℕ) (file now : List ℕ) → Fronts front file now → at + n ≤ front
+    → take n (drop at now) ≡ take n (drop at file)
 same_part front at n file now it low =
-    let long : length (take n (drop at now)) ≡ n = omega (arith, it.within, length-take n (drop at now), length-drop at now) in
-    let alike : length (take n (drop at file)) ≡ n = omega (arith, it.in_file, length-take n (drop at file), length-drop at file) in
+    let long : length (take n (drop at now)) ≡ n =
+    omega (arith, it.within, length-take n (drop at now), length-drop at now) in
+    let alike : length (take n (drop at file)) ≡ n =
+    omega (arith, it.in_file, length-take n (drop at file), length-drop at file) in
     ext_get_or 0 (take n (drop at now)) (take n (drop at file)) (long ∙ sym alike) (λ i within.
     let inside : i < n = omega (arith, long) in
     get_or-take n (drop at now) i 0 inside ∙ get_or-drop at now i 0
@@ -79,11 +92,13 @@ module _ (file : List ℕ) (at : ℕ) (bytes : List ℕ) where
   overlaid_above i high =
       let end = at + length bytes in
       let back : end + (i - end) ≡ i = omega arith in
-      get_or-append_right (padded file at ++ bytes) _ end i 0 front high ∙ get_or-drop end file (i - end) 0 ∙ ap (slice_index file) back
+      get_or-append_right (padded file at ++ bytes) _ end i 0 front high ∙ get_or-drop end file (i - end) 0
+      ∙ ap (slice_index file) back
 
   -- a part of the file after a write of bytes
   pub put_part : (from : ℕ) (old new : List ℕ) → length new ≡ length old → IsPart file from old
-      → ((i : ℕ) → i < length old → at ≤ from + i → from + i < at + length bytes → slice_index new i ≡ slice_index bytes (from + i - at))
+      → ((i : ℕ) → i < length old → at ≤ from + i → from + i < at + length bytes
+      → slice_index new i ≡ slice_index bytes (from + i - at))
       → ((i : ℕ) → i < length old → from + i < at → slice_index new i ≡ slice_index old i)
       → ((i : ℕ) → i < length old → at + length bytes ≤ from + i → slice_index new i ≡ slice_index old i)
       → IsPart (overlaid file at bytes) from new
@@ -108,11 +123,14 @@ cut_part file len from old new same was below past i inside =
     let here : i < length old = omega arith in
     elim (cases_lt (from + i) len) [
       | inl low ↦ below i here low ∙ was i here ∙ sym (padded_at file len (from + i) low)
-      | inr high ↦ past i here high ∙ sym (get_or_past (padded file len) (from + i) 0 (omega (arith, length-padded file len)))
+      | inr high ↦ past i here high
+          ∙ sym (get_or_past (padded file len) (from + i) 0 (omega (arith, length-padded file len)))
     ]
 
 -- one change more
-pub shown_next : (file : List ℕ) (edits : List Edit) (i : ℕ) (edit d : Edit) → i < length edits → edit ≡ get_or edits i d
+pub shown_next : (file : List ℕ) (edits : List Edit) (i : ℕ) (edit d : Edit) → i < length edits
+    → edit ≡ get_or edits i d
     → shown file (take (i + 1) edits) ≡ after edit (shown file (take i edits))
 shown_next file edits i edit d low is =
-    ap (shown file) (take_more edits i d low ∙ ap (λ it. take i edits ++ it ∷ []) (sym is)) ∙ shown_more file (take i edits) edit
+    ap (shown file) (take_more edits i d low ∙ ap (λ it. take i edits ++ it ∷ []) (sym is))
+    ∙ shown_more file (take i edits) edit

@@ -18,7 +18,8 @@ only_read old new read no_fewer = record {
   no_fewer = no_fewer;
 }
 
-pub count_reads : (old new : Shown) (told : Result ℕ StoreFault) (value : World → ℕ) → Reads old new told value → IsOnlyRead old new
+pub count_reads : (old new : Shown) (told : Result ℕ StoreFault) (value : World → ℕ) → Reads old new told value
+    → IsOnlyRead old new
 count_reads old new told value reads = record {
   honest = reads.honest;
   stays = λ h w stands. (reads.at h w stands).stays;
@@ -32,7 +33,8 @@ count_tells old new (Ok n) reads = λ h w stands. (reads.at h w stands).answer
 count_tells old new (Err fault) reads = tt
 
 -- a copy into the store of a file is one into some store
-pub copies_file : {S F D : Type 0} (shown : S → Shown) (shown_too : F → Shown) (targets : Span F D) (source source_new : S) (to : List ℕ)
+pub copies_file : {S F D : Type 0} (shown : S → Shown) (shown_too : F → Shown) (targets : Span F D)
+    (source source_new : S) (to : List ℕ)
     (result : Result (Unit {0}) CopyRefusal) → CopiesTo shown shown_too targets source source_new to result
     → CopiesFile shown shown_too targets.begins source source_new to result
 copies_file shown shown_too targets source source_new to result (inl it) =

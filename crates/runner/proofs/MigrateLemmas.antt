@@ -16,8 +16,10 @@ use Rattle.tables.specs.Schema.{no_schema}
 use Rattle.store.specs.Migrated.{IsForeign}
 
 pub no_tables_are_foreign : (db : Database) → ◌≡◌ {A = Schema} db.schema no_schema → IsForeign db
-no_tables_are_foreign db none One is = let e : ◌≡◌ {A = Schema} no_schema schema_1 = sym none ∙ is in let t = ap (λ (s : Schema). s.tables) e in cc
-no_tables_are_foreign db none Two is = let e : ◌≡◌ {A = Schema} no_schema schema_2 = sym none ∙ is in let t = ap (λ (s : Schema). s.tables) e in cc
+no_tables_are_foreign db none One is = let e : ◌≡◌ {A = Schema} no_schema schema_1 = sym none
+    ∙ is in let t = ap (λ (s : Schema). s.tables) e in cc
+no_tables_are_foreign db none Two is = let e : ◌≡◌ {A = Schema} no_schema schema_2 = sym none
+    ∙ is in let t = ap (λ (s : Schema). s.tables) e in cc
 
 -- a deed, by another text of the name of its file
 named : {C : Type 0} (before after : List (Done C)) (name other : List ℕ) (deed : Deed C) → other ≡ name
@@ -25,18 +27,21 @@ named : {C : Type 0} (before after : List (Done C)) (name other : List ℕ) (dee
 named before after name other deed same is = is ∙ ap (λ n. before ++ (n, deed) ∷ []) same
 
 -- what was done after what was done
-then : {A : Type 0} (before mid after one two : List A) → mid ≡ before ++ one → after ≡ mid ++ two → after ≡ before ++ (one ++ two)
+then : {A : Type 0} (before mid after one two : List A) → mid ≡ before ++ one → after ≡ mid ++ two
+    → after ≡ before ++ (one ++ two)
 then before mid after one two first second = second ∙ (ap (λ m. m ++ two) first ∙ append_assoc before one two)
 
 -- a copy that was opened, lost its names and was closed
 pub copy_migrated : {C : Type 0} (before a b c d : List (Done C)) (path log n₁ n₂ n₃ n₄ : List ℕ) (end : C)
     → n₁ ≡ path → n₂ ≡ path → n₃ ≡ log → n₄ ≡ path
-    → a ≡ before ++ (n₁, Opened) ∷ [] → b ≡ a ++ (n₂, Unlinked) ∷ [] → c ≡ b ++ (n₃, Unlinked) ∷ [] → d ≡ c ++ (n₄, Closed end) ∷ []
+    → a ≡ before ++ (n₁, Opened) ∷ [] → b ≡ a ++ (n₂, Unlinked) ∷ [] → c ≡ b ++ (n₃, Unlinked) ∷ []
+    → d ≡ c ++ (n₄, Closed end) ∷ []
     → d ≡ before ++ (path, Opened) ∷ (path, Unlinked) ∷ (log, Unlinked) ∷ (path, Closed end) ∷ []
 copy_migrated before a b c d path log n₁ n₂ n₃ n₄ end same₁ same₂ same₃ same₄ opened first second closed =
     then before c d ((path, Opened) ∷ (path, Unlinked) ∷ (log, Unlinked) ∷ []) ((path, Closed end) ∷ [])
     (then before b c ((path, Opened) ∷ (path, Unlinked) ∷ []) ((log, Unlinked) ∷ [])
-    (then before a b ((path, Opened) ∷ []) ((path, Unlinked) ∷ []) (named before a path n₁ Opened same₁ opened) (named a b path n₂ Unlinked same₂ first))
+    (then before a b ((path, Opened) ∷ []) ((path, Unlinked) ∷ []) (named before a path n₁ Opened same₁ opened)
+    (named a b path n₂ Unlinked same₂ first))
     (named b c log n₃ Unlinked same₃ second))
     (named c d path n₄ (Closed end) same₄ closed)
 
@@ -44,12 +49,14 @@ copy_migrated before a b c d path log n₁ n₂ n₃ n₄ end same₁ same₂ sa
 pub from_copied : {C Q F D : Type 0} (state_of : C → State) (shown : F → Shown) (older : Span C Q) (targets : Span F D)
     (from path log to : List ℕ) (mid : List (Done Q)) (result : Result (Unit {0}) CommandRefusal)
     → mid ≡ older.before ++ (from, Copied) ∷ (path, Made) ∷ (log, Made) ∷ []
-    → MigratesCopy state_of shown (record { begins = older.begins; left = older.left; before = mid; after = older.after })
+    → MigratesCopy state_of shown
+    (record { begins = older.begins; left = older.left; before = mid; after = older.after })
     targets path log to result
     → MigratesCopied state_of shown older targets from to result
 from_copied state_of shown older targets from path log to mid result is copy = record {
   path = path;
   log = log;
-  copy = subst (λ before. MigratesCopy state_of shown (record { begins = older.begins; left = older.left; before = before; after = older.after })
+  copy = subst (λ before. MigratesCopy state_of shown
+      (record { begins = older.begins; left = older.left; before = before; after = older.after })
       targets path log to result) is copy;
 }

@@ -35,38 +35,48 @@ module _ (w : World) (ts : List (List ℕ)) (t : List ℕ) (there : Has ts t) wh
   seen_among s seen = chains_has w ts t s there seen
 
   itself_same : map.get w.shelves t ≡ map.get part.shelves t
-  itself_same = sym (parent_at w (chains w ts) t ∙ cond-true (is_among (chains w ts) t) (map.get w.shelves t) None (seen_among t (sees_itself w t)))
+  itself_same = sym (parent_at w (chains w ts) t
+      ∙ cond-true (is_among (chains w ts) t) (map.get w.shelves t) None (seen_among t (sees_itself w t)))
 
   part_low : Low w part t
   part_low = record {
     chains = same_chain w part t itself_same;
-    entries = λ s seen. same_whole w part s (λ p v. sym (entry_at w (chains w ts) (place s p v) ∙ cond-true (is_among (chains w ts) s) (map.get w.entries (place s p v)) None (seen_among s seen)));
+    entries = λ s seen. same_whole w part s
+        (λ p v. sym (entry_at w (chains w ts) (place s p v)
+        ∙ cond-true (is_among (chains w ts) s) (map.get w.entries (place s p v)) None (seen_among s seen)));
     keys = λ k h seen. (
-      (λ at. key_at w (chains w ts) k ∙ cond-true (is_held (chains w ts) (map.get w.keys k)) (map.get w.keys k) None (ap (is_held (chains w ts)) at ∙ seen_among h.shelf seen) ∙ at),
+      (λ at. key_at w (chains w ts) k
+          ∙ cond-true (is_held (chains w ts) (map.get w.keys k)) (map.get w.keys k) None
+          (ap (is_held (chains w ts)) at ∙ seen_among h.shelf seen) ∙ at),
       (λ at. (held_key w (chains w ts) k h at).0),
     );
   }
 
 still_of : (w x : World) (ss : List (List ℕ)) (es : List Event) → SameRegistry w x → AllOf w ss es → AllOf x ss es
 still_of w x ss [] same of = tt
-still_of w x ss (e ∷ es) same of = let it = of.0 in ((it.0, it.1, it.2, ap (λ m. map.get m it.0) same.keys ∙ it.3, it.4), still_of w x ss es same of.1)
+still_of w x ss (e ∷ es) same of = let it = of.0 in
+    ((it.0, it.1, it.2, ap (λ m. map.get m it.0) same.keys ∙ it.3, it.4), still_of w x ss es same of.1)
 
 -- ---- one request, and a list
 
--- a request with a key that both worlds hold alike, and that gets equal replies, leaves worlds that are the same to a shelf
+-- a request with a key that both worlds hold alike, and that gets equal replies, leaves worlds that are the same to a
+-- shelf
 low_asked : (w x : World) (s : List ℕ) (a : Ask) (k : List ℕ) → key_of a ≡ Some k → map.get w.keys k ≡ map.get x.keys k
     → ask_reply w a ≡ ask_reply x a → Low w x s → Low (after_ask w a) (after_ask x a) s
 low_asked w x s Unreadable k by held alike low = low
 low_asked w x s (Get j q) k by held alike low = low
 low_asked w x s (Put j p) k by held alike low =
     let same : j ≡ k = cc in
-    let both : map.get w.keys j ≡ map.get x.keys j = ap (map.get w.keys) same ∙ (held ∙ ap (map.get x.keys) (sym same)) in
+    let both : map.get w.keys j ≡ map.get x.keys j = ap (map.get w.keys) same
+    ∙ (held ∙ ap (map.get x.keys) (sym same)) in
     let decided = decided_of (decision w (map.get w.keys j) p) (decision x (map.get x.keys j) p) alike in
     subst (λ d. Low (after_ask w (Put j p)) (after_decision x (map.get x.keys j) p d) s) decided
-    (subst (λ o. Low (after_ask w (Put j p)) (after_decision x o p (decision w (map.get w.keys j) p)) s) both (low_decided w x s (map.get w.keys j) p (decision w (map.get w.keys j) p) low))
+    (subst (λ o. Low (after_ask w (Put j p)) (after_decision x o p (decision w (map.get w.keys j) p)) s) both
+    (low_decided w x s (map.get w.keys j) p (decision w (map.get w.keys j) p) low))
 
 -- one of the teams sees a shelf that is among theirs
-one_sees : (w : World) (ts : List (List ℕ)) (s : List ℕ) → AreTeams w ts → is_among (chains w ts) s ≡ true → (t : List ℕ) × Has ts t × (sees w t s ≡ true)
+one_sees : (w : World) (ts : List (List ℕ)) (s : List ℕ) → AreTeams w ts → is_among (chains w ts) s ≡ true
+    → (t : List ℕ) × Has ts t × (sees w t s ≡ true)
 one_sees w [] s are among = absurd (are.0 refl)
 one_sees w (t ∷ ts) s are among = elim (chains_from w (t ∷ ts) s among) [
   | inl same ↦ (t, inl refl, ap (sees w t) same ∙ sees_common w t)
@@ -82,8 +92,10 @@ module _ (ts : List (List ℕ)) where
       let held : map.get w.keys k ≡ map.get x.keys k = at ∙ sym (((low t there).keys k h seen).0 at) in
       (one.0, λ u here. low_asked w x u a k by held one.0 (low u here))
 
-  -- two worlds that are the same to each team give the same replies to requests with keys of the shelves that the teams see
-  all_blind : (w x : World) (es : List Event) → IsWorld w → IsWorld x → AreTeams w ts → AllLow w x ts → AllOf w (chains w ts) es → replies w es ≡ replies x es
+  -- two worlds that are the same to each team give the same replies to requests with keys of the shelves that the
+  -- teams see
+  all_blind : (w x : World) (es : List Event) → IsWorld w → IsWorld x → AreTeams w ts → AllLow w x ts
+      → AllOf w (chains w ts) es → replies w es ≡ replies x es
   all_blind w x [] is_w is_x are low of = refl
   all_blind w x (Asked a ∷ es) is_w is_x are low of =
       let it = of.0 in
@@ -91,10 +103,12 @@ module _ (ts : List (List ℕ)) where
       let one = team_blind w x a it.0 it.1 by.0 by.1 is_w is_x low it.2 it.3 by.2 in
       let still = registry_asked w a in
       let next : World = after_ask w a in
-      let again : AreTeams next ts = (are.0, λ t there. let team = are.1 t there in (team.0, ap (λ m. map.get m t) still.shelves ∙ team.1)) in
+      let again : AreTeams next ts =
+      (are.0, λ t there. let team = are.1 t there in (team.0, ap (λ m. map.get m t) still.shelves ∙ team.1)) in
       let chained = chains_alike w next ts still.shelves in
       let rest =
-      all_blind next (after_ask x a) es (sound w (Asked a) is_w) (sound x (Asked a) is_x) again one.1 (subst (λ ss. AllOf next ss es) (sym chained) (still_of w next (chains w ts) es still of.1)) in
+      all_blind next (after_ask x a) es (sound w (Asked a) is_w) (sound x (Asked a) is_x) again one.1
+      (subst (λ ss. AllOf next ss es) (sym chained) (still_of w next (chains w ts) es still of.1)) in
       (λ i. one.0 i ∷ rest i)
     where
       chains_alike : (w x : World) (ts : List (List ℕ)) → x.shelves ≡ w.shelves → chains x ts ≡ chains w ts
@@ -118,4 +132,5 @@ pub others_of_teams_are_not_found : OthersOfTeamsAreNotFound
 others_of_teams_are_not_found w ts k before a far by asked =
     let part : World = part_of w (chains w ts) in
     unknown_asked (after_all part before) k a
-    (ap (λ m. map.get m k) (keys_through part before asked) ∙ key_at w (chains w ts) k ∙ cond-false (is_held (chains w ts) (map.get w.keys k)) (map.get w.keys k) None far) by
+    (ap (λ m. map.get m k) (keys_through part before asked) ∙ key_at w (chains w ts) k
+    ∙ cond-false (is_held (chains w ts) (map.get w.keys k)) (map.get w.keys k) None far) by

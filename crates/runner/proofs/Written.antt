@@ -18,7 +18,8 @@ use Rattle.runner.proofs.Parts.{teams_are_told_the_same, others_of_teams_are_not
 pub teams_are_written_the_same : TeamsAreWrittenTheSame
 teams_are_written_the_same w new other ts xs ys is are run again same of =
     written_alike xs ys same
-    (teams_are_told_the_same w new other ts (map event_at xs) (map event_at ys) (map answer_at xs) (map answer_at ys) is are run again (answered_alike xs ys same)
+    (teams_are_told_the_same w new other ts (map event_at xs) (map event_at ys) (map answer_at xs) (map answer_at ys) is
+    are run again (answered_alike xs ys same)
     (subst (AllOf w (chains w ts)) (sym (faultless_events xs)) of))
 
 pub others_of_teams_are_written_not_found : OthersOfTeamsAreWrittenNotFound

@@ -26,7 +26,8 @@ module _ (old new : State) where
   }
 
   -- if the tables stand for a world and are unchanged, the store opens at that world
-  pub tables_found : ((db : Trees) → IsTrue new.is_open → new.may_leave db → db ≡ new.committed.trees) → IsSettled old → HasCleanDisk new → IsUnchanged old new → StandsForSome old.now → Opens old new
+  pub tables_found : ((db : Trees) → IsTrue new.is_open → new.may_leave db → db ≡ new.committed.trees) → IsSettled old
+      → HasCleanDisk new → IsUnchanged old new → StandsForSome old.now → Opens old new
   tables_found law settled clean same some =
       let shows = same.0 in
       let holds : Holds new some.world = record {
@@ -45,11 +46,15 @@ module _ (old new : State) where
 -- ---- why an opening is refused
 
 -- if running out of memory is refused with `Memory`, `Device` says that something hindered the call
-pub device_hindered : (old new : State) (e : Error) (r : Refusal) → (e ≡ SqliteFailure code.OutOfMemory → r ≡ refusal.Memory) → IsExcused old new e → r ≡ refusal.Device → IsHindered old new
-device_hindered old new e r memory (inl wanted) device = absurd (let d : refusal.Memory ≡ refusal.Device = sym (memory wanted) ∙ device in cc)
+pub device_hindered : (old new : State) (e : Error) (r : Refusal)
+    → (e ≡ SqliteFailure code.OutOfMemory → r ≡ refusal.Memory) → IsExcused old new e → r ≡ refusal.Device
+    → IsHindered old new
+device_hindered old new e r memory (inl wanted) device =
+    absurd (let d : refusal.Memory ≡ refusal.Device = sym (memory wanted) ∙ device in cc)
 device_hindered old new e r memory (inr hindered) device = hindered
 
-pub device_reason : (old new : State) (e : Error) (r : Refusal) → (e ≡ SqliteFailure code.OutOfMemory → r ≡ refusal.Memory)
+pub device_reason : (old new : State) (e : Error) (r : Refusal)
+    → (e ≡ SqliteFailure code.OutOfMemory → r ≡ refusal.Memory)
     → HasReason old new e → r ≡ refusal.Device → IsHindered old new ⊎ IsVast old.now
 device_reason old new e r memory (inl excused) device = inl (device_hindered old new e r memory excused device)
 device_reason old new e r memory (inr vast) device = inr vast

@@ -14,7 +14,8 @@ use Rattle.world.specs.Lines.{in_order}
 use Rattle.world.specs.Visible.{versions_seen, paths_seen}
 use Rattle.world.specs.Versions.{named, by_precedence, versions_of}
 use Rattle.world.specs.Latest.{highest, module_of, highest_left, latest_by, latest_of}
-use Rattle.shelf.specs.Machine.{decided, decision, gomod_of, offered, standing_if, standing_of, latest_reply, query_reply, gomod_reply, zip_reply, info_reply, list_reply}
+use Rattle.shelf.specs.Machine.{decided, decision, gomod_of, offered, standing_if, standing_of, latest_reply}
+use Rattle.shelf.specs.Machine.{query_reply, gomod_reply, zip_reply, info_reply, list_reply}
 use Rattle.world.proofs.InOrder.{same_bool}
 use Rattle.world.proofs.Orders.{texts_total, texts_exact}
 use Rattle.world.proofs.Seen.{contains_versions, contains_paths}
@@ -24,7 +25,8 @@ module _ (w x : World) (s : List ℕ) (chains : chain w s ≡ chain x s) (same :
   -- ---- a publish
 
   standing_same : (p : Publish) → standing_of w s p ≡ standing_of x s p
-  standing_same p = ap (λ o. standing_if (option_map (λ (y : Seen). y.entry) o) (offered p)) (view_same w x s p.path (version_text p.version) chains same)
+  standing_same p = ap (λ o. standing_if (option_map (λ (y : Seen). y.entry) o) (offered p))
+      (view_same w x s p.path (version_text p.version) chains same)
 
   -- ---- the versions and the paths
 
@@ -40,7 +42,8 @@ module _ (w x : World) (s : List ℕ) (chains : chain w s ≡ chain x s) (same :
       let one = contains_paths w s p in
       let other = contains_paths x s p in
       same_bool _ _
-      (λ at. let found = one.0 at in other.1 (found.0, ap is_some (sym (view_same w x s p found.0 chains same)) ∙ found.1))
+      (λ at. let found = one.0 at in
+      other.1 (found.0, ap is_some (sym (view_same w x s p found.0 chains same)) ∙ found.1))
       (λ at. let found = other.0 at in one.1 (found.0, ap is_some (view_same w x s p found.0 chains same) ∙ found.1)))
 
   -- ---- the latest version
@@ -52,7 +55,8 @@ module _ (w x : World) (s : List ℕ) (chains : chain w s ≡ chain x s) (same :
       ∙ ap (highest_left (module_of (heading x s p (version_text top)))) (versions_of_same p)
 
   pub latest_same : (p : List ℕ) → latest_of w s p ≡ latest_of x s p
-  latest_same p = ap (λ vs. latest_by w s p (highest vs)) (versions_of_same p) ∙ latest_by_same p (highest (versions_of x s p))
+  latest_same p = ap (λ vs. latest_by w s p (highest vs)) (versions_of_same p)
+      ∙ latest_by_same p (highest (versions_of x s p))
 
   latest_reply_same : (p : List ℕ) (v : Option SemanticVersion) → latest_reply w s p v ≡ latest_reply x s p v
   latest_reply_same p None = refl
@@ -68,7 +72,10 @@ module _ (w x : World) (s : List ℕ) (chains : chain w s ≡ chain x s) (same :
   query_same (query.Latest p) = ap (latest_reply w s p) (latest_same p) ∙ latest_reply_same p (latest_of x s p)
   query_same query.Modules = ap reply.Paths paths_same
 
-pub decision_same : (w x : World) (h : Holder) (p : Publish) → chain w h.shelf ≡ chain x h.shelf → SameSeen w x h.shelf → decision w (Some h) p ≡ decision x (Some h) p
+pub decision_same : (w x : World) (h : Holder) (p : Publish) → chain w h.shelf ≡ chain x h.shelf → SameSeen w x h.shelf
+    → decision w (Some h) p ≡ decision x (Some h) p
 decision_same w x h p chains same =
-    ap (λ there. decided p (Some h.right) (gomod_of p) there (count w h.shelf p.path)) (standing_same w x h.shelf chains same p)
-    ∙ ap (λ n. decided p (Some h.right) (gomod_of p) (standing_of x h.shelf p) n) (count_same w x h.shelf p.path (same h.shelf (sees_itself w h.shelf)))
+    ap (λ there. decided p (Some h.right) (gomod_of p) there (count w h.shelf p.path))
+    (standing_same w x h.shelf chains same p)
+    ∙ ap (λ n. decided p (Some h.right) (gomod_of p) (standing_of x h.shelf p) n)
+    (count_same w x h.shelf p.path (same h.shelf (sees_itself w h.shelf)))

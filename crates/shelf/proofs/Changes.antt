@@ -15,7 +15,8 @@ use Rattle.shelf.specs.declared.reply.Reply.TheVariants as reply
 use Rattle.shelf.specs.declared.reply.Answer.TheVariants.{Replied, Failed}
 use Rattle.world.specs.World.{World}
 use Rattle.shelf.specs.Machine.{decision, after_decision, after}
-use Rattle.world.specs.Registry.{team_added, group_added, key_added, key_revoked, after_team_add, after_group_add, after_key_add, after_key_revoke}
+use Rattle.world.specs.Registry.{team_added, group_added, key_added, key_revoked, after_team_add, after_group_add}
+use Rattle.world.specs.Registry.{after_key_add, after_key_revoke}
 use Rattle.shelf.specs.Laws.{BodiesChangeNothing, IsChange, OnlyChangesChange, RunsAreCut, RunsAreJoined}
 use Rattle.shelf.proofs.Runs.{run_more}
 
@@ -24,12 +25,14 @@ bodies_change_nothing w Unreadable body = refl
 bodies_change_nothing w (Get k q) body = refl
 bodies_change_nothing w (Put k p) body = absurd body
 
-put_changes : (w : World) (h : Option Holder) (p : Publish) (d : Decision) → IsChange (reply.Decided d) ⊎ (after_decision w h p d ≡ w)
+put_changes : (w : World) (h : Option Holder) (p : Publish) (d : Decision)
+    → IsChange (reply.Decided d) ⊎ (after_decision w h p d ≡ w)
 put_changes w h p Published = inl tt
 put_changes w None p d = inr refl
 put_changes w (Some h) p d = inr refl
 
-team_changes : (w : World) (t : List ℕ) (group : Option (List ℕ)) (r : Registered) → IsChange (reply.Registry r) ⊎ (after_team_add w t group r ≡ w)
+team_changes : (w : World) (t : List ℕ) (group : Option (List ℕ)) (r : Registered)
+    → IsChange (reply.Registry r) ⊎ (after_team_add w t group r ≡ w)
 team_changes w t group Done = inl tt
 team_changes w t group r = inr refl
 
@@ -37,7 +40,8 @@ group_changes : (w : World) (g : List ℕ) (r : Registered) → IsChange (reply.
 group_changes w g Done = inl tt
 group_changes w g r = inr refl
 
-key_changes : (w : World) (s k : List ℕ) (right : Right) (r : Registered) → IsChange (reply.Registry r) ⊎ (after_key_add w s k right r ≡ w)
+key_changes : (w : World) (s k : List ℕ) (right : Right) (r : Registered)
+    → IsChange (reply.Registry r) ⊎ (after_key_add w s k right r ≡ w)
 key_changes w s k right Done = inl tt
 key_changes w s k right r = inr refl
 
@@ -59,8 +63,11 @@ runs_are_cut old new [] more [] last long run = (old, refl, run)
 runs_are_cut old new [] more (a ∷ answers) last long run = cc
 runs_are_cut old new (e ∷ es) more [] last long run = cc
 runs_are_cut old new (e ∷ es) more (Replied r ∷ answers) last long run =
-    let rest = runs_are_cut (after old e) new es more answers last (ap pred long) run.1 in (rest.0, (run.0, rest.1), rest.2)
-runs_are_cut old new (e ∷ es) more (Failed fault ∷ answers) last long run = runs_are_cut old new es more answers last (ap pred long) run
+    let rest = runs_are_cut (after old e) new es more answers last (ap pred long) run.1 in
+    (rest.0, (run.0, rest.1), rest.2)
+runs_are_cut old new (e ∷ es) more (Failed fault ∷ answers) last long run =
+    runs_are_cut old new es more answers last (ap pred long) run
 
 pub runs_are_joined : RunsAreJoined
-runs_are_joined old mid new events more answers last first second = run_more old mid new events more answers last first second
+runs_are_joined old mid new events more answers last first second =
+    run_more old mid new events more answers last first second

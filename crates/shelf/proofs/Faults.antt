@@ -16,7 +16,8 @@ use Rattle.shelf.specs.declared.ask.Query.TheVariants as query
 use Rattle.shelf.specs.declared.reply.Decision.{Decision}
 use Rattle.shelf.specs.declared.reply.Decision.TheVariants.{Published}
 use Rattle.shelf.specs.Calls.{Question, Call, History, noted, of_key, comparison, count_of, insertion, latest_at}
-use Rattle.shelf.specs.Faults.{IsOwnNeed, AreOwnNeeds, NeedsAreOwn, UnknownNeedsNothing, NeedsAreAlike, AreRefusedBy, FaultsAreAlike}
+use Rattle.shelf.specs.Faults.{IsOwnNeed, AreOwnNeeds, NeedsAreOwn, UnknownNeedsNothing, NeedsAreAlike, AreRefusedBy}
+use Rattle.shelf.specs.Faults.{FaultsAreAlike}
 use Rattle.shelf.specs.Machine.{decision, first_failing, offered, own_refusal, request_checks}
 use Rattle.shelf.specs.Needs.{Need, Told, Room, needs, Meets, latest_needs, query_needs, keyed_needs, for_entry}
 use Rattle.shelf.specs.Needs.{unless_refused, check_needs, store_needs, publish_needs}
@@ -46,7 +47,8 @@ own_entry : (s : List ℕ) (o : Option Entry) (n : Need) → IsOwnNeed s n → A
 own_entry s None n own = tt
 own_entry s (Some e) n own = (own, tt)
 
-own_unless : (s : List ℕ) (o : Option Decision) (ns : List Need) → AreOwnNeeds s ns → AreOwnNeeds s (unless_refused o ns)
+own_unless : (s : List ℕ) (o : Option Decision) (ns : List Need) → AreOwnNeeds s ns
+    → AreOwnNeeds s (unless_refused o ns)
 own_unless s None ns own = own
 own_unless s (Some d) ns own = tt
 
@@ -55,8 +57,10 @@ own_checks h p =
     own_unless h.shelf (first_failing (request_checks p (Some h.right))) _ (
       tt,
       own_unless h.shelf (own_refusal p h.right) _
-          (own_both h.shelf (for_entry (offered p) (Told (comparison h.shelf p.path p.version))) (Told (count_of h.shelf p.path) ∷ [])
-          (own_entry h.shelf (offered p) (Told (comparison h.shelf p.path p.version)) (refl, λ e. cc)) ((refl, λ e. cc), tt)),
+          (own_both h.shelf (for_entry (offered p) (Told (comparison h.shelf p.path p.version)))
+          (Told (count_of h.shelf p.path) ∷ [])
+          (own_entry h.shelf (offered p) (Told (comparison h.shelf p.path p.version)) (refl, λ e. cc))
+          ((refl, λ e. cc), tt)),
     )
 
 own_store : (h : Holder) (p : Publish) (d : Decision) → AreOwnNeeds h.shelf (store_needs h p d)
@@ -64,7 +68,8 @@ own_store h p Published = own_entry h.shelf (offered p) (Told (insertion h.shelf
 own_store h p d = tt
 
 own_publish : (w : World) (h : Holder) (p : Publish) → AreOwnNeeds h.shelf (publish_needs w (Some h) p)
-own_publish w h p = own_both h.shelf (check_needs h p) (store_needs h p (decision w (Some h) p)) (own_checks h p) (own_store h p (decision w (Some h) p))
+own_publish w h p = own_both h.shelf (check_needs h p) (store_needs h p (decision w (Some h) p)) (own_checks h p)
+    (own_store h p (decision w (Some h) p))
 
 pub needs_are_own : NeedsAreOwn
 needs_are_own w k h Unreadable by at = absurd (no_key k by)
@@ -72,14 +77,16 @@ needs_are_own w k h (Get j q) by at =
     let same = same_key j k by in
     let found : map.get w.keys j ≡ Some h = ap (map.get w.keys) (sym same) ∙ at in (
       query_needs w h.shelf q,
-      ap (λ o. Told (of_key j) ∷ keyed_needs w o q) found ∙ ap (λ y. Told (of_key y) ∷ query_needs w h.shelf q) (sym same),
+      ap (λ o. Told (of_key j) ∷ keyed_needs w o q) found
+          ∙ ap (λ y. Told (of_key y) ∷ query_needs w h.shelf q) (sym same),
       own_query w h.shelf q,
     )
 needs_are_own w k h (Put j p) by at =
     let same = same_key j k by in
     let found : map.get w.keys j ≡ Some h = ap (map.get w.keys) (sym same) ∙ at in (
       publish_needs w (Some h) p,
-      ap (λ o. Told (of_key j) ∷ publish_needs w o p) found ∙ ap (λ y. Told (of_key y) ∷ publish_needs w (Some h) p) (sym same),
+      ap (λ o. Told (of_key j) ∷ publish_needs w o p) found
+          ∙ ap (λ y. Told (of_key y) ∷ publish_needs w (Some h) p) (sym same),
       own_publish w h p,
     )
 
@@ -87,19 +94,23 @@ pub unknown_needs_nothing : UnknownNeedsNothing
 unknown_needs_nothing w k Unreadable by at = absurd (no_key k by)
 unknown_needs_nothing w k (Get j q) by at =
     let same = same_key j k by in
-    ap (λ o. Told (of_key j) ∷ keyed_needs w o q) (ap (map.get w.keys) (sym same) ∙ at) ∙ ap (λ y. Told (of_key y) ∷ []) (sym same)
+    ap (λ o. Told (of_key j) ∷ keyed_needs w o q) (ap (map.get w.keys) (sym same) ∙ at)
+    ∙ ap (λ y. Told (of_key y) ∷ []) (sym same)
 unknown_needs_nothing w k (Put j p) by at =
     let same = same_key j k by in
-    ap (λ o. Told (of_key j) ∷ publish_needs w o p) (ap (map.get w.keys) (sym same) ∙ at) ∙ ap (λ y. Told (of_key y) ∷ []) (sym same)
+    ap (λ o. Told (of_key j) ∷ publish_needs w o p) (ap (map.get w.keys) (sym same) ∙ at)
+    ∙ ap (λ y. Told (of_key y) ∷ []) (sym same)
 
 -- ---- they are alike
 
-query_needs_same : (w x : World) (s : List ℕ) → chain w s ≡ chain x s → SameSeen w x s → (q : Query) → query_needs w s q ≡ query_needs x s q
+query_needs_same : (w x : World) (s : List ℕ) → chain w s ≡ chain x s → SameSeen w x s → (q : Query)
+    → query_needs w s q ≡ query_needs x s q
 query_needs_same w x s chains seen (query.GoMod p v) = refl
 query_needs_same w x s chains seen (query.Zip p v) = refl
 query_needs_same w x s chains seen (query.Info p v) = refl
 query_needs_same w x s chains seen (query.List p) = refl
-query_needs_same w x s chains seen (query.Latest p) = ap (λ o. Told (latest_at s p) ∷ latest_needs s p o) (latest_same w x s chains seen p)
+query_needs_same w x s chains seen (query.Latest p) =
+    ap (λ o. Told (latest_at s p) ∷ latest_needs s p o) (latest_same w x s chains seen p)
 query_needs_same w x s chains seen query.Modules = refl
 
 pub needs_are_alike : NeedsAreAlike
@@ -119,32 +130,43 @@ needs_are_alike w x s t k (Put j p) is_w is_x low st own by =
 
 -- ---- faults
 
--- a history that grew by a call and then by more, and one that grew by these calls, if they are one, grew by that call first
-grown : (old new : History) (q : Question) (met : Option StoreFault) (more calls : List Call) → new.calls ≡ (noted old q met).calls ++ more → new.calls ≡ old.calls ++ calls
+-- a history that grew by a call and then by more, and one that grew by these calls, if they are one, grew by that call
+-- first
+grown : (old new : History) (q : Question) (met : Option StoreFault) (more calls : List Call)
+    → new.calls ≡ (noted old q met).calls ++ more → new.calls ≡ old.calls ++ calls
     → calls ≡ (record { question = q; fault = met }) ∷ more
 grown old new q met more calls is by =
-    append_cancel_left old.calls calls ((record { question = q; fault = met }) ∷ more) (sym by ∙ is ∙ append_assoc old.calls ((record { question = q; fault = met }) ∷ []) more)
+    append_cancel_left old.calls calls ((record { question = q; fault = met }) ∷ more)
+    (sym by ∙ is ∙ append_assoc old.calls ((record { question = q; fault = met }) ∷ []) more)
 
 -- needs that were met only add to the history
-begins : (old new : History) (ns : List Need) (met : Option StoreFault) → Meets old new ns met → (more : List Call) × (new.calls ≡ old.calls ++ more)
+begins : (old new : History) (ns : List Need) (met : Option StoreFault) → Meets old new ns met
+    → (more : List Call) × (new.calls ≡ old.calls ++ more)
 begins old new [] met is = ([], ap (λ (h : History). h.calls) is.0 ∙ sym (append-nil old.calls))
 begins old new (Room ∷ ns) met (inl on) = begins old new ns met on
 begins old new (Room ∷ ns) met (inr out) = ([], ap (λ (h : History). h.calls) out.0 ∙ sym (append-nil old.calls))
 begins old new (Told q ∷ ns) met (inl on) =
-    let rest = begins (noted old q None) new ns met on in
-    ((record { question = q; fault = None }) ∷ rest.0, rest.1 ∙ append_assoc old.calls ((record { question = q; fault = None }) ∷ []) rest.0)
-begins old new (Told q ∷ ns) met (inr out) = ((record { question = q; fault = Some out.0 }) ∷ [], ap (λ (h : History). h.calls) out.1)
+    let rest = begins (noted old q None) new ns met on in (
+      (record { question = q; fault = None }) ∷ rest.0,
+      rest.1
+          ∙ append_assoc old.calls ((record { question = q; fault = None }) ∷ []) rest.0,
+    )
+begins old new (Told q ∷ ns) met (inr out) =
+    ((record { question = q; fault = Some out.0 }) ∷ [], ap (λ (h : History). h.calls) out.1)
 
 -- the fault that needs meet whose questions are refused by this
 abbrev MeetsBy : (Question → Option StoreFault) → List Need → Option StoreFault → Type 0
 MeetsBy refuses [] met = met ≡ None
 MeetsBy refuses (Room ∷ ns) met = MeetsBy refuses ns met ⊎ (met ≡ Some Memory)
-MeetsBy refuses (Told q ∷ ns) met = ((refuses q ≡ None) × MeetsBy refuses ns met) ⊎ ((fault : StoreFault) × (refuses q ≡ Some fault) × (met ≡ Some fault))
+MeetsBy refuses (Told q ∷ ns) met = ((refuses q ≡ None) × MeetsBy refuses ns met)
+    ⊎ ((fault : StoreFault) × (refuses q ≡ Some fault) × (met ≡ Some fault))
 
-by_refusals : (refuses : Question → Option StoreFault) (old new : History) (calls : List Call) (ns : List Need) (met : Option StoreFault)
+by_refusals : (refuses : Question → Option StoreFault) (old new : History) (calls : List Call) (ns : List Need)
+    (met : Option StoreFault)
     → Meets old new ns met → new.calls ≡ old.calls ++ calls → AreRefusedBy refuses calls → MeetsBy refuses ns met
 by_refusals refuses old new calls [] met is by are = is.1
-by_refusals refuses old new calls (Room ∷ ns) met (inl on) by are = inl (by_refusals refuses old new calls ns met on by are)
+by_refusals refuses old new calls (Room ∷ ns) met (inl on) by are =
+    inl (by_refusals refuses old new calls ns met on by are)
 by_refusals refuses old new calls (Room ∷ ns) met (inr out) by are = inr out.1
 by_refusals refuses old new calls (Told q ∷ ns) met (inl on) by are =
     let rest = begins (noted old q None) new ns met on in
@@ -155,7 +177,8 @@ by_refusals refuses old new calls (Told q ∷ ns) met (inr out) by are =
     let one = subst (AreRefusedBy refuses) (grown old new q (Some out.0) [] calls here by) are in
     inr (out.0, sym one.0, out.2)
 
-met_alike : (refuses : Question → Option StoreFault) (ns : List Need) (met met_too : Option StoreFault) → MeetsBy refuses ns met → MeetsBy refuses ns met_too
+met_alike : (refuses : Question → Option StoreFault) (ns : List Need) (met met_too : Option StoreFault)
+    → MeetsBy refuses ns met → MeetsBy refuses ns met_too
     → (met ≡ met_too) ⊎ ((met ≡ Some Memory) ⊎ (met_too ≡ Some Memory))
 met_alike refuses [] met met_too one two = inl (one ∙ sym two)
 met_alike refuses (Room ∷ ns) met met_too (inl one) (inl two) = met_alike refuses ns met met_too one two
@@ -167,7 +190,9 @@ met_alike refuses (Told q ∷ ns) met met_too (inr one) (inl two) = absurd (let 
 met_alike refuses (Told q ∷ ns) met met_too (inr one) (inr two) = inl (one.2 ∙ sym one.1 ∙ two.1 ∙ sym two.2)
 
 pub faults_are_alike : FaultsAreAlike
-faults_are_alike w x s t k a refuses old new old_too new_too calls calls_too met met_too is_w is_x low st own by one grew are two grew_too are_too =
+faults_are_alike w x s t k a refuses old new old_too new_too calls calls_too met met_too is_w is_x low st own by one
+    grew are two grew_too are_too =
     met_alike refuses (needs x a) met met_too
-    (subst (λ ns. MeetsBy refuses ns met) (needs_are_alike w x s t k a is_w is_x low st own by) (by_refusals refuses old new calls (needs w a) met one grew are))
+    (subst (λ ns. MeetsBy refuses ns met) (needs_are_alike w x s t k a is_w is_x low st own by)
+    (by_refusals refuses old new calls (needs w a) met one grew are))
     (by_refusals refuses old_too new_too calls_too (needs x a) met_too two grew_too are_too)

@@ -10,12 +10,14 @@ use Rattle.shelf.specs.Machine.{Run, MetDevice, world_after}
 use Rattle.shelf.specs.Runs.{Runs}
 
 -- what the contracts of any store say of a run in memory
-module _ (new : World) (events : List Event) (answers : List Answer) (runs : Runs (in_memory only_common) (in_memory new) events answers) where
+module _ (new : World) (events : List Event) (answers : List Answer)
+    (runs : Runs (in_memory only_common) (in_memory new) events answers) where
   ended : (new ≡ world_after only_common events answers) × IsWorld (world_after only_common events answers)
   ended = (runs.at tt only_common (refl, only_common_stands)).ends
 
   pub ran : Run only_common events answers new
-  ran = subst (λ w. Run only_common events answers w) (sym ended.0) (runs.at tt only_common (refl, only_common_stands)).run
+  ran = subst (λ w. Run only_common events answers w) (sym ended.0)
+      (runs.at tt only_common (refl, only_common_stands)).run
 
   pub is_just : IsJust (in_memory new) new
   is_just = record {

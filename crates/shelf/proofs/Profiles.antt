@@ -1,4 +1,5 @@
--- By the second profile the machine answers as by the first, in a world of the first, but a publish that the first does not read.
+-- By the second profile the machine answers as by the first, in a world of the first, but a publish that the first
+-- does not read.
 use Rattle.std.proofs.Common.{◌≡◌, ℕ, List, refl, ◌∙◌, sym, ap, inl, inr, ◌⊎◌, Option, Some, None}
 use Rattle.std.specs.Prelude.{option_map}
 use Rattle.std.specs.FinMap as map
@@ -27,8 +28,10 @@ use Rattle.shelf.specs.declared.reply.Decision.{Decision}
 use Rattle.shelf.specs.declared.reply.Decision.TheVariants.{Refused}
 use Rattle.shelf.specs.declared.reply.Refusal.TheVariants as refusal
 use Rattle.shelf.specs.declared.reply.Reply.TheVariants as reply
-use Rattle.shelf.specs.Machine.{after_decision, decided, decision, first_failing, gomod_checks, keyed_reply, latest_reply, query_reply, request_checks, standing_of}
-use Rattle.shelf.specs.Profiles.{module_by, left_by, query_reply_by, keyed_reply_by, gomod_by, decision_by, AnswersAlike, ProfileInForceIsTheMachine, IsUnread, Profile2KeepsAnswers}
+use Rattle.shelf.specs.Machine.{after_decision, decided, decision, first_failing, gomod_checks, keyed_reply}
+use Rattle.shelf.specs.Machine.{latest_reply, query_reply, request_checks, standing_of}
+use Rattle.shelf.specs.Profiles.{module_by, left_by, query_reply_by, keyed_reply_by, gomod_by, decision_by}
+use Rattle.shelf.specs.Profiles.{AnswersAlike, ProfileInForceIsTheMachine, IsUnread, Profile2KeepsAnswers}
 use Rattle.shelf.proofs.Checks.{refused, refused_by_gomod}
 
 -- ---- the profile in force
@@ -37,9 +40,11 @@ module_in_force : (o : Option Heading) → module_by profile_in_force o ≡ modu
 module_in_force None = refl
 module_in_force (Some shown) = refl
 
-left_in_force : (w : World) (s p : List ℕ) (o : Option SemanticVersion) → left_by profile_in_force w s p o ≡ latest.latest_by w s p o
+left_in_force : (w : World) (s p : List ℕ) (o : Option SemanticVersion)
+    → left_by profile_in_force w s p o ≡ latest.latest_by w s p o
 left_in_force w s p None = refl
-left_in_force w s p (Some top) = ap (λ m. highest_left m (versions_of w s p)) (module_in_force (heading w s p (version_text top)))
+left_in_force w s p (Some top) =
+    ap (λ m. highest_left m (versions_of w s p)) (module_in_force (heading w s p (version_text top)))
 
 query_in_force : (w : World) (s : List ℕ) (q : Query) → query_reply_by profile_in_force w s q ≡ query_reply w s q
 query_in_force w s (query.Latest p) = ap (latest_reply w s p) (left_in_force w s p (highest (versions_of w s p)))
@@ -63,7 +68,11 @@ in_force w (Asked Unreadable) = record { replies = refl; worlds = refl }
 in_force w (Asked (Get k q)) = record { replies = keyed_in_force w (map.get w.keys k) q; worlds = refl }
 in_force w (Asked (Put k p)) =
     let same = decision_in_force w (map.get w.keys k) p in
-    record { replies = ap (λ (d : Decision). reply.Decided d) same; worlds = ap (after_decision w (map.get w.keys k) p) same }
+    record {
+      replies = ap (λ (d : Decision). reply.Decided d) same;
+      worlds =
+          ap (after_decision w (map.get w.keys k) p) same;
+    }
 in_force w (TeamAdd t group) = record { replies = refl; worlds = refl }
 in_force w (GroupAdd g) = record { replies = refl; worlds = refl }
 in_force w (KeyAdd s k right) = record { replies = refl; worlds = refl }
@@ -80,7 +89,8 @@ module _ (w : World) (is : IsWorldBy profile_1 w) where
 
   same_module : (s p t : List ℕ) → module_by profile_1 (heading w s p t) ≡ module_by profile_2 (heading w s p t)
   same_module s p t =
-      elim (view w s p t) as (λ o. view w s p t ≡ o → module_by profile_1 (without_zip o) ≡ module_by profile_2 (without_zip o)) [
+      elim (view w s p t) as (λ o. view w s p t ≡ o
+      → module_by profile_1 (without_zip o) ≡ module_by profile_2 (without_zip o)) [
         | None ↦ λ _. refl
         | Some e ↦ λ seen.
             let reads = (entry_by profile_1 w s p t is (e, seen)).reads in
@@ -103,15 +113,24 @@ module _ (w : World) (is : IsWorldBy profile_1 w) where
   same_keyed None q = refl
   same_keyed (Some h) q = same_query h.shelf q
 
-  alike : (k : List ℕ) (p : Publish) → decision_by profile_1 w (map.get w.keys k) p ≡ decision_by profile_2 w (map.get w.keys k) p → Alike (Asked (Put k p))
-  alike k p same = record { replies = ap (λ (d : Decision). reply.Decided d) same; worlds = ap (after_decision w (map.get w.keys k) p) same }
+  alike : (k : List ℕ) (p : Publish)
+      → decision_by profile_1 w (map.get w.keys k) p ≡ decision_by profile_2 w (map.get w.keys k) p
+      → Alike (Asked (Put k p))
+  alike k p same = record {
+    replies = ap (λ (d : Decision). reply.Decided d) same;
+    worlds =
+        ap (after_decision w (map.get w.keys k) p) same;
+  }
 
-  same_decision : (o : Option Holder) (p : Publish) → gomod_by profile_1 p ≡ gomod_by profile_2 p → decision_by profile_1 w o p ≡ decision_by profile_2 w o p
+  same_decision : (o : Option Holder) (p : Publish) → gomod_by profile_1 p ≡ gomod_by profile_2 p
+      → decision_by profile_1 w o p ≡ decision_by profile_2 w o p
   same_decision None p same = refl
-  same_decision (Some h) p same = ap (λ r. decided p (Some h.right) r (standing_of w h.shelf p) (count w h.shelf p.path)) same
+  same_decision (Some h) p same =
+      ap (λ r. decided p (Some h.right) r (standing_of w h.shelf p) (count w h.shelf p.path)) same
 
   -- a publish to a shelf, with files
-  module _ (k : List ℕ) (p : Publish) (h : Holder) (found : map.get w.keys k ≡ Some h) (b : Body) (body : p.body ≡ Some b) where
+  module _ (k : List ℕ) (p : Publish) (h : Holder) (found : map.get w.keys k ≡ Some h) (b : Body)
+      (body : p.body ≡ Some b) where
     read_by : (known : Keywords) → gomod_by known p ≡ Some (reading_by known b.gomod)
     read_by known = ap (option_map (λ (x : Body). reading_by known x.gomod)) body
 
@@ -119,46 +138,58 @@ module _ (w : World) (is : IsWorldBy profile_1 w) where
     refused_alike : (d : Decision) → first_failing (request_checks p (Some h.right)) ≡ Some d → Alike (Asked (Put k p))
     refused_alike d e =
         let so : (known : Keywords) → decision_by known w (map.get w.keys k) p ≡ d = λ known.
-        ap (λ o. decision_by known w o p) found ∙ refused p (Some h.right) (gomod_by known p) (standing_of w h.shelf p) (count w h.shelf p.path) d e in
+        ap (λ o. decision_by known w o p) found
+        ∙ refused p (Some h.right) (gomod_by known p) (standing_of w h.shelf p) (count w h.shelf p.path) d e in
         alike k p (so profile_1 ∙ sym (so profile_2))
 
     -- a publish whose go.mod the first profile does not read, and that passes the checks before that, is refused for it
-    unread : (line : ℕ) → reading_by profile_1 b.gomod ≡ Fault line → first_failing (request_checks p (Some h.right)) ≡ None → IsUnread profile_1 w (Asked (Put k p))
+    unread : (line : ℕ) → reading_by profile_1 b.gomod ≡ Fault line
+        → first_failing (request_checks p (Some h.right)) ≡ None → IsUnread profile_1 w (Asked (Put k p))
     unread line fault passes =
-        let failing = ap (λ r. first_failing (gomod_checks p r)) (read_by profile_1 ∙ ap (λ (r : Reading). Some r) fault) in
+        let failing = ap (λ r. first_failing (gomod_checks p r))
+        (read_by profile_1 ∙ ap (λ (r : Reading). Some r) fault) in
         record {
           key = k;
           publish = p;
           body = b;
           asked = refl;
           handed = body;
-          unread = λ m reads. let never : Fault line ≡ Module m = sym fault ∙ ap as_reading (reading-from_reads profile_1 b.gomod m reads) in cc never;
+          unread = λ m reads. let never : Fault line ≡ Module m = sym fault
+              ∙ ap as_reading (reading-from_reads profile_1 b.gomod m reads) in cc never;
           line = line;
           refused =
               ap (λ o. reply.Decided (decision_by profile_1 w o p)) found
               ∙ ap (λ (d : Decision). reply.Decided d)
-              (refused_by_gomod p (Some h.right) (gomod_by profile_1 p) (standing_of w h.shelf p) (count w h.shelf p.path) (Refused (refusal.BadGoMod line)) passes failing);
+              (refused_by_gomod p (Some h.right) (gomod_by profile_1 p) (standing_of w h.shelf p)
+              (count w h.shelf p.path) (Refused (refusal.BadGoMod line)) passes failing);
         }
 
-    by_check : (line : ℕ) → reading_by profile_1 b.gomod ≡ Fault line → (o : Option Decision) → first_failing (request_checks p (Some h.right)) ≡ o → AlikeOrUnread (Asked (Put k p))
+    by_check : (line : ℕ) → reading_by profile_1 b.gomod ≡ Fault line → (o : Option Decision)
+        → first_failing (request_checks p (Some h.right)) ≡ o → AlikeOrUnread (Asked (Put k p))
     by_check line fault None passes = inr (unread line fault passes)
     by_check line fault (Some d) fails = inl (refused_alike d fails)
 
     by_reading : (r : Reading) → reading_by profile_1 b.gomod ≡ r → AlikeOrUnread (Asked (Put k p))
     by_reading (Module m) read =
-        let same : reading_by profile_1 b.gomod ≡ reading_by profile_2 b.gomod = read ∙ sym (reads_still b.gomod m read) in
-        inl (alike k p (same_decision (map.get w.keys k) p (read_by profile_1 ∙ ap (λ (r : Reading). Some r) same ∙ sym (read_by profile_2))))
+        let same : reading_by profile_1 b.gomod ≡ reading_by profile_2 b.gomod = read
+        ∙ sym (reads_still b.gomod m read) in
+        inl (alike k p (same_decision (map.get w.keys k) p
+        (read_by profile_1 ∙ ap (λ (r : Reading). Some r) same ∙ sym (read_by profile_2))))
     by_reading (Fault line) fault = by_check line fault (first_failing (request_checks p (Some h.right))) refl
 
-  by_body : (k : List ℕ) (p : Publish) (h : Holder) → map.get w.keys k ≡ Some h → (o : Option Body) → p.body ≡ o → AlikeOrUnread (Asked (Put k p))
+  by_body : (k : List ℕ) (p : Publish) (h : Holder) → map.get w.keys k ≡ Some h → (o : Option Body) → p.body ≡ o
+      → AlikeOrUnread (Asked (Put k p))
   by_body k p h found None none =
-      let so : (known : Keywords) → gomod_by known p ≡ None = λ known. ap (option_map (λ (x : Body). reading_by known x.gomod)) none in
+      let so : (known : Keywords)
+      → gomod_by known p ≡ None = λ known. ap (option_map (λ (x : Body). reading_by known x.gomod)) none in
       inl (alike k p (same_decision (map.get w.keys k) p (so profile_1 ∙ sym (so profile_2))))
   by_body k p h found (Some b) body = by_reading k p h found b body (reading_by profile_1 b.gomod) refl
 
   by_holder : (k : List ℕ) (p : Publish) (o : Option Holder) → map.get w.keys k ≡ o → AlikeOrUnread (Asked (Put k p))
   by_holder k p None none =
-      let so : (known : Keywords) → decision_by known w (map.get w.keys k) p ≡ decision_by known w None p = λ known. ap (λ o. decision_by known w o p) none in
+      let so : (known : Keywords)
+      → decision_by known w (map.get w.keys k) p ≡ decision_by known w None p = λ known.
+      ap (λ o. decision_by known w o p) none in
       inl (alike k p (so profile_1 ∙ sym (so profile_2)))
   by_holder k p (Some h) found = by_body k p h found p.body refl
 

@@ -1,5 +1,6 @@
 -- A run goes on by one event, or by another run.
-use Rattle.std.proofs.Common.{◌≡◌, ℕ, ◌+◌, ◌<◌, List, [], ◌∷◌, ◌++◌, length, get_or, take, refl, sym, subst, ◌∙◌, inl, inr, ◌⊎◌, Ok, Err}
+use Rattle.std.proofs.Common.{◌≡◌, ℕ, ◌+◌, ◌<◌, List, [], ◌∷◌, ◌++◌, length, get_or, take, refl, sym, subst, ◌∙◌, inl}
+use Rattle.std.proofs.Common.{inr, ◌⊎◌, Ok, Err}
 use Rattle.std.proofs.lemmas.List.{take_more}
 use Rattle.shelf.specs.declared.ask.Event.{Event}
 use Rattle.shelf.specs.declared.reply.Answer.{Answer}
@@ -13,26 +14,32 @@ use Rattle.world.specs.Store.{Shown, DoesAt}
 pub use Rattle.world.proofs.Causes.{grown_more, grown_before}
 use Rattle.shelf.specs.Runs.{Runs, RunsAt, AllKeep, Settles, IsPending, MayLeave}
 
-pub run_more : (old mid new : World) (events more : List Event) (answers last : List Answer) → Run old events answers mid → Run mid more last new → Run old (events ++ more) (answers ++ last) new
+pub run_more : (old mid new : World) (events more : List Event) (answers last : List Answer)
+    → Run old events answers mid → Run mid more last new → Run old (events ++ more) (answers ++ last) new
 run_more old mid new [] more [] last run next = subst (λ w. Run w more last new) run next
 run_more old mid new [] more (a ∷ answers) last run next = absurd run
 run_more old mid new (e ∷ es) more [] last run next = absurd run
-run_more old mid new (e ∷ es) more (Replied r ∷ answers) last run next = (run.0, run_more (after old e) mid new es more answers last run.1 next)
-run_more old mid new (e ∷ es) more (Failed fault ∷ answers) last run next = run_more old mid new es more answers last run next
+run_more old mid new (e ∷ es) more (Replied r ∷ answers) last run next =
+    (run.0, run_more (after old e) mid new es more answers last run.1 next)
+run_more old mid new (e ∷ es) more (Failed fault ∷ answers) last run next =
+    run_more old mid new es more answers last run next
 
 -- ---- one more answer
 
 -- an event that met a fault would have changed nothing, whether before or after
 pub idle_split : (old mid : World) (events more : List Event) (answers last : List Answer) → Run old events answers mid
-    → AnsweredOrIdle old (events ++ more) (answers ++ last) → AnsweredOrIdle old events answers × AnsweredOrIdle mid more last
+    → AnsweredOrIdle old (events ++ more) (answers ++ last)
+    → AnsweredOrIdle old events answers × AnsweredOrIdle mid more last
 idle_split old mid [] more [] last run idle = (tt, subst (λ w. AnsweredOrIdle w more last) (sym run) idle)
 idle_split old mid [] more (a ∷ answers) last run idle = absurd run
 idle_split old mid (e ∷ es) more [] last run idle = absurd run
-idle_split old mid (e ∷ es) more (Replied r ∷ answers) last run idle = idle_split (after old e) mid es more answers last run.1 idle
+idle_split old mid (e ∷ es) more (Replied r ∷ answers) last run idle =
+    idle_split (after old e) mid es more answers last run.1 idle
 idle_split old mid (e ∷ es) more (Failed fault ∷ answers) last run idle =
     let halves = idle_split old mid es more answers last run idle.1 in ((idle.0, halves.0), halves.1)
 
-pub met_before : (answers : List Answer) (a : Answer) → MetDevice (answers ++ a ∷ []) → MetDevice answers ⊎ (a ≡ Failed Device)
+pub met_before : (answers : List Answer) (a : Answer) → MetDevice (answers ++ a ∷ [])
+    → MetDevice answers ⊎ (a ≡ Failed Device)
 met_before [] a (inl here) = inr here
 met_before [] a (inr never) = absurd never
 met_before (b ∷ answers) a (inl here) = inl (inl here)
@@ -41,7 +48,8 @@ met_before (b ∷ answers) a (inr later) = elim (met_before answers a later) [ i
 -- ---- the world at the end
 
 -- a run leads to the world after the events that were answered
-pub run_end : (old new : World) (events : List Event) (answers : List Answer) → Run old events answers new → new ≡ world_after old events answers
+pub run_end : (old new : World) (events : List Event) (answers : List Answer) → Run old events answers new
+    → new ≡ world_after old events answers
 run_end old new [] [] run = run
 run_end old new [] (a ∷ answers) run = absurd run
 run_end old new (e ∷ es) [] run = absurd run
@@ -64,10 +72,12 @@ keep_more old mid [] more (a ∷ answers) last run keep next = absurd run
 keep_more old mid (e ∷ es) more [] last run keep next = absurd run
 keep_more old mid (e ∷ es) more (Replied r ∷ answers) last run keep next =
     (keep.0, keep_more (after old e) mid es more answers last run.1 keep.1 next)
-keep_more old mid (e ∷ es) more (Failed fault ∷ answers) last run keep next = keep_more old mid es more answers last run keep next
+keep_more old mid (e ∷ es) more (Failed fault ∷ answers) last run keep next =
+    keep_more old mid es more answers last run keep next
 
 -- a world is pending still if nothing changes
-pending_first : (old mid : World) (es more : List Event) (answers last : List Answer) (x : World) → Run old es answers mid
+pending_first : (old mid : World) (es more : List Event) (answers last : List Answer) (x : World)
+    → Run old es answers mid
     → IsPending old es answers x → AllKeep mid more last → IsPending old (es ++ more) (answers ++ last) x
 pending_first old mid [] more [] last x run is keep = absurd is
 pending_first old mid [] more (a ∷ answers) last x run is keep = absurd run
@@ -79,28 +89,39 @@ pending_first old mid (e ∷ es) more (Failed fault ∷ answers) last x run (inl
 pending_first old mid (e ∷ es) more (Failed fault ∷ answers) last x run (inr later) keep =
     inr (pending_first old mid es more answers last x run later keep)
 
-pending_next : (old mid : World) (es more : List Event) (answers last : List Answer) (x : World) → Run old es answers mid
+pending_next : (old mid : World) (es more : List Event) (answers last : List Answer) (x : World)
+    → Run old es answers mid
     → IsPending mid more last x → IsPending old (es ++ more) (answers ++ last) x
 pending_next old mid [] more [] last x run is = subst (λ w. IsPending w more last x) run is
 pending_next old mid [] more (a ∷ answers) last x run is = absurd run
 pending_next old mid (e ∷ es) more [] last x run is = absurd run
-pending_next old mid (e ∷ es) more (Replied r ∷ answers) last x run is = pending_next (after old e) mid es more answers last x run.1 is
-pending_next old mid (e ∷ es) more (Failed fault ∷ answers) last x run is = inr (pending_next old mid es more answers last x run is)
+pending_next old mid (e ∷ es) more (Replied r ∷ answers) last x run is =
+    pending_next (after old e) mid es more answers last x run.1 is
+pending_next old mid (e ∷ es) more (Failed fault ∷ answers) last x run is =
+    inr (pending_next old mid es more answers last x run is)
 
 -- the last change that was answered is before or after
 settles_split : (old mid : World) (es more : List Event) (answers last : List Answer) → Run old es answers mid
-    → Settles old (es ++ more) (answers ++ last) → (Settles old es answers × AnsweredOrIdle mid more last) ⊎ Settles mid more last
+    → Settles old (es ++ more) (answers ++ last)
+    → (Settles old es answers × AnsweredOrIdle mid more last) ⊎ Settles mid more last
 settles_split old mid [] more [] last run settles = inr (subst (λ w. Settles w more last) (sym run) settles)
 settles_split old mid [] more (a ∷ answers) last run settles = absurd run
 settles_split old mid (e ∷ es) more [] last run settles = absurd run
 settles_split old mid (e ∷ es) more (Replied r ∷ answers) last run (inl here) =
-    let halves = idle_split (after old e) mid es more answers last run.1 here.1 in inl (inl (here.0, halves.0), halves.1)
+    let halves = idle_split (after old e) mid es more answers last run.1 here.1 in
+    inl (inl (here.0, halves.0), halves.1)
 settles_split old mid (e ∷ es) more (Replied r ∷ answers) last run (inr later) =
-    elim (settles_split (after old e) mid es more answers last run.1 later) [ inl both ↦ inl (inr both.0, both.1) | inr there ↦ inr there ]
-settles_split old mid (e ∷ es) more (Failed fault ∷ answers) last run settles = settles_split old mid es more answers last run settles
+    elim (settles_split (after old e) mid es more answers last run.1 later) [
+      | inl both ↦ inl (inr both.0, both.1)
+      | inr there ↦ inr there
+    ]
+settles_split old mid (e ∷ es) more (Failed fault ∷ answers) last run settles =
+    settles_split old mid es more answers last run settles
 
-module _ (w : World) (es more : List Event) (answers last : List Answer) (run : Run w es answers (world_after w es answers))
-    (same : world_after (world_after w es answers) more last ≡ world_after w (es ++ more) (answers ++ last)) (x y z : World) where
+module _ (w : World) (es more : List Event) (answers last : List Answer)
+    (run : Run w es answers (world_after w es answers))
+    (same : world_after (world_after w es answers) more last ≡ world_after w (es ++ more) (answers ++ last))
+    (x y z : World) where
   abbrev mid : World
   mid = world_after w es answers
 
@@ -110,8 +131,10 @@ module _ (w : World) (es more : List Event) (answers last : List Answer) (run : 
   may_more first (inr (inl is)) = inr (inl (pending_next w mid es more answers last z run is))
   may_more (inl is) (inr (inr still)) = inl (still.0 ∙ (is ∙ (sym (keep_ends mid more last still.1) ∙ same)))
   may_more (inr (inl is)) (inr (inr still)) =
-      inr (inl (subst (λ v. IsPending w (es ++ more) (answers ++ last) v) (sym still.0) (pending_first w mid es more answers last y run is still.1)))
-  may_more (inr (inr first)) (inr (inr still)) = inr (inr (still.0 ∙ first.0, keep_more w mid es more answers last run first.1 still.1))
+      inr (inl (subst (λ v. IsPending w (es ++ more) (answers ++ last) v) (sym still.0)
+      (pending_first w mid es more answers last y run is still.1)))
+  may_more (inr (inr first)) (inr (inr still)) =
+      inr (inr (still.0 ∙ first.0, keep_more w mid es more answers last run first.1 still.1))
 
 -- ---- none, and one event
 
@@ -130,7 +153,8 @@ pub runs_begun : (shown : Shown) → Runs shown shown [] []
 runs_begun shown = record { honest = λ h. h; at = λ h w stands. runs_none shown w stands }
 
 -- an event was not begun
-pub runs_unasked : (shown : Shown) (w : World) (e : Event) (fault : StoreFault) → shown.stands w → RunsAt shown shown w (e ∷ []) (Failed fault ∷ [])
+pub runs_unasked : (shown : Shown) (w : World) (e : Event) (fault : StoreFault) → shown.stands w
+    → RunsAt shown shown w (e ∷ []) (Failed fault ∷ [])
 runs_unasked shown w e fault stands = record {
   run = refl;
   ends = stands;
@@ -141,7 +165,8 @@ runs_unasked shown w e fault stands = record {
 
 module _ (old new : Shown) (w : World) (e : Event) where
   -- the event was answered
-  pub runs_replied : (r : Reply) → DoesAt old new w (Ok r) (reply_to w e) (after w e) → RunsAt old new w (e ∷ []) (Replied r ∷ [])
+  pub runs_replied : (r : Reply) → DoesAt old new w (Ok r) (reply_to w e) (after w e)
+      → RunsAt old new w (e ∷ []) (Replied r ∷ [])
   runs_replied r does = record {
     run = (does.answer, refl);
     ends = does.ok;
@@ -157,7 +182,8 @@ module _ (old new : Shown) (w : World) (e : Event) where
   }
 
   -- the event met a fault
-  pub runs_failed : {T : Type 0} (fault : StoreFault) (value : T) → DoesAt {T = T} old new w (Err fault) value (after w e)
+  pub runs_failed : {T : Type 0} (fault : StoreFault) (value : T)
+      → DoesAt {T = T} old new w (Err fault) value (after w e)
       → RunsAt old new w (e ∷ []) (Failed fault ∷ [])
   runs_failed fault value does = record {
     run = refl;
@@ -171,7 +197,8 @@ module _ (old new : Shown) (w : World) (e : Event) where
   }
 
   -- the event was answered and changed nothing, and its answer was lost
-  pub runs_lost : {T : Type 0} (x value : T) (fault : StoreFault) → DoesAt old new w (Ok x) value (after w e) → after w e ≡ w
+  pub runs_lost : {T : Type 0} (x value : T) (fault : StoreFault) → DoesAt old new w (Ok x) value (after w e)
+      → after w e ≡ w
       → RunsAt old new w (e ∷ []) (Failed fault ∷ [])
   runs_lost answer value fault does same = record {
     run = refl;
@@ -201,25 +228,34 @@ module _ (old mid new : Shown) where
         left = λ idle was.
             let halves = idle_split w between events more answers last first.run idle in
             subst (λ x. new.leaves x x) same (next.left halves.1 (first.left halves.0 was));
-        settled = λ settles. subst (λ x. new.leaves x x) same (elim (settles_split w between events more answers last first.run settles) [
-          | inl both ↦ next.left both.1 (first.settled both.0)
-          | inr later ↦ next.settled later
-        ]);
+        settled = λ settles. subst (λ x. new.leaves x x) same
+            (elim (settles_split w between events more answers last first.run settles) [
+              | inl both ↦ next.left both.1 (first.settled both.0)
+              | inr later ↦ next.settled later
+            ]);
         beside = λ x was.
             let y = first.beside x was in
-            let z = next.beside y.0 y.1 in
-            (z.0, subst (λ v. new.leaves v z.0) same z.1, may_more w events more answers last first.run same x y.0 z.0 y.2 z.2);
+            let z = next.beside y.0 y.1 in (
+              z.0,
+              subst (λ v. new.leaves v z.0) same z.1,
+              may_more w events more answers last first.run same x y.0 z.0 y.2 z.2,
+            );
       }
 
-  pub runs_joined : (events more : List Event) (answers last : List Answer) → Runs old mid events answers → Runs mid new more last
+  pub runs_joined : (events more : List Event) (answers last : List Answer) → Runs old mid events answers
+      → Runs mid new more last
       → Runs old new (events ++ more) (answers ++ last)
   runs_joined events more answers last first next = record {
     honest = λ h. first.honest (next.honest h);
-    at = λ h w stands. let so = first.at (next.honest h) w stands in at_joined w events more answers last so (next.at h _ so.ends);
+    at = λ h w stands. let so = first.at (next.honest h) w stands in
+        at_joined w events more answers last so (next.at h _ so.ends);
   }
 
-  pub runs_push : (events : List Event) (i : ℕ) (e : Event) (answers : List Answer) (a : Answer) → i < length events → e ≡ get_or events i e
-      → Runs old mid (take i events) answers → Runs mid new (e ∷ []) (a ∷ []) → Runs old new (take (i + 1) events) (answers ++ a ∷ [])
+  pub runs_push : (events : List Event) (i : ℕ) (e : Event) (answers : List Answer) (a : Answer) → i < length events
+      → e ≡ get_or events i e
+      → Runs old mid (take i events) answers → Runs mid new (e ∷ []) (a ∷ [])
+      → Runs old new (take (i + 1) events) (answers ++ a ∷ [])
   runs_push events i e answers a below is so last =
       subst (λ es. Runs old new es (answers ++ a ∷ [])) (sym (take_more events i e below))
-      (runs_joined (take i events) (get_or events i e ∷ []) answers (a ∷ []) so (subst (λ x. Runs mid new (x ∷ []) (a ∷ [])) is last))
+      (runs_joined (take i events) (get_or events i e ∷ []) answers (a ∷ []) so
+      (subst (λ x. Runs mid new (x ∷ []) (a ∷ [])) is last))

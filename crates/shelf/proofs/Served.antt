@@ -37,7 +37,8 @@ use Rattle.shelf.proofs.Stays.{stays_through}
 -- ---- what was served
 
 -- the reply to a query by a key of s
-pub by_key : (w : World) (s k : List ℕ) (q : Query) → belongs w k s → keyed_reply w (map.get w.keys k) q ≡ query_reply w s q
+pub by_key : (w : World) (s k : List ℕ) (q : Query) → belongs w k s
+    → keyed_reply w (map.get w.keys k) q ≡ query_reply w s q
 by_key w s k q b = ap (λ h. keyed_reply w h q) b.1 ∙ ap (λ t. query_reply w t q) b.2
 
 -- the shelf of a key stands
@@ -46,28 +47,39 @@ shelf_stands w s k is b = ap (map.contains_key w.shelves) (sym b.2) ∙ is.keys_
 
 -- what a query found once it finds after a run
 found_again : (old mid : World) (s : List ℕ) (q : Query) (r : Reply) (events : List Event) (answers : List Answer)
-    → map.contains_key old.shelves s ≡ true → IsOfVersion q → IsFound r → r ≡ query_reply old s q → Run old events answers mid → query_reply mid s q ≡ r
+    → map.contains_key old.shelves s ≡ true → IsOfVersion q → IsFound r → r ≡ query_reply old s q
+    → Run old events answers mid → query_reply mid s q ≡ r
 found_again old mid s (query.GoMod p v) r events answers stands single found is run =
-    elim (view old s p (version_text v)) as (λ o. view old s p (version_text v) ≡ o → r ≡ gomod_reply (without_zip o) → gomod_reply (heading mid s p (version_text v)) ≡ r) [
+    elim (view old s p (version_text v)) as
+    (λ o. view old s p (version_text v) ≡ o → r ≡ gomod_reply (without_zip o)
+    → gomod_reply (heading mid s p (version_text v)) ≡ r) [
       | None ↦ λ _ e. absurd (subst IsFound e found)
-      | Some seen ↦ λ here e. ap (λ o. gomod_reply (without_zip o)) (stays_through old mid s p (version_text v) events answers seen stands run here) ∙ sym e
+      | Some seen ↦ λ here e. ap (λ o. gomod_reply (without_zip o))
+          (stays_through old mid s p (version_text v) events answers seen stands run here) ∙ sym e
     ] refl is
 found_again old mid s (query.Zip p v) r events answers stands single found is run =
-    elim (view old s p (version_text v)) as (λ o. view old s p (version_text v) ≡ o → r ≡ zip_reply o → zip_reply (view mid s p (version_text v)) ≡ r) [
+    elim (view old s p (version_text v)) as
+    (λ o. view old s p (version_text v) ≡ o → r ≡ zip_reply o → zip_reply (view mid s p (version_text v)) ≡ r) [
       | None ↦ λ _ e. absurd (subst IsFound e found)
-      | Some seen ↦ λ here e. ap zip_reply (stays_through old mid s p (version_text v) events answers seen stands run here) ∙ sym e
+      | Some seen ↦ λ here e. ap zip_reply
+          (stays_through old mid s p (version_text v) events answers seen stands run here) ∙ sym e
     ] refl is
 found_again old mid s (query.Info p v) r events answers stands single found is run =
-    elim (view old s p (version_text v)) as (λ o. view old s p (version_text v) ≡ o → r ≡ info_reply v (without_zip o) → info_reply v (heading mid s p (version_text v)) ≡ r) [
+    elim (view old s p (version_text v)) as
+    (λ o. view old s p (version_text v) ≡ o → r ≡ info_reply v (without_zip o)
+    → info_reply v (heading mid s p (version_text v)) ≡ r) [
       | None ↦ λ _ e. absurd (subst IsFound e found)
-      | Some seen ↦ λ here e. ap (λ o. info_reply v (without_zip o)) (stays_through old mid s p (version_text v) events answers seen stands run here) ∙ sym e
+      | Some seen ↦ λ here e. ap (λ o. info_reply v (without_zip o))
+          (stays_through old mid s p (version_text v) events answers seen stands run here) ∙ sym e
     ] refl is
 found_again old mid s q r events answers stands single found is run = absurd single
 
 pub stays_served : StaysServed
 stays_served old mid new s k later q r events answers (Failed fault) world own single found run own_later again = inr tt
 stays_served old mid new s k later q r events answers (Replied x) world own single found run own_later again =
-    inl (ap Replied (again.0 ∙ by_key mid s later q own_later ∙ found_again old mid s q r events answers (shelf_stands old s k world own) single found (run.0 ∙ by_key old s k q own) run.1))
+    inl (ap Replied (again.0 ∙ by_key mid s later q own_later
+    ∙ found_again old mid s q r events answers (shelf_stands old s k world own) single found
+    (run.0 ∙ by_key old s k q own) run.1))
 
 -- ---- what was accepted
 
@@ -102,17 +114,20 @@ same_there d f =
     ] refl
 
 -- an entry that is the same as the one that is handed in
-same_offer : (seen offer : Option Entry) → standing_if seen offer ≡ standing.Same → (e : Entry) × (seen ≡ Some e) × (offer ≡ Some e)
+same_offer : (seen offer : Option Entry) → standing_if seen offer ≡ standing.Same
+    → (e : Entry) × (seen ≡ Some e) × (offer ≡ Some e)
 same_offer seen None e = absurd (cc e)
 same_offer None (Some f) e = absurd (cc e)
 same_offer (Some d) (Some f) e = (d, refl, ap Some (same_there d f e))
 
-entry_is_seen : (o : Option Seen) (e : Entry) → option_map (λ (x : Seen). x.entry) o ≡ Some e → (seen : Seen) × (o ≡ Some seen) × (seen.entry ≡ e)
+entry_is_seen : (o : Option Seen) (e : Entry) → option_map (λ (x : Seen). x.entry) o ≡ Some e
+    → (seen : Seen) × (o ≡ Some seen) × (seen.entry ≡ e)
 entry_is_seen None e is = cc
 entry_is_seen (Some x) e is = (x, refl, cc)
 
 -- after a publish is stored, its shelf sees it as it was handed in
-served_published : (w : World) (h : Holder) (p : Publish) → decision w (Some h) p ≡ Published → IsServed (after_decision w (Some h) p Published) h.shelf p
+served_published : (w : World) (h : Holder) (p : Publish) → decision w (Some h) p ≡ Published
+    → IsServed (after_decision w (Some h) p Published) h.shelf p
 served_published w h p is =
     let checks = accepted p (Some h.right) (gomod_of p) (standing_of w h.shelf p) _ is in
     let there = body_there p.body (files_split p (Some h.right) (gomod_of p) checks.passing) in
@@ -122,11 +137,14 @@ served_published w h p is =
     let mine : Seen = record { shelf = h.shelf; entry = entry_of p b } in
     let after : World = stored w (place_of h.shelf p) (Some (entry_of p b)) in
     let here : view after h.shelf p.path (version_text p.version) ≡ Some mine =
-    ap (λ o. option_or (seen_at o h.shelf) (first_on after (above (group_of after h.shelf)) p.path (version_text p.version))) (get_put places_total w.entries (place_of h.shelf p) (entry_of p b)) in
+    ap (λ o. option_or (seen_at o h.shelf)
+    (first_on after (above (group_of after h.shelf)) p.path (version_text p.version)))
+    (get_put places_total w.entries (place_of h.shelf p) (entry_of p b)) in
     record {
       passing = passes_again p h.right (gomod_of p) checks.passing;
       seen = mine;
-      is_seen = subst (λ o. view (stored w (place_of h.shelf p) o) h.shelf p.path (version_text p.version) ≡ Some mine) (sym offer) here;
+      is_seen = subst (λ o. view (stored w (place_of h.shelf p) o) h.shelf p.path (version_text p.version) ≡ Some mine)
+          (sym offer) here;
       is_offered = offer;
     }
 
@@ -143,12 +161,14 @@ served_same w h p is =
       is_offered = entry.2 ∙ ap Some (sym seen.2);
     }
 
-pub served_accepted : (w : World) (h : Holder) (p : Publish) (d : Decision) → decision w (Some h) p ≡ d → IsAccepted d → IsServed (after_decision w (Some h) p d) h.shelf p
+pub served_accepted : (w : World) (h : Holder) (p : Publish) (d : Decision) → decision w (Some h) p ≡ d → IsAccepted d
+    → IsServed (after_decision w (Some h) p d) h.shelf p
 served_accepted w h p Published is yes_it_is = served_published w h p is
 served_accepted w h p Same is yes_it_is = served_same w h p is
 served_accepted w h p d is yes_it_is = absurd yes_it_is
 
-pub still_served : (w new : World) (s : List ℕ) (p : Publish) (es : List Event) (answers : List Answer) → map.contains_key w.shelves s ≡ true → Run w es answers new → IsServed w s p → IsServed new s p
+pub still_served : (w new : World) (s : List ℕ) (p : Publish) (es : List Event) (answers : List Answer)
+    → map.contains_key w.shelves s ≡ true → Run w es answers new → IsServed w s p → IsServed new s p
 still_served w new s p es answers stands run served = record {
   passing = served.passing;
   seen = served.seen;
@@ -162,14 +182,16 @@ decided_of x y e = cc
 
 -- what was accepted by a key of s is what s sees after it
 pub served_first : (w : World) (s k : List ℕ) (p : Publish) (d : Decision) → belongs w k s
-    → reply.Decided d ≡ reply.Decided (decision w (map.get w.keys k) p) → IsAccepted d → IsServed (after w (Asked (Put k p))) s p
+    → reply.Decided d ≡ reply.Decided (decision w (map.get w.keys k) p) → IsAccepted d
+    → IsServed (after w (Asked (Put k p))) s p
 served_first w s k p d own given yes_it_is =
     let h = own.0 in
     let is : d ≡ decision w (map.get w.keys k) p = decided_of d _ given in
     let is_h : decision w (Some h) p ≡ d = sym (is ∙ ap (λ o. decision w o p) own.1) in
     let after_is : after w (Asked (Put k p)) ≡ after_decision w (Some h) p d =
     ap (λ o. after_decision w o p (decision w o p)) own.1 ∙ ap (λ y. after_decision w (Some h) p y) is_h in
-    subst (λ y. IsServed y s p) (sym after_is) (subst (λ t. IsServed (after_decision w (Some h) p d) t p) own.2 (served_accepted w h p d is_h yes_it_is))
+    subst (λ y. IsServed y s p) (sym after_is)
+    (subst (λ t. IsServed (after_decision w (Some h) p d) t p) own.2 (served_accepted w h p d is_h yes_it_is))
 
 same_body : (p : Publish) (b : Body) (e : Entry) → p.body ≡ Some b → offered p ≡ Some e → e ≡ entry_of p b
 same_body p b e body offer = some_same _ _ (sym offer ∙ ap (option_map (entry_of p)) body)
@@ -178,22 +200,31 @@ same_body p b e body offer = some_same _ _ (sym offer ∙ ap (option_map (entry_
     some_same x y e = cc
 
 -- if s sees a publish as it was handed in, the query for its go.mod, its zip or its time gets the reply that has it
-answered_with : (w : World) (s : List ℕ) (p : Publish) (b : Body) (q : Query) (r : Reply) → IsServed w s p → p.body ≡ Some b → asks_back p b q r → query_reply w s q ≡ r
+answered_with : (w : World) (s : List ℕ) (p : Publish) (b : Body) (q : Query) (r : Reply) → IsServed w s p
+    → p.body ≡ Some b → asks_back p b q r → query_reply w s q ≡ r
 answered_with w s p b (query.GoMod path version) r served body back =
-    ap (λ x. gomod_reply (heading w s x (version_text version))) back.0 ∙ ap (λ x. gomod_reply (heading w s p.path (version_text x))) back.1 ∙ ap (λ o. gomod_reply (without_zip o)) served.is_seen
+    ap (λ x. gomod_reply (heading w s x (version_text version))) back.0
+    ∙ ap (λ x. gomod_reply (heading w s p.path (version_text x))) back.1
+    ∙ ap (λ o. gomod_reply (without_zip o)) served.is_seen
     ∙ ap (λ (e : Entry). reply.GoMod e.gomod) (same_body p b served.seen.entry body served.is_offered) ∙ sym back.2
 answered_with w s p b (query.Zip path version) r served body back =
-    ap (λ x. zip_reply (view w s x (version_text version))) back.0 ∙ ap (λ x. zip_reply (view w s p.path (version_text x))) back.1 ∙ ap zip_reply served.is_seen
+    ap (λ x. zip_reply (view w s x (version_text version))) back.0
+    ∙ ap (λ x. zip_reply (view w s p.path (version_text x))) back.1 ∙ ap zip_reply served.is_seen
     ∙ ap (λ (e : Entry). reply.Zip e.zip) (same_body p b served.seen.entry body served.is_offered) ∙ sym back.2
 answered_with w s p b (query.Info path version) r served body back =
     ap (λ x. info_reply version (heading w s x (version_text version))) back.0
-    ∙ ap (λ x. info_reply version (heading w s p.path (version_text x))) back.1 ∙ ap (λ o. info_reply version (without_zip o)) served.is_seen
-    ∙ ap (λ (e : Entry). reply.Info version e.time) (same_body p b served.seen.entry body served.is_offered) ∙ sym back.2
+    ∙ ap (λ x. info_reply version (heading w s p.path (version_text x))) back.1
+    ∙ ap (λ o. info_reply version (without_zip o)) served.is_seen
+    ∙ ap (λ (e : Entry). reply.Info version e.time) (same_body p b served.seen.entry body served.is_offered)
+    ∙ sym back.2
 answered_with w s p b q r served body back = absurd back
 
 pub accepted_is_served : AcceptedIsServed
-accepted_is_served old mid new s k later p b d q r events answers (Failed fault) world own body yes_it_is run own_later back again = inr tt
-accepted_is_served old mid new s k later p b d q r events answers (Replied x) world own body yes_it_is run own_later back again =
+accepted_is_served old mid new s k later p b d q r events answers (Failed fault) world own body yes_it_is run own_later
+    back again = inr tt
+accepted_is_served old mid new s k later p b d q r events answers (Replied x) world own body yes_it_is run own_later
+    back again =
     let stands = (stands_after old s (Asked (Put k p)) (shelf_stands old s k world own)).stands in
-    let served = still_served (after old (Asked (Put k p))) mid s p events answers stands run.1 (served_first old s k p d own run.0 yes_it_is) in
+    let served = still_served (after old (Asked (Put k p))) mid s p events answers stands run.1
+    (served_first old s k p d own run.0 yes_it_is) in
     inl (ap Replied (again.0 ∙ by_key mid s later q own_later ∙ answered_with mid s p b q r served body back))

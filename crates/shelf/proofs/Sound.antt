@@ -18,15 +18,20 @@ use Rattle.shelf.specs.Machine.{decision, after_decision, stored, offered, place
 use Rattle.shelf.specs.Laws.{WorldStays, RunsKeepWorlds}
 use Rattle.shelf.proofs.Checks.{room_for}
 
-sound_stored : (w : World) (q : Place) (o : Option Entry) → IsWorld w → ((e : Entry) → o ≡ Some e → IsRoomFor w q e) → IsWorld (stored w q o)
+sound_stored : (w : World) (q : Place) (o : Option Entry) → IsWorld w → ((e : Entry) → o ≡ Some e → IsRoomFor w q e)
+    → IsWorld (stored w q o)
 sound_stored w q None is room = is
 sound_stored w q (Some e) is room = entry_added w q e is (room e refl)
 
-sound_decided : (w : World) (h : Holder) (p : Publish) (d : Decision) → IsWorld w → map.contains_key w.shelves h.shelf ≡ true → decision w (Some h) p ≡ d → IsWorld (after_decision w (Some h) p d)
-sound_decided w h p Published is stands e = sound_stored w (place_of h.shelf p) (offered p) is (λ x at. room_for w h p x stands e at)
+sound_decided : (w : World) (h : Holder) (p : Publish) (d : Decision) → IsWorld w
+    → map.contains_key w.shelves h.shelf ≡ true → decision w (Some h) p ≡ d → IsWorld (after_decision w (Some h) p d)
+sound_decided w h p Published is stands e =
+    sound_stored w (place_of h.shelf p) (offered p) is (λ x at. room_for w h p x stands e at)
 sound_decided w h p d is stands e = is
 
-sound_put : (w : World) (o : Option Holder) (p : Publish) → IsWorld w → ((h : Holder) → o ≡ Some h → map.contains_key w.shelves h.shelf ≡ true) → IsWorld (after_decision w o p (decision w o p))
+sound_put : (w : World) (o : Option Holder) (p : Publish) → IsWorld w
+    → ((h : Holder) → o ≡ Some h → map.contains_key w.shelves h.shelf ≡ true)
+    → IsWorld (after_decision w o p (decision w o p))
 sound_put w None p is stands = is
 sound_put w (Some h) p is stands = sound_decided w h p _ is (stands h refl) refl
 
@@ -43,5 +48,6 @@ pub world_through : RunsKeepWorlds
 world_through w new [] [] is run = subst IsWorld (sym run) is
 world_through w new [] (a ∷ answers) is run = absurd run
 world_through w new (e ∷ es) [] is run = absurd run
-world_through w new (e ∷ es) (Replied r ∷ answers) is run = world_through (after w e) new es answers (sound w e is) run.1
+world_through w new (e ∷ es) (Replied r ∷ answers) is run =
+    world_through (after w e) new es answers (sound w e is) run.1
 world_through w new (e ∷ es) (Failed fault ∷ answers) is run = world_through w new es answers is run

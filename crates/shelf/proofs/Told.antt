@@ -18,7 +18,8 @@ use Rattle.shelf.specs.Listed.{is_listed, listed}
 use Rattle.world.specs.World.{World, IsWorld, view, text_cmp}
 use Rattle.world.proofs.Orders.{texts_total, texts_exact}
 use Rattle.world.proofs.Precedence.{below_next}
-use Rattle.world.proofs.Members.{no_member, first_member, later_member, member_cases, in_order_rises, in_order_of, in_set_of}
+use Rattle.world.proofs.Members.{no_member, first_member, later_member, member_cases, in_order_rises, in_order_of}
+use Rattle.world.proofs.Members.{in_set_of}
 use Rattle.world.proofs.Seen.{contains_paths}
 use Rattle.world.proofs.SeenVersions.{some_of, seen_members, seen_fits, version_there, versions_rise}
 
@@ -38,7 +39,11 @@ paths_are_told w s =
       ps,
       refl,
       record {
-        members = λ p. (λ at. (paths_are_seen w s p).0 (in_set_of texts_total texts_exact ps p at), λ seen. in_order_of texts_total texts_exact ps p ((paths_are_seen w s p).1 seen));
+        members = λ p. (
+          λ at. (paths_are_seen w s p).0 (in_set_of texts_total texts_exact ps p at),
+          λ seen.
+              in_order_of texts_total texts_exact ps p ((paths_are_seen w s p).1 seen),
+        );
         ascend = in_order_rises text_cmp ps;
       },
     )
@@ -54,11 +59,14 @@ class_listed v = by_class (class_of v)
     by_class (class.Pseudo time) = (λ e. absurd (true≢false (sym e)), λ h. elim h [ inl e ↦ cc e | inr e ↦ cc e ])
 
 -- a version is in the list of a path exactly if it is among its versions and is a release or a pre-release
-listed_members : (vs : List SemanticVersion) (v : SemanticVersion) → Contains (listed vs) v ↔ (Contains vs v × IsListed v)
+listed_members : (vs : List SemanticVersion) (v : SemanticVersion)
+    → Contains (listed vs) v ↔ (Contains vs v × IsListed v)
 listed_members [] v = (λ at. absurd (no_member v at), λ h. absurd (no_member v h.0))
 listed_members (x ∷ vs) v =
     let rest = listed_members vs v in
-    elim (is_listed (class_of x)) as (λ b. is_listed (class_of x) ≡ b → Contains (cond b (x ∷ listed vs) (listed vs)) v ↔ (Contains (x ∷ vs) v × IsListed v)) [
+    elim (is_listed (class_of x)) as
+    (λ b. is_listed (class_of x) ≡ b
+    → Contains (cond b (x ∷ listed vs) (listed vs)) v ↔ (Contains (x ∷ vs) v × IsListed v)) [
       | true ↦ λ is. (
         λ at. elim (member_cases x v (listed vs) at) [
           | inl same ↦ subst (λ y. Contains (x ∷ vs) y × IsListed y) same (first_member x vs, (class_listed x).0 is)
@@ -115,11 +123,13 @@ module _ (w : World) (is : IsWorld w) (s p : List ℕ) where
         members = members;
         ascend =
             below_next p (listed vs) (λ v at. seen_fits w is s p v ((members v).0 at).0)
-            (some_rise (λ u v. version_cmp u v ≡ Less) versions_total.trans (λ v. is_listed (class_of v)) vs (versions_rise w s p));
+            (some_rise (λ u v. version_cmp u v ≡ Less) versions_total.trans (λ v. is_listed (class_of v)) vs
+            (versions_rise w s p));
       }
 
   -- the reply by the versions that are seen
-  reply_some : (vs : List SemanticVersion) (v : SemanticVersion) → Contains vs v → list_reply vs ≡ reply.Versions (listed vs)
+  reply_some : (vs : List SemanticVersion) (v : SemanticVersion) → Contains vs v
+      → list_reply vs ≡ reply.Versions (listed vs)
   reply_some [] v at = absurd (no_member v at)
   reply_some (x ∷ vs) v at = refl
 
@@ -133,11 +143,16 @@ module _ (w : World) (is : IsWorld w) (s p : List ℕ) where
 
 pub list_is_told : ListIsTold
 list_is_told w s p t is seen =
-    let v = version_there w is s p t seen in
-    (listed (versions_of w s p), reply_some w is s p (versions_of w s p) v.0 ((seen_members w is s p v.0).1 v.1), are_listed w is s p)
+    let v = version_there w is s p t seen in (
+      listed (versions_of w s p),
+      reply_some w is s p (versions_of w s p) v.0 ((seen_members w is s p v.0).1 v.1),
+      are_listed w is s p,
+    )
 
 pub list_is_not_found : ListIsNotFound
 list_is_not_found w s p is = (
-  λ e t seen. (let v = version_there w is s p t seen in no_member v.0 (subst (λ vs. Contains vs v.0) (reply_none w is s p (versions_of w s p) e) ((seen_members w is s p v.0).1 v.1))),
+  λ e t seen. (let v = version_there w is s p t seen in
+      no_member v.0 (subst (λ vs. Contains vs v.0) (reply_none w is s p (versions_of w s p) e)
+      ((seen_members w is s p v.0).1 v.1))),
   λ none. none_there w is s p (versions_of w s p) (λ v at. none (version_text v) ((seen_members w is s p v).0 at).1),
 )

@@ -20,16 +20,19 @@ SameOn w x t = (p v : List ℕ) → map.get w.entries (place t p v) ≡ map.get 
 abbrev pub SameSeen : World → World → List ℕ → Type 0
 SameSeen w x s = (t : List ℕ) → sees w s t ≡ true → SameOn w x t
 
-first_on_same : (w x : World) (ss : List (List ℕ)) (p v : List ℕ) → ((t : List ℕ) → is_among ss t ≡ true → SameOn w x t) → first_on w ss p v ≡ first_on x ss p v
+first_on_same : (w x : World) (ss : List (List ℕ)) (p v : List ℕ) → ((t : List ℕ) → is_among ss t ≡ true → SameOn w x t)
+    → first_on w ss p v ≡ first_on x ss p v
 first_on_same w x [] p v same = refl
 first_on_same w x (s ∷ ss) p v same =
     ap (λ o. option_or (seen_at o s) (first_on w ss p v)) (same s (ap (λ b. b || is_among ss s) (text_self s)) p v)
-    ∙ ap (λ o. option_or (seen_at (map.get x.entries (place s p v)) s) o) (first_on_same w x ss p v (λ t h. same t (or_right (bytes_eq t s) _ h)))
+    ∙ ap (λ o. option_or (seen_at (map.get x.entries (place s p v)) s) o)
+    (first_on_same w x ss p v (λ t h. same t (or_right (bytes_eq t s) _ h)))
 
 pub view_same : (w x : World) (s p v : List ℕ) → chain w s ≡ chain x s → SameSeen w x s → view w s p v ≡ view x s p v
 view_same w x s p v chains same = first_on_same w x (chain w s) p v same ∙ ap (λ ss. first_on x ss p v) chains
 
-pub heading_same : (w x : World) (s p v : List ℕ) → chain w s ≡ chain x s → SameSeen w x s → heading w s p v ≡ heading x s p v
+pub heading_same : (w x : World) (s p v : List ℕ) → chain w s ≡ chain x s → SameSeen w x s
+    → heading w s p v ≡ heading x s p v
 heading_same w x s p v chains same = ap without_zip (view_same w x s p v chains same)
 
 pub guarded : {A : Type 0} (b : Bool) (x y : Option A) → (b ≡ true → x ≡ y) → cond b x None ≡ cond b y None
@@ -44,6 +47,12 @@ count_same w x s p same =
     map.get-retain_keys w.entries test q (test_alike test q)
     ∙ guarded (test q) (map.get w.entries q) (map.get x.entries q) (λ e.
     let both = and_parts (bytes_eq q.shelf s) (bytes_eq q.path p) e in
-    let here : place s p q.version ≡ q = λ i. record { shelf = sym (text_same q.shelf s both.0) i; path = sym (text_same q.path p both.1) i; version = q.version } in
+    let here : place s p q.version ≡ q = λ i.
+    record {
+      shelf = sym (text_same q.shelf s both.0) i;
+      path = sym (text_same q.path p both.1) i;
+      version =
+          q.version;
+    } in
     subst (λ r. map.get w.entries r ≡ map.get x.entries r) here (same p q.version))
     ∙ sym (map.get-retain_keys x.entries test q (test_alike test q))))

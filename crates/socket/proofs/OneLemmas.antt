@@ -1,5 +1,6 @@
 -- What a store goes through on one more connection.
-use Rattle.std.proofs.Common.{ℕ, ◌+◌, ◌≤◌, ◌≡◌, refl, sym, ap, ◌∙◌, subst, List, [], ◌∷◌, ◌++◌, length, map, All, Option, Some, None, Result, Ok, Err, inr, arith, append_assoc, append-nil}
+use Rattle.std.proofs.Common.{ℕ, ◌+◌, ◌≤◌, ◌≡◌, refl, sym, ap, ◌∙◌, subst, List, [], ◌∷◌, ◌++◌, length, map, All}
+use Rattle.std.proofs.Common.{Option, Some, None, Result, Ok, Err, inr, arith, append_assoc, append-nil}
 use Rattle.std.proofs.lemmas.List.{length-append, map-append}
 use Rattle.std.proofs.lemmas.List.Elements.{All-nil, All-push}
 use Rattle.histories.specs.Account.{Account}
@@ -9,7 +10,8 @@ use Rattle.engine.specs.Store.{GoesThrough}
 use Rattle.engine.specs.declared.fault.Io.{Io}
 use Rattle.engine.specs.declared.fault.Io.TheVariants as io
 use Rattle.engine.proofs.StoreLemmas.{through_none, through_more}
-use Rattle.socket.specs.Connections.{Visit, Answers, AnswersEach, Come, IsAnsweredThere, exchanges_of, exchanges_with, peer_of}
+use Rattle.socket.specs.Connections.{Visit, Answers, AnswersEach, Come, IsAnsweredThere, exchanges_of, exchanges_with}
+use Rattle.socket.specs.Connections.{peer_of}
 
 one_at_most : (first : Option First) → length (exchanges_of first) ≤ 1
 one_at_most None = omega arith
@@ -38,7 +40,8 @@ none_come None = tt
 none_come (Some all) = refl
 
 -- if some peers come and then others, all of them come
-then_come : {P : Type 0} (waiting left rest : Option (List P)) (first next : List P) → Come waiting left first → Come left rest next
+then_come : {P : Type 0} (waiting left rest : Option (List P)) (first next : List P) → Come waiting left first
+    → Come left rest next
     → Come waiting rest (first ++ next)
 then_come None left rest first next one two = tt
 then_come (Some all) None rest first next one two = absurd one
@@ -46,9 +49,11 @@ then_come (Some all) (Some more) None first next one two = absurd two
 then_come (Some all) (Some more) (Some few) first next one two =
     one ∙ ap (λ l. first ++ l) two ∙ sym (append_assoc first next few)
 
-same_come : {P : Type 0} (waiting left rest : Option (List P)) (first : List P) → Come waiting left first → Come left rest []
+same_come : {P : Type 0} (waiting left rest : Option (List P)) (first : List P) → Come waiting left first
+    → Come left rest []
     → Come waiting rest first
-same_come waiting left rest first one two = subst (Come waiting rest) (append-nil first) (then_come waiting left rest first [] one two)
+same_come waiting left rest first one two =
+    subst (Come waiting rest) (append-nil first) (then_come waiting left rest first [] one two)
 
 module _ {P : Type 0} (heard : P → Account) (written : P → Option (List ℕ)) where
   -- a peer whose first message was served as `ServesHeard` says was answered
@@ -102,12 +107,14 @@ module _ {P : Type 0} (heard : P → Account) (written : P → Option (List ℕ)
             (subst is_new (sym next.begins) fresh));
         there = All-push (IsAnsweredThere heard written) first.visits next.visit first.there next.there;
         through = subst (GoesThrough old new) (sym (with_last first.visits next.visit))
-            (through_more old mid new (exchanges_with first.visits) first.through (exchanges_of next.visit.first) next.through);
+            (through_more old mid new (exchanges_with first.visits) first.through (exchanges_of next.visit.first)
+            next.through);
       }
 
     -- a failed accept counts, and answers nobody
     pub each_same : (waiting left rest : Option (List P)) (old new : Shown) (n : ℕ) → Come left rest []
-        → AnswersEach heard written is_new waiting left old new n → AnswersEach heard written is_new waiting rest old new (n + 1)
+        → AnswersEach heard written is_new waiting left old new n
+        → AnswersEach heard written is_new waiting rest old new (n + 1)
     each_same waiting left rest old new n comes first = record {
       visits = first.visits;
       few = omega (arith, first.few);

@@ -6,7 +6,8 @@ use Rattle.wire.specs.declared.reply.Fixed.TheVariants as fixed
 use Rattle.engine.specs.Served.{IsClosing}
 
 -- a reply that closes a stream has one of these statuses
-pub closing_leaves : (status : ℕ) (rest : List ℕ) (reply : Fixed) → IsClosing rest (Some reply) → status ≡ fixed_status reply
+pub closing_leaves : (status : ℕ) (rest : List ℕ) (reply : Fixed) → IsClosing rest (Some reply)
+    → status ≡ fixed_status reply
     → ((status == 400) || (status == 413) || (status == 503)) ≡ true
 closing_leaves status rest fixed.BadRequest closes is = rw is refl
 closing_leaves status rest fixed.TooLarge closes is = rw is refl

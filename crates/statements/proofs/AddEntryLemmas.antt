@@ -67,24 +67,38 @@ number_given (Some n) rows = refl
 module _ (limit : Option ℕ) (p : Place) (e : Entry) where
   version_added : (number : Option ℤ) (db : Database) (tally : Tally) (after : Database) → db.schema ≡ store_schema
       → Does limit enforced (version_params number p e) db [] None version_insert (Ok (tally, after))
-      → (after.schema ≡ store_schema) × Inserted db.trees after.trees version_table (version_row (number_of number (db.trees 6)) p e) × (tally.last ≡ Some (number_of number (db.trees 6)))
+      → (after.schema ≡ store_schema)
+      × Inserted db.trees after.trees version_table (version_row (number_of number (db.trees 6)) p e)
+      × (tally.last ≡ Some (number_of number (db.trees 6)))
   version_added None db tally after has h =
-      let it = inserted limit version_table refl (version_params None p e) version_terms version_width (Null ∷ Null ∷ version_values p e) refl (λ _. refl) 3 refl db [] tally after has h in
+      let it = inserted limit version_table refl (version_params None p e) version_terms version_width
+      (Null ∷ Null ∷ version_values p e) refl (λ _. refl) 3 refl db [] tally after has h in
       (it.0, rw (cast_null, cast_text e.time) at it.1, rw cast_null at it.2)
   version_added (Some n) db tally after has h =
-      let it = inserted limit version_table refl (version_params (Some n) p e) version_terms version_width (Int n ∷ Null ∷ version_values p e) refl (λ _. refl) 3 refl db [] tally after has h in
+      let it = inserted limit version_table refl (version_params (Some n) p e) version_terms version_width
+      (Int n ∷ Null ∷ version_values p e) refl (λ _. refl) 3 refl db [] tally after has h in
       (it.0, rw (cast_null, cast_int n, cast_text e.time) at it.1, rw (cast_int n) at it.2)
 
--- An INSERT of a version inside a transaction puts in its row, under the given number or sqlite's choice, and `last_rowid` is that number.
-pub version_put : (sql : List ℕ) → command_of (understood store_schema sql) ≡ version_insert → IsPlain (understood store_schema sql)
-    → (number : Option ℤ) (p : Place) (e : Entry) (old new : State) (count : ℕ) → Filling old → ExecutesInside 0 sql (version_params number p e) old new (Ok count)
-    → Inserted old.now.trees new.now.trees version_table (version_row (number_of number (old.now.trees 6)) p e) × (new.last_rowid ≡ number_of number (old.now.trees 6)) × Filling new
+-- An INSERT of a version inside a transaction puts in its row, under the given number or sqlite's choice, and
+-- `last_rowid` is that number.
+pub version_put : (sql : List ℕ) → command_of (understood store_schema sql) ≡ version_insert
+    → IsPlain (understood store_schema sql)
+    → (number : Option ℤ) (p : Place) (e : Entry) (old new : State) (count : ℕ) → Filling old
+    → ExecutesInside 0 sql (version_params number p e) old new (Ok count)
+    → Inserted old.now.trees new.now.trees version_table (version_row (number_of number (old.now.trees 6)) p e)
+    × (new.last_rowid ≡ number_of number (old.now.trees 6)) × Filling new
 version_put sql is plain number p e old new count filling ran =
     let wrote = runs_as sql (version_params number p e) old new store_schema filling.schema _ is plain count ran.0 in
     let it = version_added old.step_limit p e number old.now wrote.tally new.now filling.schema wrote.changed in (
       it.1,
       wrote.last_rowid ∙ ap (λ o. unwrap_or o old.last_rowid) it.2,
-      record { schema = it.0; sound = subst (λ s. IsSound s new.now.trees) it.0 wrote.sound; is_open = wrote.shown.is_open; inside = ran.1.mode },
+      record {
+        schema = it.0;
+        sound = subst (λ s. IsSound s new.now.trees) it.0 wrote.sound;
+        is_open =
+            wrote.shown.is_open;
+        inside = ran.1.mode;
+      },
     )
 
 -- ---- a piece
@@ -99,18 +113,31 @@ module _ (id number : ℤ) (bytes : List ℕ) where
   abbrev pub piece_params : Row
   piece_params = Int id ∷ Int number ∷ Blob bytes ∷ []
 
-  piece_added : (limit : Option ℕ) (db : Database) (tally : Tally) (after : Database) → db.schema ≡ store_schema → Does limit enforced piece_params db [] None piece_insert (Ok (tally, after))
-      → (after.schema ≡ store_schema) × Inserted db.trees after.trees piece_table (Int (next_rowid (db.trees 8)) ∷ piece_params)
+  piece_added : (limit : Option ℕ) (db : Database) (tally : Tally) (after : Database) → db.schema ≡ store_schema
+      → Does limit enforced piece_params db [] None piece_insert (Ok (tally, after))
+      → (after.schema ≡ store_schema)
+      × Inserted db.trees after.trees piece_table (Int (next_rowid (db.trees 8)) ∷ piece_params)
   piece_added limit db tally after has h =
-      let it = inserted limit piece_table refl piece_params piece_terms 4 (Null ∷ piece_params) refl (λ _. refl) 4 refl db [] tally after has h in
+      let it = inserted limit piece_table refl piece_params piece_terms 4 (Null ∷ piece_params) refl (λ _. refl) 4 refl
+      db [] tally after has h in
       (it.0, rw (cast_null, cast_int id, cast_int number) at it.1)
 
-  pub piece_put : (sql : List ℕ) → command_of (understood store_schema sql) ≡ piece_insert → IsPlain (understood store_schema sql)
-      → (old new : State) (count : ℕ) → Filling old → ExecutesInside 0 sql piece_params old new (Ok count) → PutsPiece piece_params old.now.trees new.now.trees × Filling new
+  pub piece_put : (sql : List ℕ) → command_of (understood store_schema sql) ≡ piece_insert
+      → IsPlain (understood store_schema sql)
+      → (old new : State) (count : ℕ) → Filling old → ExecutesInside 0 sql piece_params old new (Ok count)
+      → PutsPiece piece_params old.now.trees new.now.trees × Filling new
   piece_put sql is plain old new count filling ran =
       let wrote = runs_as sql piece_params old new store_schema filling.schema _ is plain count ran.0 in
       let it = piece_added old.step_limit old.now wrote.tally new.now filling.schema wrote.changed in
       let sound = subst (λ s. IsSound s new.now.trees) it.0 wrote.sound in (
-        record { id = next_rowid (old.now.trees 8); version = id; number = number; of_version = refl; numbered = refl; put = it.1; sound = sound },
+        record {
+          id = next_rowid (old.now.trees 8);
+          version = id;
+          number = number;
+          of_version = refl;
+          numbered = refl;
+          put = it.1;
+          sound = sound;
+        },
         record { schema = it.0; sound = sound; is_open = wrote.shown.is_open; inside = ran.1.mode },
       )

@@ -1,5 +1,6 @@
 -- What the INSERT of a key does.
-use Rattle.std.proofs.Common.{◌≡◌, ℕ, pos, Bool, true, false, cond, List, [], ◌∷◌, Option, Some, None, Ok, refl, sym, ap, ◌∙◌, true≢false, arith, is_some, not}
+use Rattle.std.proofs.Common.{◌≡◌, ℕ, pos, Bool, true, false, cond, List, [], ◌∷◌, Option, Some, None, Ok, refl, sym}
+use Rattle.std.proofs.Common.{ap, ◌∙◌, true≢false, arith, is_some, not}
 use Rattle.sqlite.specs.declared.types.Value.{Value}
 use Rattle.sqlite.specs.declared.types.Value.TheVariants.{Null, Int, Text}
 use Rattle.sqlite.specs.Order.{Row, column}
@@ -40,10 +41,13 @@ module _ (limit : Option ℕ) (token : List ℕ) (g : Holder) where
   source = Null ∷ key_params token g
 
   pub added : (db : Database) (text : List ℕ) (tally : Tally) (after : Database) → db.schema ≡ store_schema
-      → Does limit Rattle.tables.proofs.InsertLemmas.enforced (key_params token g) db text None (Insert 2 (Values terms 4)) (Ok (tally, after))
-      → (after.schema ≡ store_schema) × Inserted db.trees after.trees access_table (Int (next_rowid (db.trees 4)) ∷ key_params token g)
+      → Does limit Rattle.tables.proofs.InsertLemmas.enforced (key_params token g) db text None
+      (Insert 2 (Values terms 4)) (Ok (tally, after))
+      → (after.schema ≡ store_schema)
+      × Inserted db.trees after.trees access_table (Int (next_rowid (db.trees 4)) ∷ key_params token g)
   added db text tally after has h =
-      let it = inserted limit access_table refl (key_params token g) terms 4 (Null ∷ key_params token g) refl (λ _. refl) 2 refl db text tally after has h in
+      let it = inserted limit access_table refl (key_params token g) terms 4 (Null ∷ key_params token g) refl
+      (λ _. refl) 2 refl db text tally after has h in
       (it.0, rw (cast_null, cast_int _) at it.1)
 
 module _ (w : World) (token : List ℕ) (g : Holder) (unused : map.get w.keys token ≡ None) where
@@ -53,26 +57,33 @@ module _ (w : World) (token : List ℕ) (g : Holder) (unused : map.get w.keys to
   token_free rows tabulated id r there t is also =
       let it = tabulated.each r there in
       let same : it.0.0 ≡ token = let e = sym it.1.0 ∙ (also ∙ sym is) in cc in
-      let none : ◌≡◌ {A = Option Holder} (Some it.0.1) None = sym it.2 ∙ (ap (map.get w.keys) same ∙ unused) in absurd (cc)
+      let none : ◌≡◌ {A = Option Holder} (Some it.0.1) None = sym it.2
+      ∙ (ap (map.get w.keys) same ∙ unused) in absurd (cc)
 
   -- with one more row, of a key that was not there
-  pub key_means : (db after : Trees) → Inserted db after access_table (Int (next_rowid (db 4)) ∷ key_params token g) → Means db w → Means after (with_key w token g)
+  pub key_means : (db after : Trees) → Inserted db after access_table (Int (next_rowid (db 4)) ∷ key_params token g)
+      → Means db w → Means after (with_key w token g)
   key_means db after it means = record {
     named = rw (it.tables.0 (λ e. omega (arith, e))) means.named;
     shelves = rw (it.tables.1.0 (λ e. omega (arith, e))) means.shelves;
     access = rw it.rows (tabulates_put IsAccess (db 4) _ (token, g) _ _ it.fresh (refl, refl, refl)
-        (λ y. put_keeps texts_total texts_exact w.keys token g unused y.0 y.1) (get_put texts_total w.keys token g) (put_splits texts_total texts_exact w.keys token g) means.access);
+        (λ y. put_keeps texts_total texts_exact w.keys token g unused y.0 y.1) (get_put texts_total w.keys token g)
+        (put_splits texts_total texts_exact w.keys token g) means.access);
     numbered = rw it.rows (numbered_put (db 4) (next_rowid (db 4)) _ refl it.fresh means.numbered);
     entries = rw (it.tables.1.1.1.0 (λ e. omega (arith, e)), it.tables.1.1.1.1.0 (λ e. omega (arith, e))) means.entries;
     names = rw (it.tables.1.0 (λ e. omega (arith, e))) means.names;
     tokens = rw it.rows (put_apart (λ a b. (t : List ℕ) → column a 1 ≡ Text t → column b 1 ≡ Text t → ⊥)
-        (λ a b apart t also is. apart t is also) _ (db 4) (all_from _ (db 4) (token_free (db 4) means.access (Int (next_rowid (db 4))))) means.tokens);
+        (λ a b apart t also is. apart t is also) _ (db 4)
+        (all_from _ (db 4) (token_free (db 4) means.access (Int (next_rowid (db 4))))) means.tokens);
     places = rw (it.tables.1.1.1.0 (λ e. omega (arith, e))) means.places;
     pieces = rw (it.tables.1.1.1.1.0 (λ e. omega (arith, e))) means.pieces;
   }
 
-  pub add_key_turns : (old : State) → Holds old w → Rewrites (key_params token g) (Insert 2 (Values terms 4)) old (with_key w token g)
-  add_key_turns old h text tally after does = let it = added old.step_limit token g old.now text tally after h.schema does in (it.0, key_means old.now.trees after.trees it.1 h.trees.means)
+  pub add_key_turns : (old : State) → Holds old w
+      → Rewrites (key_params token g) (Insert 2 (Values terms 4)) old (with_key w token g)
+  add_key_turns old h text tally after does = let it =
+      added old.step_limit token g old.now text tally after h.schema does in
+      (it.0, key_means old.now.trees after.trees it.1 h.trees.means)
 
 is_done : Registered → Bool
 is_done Done = true
@@ -80,7 +91,8 @@ is_done r = false
 
 module _ (w : World) (shelf token : List ℕ) (right : Right) where
   -- a command to add a key that is not `Done` leaves the world as it is
-  pub added_same : (r : Registered) → r ≡ key_added w shelf token → (r ≡ Done → ⊥) → with_key_added shelf token right w ≡ w
+  pub added_same : (r : Registered) → r ≡ key_added w shelf token → (r ≡ Done → ⊥)
+      → with_key_added shelf token right w ≡ w
   added_same r is other = go (key_added w shelf token) (λ e. other (is ∙ e))
     where
       go : (q : Registered) → (q ≡ Done → ⊥) → after_key_add w shelf token right q ≡ w
@@ -91,14 +103,16 @@ module _ (w : World) (shelf token : List ℕ) (right : Right) where
       go NoKey other = refl
       go NoGroup other = refl
 
-  pub added_new : key_added w shelf token ≡ Done → with_key_added shelf token right w ≡ with_key w token (record { shelf = shelf; right = right })
+  pub added_new : key_added w shelf token ≡ Done
+      → with_key_added shelf token right w ≡ with_key w token (record { shelf = shelf; right = right })
   added_new h = ap (λ (q : Registered). after_key_add w shelf token right q) h
 
   pub unused_from : key_added w shelf token ≡ Done → map.get w.keys token ≡ None
   unfolding is_done
   unused_from h = go (is_key token) (map.contains_key w.shelves shelf) (map.get w.keys token) refl h
     where
-      go : (a b : Bool) (o : Option Holder) → map.get w.keys token ≡ o → cond (not a) Name (cond (not b) NoTeam (cond (is_some o) Taken Done)) ≡ Done → map.get w.keys token ≡ None
+      go : (a b : Bool) (o : Option Holder) → map.get w.keys token ≡ o
+          → cond (not a) Name (cond (not b) NoTeam (cond (is_some o) Taken Done)) ≡ Done → map.get w.keys token ≡ None
       go true true None is h = is
       go true true (Some x) is h = absurd (true≢false (sym (ap is_done h)))
       go true false o is h = absurd (true≢false (sym (ap is_done h)))

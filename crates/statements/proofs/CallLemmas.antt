@@ -1,5 +1,6 @@
 -- What a statement that writes nothing leaves of the store.
-use Rattle.std.proofs.Common.{◌≡◌, ◌≤◌, ℕ, IfOk, IfErr, false, List, [], Option, Some, None, Ok, Err, Result, inl, inr, refl, sym, ap, subst, ◌∙◌, arith, IsTrue}
+use Rattle.std.proofs.Common.{◌≡◌, ◌≤◌, ℕ, IfOk, IfErr, false, List, [], Option, Some, None, Ok, Err, Result, inl, inr}
+use Rattle.std.proofs.Common.{refl, sym, ap, subst, ◌∙◌, arith, IsTrue}
 use Rattle.sqlite_trees.specs.View.{doubt}
 use Rattle.sqlite.specs.Order.{Row}
 use Rattle.sqlite.specs.Effect.{Database, Reads, RefusesToRead}
@@ -11,7 +12,8 @@ use Rattle.sqlite.specs.declared.error.Error.TheVariants.{QueryReturnedNoRows}
 use Rattle.sqlite.specs.declared.error.Error.{Error}
 use Rattle.sqlite.specs.Clock.{timed}
 use Rattle.sqlite.specs.Listing.{understood, reads_listing}
-use Rattle.sqlite.specs.State.{State, HasCleanDisk, IsUnchanged, IsNotRun, FailsToQuery, FailsToShow, store_error, QueriesRow, Shown, Survives, CommitsShowing, ShowsRows}
+use Rattle.sqlite.specs.State.{State, HasCleanDisk, IsUnchanged, IsNotRun, FailsToQuery, FailsToShow, store_error}
+use Rattle.sqlite.specs.State.{QueriesRow, Shown, Survives, CommitsShowing, ShowsRows}
 use Rattle.sqlite.proofs.Callers.{IsPlain, command_of, never_commits, first_as, reads_as}
 use Rattle.world.specs.World.{World}
 use Rattle.tables.specs.Schema.{store_schema}
@@ -24,7 +26,8 @@ open_before old new (inl same) shown = same.0.was_open
 open_before old new (inr back) shown = back.was_open shown
 
 -- an open connection that is unchanged or rolled back holds the world that it held
-holds_still : (old new : State) (w : World) → IsUnchangedOrUndone old new → IsTrue new.is_open → Holds old w → Holds new w
+holds_still : (old new : State) (w : World) → IsUnchangedOrUndone old new → IsTrue new.is_open → Holds old w
+    → Holds new w
 holds_still old new w (inl same) shown h = record {
   schema = ap (λ (d : Database). d.schema) same.0.now_is ∙ h.schema;
   settled = same.0.now_is ∙ (h.settled ∙ sym same.0.committed_is);
@@ -40,9 +43,11 @@ holds_still old new w (inr back) shown h =
       trees = subst (λ (d : Database). StandFor d.trees w) (sym now) h.trees;
     }
 
-pub stands_still : (old new : State) (w : World) → doubt old.is_clean ≤ doubt new.is_clean → (HasCleanDisk new → IsUnchangedOrUndone old new) → Stands old w → Stands new w
+pub stands_still : (old new : State) (w : World) → doubt old.is_clean ≤ doubt new.is_clean
+    → (HasCleanDisk new → IsUnchangedOrUndone old new) → Stands old w → Stands new w
 stands_still old new w up outcome h clean shown =
-    let k = outcome clean in holds_still old new w k shown (h (was_clean old new up clean) (open_before old new k shown))
+    let k = outcome clean in
+    holds_still old new w k shown (h (was_clean old new up clean) (open_before old new k shown))
 
 -- ---- a query that has no RETURNING
 
@@ -65,7 +70,8 @@ module _ (sql : List ℕ) (params : Row) (old new : State) (plain : IsPlain (und
   row_outcome (Err e) (inl h) = failed_query sql params old new e h
   row_outcome (Err e) (inr h) = inl (shown_unchanged [] h.1)
 
-  no_rows_read : (limit : Option ℕ) (command : Command) (db : Database) (values : Row) → RefusesToRead limit command db values QueryReturnedNoRows → ⊥
+  no_rows_read : (limit : Option ℕ) (command : Command) (db : Database) (values : Row)
+      → RefusesToRead limit command db values QueryReturnedNoRows → ⊥
   no_rows_read limit (Select q names) db values (inl h) = let e = h.0 in cc
   no_rows_read limit (Select q names) db values (inr (inl h)) = let e = h.0 in cc
   no_rows_read limit (Select q names) db values (inr (inr h)) = let e = h.0 in cc
@@ -110,7 +116,8 @@ spares_then a b c p q = record {
 }
 
 -- a call that only prepares, or fails
-pub quiet_spares : (old new : State) → Survives old new (λ _. ⊥) → (HasCleanDisk new → IsUnchangedOrUndone old new) → Spares old new
+pub quiet_spares : (old new : State) → Survives old new (λ _. ⊥) → (HasCleanDisk new → IsUnchangedOrUndone old new)
+    → Spares old new
 quiet_spares old new survives outcome = record {
   clean = survives.clean;
   stays = λ w h. stands_still old new w survives.clean outcome h;
@@ -119,7 +126,8 @@ quiet_spares old new survives outcome = record {
 
 -- ---- a query that is prepared and then asked for its first row
 
-module _ (sql : List ℕ) (params : Row) (plain : IsPlain (understood store_schema sql)) (old mid new : State) (prepared : HasCleanDisk mid → IsUnchanged old mid) (quiet : Survives old mid (λ _. ⊥))
+module _ (sql : List ℕ) (params : Row) (plain : IsPlain (understood store_schema sql)) (old mid new : State)
+    (prepared : HasCleanDisk mid → IsUnchanged old mid) (quiet : Survives old mid (λ _. ⊥))
     (survives : Survives mid new (CommitsShowing sql params mid)) where
   mid_holds : (w : World) → Stands mid w → HasCleanDisk new → Holds mid w
   mid_holds w h clean = let was = was_clean mid new survives.clean clean in h was (prepared was).0.is_open
@@ -130,23 +138,35 @@ module _ (sql : List ℕ) (params : Row) (plain : IsPlain (understood store_sche
   mid_spares : Spares old mid
   mid_spares = quiet_spares old mid quiet (λ clean. inl (prepared clean))
 
-  last_spares : (HasCleanDisk new → IsPlain (understood mid.now.schema sql) → IsUnchangedOrUndone mid new) → Spares mid new
+  last_spares : (HasCleanDisk new → IsPlain (understood mid.now.schema sql) → IsUnchangedOrUndone mid new)
+      → Spares mid new
   last_spares outcome = record {
     clean = survives.clean;
-    stays = λ w h clean shown. let was = mid_holds w h clean in holds_still mid new w (outcome clean (mid_plain w was)) shown was;
-    left = λ clean w h db may. elim (survives.crash clean db may) [ inl was ↦ was | inr commits ↦ absurd (never_commits sql params mid db (mid_plain w (mid_holds w h clean)) commits) ];
+    stays = λ w h clean shown. let was = mid_holds w h clean in
+        holds_still mid new w (outcome clean (mid_plain w was)) shown was;
+    left = λ clean w h db may.
+        elim (survives.crash clean db may) [
+          | inl was ↦ was
+          | inr commits ↦ absurd (never_commits sql params mid db (mid_plain w (mid_holds w h clean)) commits)
+        ];
   }
 
   pub row_spares : (r : Result Row Error) → (HasCleanDisk new → QueriesRow sql params mid new r) → Spares old new
-  row_spares r ran = spares_then old mid new mid_spares (last_spares (λ clean plain. row_outcome sql params mid new plain r (ran clean)))
+  row_spares r ran = spares_then old mid new mid_spares
+      (last_spares (λ clean plain. row_outcome sql params mid new plain r (ran clean)))
 
   -- a query that is prepared and then asked for all its rows spares the store
-  pub rows_spares : {X : Type 0} (r : Result X Error) (items : X → List Row) → (HasCleanDisk new → IfOk r (λ rows. Shown sql params mid new (items rows)))
+  pub rows_spares : {X : Type 0} (r : Result X Error) (items : X → List Row)
+      → (HasCleanDisk new → IfOk r (λ rows. Shown sql params mid new (items rows)))
       → (HasCleanDisk new → IfErr r (FailsToQuery sql params mid new)) → Spares old new
-  rows_spares (Ok rows) items shown failed = spares_then old mid new mid_spares (last_spares (λ clean plain. inl (shown_unchanged sql params mid new plain (items rows) (shown clean))))
-  rows_spares (Err e) items shown failed = spares_then old mid new mid_spares (last_spares (λ clean plain. failed_query sql params mid new e (failed clean)))
+  rows_spares (Ok rows) items shown failed =
+      spares_then old mid new mid_spares
+      (last_spares (λ clean plain. inl (shown_unchanged sql params mid new plain (items rows) (shown clean))))
+  rows_spares (Err e) items shown failed =
+      spares_then old mid new mid_spares (last_spares (λ clean plain. failed_query sql params mid new e (failed clean)))
 
-  module _ (unlisted : reads_listing store_schema sql ≡ false) (clean : HasCleanDisk new) (w : World) (stands : Stands old w) where
+  module _ (unlisted : reads_listing store_schema sql ≡ false) (clean : HasCleanDisk new) (w : World)
+      (stands : Stands old w) where
     pub was_open : IsTrue old.is_open
     was_open = (prepared (was_clean mid new survives.clean clean)).0.was_open
 
@@ -163,21 +183,29 @@ module _ (sql : List ℕ) (params : Row) (plain : IsPlain (understood store_sche
     first_same row ran = (row_unchanged sql params mid new (mid_plain w held) row ran).0.now_is ∙ same_now
 
     pub none_same : QueriesRow sql params mid new (Err QueryReturnedNoRows) → new.now ≡ old.now
-    none_same ran = (shown_unchanged sql params mid new (mid_plain w held) [] (no_rows_shown sql params mid new (mid_plain w held) ran)).0.now_is ∙ same_now
+    none_same ran = (shown_unchanged sql params mid new (mid_plain w held) []
+        (no_rows_shown sql params mid new (mid_plain w held) ran)).0.now_is ∙ same_now
 
     pub rows_open : (rows : List Row) → Shown sql params mid new rows → IsTrue new.is_open
     rows_open rows shown = (shown_unchanged sql params mid new (mid_plain w held) rows shown).0.is_open
 
     pub none_open : QueriesRow sql params mid new (Err QueryReturnedNoRows) → IsTrue new.is_open
-    none_open ran = (shown_unchanged sql params mid new (mid_plain w held) [] (no_rows_shown sql params mid new (mid_plain w held) ran)).0.is_open
+    none_open ran = (shown_unchanged sql params mid new (mid_plain w held) []
+        (no_rows_shown sql params mid new (mid_plain w held) ran)).0.is_open
 
     pub first_selected : (row : Row) → QueriesRow sql params mid new (Ok row) → Selects sql params old.now (Some row)
-    first_selected row ran = subst (λ db. Selects sql params db (Some row)) same_now (first_as sql params mid new store_schema held.schema _ refl plain unlisted row ran)
+    first_selected row ran =
+        subst (λ db. Selects sql params db (Some row)) same_now
+        (first_as sql params mid new store_schema held.schema _ refl plain unlisted row ran)
 
-    pub all_selected : (rows : List Row) → Shown sql params mid new rows → Reads (command_of (understood store_schema sql)) old.now params rows
+    pub all_selected : (rows : List Row) → Shown sql params mid new rows
+        → Reads (command_of (understood store_schema sql)) old.now params rows
     all_selected rows shown =
-        subst (λ db. Reads (command_of (understood store_schema sql)) db params rows) same_now (reads_as sql params mid new store_schema held.schema _ refl plain unlisted rows shown)
+        subst (λ db. Reads (command_of (understood store_schema sql)) db params rows) same_now
+        (reads_as sql params mid new store_schema held.schema _ refl plain unlisted rows shown)
 
     pub none_selected : QueriesRow sql params mid new (Err QueryReturnedNoRows) → Selects sql params old.now None
     none_selected ran =
-        subst (λ db. Selects sql params db None) same_now (reads_as sql params mid new store_schema held.schema _ refl plain unlisted [] (no_rows_shown sql params mid new (mid_plain w held) ran))
+        subst (λ db. Selects sql params db None) same_now
+        (reads_as sql params mid new store_schema held.schema _ refl plain unlisted []
+        (no_rows_shown sql params mid new (mid_plain w held) ran))

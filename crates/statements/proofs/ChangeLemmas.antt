@@ -23,43 +23,56 @@ spared old new next s = record {
 }
 
 -- a call that wrote nothing is a change that was done, if the next world is this one
-pub refused : (old new : State) (next : World → World) → ((db : Trees) → IsTrue new.is_open → new.may_leave db → db ≡ new.committed.trees) → Spares old new
+pub refused : (old new : State) (next : World → World)
+    → ((db : Trees) → IsTrue new.is_open → new.may_leave db → db ≡ new.committed.trees) → Spares old new
     → (HasCleanDisk new → (w : World) → Stands old w → IsTrue new.is_open × (next w ≡ w)) → Changes old new true next
 refused old new next law s same = record {
   clean = s.clean;
   at = λ w. record {
     world = λ stands clean shown. subst (Holds new) (sym (same clean w stands).1) (s.stays w stands clean shown);
     left = λ clean stands only db may. let it = only db (s.left clean w stands db may) in (it.0, it.1, inl it.2);
-    alone = λ _ clean stands. let it = same clean w stands in subst (λ x. LeavesOnly new (λ y. y ≡ x)) (sym it.1) (open_leaves new w (λ db. law db it.0) (s.stays w stands clean it.0));
+    alone = λ _ clean stands. let it = same clean w stands in
+        subst (λ x. LeavesOnly new (λ y. y ≡ x)) (sym it.1)
+        (open_leaves new w (λ db. law db it.0) (s.stays w stands clean it.0));
     failed = λ unfinished. absurd (true≢false unfinished);
   };
 }
 
 -- what a crash leaves after a change that was not done, it leaves after a read and that change
-no_more : (a b c : State) (w next : World) → Spares a b → doubt b.is_clean ≤ doubt c.is_clean → HasCleanDisk c → Stands a w
-    → LeavesOnly c (λ x. (x ≡ w) ⊎ (x ≡ next)) ⊎ LeavesNoMore b c → LeavesOnly c (λ x. (x ≡ w) ⊎ (x ≡ next)) ⊎ LeavesNoMore a c
+no_more : (a b c : State) (w next : World) → Spares a b → doubt b.is_clean ≤ doubt c.is_clean → HasCleanDisk c
+    → Stands a w
+    → LeavesOnly c (λ x. (x ≡ w) ⊎ (x ≡ next)) ⊎ LeavesNoMore b c
+    → LeavesOnly c (λ x. (x ≡ w) ⊎ (x ≡ next)) ⊎ LeavesNoMore a c
 no_more a b c w next s up clean stands (inl only) = inl only
-no_more a b c w next s up clean stands (inr none) = inr (λ db may. s.left (was_clean b c up clean) w stands db (none db may))
+no_more a b c w next s up clean stands (inr none) =
+    inr (λ db may. s.left (was_clean b c up clean) w stands db (none db may))
 
 -- a read, and then a change of what it leaves, is a change of what was there before the read
-pub spares_changes : (a b c : State) (done : Bool) (next : World → World) → Spares a b → doubt b.is_clean ≤ doubt c.is_clean
+pub spares_changes : (a b c : State) (done : Bool) (next : World → World) → Spares a b
+    → doubt b.is_clean ≤ doubt c.is_clean
     → ((w : World) → (HasCleanDisk c → Stands a w → ChangesAt b c done w (next w))) → Changes a c done next
 spares_changes a b c done next s up then = record {
   clean = omega (arith, s.clean, up);
   at = λ w. record {
     world = λ stands clean. (then w clean stands).world (s.stays w stands) clean;
-    left = λ clean stands only. (then w clean stands).left clean (s.stays w stands) (λ db may. only db (s.left (was_clean b c up clean) w stands db may));
+    left = λ clean stands only.
+        (then w clean stands).left clean (s.stays w stands)
+        (λ db may. only db (s.left (was_clean b c up clean) w stands db may));
     alone = λ done clean stands. (then w clean stands).alone done clean (s.stays w stands);
-    failed = λ unfinished clean stands. no_more a b c w (next w) s up clean stands ((then w clean stands).failed unfinished clean (s.stays w stands));
+    failed = λ unfinished clean stands.
+        no_more a b c w (next w) s up clean stands ((then w clean stands).failed unfinished clean (s.stays w stands));
   };
 }
 
-pub spares_at : (a b c : State) (done : Bool) (w next : World) → Spares a b → doubt b.is_clean ≤ doubt c.is_clean → ChangesAt b c done w next → ChangesAt a c done w next
+pub spares_at : (a b c : State) (done : Bool) (w next : World) → Spares a b → doubt b.is_clean ≤ doubt c.is_clean
+    → ChangesAt b c done w next → ChangesAt a c done w next
 spares_at a b c done w next s up then = record {
   world = λ stands. then.world (s.stays w stands);
-  left = λ clean stands only. then.left clean (s.stays w stands) (λ db may. only db (s.left (was_clean b c up clean) w stands db may));
+  left = λ clean stands only.
+      then.left clean (s.stays w stands) (λ db may. only db (s.left (was_clean b c up clean) w stands db may));
   alone = λ done clean stands. then.alone done clean (s.stays w stands);
-  failed = λ unfinished clean stands. no_more a b c w next s up clean stands (then.failed unfinished clean (s.stays w stands));
+  failed = λ unfinished clean stands.
+      no_more a b c w next s up clean stands (then.failed unfinished clean (s.stays w stands));
 }
 
 pub not_ok : {A E : Type 0} (r : Result A E) → IsErr r → is_ok r ≡ false

@@ -18,4 +18,5 @@ is_other Greater = refl
 -- for two values that are not NULL, <> is true exactly if = is not
 pub differ_is : (v w : Value) → is_null v ≡ false → is_null w ≡ false → differ v w ≡ not (equal Binary v w)
 unfolding binary
-differ_is v w one two = rw (one, two) (as_truth (is_ne (value_cmp v w)) ∙ is_other (value_cmp v w) ∙ ap not (sym (as_truth (is_eq (value_cmp v w)))))
+differ_is v w one two = rw (one, two)
+    (as_truth (is_ne (value_cmp v w)) ∙ is_other (value_cmp v w) ∙ ap not (sym (as_truth (is_eq (value_cmp v w)))))

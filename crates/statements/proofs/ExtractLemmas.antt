@@ -1,5 +1,6 @@
 -- Rows that are copied from one store to another.
-use Rattle.std.proofs.Common.{◌≡◌, ◌≤◌, Bool, true, false, ℕ, List, [], ◌∷◌, ◌++◌, Result, Ok, Err, IsErr, inl, refl, sym, subst, arith, IsTrue, is_ok, OnOk, true≢false}
+use Rattle.std.proofs.Common.{◌≡◌, ◌≤◌, Bool, true, false, ℕ, List, [], ◌∷◌, ◌++◌, Result, Ok, Err, IsErr, inl, refl}
+use Rattle.std.proofs.Common.{sym, subst, arith, IsTrue, is_ok, OnOk, true≢false}
 use Rattle.sqlite_trees.specs.View.{doubt}
 use Rattle.sqlite.specs.Order.{Row}
 use Rattle.sqlite.specs.Tree.{Trees}
@@ -26,25 +27,33 @@ use Rattle.statements.proofs.GoingLemmas.{goes_on_itself, goes_on_then}
 pub commits_nothing : (sql : List ℕ) (params : Row) (old new : State) → IsPlain (understood store_schema sql)
     → Survives old new (CommitsShowing sql params old) → old.now.schema ≡ store_schema → Survives old new (λ _. ⊥)
 commits_nothing sql params old new plain survives has =
-    survives_weaker old new _ _ (λ _ db. never_commits sql params old db (subst (λ s. IsPlain (understood s sql)) (sym has) plain)) survives
+    survives_weaker old new _ _
+    (λ _ db. never_commits sql params old db (subst (λ s. IsPlain (understood s sql)) (sym has) plain)) survives
 
-module _ (sql : List ℕ) (params : Row) (plain : IsPlain (understood store_schema sql)) (unlisted : reads_listing store_schema sql ≡ false)
+module _ (sql : List ℕ) (params : Row) (plain : IsPlain (understood store_schema sql))
+    (unlisted : reads_listing store_schema sql ≡ false)
     (old mid new : State) (has : old.now.schema ≡ store_schema) (same : IsUnchanged old mid) where
-  pub all_shown : (rows : List Row) → Shown sql params mid new rows → Reads (command_of (understood store_schema sql)) old.now params rows
+  pub all_shown : (rows : List Row) → Shown sql params mid new rows
+      → Reads (command_of (understood store_schema sql)) old.now params rows
   all_shown rows shown = subst (λ db. Reads (command_of (understood store_schema sql)) db params rows) same.0.now_is
       (reads_as sql params mid new store_schema (unchanged_schema old mid same has) _ refl plain unlisted rows shown)
 
-  pub some_shown : (rows : List Row) → Begins sql params mid rows → ReadsFirst (command_of (understood store_schema sql)) old.now params rows
-  some_shown rows begins = subst (λ db. ReadsFirst (command_of (understood store_schema sql)) db params rows) same.0.now_is
+  pub some_shown : (rows : List Row) → Begins sql params mid rows
+      → ReadsFirst (command_of (understood store_schema sql)) old.now params rows
+  some_shown rows begins =
+      subst (λ db. ReadsFirst (command_of (understood store_schema sql)) db params rows) same.0.now_is
       (begins_as sql params mid mid store_schema (unchanged_schema old mid same has) _ refl plain unlisted rows begins)
 
 -- ---- copies
 
--- `GoesOn` holds of a call, done if it returns Ok, that commits nothing and leaves the transaction open when it returns Ok
--- a call copies what it makes if it only looks at the source, leaves it unchanged when it returns Ok, and goes on inside the transaction
+-- `GoesOn` holds of a call, done if it returns Ok, that commits nothing and leaves the transaction open when it
+-- returns Ok
+-- a call copies what it makes if it only looks at the source, leaves it unchanged when it returns Ok, and goes on
+-- inside the transaction
 pub copied : {A E : Type 0} (r : Result A E) (Makes : Trees → Trees → Trees → Type 0) (s t a b : State)
     → Looks s t → (HasCleanDisk t → s.now.schema ≡ store_schema → OnOk r (IsUnchanged s t)) → GoesOn a b (is_ok r)
-    → (HasCleanDisk t → HasCleanDisk b → s.now.schema ≡ store_schema → (w : World) → Means s.now.trees w → Filling a → OnOk r (Makes s.now.trees a.now.trees b.now.trees × Filling b))
+    → (HasCleanDisk t → HasCleanDisk b → s.now.schema ≡ store_schema → (w : World) → Means s.now.trees w → Filling a
+    → OnOk r (Makes s.now.trees a.now.trees b.now.trees × Filling b))
     → Copies Makes s t a b (is_ok r)
 copied r Makes s t a b looks same goes_on makes =
     let has = λ (ready : IsReady s) (clean : HasCleanDisk t). (ready (was_clean s t looks.clean clean)).1 in
@@ -56,11 +65,16 @@ copied r Makes s t a b looks same goes_on makes =
         same = λ clean done. when_ok r done (same clean (has ready clean));
       };
       goes_on = goes_on;
-      makes = λ clean good ready w means filling done. when_ok r done (makes clean good (has ready clean) w means filling);
+      makes = λ clean good ready w means filling done.
+          when_ok r done (makes clean good (has ready clean) w means filling);
     }
 
 pub unchanged_itself : (s : State) → IsTrue s.is_open → IsUnchanged s s
-unchanged_itself s is = (record { was_open = is; is_open = is; now_is = refl; committed_is = refl; mode = refl }, record { changes = refl; last_rowid = refl }, refl)
+unchanged_itself s is = (
+  record { was_open = is; is_open = is; now_is = refl; committed_is = refl; mode = refl },
+  record { changes = refl; last_rowid = refl },
+  refl,
+)
 
 untouched : (s : State) (done : Bool) → IsReady s → IsReadBy s s done
 untouched s done ready = record {
@@ -78,9 +92,11 @@ copies_none s a = record {
   makes = λ _ _ _ _ _ filling _. (refl, filling);
 }
 
-module _ (P Q : Trees → Trees → Trees → Type 0) (s t u a b c : State) (done : Bool) (p : Copies P s t a b true) (q : Copies Q t u b c done) where
+module _ (P Q : Trees → Trees → Trees → Type 0) (s t u a b c : State) (done : Bool) (p : Copies P s t a b true)
+    (q : Copies Q t u b c done) where
   still_ready : IsReady s → IsReady t
-  still_ready ready clean = let same = (p.reads ready).same clean refl in (same.0.is_open, unchanged_schema s t same (ready (was_clean s t p.clean clean)).1)
+  still_ready ready clean = let same = (p.reads ready).same clean refl in
+      (same.0.is_open, unchanged_schema s t same (ready (was_clean s t p.clean clean)).1)
 
   -- a copy that was done, and then another from the same source, are one copy
   pub copies_then : Copies (Then P Q) s u a c done
@@ -100,27 +116,32 @@ module _ (P Q : Trees → Trees → Trees → Type 0) (s t u a b c : State) (don
         let late = was_clean t u q.clean clean in
         let one = p.makes late (was_clean b c q.goes_on.survives.clean good) ready w means filling refl in
         let now = ((p.reads ready).same late refl).0.now_is in
-        let two = q.makes clean good (still_ready ready) w (subst (λ (d : Database). Means d.trees w) (sym now) means) one.1 all in
+        let two = q.makes clean good (still_ready ready) w (subst (λ (d : Database). Means d.trees w) (sym now) means)
+        one.1 all in
         ((b.now.trees, one.0, subst (λ (d : Database). Q d.trees b.now.trees c.now.trees) now two.0), two.1);
   }
 
 -- a copy that makes P makes each Q that P implies
 pub copies_weaker : (P Q : Trees → Trees → Trees → Type 0) (s t a b : State) (done : Bool)
-    → ((source db after : Trees) → P source db after → Q source db after) → Copies P s t a b done → Copies Q s t a b done
+    → ((source db after : Trees) → P source db after → Q source db after) → Copies P s t a b done
+    → Copies Q s t a b done
 copies_weaker P Q s t a b done less p = record {
   clean = p.clean;
   reads = p.reads;
   goes_on = p.goes_on;
-  makes = λ clean good ready w means filling all. let it = p.makes clean good ready w means filling all in (less s.now.trees a.now.trees b.now.trees it.0, it.1);
+  makes = λ clean good ready w means filling all. let it = p.makes clean good ready w means filling all in
+      (less s.now.trees a.now.trees b.now.trees it.0, it.1);
 }
 
 -- P along a list, and then for one more, is P along the longer list
-pub along_more : {E X : Type 0} (P : E → X → X → X → Type 0) (es : List E) (e : E) (w x z : X) → Then (Along P es) (P e) w x z → Along P (es ++ e ∷ []) w x z
+pub along_more : {E X : Type 0} (P : E → X → X → X → Type 0) (es : List E) (e : E) (w x z : X)
+    → Then (Along P es) (P e) w x z → Along P (es ++ e ∷ []) w x z
 along_more P [] e w x z it = (z, subst (λ u. P e w u z) (sym it.1) it.2, refl)
 along_more P (d ∷ es) e w x z it = (it.1.0, it.1.1, along_more P es e w it.1.0 z (it.0, it.1.2, it.2))
 
 -- a copy that failed is a copy that makes anything, because `makes` speaks only of copies that were done
-pub failed_copies : {A E : Type 0} (r : Result A E) (P Q : Trees → Trees → Trees → Type 0) (s t a b : State) → IsErr r → Copies P s t a b false → Copies Q s t a b (is_ok r)
+pub failed_copies : {A E : Type 0} (r : Result A E) (P Q : Trees → Trees → Trees → Type 0) (s t a b : State) → IsErr r
+    → Copies P s t a b false → Copies Q s t a b (is_ok r)
 failed_copies (Ok x) P Q s t a b failed p = absurd (true≢false (sym failed))
 failed_copies (Err e) P Q s t a b failed p = record {
   clean = p.clean;

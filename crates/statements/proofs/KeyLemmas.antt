@@ -1,5 +1,6 @@
 -- What the query of a key answers.
-use Rattle.std.proofs.Common.{◌≡◌, ℕ, ℤ, pos, Bool, true, false, not, cond, List, [], ◌∷◌, Option, Some, None, refl, sym, ap, ◌∙◌, true≢false}
+use Rattle.std.proofs.Common.{◌≡◌, ℕ, ℤ, pos, Bool, true, false, not, cond, List, [], ◌∷◌, Option, Some, None, refl}
+use Rattle.std.proofs.Common.{sym, ap, ◌∙◌, true≢false}
 use Rattle.std.specs.Ordering.{int_eq}
 use Rattle.std.proofs.lemmas.Bool.{and_parts}
 use Rattle.sqlite.specs.declared.types.Value.TheVariants.{Int, Text}
@@ -29,7 +30,8 @@ shown = col 1 2 ∷ col 1 3 ∷ []
 abbrev pub key_query : Query
 key_query = lookup 4 by_token shown
 
-pub key_found : (token : List ℕ) (db : Database) (found : Option Row) → Picks key_query (Text token ∷ []) db found → FirstFound (db.trees 4) by_token shown (Text token ∷ []) found
+pub key_found : (token : List ℕ) (db : Database) (found : Option Row) → Picks key_query (Text token ∷ []) db found
+    → FirstFound (db.trees 4) by_token shown (Text token ∷ []) found
 key_found token db found h = picked_found (Text token ∷ []) db 4 by_token shown [] (λ _. refl) found h
 
 module _ (token : List ℕ) (db : Database) (w : World) (means : Means db.trees w) where
@@ -59,7 +61,10 @@ module _ (token : List ℕ) (db : Database) (w : World) (means : Means db.trees 
       let it = means.access.each h.0 h.1 in
       let same : it.0.0 ≡ token = let e = sym it.1.0 ∙ passes_at h.0 h.2 in cc in
       let own : it.0.1.shelf ≡ g.shelf = let e = sym it.1.1 ∙ (sym (ap (λ (r : Row). column r 0) h.3) ∙ shelf) in cc in
-      let may : g.right ≡ it.0.1.right = right_is g.right it.0.1.right (flag_is (may_publish it.0.1.right) (may_publish g.right) n (sym publish ∙ (ap (λ (r : Row). column r 1) h.3 ∙ it.1.2)) right) in
+      let may : g.right ≡ it.0.1.right =
+      right_is g.right it.0.1.right
+      (flag_is (may_publish it.0.1.right) (may_publish g.right) n
+      (sym publish ∙ (ap (λ (r : Row). column r 1) h.3 ∙ it.1.2)) right) in
       let whole : it.0.1 ≡ g = λ i. record { shelf = own i; right = sym may i } in
       ap Some (sym whole) ∙ (sym it.2 ∙ ap (map.get w.keys) same)
 
@@ -68,4 +73,5 @@ module _ (token : List ℕ) (db : Database) (w : World) (means : Means db.trees 
     where
       go : (o : Option Holder) → map.get w.keys token ≡ o → None ≡ o
       go None is = refl
-      go (Some g) is = absurd (let it = means.access.found (token, g) is in true≢false (sym (passes_own it.0 it.2.0) ∙ h it.0 it.1))
+      go (Some g) is = absurd (let it = means.access.found (token, g) is in
+          true≢false (sym (passes_own it.0 it.2.0) ∙ h it.0 it.1))

@@ -1,5 +1,6 @@
 -- What the DELETE of a key does.
-use Rattle.std.proofs.Common.{◌≡◌, ◌≢◌, ◌∙◌, ℕ, ℤ, Bool, true, false, not, cond, List, [], ◌∷◌, Option, Some, None, Ok, inl, inr, refl, sym, ap, subst, true≢false, arith, is_eq}
+use Rattle.std.proofs.Common.{◌≡◌, ◌≢◌, ◌∙◌, ℕ, ℤ, Bool, true, false, not, cond, List, [], ◌∷◌, Option, Some, None, Ok}
+use Rattle.std.proofs.Common.{inl, inr, refl, sym, ap, subst, true≢false, arith, is_eq}
 use Rattle.std.specs.List.{AllByRecursion}
 use Rattle.std.specs.FinMap as map
 use Rattle.std.specs.Ordering.{eq_by_cmp}
@@ -60,22 +61,33 @@ record Removed (db after : Trees) (token : List ℕ) : Type 0 where
 
 module _ (limit : Option ℕ) (token : List ℕ) where
   abbrev task : Task
-  task = record { limit = limit; keys = Enforced; schema = store_schema; table = access_table; params = revoke_params token }
+  task = record {
+    limit = limit;
+    keys = Enforced;
+    schema = store_schema;
+    table = access_table;
+    params =
+        revoke_params token;
+  }
 
   -- a DELETE of the key that ends well deletes the rows of the key, and keeps the schema
-  concluded : (db : Trees) (tally : Tally) (after : Database) → OnRows task enforced None (Delete 2 keys_of) db (Ok (tally, after)) → (after.schema ≡ store_schema) × Removed db after.trees token
+  concluded : (db : Trees) (tally : Tally) (after : Database)
+      → OnRows task enforced None (Delete 2 keys_of) db (Ok (tally, after))
+      → (after.schema ≡ store_schema) × Removed db after.trees token
   concluded db tally after h =
       let done = went h in
       let now = ap (λ (p : Tally × Database). p.1) (same_value (went (went done.2).2).2) in
       let read = went done.1 in
       let wrote = went read.2 in
       let trees : done.0.trees ≡ wrote.0 = ap (λ (it : Written). it.trees) (same_value wrote.2) in
-      let applies = one_step store_schema Enforced db wrote.0 (edit_of db access_table (ids_of read.0) Given 0 []) refl wrote.1 in
+      let applies = one_step store_schema Enforced db wrote.0 (edit_of db access_table (ids_of read.0) Given 0 []) refl
+      wrote.1 in
       let same : after.trees ≡ wrote.0 = ap (λ (d : Database). d.trees) now ∙ trees in (
         ap (λ (d : Database). d.schema) now,
         subst (λ t. Removed db t token) (sym same) (record {
           out = read.0;
-          found = all_found (revoke_params token) (record { schema = store_schema; trees = db }) 4 by_token (col 1 0 ∷ []) [] (λ _. refl) read.0 read.1;
+          found = all_found (revoke_params token) (record { schema = store_schema; trees = db }) 4 by_token
+              (col 1 0 ∷ []) [] (λ _. refl) read.0 read.1;
           rows = applies.rows;
           tables = applies.tables;
         }),
@@ -85,16 +97,21 @@ module _ (limit : Option ℕ) (token : List ℕ) where
       → Does limit enforced (revoke_params token) db text None (Delete 2 keys_of) (Ok (tally, after))
       → (after.schema ≡ store_schema) × Removed db.trees after.trees token
   removed db text tally after has h =
-      let does = subst (λ s. Does limit enforced (revoke_params token) (record db { schema = s }) text None (Delete 2 keys_of) (Ok (tally, after))) has h in
+      let does = subst (λ s. Does limit enforced (revoke_params token) (record db { schema = s }) text None
+      (Delete 2 keys_of) (Ok (tally, after))) has h in
       concluded db.trees tally after does
 
 -- ---- rows that are deleted
 
-left_if : (ids : List ℤ) (rows : List Row) (x : Row) → Has rows x → ((id : ℤ) → Has ids id → has_rowid id x ≡ false) → Has (without_all rows ids) x
+left_if : (ids : List ℤ) (rows : List Row) (x : Row) → Has rows x → ((id : ℤ) → Has ids id → has_rowid id x ≡ false)
+    → Has (without_all rows ids) x
 left_if [] rows x h lacks = h
-left_if (id ∷ ids) rows x h lacks = left_if ids (without_rowid id rows) x (has_kept (λ y. not (has_rowid id y)) rows x h (ap not (lacks id (inl refl)))) (λ other k. lacks other (inr k))
+left_if (id ∷ ids) rows x h lacks =
+    left_if ids (without_rowid id rows) x (has_kept (λ y. not (has_rowid id y)) rows x h (ap not (lacks id (inl refl))))
+    (λ other k. lacks other (inr k))
 
-not_left : (ids : List ℤ) (rows : List Row) (x : Row) (id : ℤ) → Has ids id → has_rowid id x ≡ true → Has (without_all rows ids) x → ⊥
+not_left : (ids : List ℤ) (rows : List Row) (x : Row) (id : ℤ) → Has ids id → has_rowid id x ≡ true
+    → Has (without_all rows ids) x → ⊥
 not_left [] rows x id none is h = none
 not_left (i ∷ ids) rows x id (inl same) is h =
     let left = has_filtered (λ y. not (has_rowid i y)) rows x (without_all_has ids (without_rowid i rows) x h) in
@@ -102,9 +119,11 @@ not_left (i ∷ ids) rows x id (inl same) is h =
 not_left (i ∷ ids) rows x id (inr later) is h = not_left ids (without_rowid i rows) x id later is h
 
 -- a relation of each two rows still holds of the rows that are left
-ascending_left : (P : Row → Row → Type 0) (ids : List ℤ) (rows : List Row) → IsAscending P rows → IsAscending P (without_all rows ids)
+ascending_left : (P : Row → Row → Type 0) (ids : List ℤ) (rows : List Row) → IsAscending P rows
+    → IsAscending P (without_all rows ids)
 ascending_left P [] rows up = up
-ascending_left P (id ∷ ids) rows up = ascending_left P ids (without_rowid id rows) (ascending-filter P (λ y. not (has_rowid id y)) rows up)
+ascending_left P (id ∷ ids) rows up =
+    ascending_left P ids (without_rowid id rows) (ascending-filter P (λ y. not (has_rowid id y)) rows up)
 
 -- ---- the world without the key
 
@@ -113,7 +132,8 @@ gone true old x e = absurd (cc)
 gone false old x e = (refl, e)
 
 module _ (w : World) (token : List ℕ) where
-  module _ (rows : List Row) (out : List Row) (access : Tabulates IsAccess rows (λ it. map.get w.keys it.0 ≡ Some it.1)) (numbered : IsNumbered rows)
+  module _ (rows : List Row) (out : List Row) (access : Tabulates IsAccess rows (λ it. map.get w.keys it.0 ≡ Some it.1))
+      (numbered : IsNumbered rows)
       (found : AreFound rows by_token (col 1 0 ∷ []) (revoke_params token) out) where
     -- a row that is left is of another key
     other_key : (row : Row) → Has (without_all rows (ids_of out)) row → column row 1 ≡ Text token → ⊥
@@ -121,13 +141,16 @@ module _ (w : World) (token : List ℕ) where
         let was = without_all_has (ids_of out) rows row left in
         let number = numbered.number row was in
         let shown = found.complete row was (rw (is, equals_itself token) refl) in
-        not_left (ids_of out) rows row (id_in (rowid row)) (mapped_has (λ (r : Row). id_in (rowid r)) out _ shown) (rw number.1 (ap is_eq (tied_itself value_cmp_total (Int number.0)))) left
+        not_left (ids_of out) rows row (id_in (rowid row)) (mapped_has (λ (r : Row). id_in (rowid r)) out _ shown)
+        (rw number.1 (ap is_eq (tied_itself value_cmp_total (Int number.0)))) left
 
     -- a row of another key is left
-    is_left : (row : Row) (k : List ℕ) → Has rows row → column row 1 ≡ Text k → (k ≡ token → ⊥) → Has (without_all rows (ids_of out)) row
+    is_left : (row : Row) (k : List ℕ) → Has rows row → column row 1 ≡ Text k → (k ≡ token → ⊥)
+        → Has (without_all rows (ids_of out)) row
     is_left row k there is other = left_if (ids_of out) rows row there (λ id h. false_from_ne_true _ (apart id h))
       where
-        -- the query found no row with the number of this row, because numbers are unique and the rows that it found have the token
+        -- the query found no row with the number of this row, because numbers are unique and the rows that it found
+        -- have the token
         apart : (id : ℤ) → Has (ids_of out) id → has_rowid id row ≡ true → ⊥
         apart id h has =
             let shown = has_mapped (λ (r : Row). id_in (rowid r)) out id h in
@@ -136,31 +159,47 @@ module _ (w : World) (token : List ℕ) where
             let its = numbered.number from.0 from.1 in
             let id_is : id ≡ its.0 = shown.2 ∙ (ap (λ (r : Row). id_in (rowid r)) from.3 ∙ ap id_in its.1) in
             let number : own.0 ≡ id = same_int own.0 id (sym (ap (λ v. is_eq (value_cmp v (Int id))) own.1) ∙ has) in
-            let same : row ≡ from.0 = numbered.own row from.0 there from.1 (own.1 ∙ (ap Int (number ∙ id_is) ∙ sym its.1)) in
+            let same : row ≡ from.0 =
+            numbered.own row from.0 there from.1 (own.1 ∙ (ap Int (number ∙ id_is) ∙ sym its.1)) in
             let text : column from.0 1 ≡ Text token = equals_text (column from.0 1) token (and_parts _ _ from.2).0 in
             other (let e = sym is ∙ (ap (λ (r : Row). column r 1) same ∙ text) in cc)
 
     -- the rows that are left are the keys of `w` without this one
-    access_left : Tabulates IsAccess (without_all rows (ids_of out)) (λ it. map.get (without_key w token).keys it.0 ≡ Some it.1)
+    access_left : Tabulates IsAccess (without_all rows (ids_of out))
+        (λ it. map.get (without_key w token).keys it.0 ≡ Some it.1)
     access_left = record {
       each = λ row left.
           let it = access.each row (without_all_has (ids_of out) rows row left) in
-          let other : eq_by_cmp text_cmp it.0.0 token ≡ false = false_from_ne_true _ (λ tie. other_key row left (it.1.0 ∙ ap Text (tells_apart texts_exact it.0.0 token tie))) in
-          (it.0, it.1, map.get-remove texts_total w.keys token it.0.0 ∙ (ap (λ b. cond b None (map.get w.keys it.0.0)) other ∙ it.2));
+          let other : eq_by_cmp text_cmp it.0.0 token ≡ false =
+          false_from_ne_true _ (λ tie.
+          other_key row left (it.1.0 ∙ ap Text (tells_apart texts_exact it.0.0 token tie))) in (
+            it.0,
+            it.1,
+            map.get-remove texts_total w.keys token it.0.0
+                ∙ (ap (λ b. cond b None (map.get w.keys it.0.0)) other ∙ it.2),
+          );
       found = λ x holds.
-          let left = gone (eq_by_cmp text_cmp x.0 token) (map.get w.keys x.0) x.1 (sym (map.get-remove texts_total w.keys token x.0) ∙ holds) in
-          let it = access.found x left.1 in
-          (it.0, is_left it.0 x.0 it.1 it.2.0 (λ same. true≢false (sym (ap (λ k. eq_by_cmp text_cmp k token) same ∙ ap is_eq (tied_itself texts_total token)) ∙ left.0)), it.2);
+          let left = gone (eq_by_cmp text_cmp x.0 token) (map.get w.keys x.0) x.1
+          (sym (map.get-remove texts_total w.keys token x.0) ∙ holds) in
+          let it = access.found x left.1 in (
+            it.0,
+            is_left it.0 x.0 it.1 it.2.0
+                (λ same. true≢false (sym
+                (ap (λ k. eq_by_cmp text_cmp k token) same ∙ ap is_eq (tied_itself texts_total token)) ∙ left.0)),
+            it.2,
+          );
     }
 
     numbered_left : IsNumbered (without_all rows (ids_of out))
     numbered_left = record {
       number = λ row left. numbered.number row (without_all_has (ids_of out) rows row left);
-      own = λ a b ha hb. numbered.own a b (without_all_has (ids_of out) rows a ha) (without_all_has (ids_of out) rows b hb);
+      own = λ a b ha hb. numbered.own a b (without_all_has (ids_of out) rows a ha)
+          (without_all_has (ids_of out) rows b hb);
     }
 
   -- the DELETE of a key turns tables that mean `w` into tables that mean `w` without the key
-  pub revoke_turns : (old : State) → Holds old w → Rewrites (revoke_params token) (Delete 2 keys_of) old (without_key w token)
+  pub revoke_turns : (old : State) → Holds old w
+      → Rewrites (revoke_params token) (Delete 2 keys_of) old (without_key w token)
   revoke_turns old h text tally after does =
       let it = removed old.step_limit token old.now text tally after h.schema does in
       let r = it.1 in
@@ -171,7 +210,8 @@ module _ (w : World) (token : List ℕ) where
           shelves = rw (r.tables.1.0 (λ e. omega (arith, e))) means.shelves;
           access = rw r.rows (access_left (old.now.trees 4) r.out means.access means.numbered r.found);
           numbered = rw r.rows (numbered_left (old.now.trees 4) r.out means.access means.numbered r.found);
-          entries = rw (r.tables.1.1.1.0 (λ e. omega (arith, e)), r.tables.1.1.1.1.0 (λ e. omega (arith, e))) means.entries;
+          entries = rw (r.tables.1.1.1.0 (λ e. omega (arith, e)), r.tables.1.1.1.1.0 (λ e. omega (arith, e)))
+              means.entries;
           names = rw (r.tables.1.0 (λ e. omega (arith, e))) means.names;
           tokens = rw r.rows (ascending_left _ (ids_of r.out) (old.now.trees 4) means.tokens);
           places = rw (r.tables.1.1.1.0 (λ e. omega (arith, e))) means.places;

@@ -19,7 +19,8 @@ use Rattle.statements.specs.Extract.{Along}
 
 module _ (read : Row → Row) where
   -- a fresh row that is put in adds what is read from it
-  pub adds_one : (rows : List Row) (new : Row) → are_fresh rows (new ∷ []) ≡ true → AddsRows read (λ values. values ≡ read new) rows (put_all rows (new ∷ []))
+  pub adds_one : (rows : List Row) (new : Row) → are_fresh rows (new ∷ []) ≡ true
+      → AddsRows read (λ values. values ≡ read new) rows (put_all rows (new ∷ []))
   adds_one rows new fresh values = (
     (λ it. elim (put_all_has (new ∷ []) rows it.0 it.1) [
       | inl (inl same) ↦ inr (it.2 ∙ ap read same)
@@ -36,7 +37,8 @@ module _ (read : Row → Row) where
   adds_none rows values = ((λ it. inl it), (λ it. elim it [ inl was ↦ was | inr none ↦ absurd none ]))
 
   -- two additions, one after the other, add what either of them adds
-  pub adds_then : (P Q : Row → Type 0) (a b c : List Row) → AddsRows read P a b → AddsRows read Q b c → AddsRows read (λ values. P values ⊎ Q values) a c
+  pub adds_then : (P Q : Row → Type 0) (a b c : List Row) → AddsRows read P a b → AddsRows read Q b c
+      → AddsRows read (λ values. P values ⊎ Q values) a c
   adds_then P Q a b c p q values = (
     (λ it. elim ((q values).0 it) [
       | inl was ↦ elim ((p values).0 was) [ inl first ↦ inl first | inr one ↦ inr (inl one) ]
@@ -49,7 +51,8 @@ module _ (read : Row → Row) where
     ]),
   )
 
-  pub adds_as : (P Q : Row → Type 0) (a b : List Row) → ((values : Row) → P values → Q values) → ((values : Row) → Q values → P values) → AddsRows read P a b → AddsRows read Q a b
+  pub adds_as : (P Q : Row → Type 0) (a b : List Row) → ((values : Row) → P values → Q values)
+      → ((values : Row) → Q values → P values) → AddsRows read P a b → AddsRows read Q a b
   adds_as P Q a b there back p values = (
     (λ it. elim ((p values).0 it) [ inl was ↦ inl was | inr one ↦ inr (there values one) ]),
     (λ it. elim it [ inl was ↦ (p values).1 (inl was) | inr one ↦ (p values).1 (inr (back values one)) ]),
@@ -61,8 +64,13 @@ pub else_itself : (table : Table) (db : Trees) → IsElseSame table db db
 else_itself table db = ((λ _. refl), ((λ _. refl), ((λ _. refl), ((λ _. refl), ((λ _. refl), tt)))))
 
 pub else_then : (table : Table) (a b c : Trees) → IsElseSame table a b → IsElseSame table b c → IsElseSame table a c
-else_then table a b c p q =
-    ((λ e. q.0 e ∙ p.0 e), ((λ e. q.1.0 e ∙ p.1.0 e), ((λ e. q.1.1.0 e ∙ p.1.1.0 e), ((λ e. q.1.1.1.0 e ∙ p.1.1.1.0 e), ((λ e. q.1.1.1.1.0 e ∙ p.1.1.1.1.0 e), tt)))))
+else_then table a b c p q = (
+  (λ e. q.0 e ∙ p.0 e),
+  (
+    (λ e. q.1.0 e ∙ p.1.0 e),
+    ((λ e. q.1.1.0 e ∙ p.1.1.0 e), ((λ e. q.1.1.1.0 e ∙ p.1.1.1.0 e), ((λ e. q.1.1.1.1.0 e ∙ p.1.1.1.1.0 e), tt))),
+  ),
+)
 
 -- ---- along a list
 
@@ -71,7 +79,8 @@ module _ {E A : Type 0} (IsOf : E → A → Type 0) where
   adds_of_none Was a = ((λ was. inl was), (λ it. elim it [ inl was ↦ was | inr of ↦ absurd of.1 ]))
 
   -- what the first of a list adds, and then what the others add, is what the list adds
-  pub adds_of_more : (e : E) (es : List E) (Was Mid Is : A → Type 0) → Adds (IsOf e) Was Mid → Adds (λ a. IsOfAny es (λ e. IsOf e a)) Mid Is → Adds (λ a. IsOfAny (e ∷ es) (λ e. IsOf e a)) Was Is
+  pub adds_of_more : (e : E) (es : List E) (Was Mid Is : A → Type 0) → Adds (IsOf e) Was Mid
+      → Adds (λ a. IsOfAny es (λ e. IsOf e a)) Mid Is → Adds (λ a. IsOfAny (e ∷ es) (λ e. IsOf e a)) Was Is
   adds_of_more e es Was Mid Is one rest a = (
     (λ is. elim ((rest a).0 is) [
       | inl mid ↦ elim ((one a).0 mid) [ inl was ↦ inl was | inr here ↦ inr (e, inl refl, here) ]
@@ -87,18 +96,22 @@ module _ {E A : Type 0} (IsOf : E → A → Type 0) where
   )
 
 -- rows put in for each of a list, one after another, are rows put in for all of the list
-pub puts_along : {E : Type 0} (table : Table) (read : Row → Row) (Once : List Row → Type 0) (IsOf : E → Trees → Row → Type 0) (es : List E) (source db after : Trees)
-    → Along (λ e source. PutsRows table read Once (IsOf e source)) es source db after → PutsRows table read Once (λ values. IsOfAny es (λ e. IsOf e source values)) db after
-puts_along table read Once IsOf [] source db after same = subst (PutsRows table read Once (λ values. IsOfAny [] (λ e. IsOf e source values)) db) same (record {
-  rows = adds_of_none (λ e. IsOf e source) (IsRead read (db table.tree));
-  apart = λ apart. apart;
-  tables = else_itself table db;
-})
+pub puts_along : {E : Type 0} (table : Table) (read : Row → Row) (Once : List Row → Type 0)
+    (IsOf : E → Trees → Row → Type 0) (es : List E) (source db after : Trees)
+    → Along (λ e source. PutsRows table read Once (IsOf e source)) es source db after
+    → PutsRows table read Once (λ values. IsOfAny es (λ e. IsOf e source values)) db after
+puts_along table read Once IsOf [] source db after same =
+    subst (PutsRows table read Once (λ values. IsOfAny [] (λ e. IsOf e source values)) db) same (record {
+      rows = adds_of_none (λ e. IsOf e source) (IsRead read (db table.tree));
+      apart = λ apart. apart;
+      tables = else_itself table db;
+    })
 puts_along table read Once IsOf (e ∷ es) source db after it =
     let one : PutsRows table read Once (IsOf e source) db it.0 = it.1 in
     let rest = puts_along table read Once IsOf es source it.0 after it.2 in
     record {
-      rows = adds_of_more (λ e. IsOf e source) e es (IsRead read (db table.tree)) (IsRead read (it.0 table.tree)) (IsRead read (after table.tree)) one.rows rest.rows;
+      rows = adds_of_more (λ e. IsOf e source) e es (IsRead read (db table.tree)) (IsRead read (it.0 table.tree))
+          (IsRead read (after table.tree)) one.rows rest.rows;
       apart = λ apart. rest.apart (one.apart apart);
       tables = else_then table db it.0 after one.tables rest.tables;
     }
@@ -106,19 +119,27 @@ puts_along table read Once IsOf (e ∷ es) source db after it =
 -- ---- pieces
 
 -- two rows of `piece` that read alike have equal versions, numbers and bytes
-pub read_columns : (a b : Row) → piece_read a ≡ piece_read b → (column a 1 ≡ column b 1) × (column a 2 ≡ column b 2) × (column a 3 ≡ column b 3)
-read_columns a b same = (ap (λ (r : Row). column r 0) same, ap (λ (r : Row). column r 1) same, ap (λ (r : Row). column r 2) same)
+pub read_columns : (a b : Row) → piece_read a ≡ piece_read b
+    → (column a 1 ≡ column b 1) × (column a 2 ≡ column b 2) × (column a 3 ≡ column b 3)
+read_columns a b same = (
+  ap (λ (r : Row). column r 0) same,
+  ap (λ (r : Row). column r 1) same,
+  ap (λ (r : Row). column r 2) same,
+)
 
 pub piece_as : (zip : List ℕ) (a b : Row) (n : ℕ) → piece_read a ≡ piece_read b → IsPiece zip b n → IsPiece zip a n
-piece_as zip a b n same is = let it = read_columns a b same in record { number = it.1 ∙ is.number; bytes = it.2 ∙ is.bytes }
+piece_as zip a b n same is = let it = read_columns a b same in
+    record { number = it.1 ∙ is.number; bytes = it.2 ∙ is.bytes }
 
 pub of_as : (version a b : Row) → piece_read a ≡ piece_read b → is_of version b ≡ true → is_of version a ≡ true
 of_as version a b same is = ap (λ v. equal Binary v (rowid version)) (read_columns a b same).0 ∙ is
 
 -- rows of a version that read like the pieces of a zip are the pieces of that zip
 pub same_pieces : (one two : Row) (rows more : List Row) (zip : List ℕ)
-    → ((b : Row) → Has more b → is_of two b ≡ true → (a : Row) × Has rows a × (is_of one a ≡ true) × (piece_read b ≡ piece_read a))
-    → ((a : Row) → Has rows a → is_of one a ≡ true → (b : Row) × Has more b × (is_of two b ≡ true) × (piece_read b ≡ piece_read a))
+    → ((b : Row) → Has more b → is_of two b ≡ true
+    → (a : Row) × Has rows a × (is_of one a ≡ true) × (piece_read b ≡ piece_read a))
+    → ((a : Row) → Has rows a → is_of one a ≡ true
+    → (b : Row) × Has more b × (is_of two b ≡ true) × (piece_read b ≡ piece_read a))
     → ArePieces (filter (is_of one) rows) zip → ArePieces (filter (is_of two) more) zip
 same_pieces one two rows more zip back there are = record {
   each = λ b h.
@@ -136,7 +157,15 @@ same_pieces one two rows more zip back there are = record {
 -- ---- inside a transaction
 
 pub filling_of : (s : State) (x : World) → Writing s x → Filling s
-filling_of s x writing = record { schema = writing.schema; sound = writing.trees.sound; is_open = writing.is_open; inside = writing.inside }
+filling_of s x writing =
+    record { schema = writing.schema; sound = writing.trees.sound; is_open = writing.is_open; inside = writing.inside }
 
 pub writing_of : (s : State) (x : World) → Filling s → Means s.now.trees x → Writing s x
-writing_of s x filling means = record { schema = filling.schema; trees = record { sound = filling.sound; means = means }; is_open = filling.is_open; inside = filling.inside }
+writing_of s x filling means =
+    record {
+      schema = filling.schema;
+      trees = record { sound = filling.sound; means = means };
+      is_open =
+          filling.is_open;
+      inside = filling.inside;
+    }

@@ -34,11 +34,13 @@ same_option (Some a) None e = cc
 same_option (Some a) (Some b) e = let same : a ≡ b = cc in ap Some same
 
 module _ (name : List ℕ) (db : Database) (w : World) (means : Means db.trees w) where
-  some_is : (out : Row) (parent : Option (List ℕ)) → FirstFound (db.trees 2) by_name shown (Text name ∷ []) (Some out) → column out 0 ≡ or_null Text parent → Some parent ≡ map.get w.shelves name
+  some_is : (out : Row) (parent : Option (List ℕ)) → FirstFound (db.trees 2) by_name shown (Text name ∷ []) (Some out)
+      → column out 0 ≡ or_null Text parent → Some parent ≡ map.get w.shelves name
   some_is out parent h shows =
       let it = means.shelves.each h.0 h.1 in
       let same : it.0.0 ≡ name = let e = sym it.1.0 ∙ equals_text (column h.0 1) name (and_parts _ _ h.2).0 in cc in
-      let own : it.0.1 ≡ parent = same_option it.0.1 parent (sym it.1.1 ∙ (sym (ap (λ (r : Row). column r 0) h.3) ∙ shows)) in
+      let own : it.0.1 ≡ parent =
+      same_option it.0.1 parent (sym it.1.1 ∙ (sym (ap (λ (r : Row). column r 0) h.3) ∙ shows)) in
       ap Some (sym own) ∙ (sym it.2 ∙ ap (map.get w.shelves) same)
 
   none_is : FirstFound (db.trees 2) by_name shown (Text name ∷ []) None → None ≡ map.get w.shelves name
@@ -46,13 +48,17 @@ module _ (name : List ℕ) (db : Database) (w : World) (means : Means db.trees w
     where
       go : (o : Option (Option (List ℕ))) → map.get w.shelves name ≡ o → None ≡ o
       go None is = refl
-      go (Some parent) is = absurd (let it = means.shelves.found (name, parent) is in true≢false (sym (rw (it.2.0, equals_itself name) refl) ∙ h it.0 it.1))
+      go (Some parent) is = absurd
+          (let it = means.shelves.found (name, parent) is in
+          true≢false (sym (rw (it.2.0, equals_itself name) refl) ∙ h it.0 it.1))
 
-  found : (o : Option Row) → Picks shelf_query (Text name ∷ []) db o → FirstFound (db.trees 2) by_name shown (Text name ∷ []) o
+  found : (o : Option Row) → Picks shelf_query (Text name ∷ []) db o
+      → FirstFound (db.trees 2) by_name shown (Text name ∷ []) o
   found o h = picked_found (Text name ∷ []) db 2 by_name shown [] (λ _. refl) o h
 
   -- the row that was found shows the parent
-  pub shelf_some : (out : Row) (parent : Option (List ℕ)) → Picks shelf_query (Text name ∷ []) db (Some out) → column out 0 ≡ or_null Text parent → Some parent ≡ map.get w.shelves name
+  pub shelf_some : (out : Row) (parent : Option (List ℕ)) → Picks shelf_query (Text name ∷ []) db (Some out)
+      → column out 0 ≡ or_null Text parent → Some parent ≡ map.get w.shelves name
   shelf_some out parent h shows = some_is out parent (found (Some out) h) shows
 
   pub shelf_none : Picks shelf_query (Text name ∷ []) db None → None ≡ map.get w.shelves name

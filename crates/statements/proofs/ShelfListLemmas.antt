@@ -36,9 +36,11 @@ or_first : (a b : Bool) → ((a || false) || b) ≡ (a || b)
 or_first true b = refl
 or_first false b = refl
 
-pub among_behind : (before ns : List (List ℕ)) (s : List ℕ) → is_among (behind before ns) s ≡ (is_among before s || is_among ns s)
+pub among_behind : (before ns : List (List ℕ)) (s : List ℕ)
+    → is_among (behind before ns) s ≡ (is_among before s || is_among ns s)
 among_behind before [] s = or_end (is_among before s)
-among_behind before (n ∷ ns) s = among_behind (n ∷ before) ns s ∙ or_turn (bytes_eq s n) (is_among before s) (is_among ns s)
+among_behind before (n ∷ ns) s = among_behind (n ∷ before) ns s
+    ∙ or_turn (bytes_eq s n) (is_among before s) (is_among ns s)
 
 -- the names behind `common` are `common` and these names
 pub among_all : (ns : List (List ℕ)) (s : List ℕ) → is_among (behind (common ∷ []) ns) s ≡ is_among (common ∷ ns) s
@@ -48,7 +50,8 @@ behind_more : (before ns : List (List ℕ)) (n : List ℕ) → behind before (ns
 behind_more before [] n = refl
 behind_more before (m ∷ ns) n = behind_more (m ∷ before) ns n
 
-new_more : (before ns : List (List ℕ)) (n : List ℕ) → AreNew before ns → is_among (behind before ns) n ≡ false → AreNew before (ns ++ n ∷ [])
+new_more : (before ns : List (List ℕ)) (n : List ℕ) → AreNew before ns → is_among (behind before ns) n ≡ false
+    → AreNew before (ns ++ n ∷ [])
 new_more before [] n new free = (free, tt)
 new_more before (m ∷ ns) n new free = (new.0, new_more (m ∷ before) ns n new.1 free)
 
@@ -61,30 +64,37 @@ names_more (t ∷ shelves) s = ap (λ ns. t.name ∷ ns) (names_more shelves s)
 abbrev pub AreNames : set.FinSet text_cmp → List (List ℕ) → Type 0
 AreNames names ns = (s : List ℕ) → set.contains names s ≡ is_among (behind (common ∷ []) ns) s
 
-one_more : (names : set.FinSet text_cmp) (ns : List (List ℕ)) (n : List ℕ) → ((s : List ℕ) → set.contains names s ≡ is_among ns s)
+one_more : (names : set.FinSet text_cmp) (ns : List (List ℕ)) (n : List ℕ)
+    → ((s : List ℕ) → set.contains names s ≡ is_among ns s)
     → (s : List ℕ) → set.contains (set.insert names n) s ≡ is_among (n ∷ ns) s
 one_more names ns n are s = set.contains-insert texts_total names n s ∙ (λ i. is_eq-slice_cmp s n i || are s i)
 
 pub of_common : AreNames (set.insert set.empty common) []
 of_common s = one_more set.empty [] common (λ s. set.contains-empty text_cmp s) s
 
-module _ (shelves : List Shelf) (one : Shelf) (names : set.FinSet text_cmp) (are : AreNames names (names_of shelves)) where
-  -- a list that has the name stays as it was
-  pub added_none : set.contains names one.name ≡ true → shelves ≡ added shelves one
-  added_none there = sym (ap (λ b. cond b shelves (shelves ++ one ∷ [])) (sym (among_all (names_of shelves) one.name) ∙ (sym (are one.name) ∙ there)))
+module _ (shelves : List Shelf) (one : Shelf) (names : set.FinSet text_cmp) (are : AreNames names (names_of shelves))
+  where
+    -- a list that has the name stays as it was
+    pub added_none : set.contains names one.name ≡ true → shelves ≡ added shelves one
+    added_none there = sym (ap (λ b. cond b shelves (shelves ++ one ∷ []))
+        (sym (among_all (names_of shelves) one.name) ∙ (sym (are one.name) ∙ there)))
 
-  -- a shelf of another name comes at the end
-  module _ (free : set.contains names one.name ≡ false) where
-    pub added_one : shelves ++ one ∷ [] ≡ added shelves one
-    added_one = sym (ap (λ b. cond b shelves (shelves ++ one ∷ [])) (sym (among_all (names_of shelves) one.name) ∙ (sym (are one.name) ∙ free)))
+    -- a shelf of another name comes at the end
+    module _ (free : set.contains names one.name ≡ false) where
+      pub added_one : shelves ++ one ∷ [] ≡ added shelves one
+      added_one = sym (ap (λ b. cond b shelves (shelves ++ one ∷ []))
+          (sym (among_all (names_of shelves) one.name) ∙ (sym (are one.name) ∙ free)))
 
-    pub still_new : AreNew (common ∷ []) (names_of shelves) → AreNew (common ∷ []) (names_of (shelves ++ one ∷ []))
-    still_new new = subst (AreNew (common ∷ [])) (sym (names_more shelves one)) (new_more (common ∷ []) (names_of shelves) one.name new (sym (are one.name) ∙ free))
+      pub still_new : AreNew (common ∷ []) (names_of shelves) → AreNew (common ∷ []) (names_of (shelves ++ one ∷ []))
+      still_new new = subst (AreNew (common ∷ [])) (sym (names_more shelves one))
+          (new_more (common ∷ []) (names_of shelves) one.name new (sym (are one.name) ∙ free))
 
-    pub still_names : AreNames (set.insert names one.name) (names_of (shelves ++ one ∷ []))
-    still_names s =
-        one_more names (behind (common ∷ []) (names_of shelves)) one.name are s
-        ∙ ap (λ ns. is_among ns s) (sym (ap (behind (common ∷ [])) (names_more shelves one) ∙ behind_more (common ∷ []) (names_of shelves) one.name))
+      pub still_names : AreNames (set.insert names one.name) (names_of (shelves ++ one ∷ []))
+      still_names s =
+          one_more names (behind (common ∷ []) (names_of shelves)) one.name are s
+          ∙ ap (λ ns. is_among ns s)
+          (sym (ap (behind (common ∷ [])) (names_more shelves one)
+          ∙ behind_more (common ∷ []) (names_of shelves) one.name))
 
 -- ---- a shelf that was added
 
@@ -94,7 +104,8 @@ or_apart false b c = refl
 
 among_more : (ns : List (List ℕ)) (n s : List ℕ) → is_among (ns ++ n ∷ []) s ≡ (is_among ns s || bytes_eq s n)
 among_more [] n s = sym (or_end (bytes_eq s n))
-among_more (m ∷ ns) n s = ap (λ b. bytes_eq s m || b) (among_more ns n s) ∙ or_apart (bytes_eq s m) (is_among ns s) (bytes_eq s n)
+among_more (m ∷ ns) n s = ap (λ b. bytes_eq s m || b) (among_more ns n s)
+    ∙ or_apart (bytes_eq s m) (is_among ns s) (bytes_eq s n)
 
 or_taken : (a b : Bool) → (b ≡ true → a ≡ true) → a ≡ (a || b)
 or_taken true b h = refl
@@ -102,13 +113,18 @@ or_taken false true h = h refl
 or_taken false false h = refl
 
 -- the names of the new list are those of the old one and the name of the shelf
-pub added_names : (shelves : List Shelf) (one : Shelf) (s : List ℕ) → is_among (common ∷ names_of (added shelves one)) s ≡ (is_among (common ∷ names_of shelves) s || bytes_eq s one.name)
+pub added_names : (shelves : List Shelf) (one : Shelf) (s : List ℕ)
+    → is_among (common ∷ names_of (added shelves one)) s
+    ≡ (is_among (common ∷ names_of shelves) s || bytes_eq s one.name)
 added_names shelves one s = go (is_among (common ∷ names_of shelves) one.name) refl
   where
     go : (b : Bool) → is_among (common ∷ names_of shelves) one.name ≡ b
-        → is_among (common ∷ names_of (cond b shelves (shelves ++ one ∷ []))) s ≡ (is_among (common ∷ names_of shelves) s || bytes_eq s one.name)
-    go true there = or_taken _ (bytes_eq s one.name) (λ same. ap (is_among (common ∷ names_of shelves)) (text_same s one.name same) ∙ there)
-    go false free = ap (λ ns. is_among (common ∷ ns) s) (names_more shelves one) ∙ among_more (common ∷ names_of shelves) one.name s
+        → is_among (common ∷ names_of (cond b shelves (shelves ++ one ∷ []))) s
+        ≡ (is_among (common ∷ names_of shelves) s || bytes_eq s one.name)
+    go true there = or_taken _ (bytes_eq s one.name)
+        (λ same. ap (is_among (common ∷ names_of shelves)) (text_same s one.name same) ∙ there)
+    go false free = ap (λ ns. is_among (common ∷ ns) s) (names_more shelves one)
+        ∙ among_more (common ∷ names_of shelves) one.name s
 
 -- each shelf of the new list is one of the old list, or the shelf that was added
 pub added_has : (shelves : List Shelf) (one it : Shelf) → Has (added shelves one) it → Has shelves it ⊎ (it ≡ one)
@@ -116,7 +132,11 @@ added_has shelves one it h = go (is_among (common ∷ names_of shelves) one.name
   where
     go : (b : Bool) → Has (cond b shelves (shelves ++ one ∷ [])) it → Has shelves it ⊎ (it ≡ one)
     go true there = inl there
-    go false there = elim (has_either shelves (one ∷ []) it there) [ inl was ↦ inl was | inr (inl is) ↦ inr is | inr (inr none) ↦ absurd none ]
+    go false there = elim (has_either shelves (one ∷ []) it there) [
+      | inl was ↦ inl was
+      | inr (inl is) ↦ inr is
+      | inr (inr none) ↦ absurd none
+    ]
 
 -- ---- the shelves that rows show
 
@@ -128,7 +148,8 @@ or_still true b h = refl
 or_still false b h = absurd (true≢false (sym h))
 
 -- if the list is that of the rows, the list with the shelf of one more row is that of the rows with this row
-pub rows_more : (rows : List Row) (row : Row) (shelves : List Shelf) (s : Shelf) → ShowsShelf row s → ListsRows rows shelves → ListsRows (rows ++ row ∷ []) (added shelves s)
+pub rows_more : (rows : List Row) (row : Row) (shelves : List Shelf) (s : Shelf) → ShowsShelf row s
+    → ListsRows rows shelves → ListsRows (rows ++ row ∷ []) (added shelves s)
 rows_more rows row shelves s shows lists = record {
   from = λ it h. elim (added_has shelves s it h) [
     | inl was ↦ let from = lists.from it was in (from.0, has_left rows (row ∷ []) from.0 from.1, from.2)
@@ -136,7 +157,12 @@ rows_more rows row shelves s shows lists = record {
   ];
   to = λ r there. elim (has_either rows (row ∷ []) r there) [
     | inl was ↦ let to = lists.to r was in (to.0, to.1, added_names shelves s to.0.name ∙ or_still _ _ to.2)
-    | inr (inl is) ↦ (s, subst (λ q. ShowsShelf q s) (sym is) shows, added_names shelves s s.name ∙ or_right _ _ (text_self s.name))
+    | inr (inl is) ↦ (
+      s,
+      subst (λ q. ShowsShelf q s) (sym is) shows,
+      added_names shelves s s.name
+          ∙ or_right _ _ (text_self s.name),
+    )
     | inr (inr none) ↦ absurd none
   ];
 }
@@ -162,13 +188,16 @@ all_listed db w means rows read shelves lists =
           let from = lists.from s there in
           let row = found.sound from.0 from.1 in
           let it = means.shelves.each row.0 row.1 in
-          let name : it.0.0 ≡ s.name = let e = sym it.1.0 ∙ (sym (ap (λ (r : Row). column r 1) row.3) ∙ from.2.0) in cc in
-          let parent : it.0.1 ≡ s.parent = same_option it.0.1 s.parent (sym it.1.1 ∙ (sym (ap (λ (r : Row). column r 0) row.3) ∙ from.2.1)) in
+          let name : it.0.0 ≡ s.name = let e = sym it.1.0
+          ∙ (sym (ap (λ (r : Row). column r 1) row.3) ∙ from.2.0) in cc in
+          let parent : it.0.1 ≡ s.parent =
+          same_option it.0.1 s.parent (sym it.1.1 ∙ (sym (ap (λ (r : Row). column r 0) row.3) ∙ from.2.1)) in
           ap (map.get w.shelves) (sym name) ∙ (it.2 ∙ ap Some parent);
       each_is = λ s there. stood s (map.get w.shelves s) refl there found;
     }
   where
-    stood : (s : List ℕ) (o : Option (Option (List ℕ))) → map.get w.shelves s ≡ o → is_some o ≡ true → AreFound (db.trees 2) [] shown [] rows → is_among (common ∷ names_of shelves) s ≡ true
+    stood : (s : List ℕ) (o : Option (Option (List ℕ))) → map.get w.shelves s ≡ o → is_some o ≡ true
+        → AreFound (db.trees 2) [] shown [] rows → is_among (common ∷ names_of shelves) s ≡ true
     stood s None at there found = absurd (true≢false (sym there))
     stood s (Some parent) at there found =
         let it = means.shelves.found (s, parent) at in
@@ -176,10 +205,12 @@ all_listed db w means rows read shelves lists =
         let name : to.0.name ≡ s = let e = sym to.1.0 ∙ it.2.0 in cc in
         ap (is_among (common ∷ names_of shelves)) (sym name) ∙ to.2
 
-pub rows_at : (rows : List Row) (at : ℕ) (row : Row) (shelves more : List Shelf) (s : Shelf) → at < length rows → row ≡ get_or rows at row → ShowsShelf row s → more ≡ added shelves s
+pub rows_at : (rows : List Row) (at : ℕ) (row : Row) (shelves more : List Shelf) (s : Shelf) → at < length rows
+    → row ≡ get_or rows at row → ShowsShelf row s → more ≡ added shelves s
     → ListsRows (take at rows) shelves → ListsRows (take (at + 1) rows) more
 rows_at rows at row shelves more s within is shows made lists =
-    subst₂ ListsRows (sym (take_more rows at row within ∙ ap (λ r. take at rows ++ r ∷ []) (sym is))) (sym made) (rows_more (take at rows) row shelves s shows lists)
+    subst₂ ListsRows (sym (take_more rows at row within ∙ ap (λ r. take at rows ++ r ∷ []) (sym is))) (sym made)
+    (rows_more (take at rows) row shelves s shows lists)
 
 -- ---- what a list keeps of its fields
 
@@ -194,9 +225,12 @@ first_listed shelves names before text none made first is =
     let start : AreNames names [] = subst (λ n. AreNames n []) (sym whole) of_common in
     subst (λ l. AreListed l names) (sym none) (tt, start)
 
-pub more_listed : (shelves longer : List Shelf) (one : Shelf) (names more : set.FinSet text_cmp) (text : List ℕ) → AreListed shelves names → set.contains names one.name ≡ false
+pub more_listed : (shelves longer : List Shelf) (one : Shelf) (names more : set.FinSet text_cmp) (text : List ℕ)
+    → AreListed shelves names → set.contains names one.name ≡ false
     → longer ≡ shelves ++ one ∷ [] → more ≡ set.insert names text → text ≡ one.name → AreListed longer more
 more_listed shelves longer one names more text are free is made same =
     let whole : more ≡ set.insert names one.name = made ∙ ap (set.insert names) same in
-    let still : AreNames more (names_of (shelves ++ one ∷ [])) = subst (λ n. AreNames n (names_of (shelves ++ one ∷ []))) (sym whole) (still_names shelves one names are.1 free) in
+    let still : AreNames more (names_of (shelves ++ one ∷ [])) =
+    subst (λ n. AreNames n (names_of (shelves ++ one ∷ []))) (sym whole)
+    (still_names shelves one names are.1 free) in
     subst (λ l. AreListed l more) (sym is) (still_new shelves one names are.1 free are.0, still)

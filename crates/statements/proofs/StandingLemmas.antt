@@ -1,5 +1,6 @@
 -- How an entry stands to the one that is seen, of which a row was found.
-use Rattle.std.proofs.Common.{◌≡◌, ◌&&◌, Bool, true, false, true≢false, cond, Option, Some, None, refl, sym, ap, ◌∙◌, option_map}
+use Rattle.std.proofs.Common.{◌≡◌, ◌&&◌, Bool, true, false, true≢false, cond, Option, Some, None, refl, sym, ap, ◌∙◌}
+use Rattle.std.proofs.Common.{option_map}
 use Rattle.std.specs.Prelude.{bytes_eq}
 use Rattle.sqlite.specs.Tree.{Trees}
 use Rattle.world.specs.declared.entry.Entry.{Entry}
@@ -35,14 +36,17 @@ module _ (db : Trees) (seen : Option Seen) (row : VersionRow) (e : Entry) (it : 
   heads : same_heading row.heading e ≡ same_heading (heading_of it.entry) e
   heads = ap (λ h. same_heading h e) it.heading
 
-  pub standing_whole : (same : Bool) → same_heading row.heading e ≡ true → same ≡ bytes_eq it.entry.zip e.zip → cond same Same Other ≡ standing_to (entry_in seen) e
+  pub standing_whole : (same : Bool) → same_heading row.heading e ≡ true → same ≡ bytes_eq it.entry.zip e.zip
+      → cond same Same Other ≡ standing_to (entry_in seen) e
   standing_whole same headed zips =
-      let decided = by_zips (bytes_eq it.entry.gomod e.gomod) (bytes_eq it.entry.zip e.zip) (same_time it.entry.time e.time) (sym heads ∙ headed) in
+      let decided = by_zips (bytes_eq it.entry.gomod e.gomod) (bytes_eq it.entry.zip e.zip)
+      (same_time it.entry.time e.time) (sym heads ∙ headed) in
       ap (λ b. cond b Same Other) (zips ∙ sym decided) ∙ standing_is
 
   pub standing_other : same_heading row.heading e ≡ false → Other ≡ standing_to (entry_in seen) e
   standing_other headed =
-      let decided = not_same (bytes_eq it.entry.gomod e.gomod) (bytes_eq it.entry.zip e.zip) (same_time it.entry.time e.time) (sym heads ∙ headed) in
+      let decided = not_same (bytes_eq it.entry.gomod e.gomod) (bytes_eq it.entry.zip e.zip)
+      (same_time it.entry.time e.time) (sym heads ∙ headed) in
       ap (λ b. cond b Same Other) (sym decided) ∙ standing_is
 
 pub standing_lacks : (seen : Option Seen) (e : Entry) → seen ≡ None → Absent ≡ standing_to (entry_in seen) e

@@ -19,8 +19,10 @@ use Rattle.tables.specs.Means.{Tabulates, IsNumbered}
 use Rattle.tables.proofs.ValueLemmas.{int_itself, fresh_before}
 
 -- rows that tabulate P tabulate Q once a fresh row is put in, if Q is P and the fact of that row
-pub tabulates_put : {X : Type 0} (IsRow : Row → X → Type 0) (rows : List Row) (row : Row) (x : X) (P Q : X → Type 0) → are_fresh rows (row ∷ []) ≡ true → IsRow row x
-    → ((y : X) → P y → Q y) → Q x → ((y : X) → Q y → (y ≡ x) ⊎ P y) → Tabulates IsRow rows P → Tabulates IsRow (put_all rows (row ∷ [])) Q
+pub tabulates_put : {X : Type 0} (IsRow : Row → X → Type 0) (rows : List Row) (row : Row) (x : X) (P Q : X → Type 0)
+    → are_fresh rows (row ∷ []) ≡ true → IsRow row x
+    → ((y : X) → P y → Q y) → Q x → ((y : X) → Q y → (y ≡ x) ⊎ P y) → Tabulates IsRow rows P
+    → Tabulates IsRow (put_all rows (row ∷ [])) Q
 tabulates_put {X} IsRow rows row x P Q fresh is grows new only h = record {
   each = λ r there. elim (put_all_has (row ∷ []) rows r there) [
     | inl (inl same) ↦ (x, subst (λ z. IsRow z x) (sym same) is, new)
@@ -34,7 +36,8 @@ tabulates_put {X} IsRow rows row x P Q fresh is grows new only h = record {
 }
 
 -- rows that are numbered are numbered once a fresh row with a number is put in
-pub numbered_put : (rows : List Row) (id : ℤ) (new : Row) → rowid new ≡ Int id → are_fresh rows (new ∷ []) ≡ true → IsNumbered rows → IsNumbered (put_all rows (new ∷ []))
+pub numbered_put : (rows : List Row) (id : ℤ) (new : Row) → rowid new ≡ Int id → are_fresh rows (new ∷ []) ≡ true
+    → IsNumbered rows → IsNumbered (put_all rows (new ∷ []))
 numbered_put rows id new is fresh n = record {
   number = λ r h. elim (put_all_has (new ∷ []) rows r h) [
     | inl (inl same) ↦ (id, ap rowid same ∙ is)
@@ -57,17 +60,25 @@ numbered_put rows id new is fresh n = record {
 }
   where
     apart : (r : Row) → Has rows r → rowid r ≡ Int id → ⊥
-    apart r h same = true≢false (sym (ap (λ v. equal Binary v (Int id)) same ∙ int_itself id) ∙ fresh_before id new rows is fresh r h)
+    apart r h same = true≢false
+        (sym (ap (λ v. equal Binary v (Int id)) same ∙ int_itself id) ∙ fresh_before id new rows is fresh r h)
 
--- if a relation holds of each two rows, and of the new row and each of them, it holds of each two once the new row is put in
+-- if a relation holds of each two rows, and of the new row and each of them, it holds of each two once the new row is
+-- put in
 module _ (P : Row → Row → Type 0) (turned : (a b : Row) → P a b → P b a) (new : Row) where
   all_put : (r : Row) (rows : List Row) → P r new → AllByRecursion (P r) rows → AllByRecursion (P r) (put_row new rows)
-  all_put r rows first rest = all_from (P r) (put_row new rows) (λ x h. elim (put_has new rows x h) [ inl same ↦ subst (P r) (sym same) first | inr was ↦ all_has (P r) rows x rest was ])
+  all_put r rows first rest =
+      all_from (P r) (put_row new rows)
+      (λ x h. elim (put_has new rows x h) [
+        | inl same ↦ subst (P r) (sym same) first
+        | inr was ↦ all_has (P r) rows x rest was
+      ])
 
   abbrev put_by : Ordering → Row → List Row → List Row
   put_by o r rows = match_ordering o (r ∷ put_row new rows) (new ∷ rows) (new ∷ r ∷ rows)
 
-  pub put_apart : (rows : List Row) → AllByRecursion (P new) rows → IsAscending P rows → IsAscending P (put_row new rows)
+  pub put_apart : (rows : List Row) → AllByRecursion (P new) rows → IsAscending P rows
+      → IsAscending P (put_row new rows)
   put_apart [] apart up = (tt, tt)
   put_apart (r ∷ rows) apart up = go (value_cmp (rowid r) (rowid new)) (put_apart rows apart.1 up.1)
     where

@@ -1,5 +1,6 @@
 -- What the queries of versions and of paths answer.
-use Rattle.std.proofs.Common.{◌≡◌, ◌⊎◌, ◌↔◌, ◌∙◌, ◌||◌, ℕ, Bool, true, false, List, [], ◌∷◌, ◌++◌, Some, is_some, inl, inr, refl, sym, ap, subst}
+use Rattle.std.proofs.Common.{◌≡◌, ◌⊎◌, ◌↔◌, ◌∙◌, ◌||◌, ℕ, Bool, true, false, List, [], ◌∷◌, ◌++◌, Some, is_some, inl}
+use Rattle.std.proofs.Common.{inr, refl, sym, ap, subst}
 use Rattle.std.specs.FinMap as map
 use Rattle.std.specs.FinSet as set
 use Rattle.std.specs.FinSet.{same_set}
@@ -38,12 +39,16 @@ same_truth false true h = h.1 refl
 same_truth false false h = refl
 
 -- if the texts that the rows show are the members of a set, that set is added
-set_added : (rows : List Row) (more old new : set.FinSet text_cmp) → ((t : List ℕ) → IsShown rows t ↔ (set.contains more t ≡ true)) → AddsTexts rows old new → new ≡ set.union more old
+set_added : (rows : List Row) (more old new : set.FinSet text_cmp)
+    → ((t : List ℕ) → IsShown rows t ↔ (set.contains more t ≡ true)) → AddsTexts rows old new → new ≡ set.union more old
 set_added rows more old new shown adds = same_set texts_total texts_exact new (set.union more old) (λ t.
     let either = set.contains-union texts_total more old t in
     same_truth (set.contains new t) (set.contains (set.union more old) t) (
       λ h. either ∙ elim ((adds t).0 h) [ inl was ↦ or_right _ _ was | inr is ↦ or_left _ _ ((shown t).0 is) ],
-      λ h. (adds t).1 (elim (or_cases (set.contains more t) _ (sym either ∙ h)) [ inl is ↦ inr ((shown t).1 is) | inr was ↦ inl was ]),
+      λ h. (adds t).1 (elim (or_cases (set.contains more t) _ (sym either ∙ h)) [
+        | inl is ↦ inr ((shown t).1 is)
+        | inr was ↦ inl was
+      ]),
     ))
 
 -- ---- the versions of a path on a shelf
@@ -61,33 +66,42 @@ module _ (shelf path : List ℕ) (db : Database) (w : World) (means : Means db.t
   found : Reads (asks versions_query) db params out → AreFound (db.trees 6) by_path (col 1 4 ∷ []) params out
   found read = all_found params db 6 by_path (col 1 4 ∷ []) [] (λ _. refl) out read
 
-  versions_sound : AreFound (db.trees 6) by_path (col 1 4 ∷ []) params out → (v : List ℕ) → IsShown out v → (e : Entry) × (map.get w.entries (place shelf path v) ≡ Some e)
+  versions_sound : AreFound (db.trees 6) by_path (col 1 4 ∷ []) params out → (v : List ℕ) → IsShown out v
+      → (e : Entry) × (map.get w.entries (place shelf path v) ≡ Some e)
   versions_sound found v shown =
       let row = found.sound shown.0 shown.1 in
       let it = means.entries.each row.0 row.1 in
       let one = and_parts _ _ row.2 in
       let two = and_parts _ _ one.1 in
       let is : column row.0 4 ≡ Text v = sym (ap (λ (r : Row). column r 0) row.3) ∙ shown.2 in
-      let at : IsAt row.0 (place shelf path v) = (equals_text (column row.0 2) shelf one.0, equals_text (column row.0 3) path two.0, is) in
+      let at : IsAt row.0 (place shelf path v) =
+      (equals_text (column row.0 2) shelf one.0, equals_text (column row.0 3) path two.0, is) in
       (it.0.1, ap (map.get w.entries) (sym (same_place row.0 it.0.0 (place shelf path v) it.1.place at)) ∙ it.2)
 
-  versions_complete : AreFound (db.trees 6) by_path (col 1 4 ∷ []) params out → (v : List ℕ) → (e : Entry) × (map.get w.entries (place shelf path v) ≡ Some e) → IsShown out v
+  versions_complete : AreFound (db.trees 6) by_path (col 1 4 ∷ []) params out → (v : List ℕ)
+      → (e : Entry) × (map.get w.entries (place shelf path v) ≡ Some e) → IsShown out v
   versions_complete found v holds =
       let it = means.entries.found (place shelf path v, holds.0) holds.1 in
-      let at = it.2.place in
-      (eval_all (col 1 4 ∷ []) (params ∷ it.0 ∷ []), found.complete it.0 it.1 (rw (at.0, at.1, equals_itself shelf, equals_itself path) refl), at.2)
+      let at = it.2.place in (
+        eval_all (col 1 4 ∷ []) (params ∷ it.0 ∷ []),
+        found.complete it.0 it.1 (rw (at.0, at.1, equals_itself shelf, equals_itself path) refl),
+        at.2,
+      )
 
   abbrev versions : set.FinSet text_cmp
   versions = versions_among shelf path (map.entries w.entries)
 
-  versions_shown : AreFound (db.trees 6) by_path (col 1 4 ∷ []) params out → (v : List ℕ) → IsShown out v ↔ (set.contains versions v ≡ true)
+  versions_shown : AreFound (db.trees 6) by_path (col 1 4 ∷ []) params out → (v : List ℕ)
+      → IsShown out v ↔ (set.contains versions v ≡ true)
   versions_shown found v =
       let there : set.contains versions v ≡ is_some (map.get w.entries (place shelf path v)) =
-      contains_among shelf path v (map.entries w.entries) ∙ ap is_some (sym (map.get-entries w.entries (place shelf path v))) in
+      contains_among shelf path v (map.entries w.entries)
+      ∙ ap is_some (sym (map.get-entries w.entries (place shelf path v))) in
       let some = some_of (map.get w.entries (place shelf path v)) in
       (λ shown. there ∙ some.1 (versions_sound found v shown), λ h. versions_complete found v (some.0 (sym there ∙ h)))
 
-  pub versions_added : (old new : set.FinSet text_cmp) → Reads (asks versions_query) db params out → AddsTexts out old new → new ≡ set.union versions old
+  pub versions_added : (old new : set.FinSet text_cmp) → Reads (asks versions_query) db params out
+      → AddsTexts out old new → new ≡ set.union versions old
   versions_added old new read = set_added out versions old new (versions_shown (found read))
 
 -- ---- the paths on a shelf
@@ -99,28 +113,39 @@ abbrev pub paths_query : Query
 paths_query = lookup 6 by_shelf (col 1 3 ∷ [])
 
 module _ (shelf : List ℕ) (db : Database) (w : World) (means : Means db.trees w) (out : List Row) where
-  found_paths : Reads (asks paths_query) db (Text shelf ∷ []) out → AreFound (db.trees 6) by_shelf (col 1 3 ∷ []) (Text shelf ∷ []) out
+  found_paths : Reads (asks paths_query) db (Text shelf ∷ []) out
+      → AreFound (db.trees 6) by_shelf (col 1 3 ∷ []) (Text shelf ∷ []) out
   found_paths read = all_found (Text shelf ∷ []) db 6 by_shelf (col 1 3 ∷ []) [] (λ _. refl) out read
 
-  paths_sound : AreFound (db.trees 6) by_shelf (col 1 3 ∷ []) (Text shelf ∷ []) out → (p : List ℕ) → IsShown out p → (v : List ℕ) × (e : Entry) × (map.get w.entries (place shelf p v) ≡ Some e)
+  paths_sound : AreFound (db.trees 6) by_shelf (col 1 3 ∷ []) (Text shelf ∷ []) out → (p : List ℕ) → IsShown out p
+      → (v : List ℕ) × (e : Entry) × (map.get w.entries (place shelf p v) ≡ Some e)
   paths_sound found p shown =
       let row = found.sound shown.0 shown.1 in
       let it = means.entries.each row.0 row.1 in
       let one = and_parts _ _ row.2 in
       let is : column row.0 3 ≡ Text p = sym (ap (λ (r : Row). column r 0) row.3) ∙ shown.2 in
-      let at : IsAt row.0 (place shelf p it.0.0.version) = (equals_text (column row.0 2) shelf one.0, is, it.1.place.2) in
-      (it.0.0.version, it.0.1, ap (map.get w.entries) (sym (same_place row.0 it.0.0 (place shelf p it.0.0.version) it.1.place at)) ∙ it.2)
+      let at : IsAt row.0 (place shelf p it.0.0.version) =
+      (equals_text (column row.0 2) shelf one.0, is, it.1.place.2) in (
+        it.0.0.version,
+        it.0.1,
+        ap (map.get w.entries) (sym (same_place row.0 it.0.0 (place shelf p it.0.0.version) it.1.place at)) ∙ it.2,
+      )
 
-  paths_complete : AreFound (db.trees 6) by_shelf (col 1 3 ∷ []) (Text shelf ∷ []) out → (p : List ℕ) → (v : List ℕ) × (e : Entry) × (map.get w.entries (place shelf p v) ≡ Some e) → IsShown out p
+  paths_complete : AreFound (db.trees 6) by_shelf (col 1 3 ∷ []) (Text shelf ∷ []) out → (p : List ℕ)
+      → (v : List ℕ) × (e : Entry) × (map.get w.entries (place shelf p v) ≡ Some e) → IsShown out p
   paths_complete found p holds =
       let it = means.entries.found (place shelf p holds.0, holds.1) holds.2 in
-      let at = it.2.place in
-      (eval_all (col 1 3 ∷ []) ((Text shelf ∷ []) ∷ it.0 ∷ []), found.complete it.0 it.1 (rw (at.0, equals_itself shelf) refl), at.1)
+      let at = it.2.place in (
+        eval_all (col 1 3 ∷ []) ((Text shelf ∷ []) ∷ it.0 ∷ []),
+        found.complete it.0 it.1 (rw (at.0, equals_itself shelf) refl),
+        at.1,
+      )
 
   abbrev paths : set.FinSet text_cmp
   paths = paths_among shelf (map.entries w.entries)
 
-  paths_shown : AreFound (db.trees 6) by_shelf (col 1 3 ∷ []) (Text shelf ∷ []) out → (p : List ℕ) → IsShown out p ↔ (set.contains paths p ≡ true)
+  paths_shown : AreFound (db.trees 6) by_shelf (col 1 3 ∷ []) (Text shelf ∷ []) out → (p : List ℕ)
+      → IsShown out p ↔ (set.contains paths p ≡ true)
   paths_shown found p =
       let there = λ (v : List ℕ). ap is_some (map.get-entries w.entries (place shelf p v)) in
       let some = λ (v : List ℕ). some_of (map.get w.entries (place shelf p v)) in
@@ -129,7 +154,8 @@ module _ (shelf : List ℕ) (db : Database) (w : World) (means : Means db.trees 
         λ h. let it = among.0 h in let e = (some it.0).0 (there it.0 ∙ it.1) in paths_complete found p (it.0, e.0, e.1),
       )
 
-  pub paths_added : (old new : set.FinSet text_cmp) → Reads (asks paths_query) db (Text shelf ∷ []) out → AddsTexts out old new → new ≡ set.union paths old
+  pub paths_added : (old new : set.FinSet text_cmp) → Reads (asks paths_query) db (Text shelf ∷ []) out
+      → AddsTexts out old new → new ≡ set.union paths old
   paths_added old new read = set_added out paths old new (paths_shown (found_paths read))
 
 -- ---- shelf by shelf
@@ -139,14 +165,19 @@ swapped : (a b c : set.FinSet text_cmp) → set.union a (set.union b c) ≡ set.
 swapped a b c = same_set texts_total texts_exact (set.union a (set.union b c)) (set.union b (set.union a c))
     (λ t. member a b t ∙ (turned (set.contains a t) (set.contains b t) (set.contains c t) ∙ sym (member b a t)))
   where
-    member : (x y : set.FinSet text_cmp) (t : List ℕ) → set.contains (set.union x (set.union y c)) t ≡ (set.contains x t || (set.contains y t || set.contains c t))
-    member x y t = set.contains-union texts_total x (set.union y c) t ∙ ap (λ h. set.contains x t || h) (set.contains-union texts_total y c t)
+    member : (x y : set.FinSet text_cmp) (t : List ℕ)
+        → set.contains (set.union x (set.union y c)) t ≡ (set.contains x t || (set.contains y t || set.contains c t))
+    member x y t = set.contains-union texts_total x (set.union y c) t
+        ∙ ap (λ h. set.contains x t || h) (set.contains-union texts_total y c t)
 
-pub versions_more : (w : World) (ss : List (List ℕ)) (s p : List ℕ) → versions_on w (ss ++ s ∷ []) p ≡ set.union (versions_among s p (map.entries w.entries)) (versions_on w ss p)
+pub versions_more : (w : World) (ss : List (List ℕ)) (s p : List ℕ)
+    → versions_on w (ss ++ s ∷ []) p ≡ set.union (versions_among s p (map.entries w.entries)) (versions_on w ss p)
 versions_more w [] s p = refl
-versions_more w (a ∷ ss) s p = ap (set.union (versions_among a p (map.entries w.entries))) (versions_more w ss s p) ∙ swapped _ _ _
+versions_more w (a ∷ ss) s p = ap (set.union (versions_among a p (map.entries w.entries))) (versions_more w ss s p)
+    ∙ swapped _ _ _
 
-pub paths_more : (w : World) (ss : List (List ℕ)) (s : List ℕ) → paths_on w (ss ++ s ∷ []) ≡ set.union (paths_among s (map.entries w.entries)) (paths_on w ss)
+pub paths_more : (w : World) (ss : List (List ℕ)) (s : List ℕ)
+    → paths_on w (ss ++ s ∷ []) ≡ set.union (paths_among s (map.entries w.entries)) (paths_on w ss)
 paths_more w [] s = refl
 paths_more w (a ∷ ss) s = ap (set.union (paths_among a (map.entries w.entries))) (paths_more w ss s) ∙ swapped _ _ _
 
@@ -156,7 +187,8 @@ pub nothing_more : (texts : set.FinSet text_cmp) → AddsTexts [] texts texts
 nothing_more texts t = (λ h. inl h, λ either. elim either [ inl was ↦ was | inr shown ↦ absurd shown.1 ])
 
 -- a set with the texts of some rows, and then the text of one more, has the texts of the rows with this row
-pub one_more : (rows : List Row) (row : Row) (text : List ℕ) (old mid new : set.FinSet text_cmp) → column row 0 ≡ Text text → new ≡ set.insert mid text
+pub one_more : (rows : List Row) (row : Row) (text : List ℕ) (old mid new : set.FinSet text_cmp)
+    → column row 0 ≡ Text text → new ≡ set.insert mid text
     → AddsTexts rows old mid → AddsTexts (rows ++ row ∷ []) old new
 one_more rows row text old mid new shows made adds t = (to t, from t)
   where
@@ -176,7 +208,9 @@ one_more rows row text old mid new shows made adds t = (to t, from t)
     from t (inl before) = stays t ((adds t).1 (inl before))
     from t (inr shown) = elim (has_either rows (row ∷ []) shown.0 shown.1) [
       | inl was ↦ stays t ((adds t).1 (inr (shown.0, was, shown.2)))
-      | inr (inl last) ↦ (let same : text ≡ t = let e = sym shows ∙ (ap (λ (r : Row). column r 0) (sym last) ∙ shown.2) in cc in
-          subst (λ s. set.contains s t ≡ true) (sym made) (subst (λ x. set.contains (set.insert mid text) x ≡ true) same (text_put mid text)))
+      | inr (inl last) ↦ (let same : text ≡ t = let e = sym shows
+          ∙ (ap (λ (r : Row). column r 0) (sym last) ∙ shown.2) in cc in
+          subst (λ s. set.contains s t ≡ true) (sym made)
+          (subst (λ x. set.contains (set.insert mid text) x ≡ true) same (text_put mid text)))
       | inr (inr none) ↦ absurd none
     ]

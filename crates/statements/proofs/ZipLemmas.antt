@@ -1,5 +1,6 @@
 -- The zip of a version, read in one walk over the rows of its pieces.
-use Rattle.std.proofs.Common.{◌≡◌, ◌<◌, ◌+◌, ◌++◌, ℕ, ℤ, pos, Bool, false, List, [], ◌∷◌, take, inl, inr, refl, sym, ap, subst, ◌∙◌, codes, arith, IsTrue}
+use Rattle.std.proofs.Common.{◌≡◌, ◌<◌, ◌+◌, ◌++◌, ℕ, ℤ, pos, Bool, false, List, [], ◌∷◌, take, inl, inr, refl, sym, ap}
+use Rattle.std.proofs.Common.{subst, ◌∙◌, codes, arith, IsTrue}
 use Rattle.std.proofs.lemmas.Bool.{and_parts, and_from}
 use Rattle.sqlite.specs.declared.types.Value.{Value}
 use Rattle.sqlite.specs.declared.types.Value.TheVariants.{Int, Blob}
@@ -46,7 +47,8 @@ zip_query = ordered 8 of_version shown by_piece
 abbrev pub zip_text : List ℕ
 zip_text = codes "SELECT number, bytes FROM piece WHERE version = ?1 ORDER BY version, number"
 
-zip_is : command_of (understood store_schema zip_text) ≡ Select (record { lets = []; body = zip_query }) (codes "number" ∷ codes "bytes" ∷ [])
+zip_is : command_of (understood store_schema zip_text)
+    ≡ Select (record { lets = []; body = zip_query }) (codes "number" ∷ codes "bytes" ∷ [])
 unfolding understood everything
 zip_is = refl
 
@@ -74,10 +76,12 @@ AreBelow rows n = (row : Row) → Has rows row → (k : ℕ) × (k < n) × (colu
 abbrev pub IsShownAs : Row → ℕ → List ℕ → Type 0
 IsShownAs row n bytes = (column row 0 ≡ Int (pos n)) × (column row 1 ≡ Blob bytes)
 
-pub below_more : (rows : List Row) (row : Row) (n : ℕ) → AreBelow rows n → column row 0 ≡ Int (pos n) → AreBelow (rows ++ row ∷ []) (n + 1)
+pub below_more : (rows : List Row) (row : Row) (n : ℕ) → AreBelow rows n → column row 0 ≡ Int (pos n)
+    → AreBelow (rows ++ row ∷ []) (n + 1)
 below_more [] row n below is x (inl same) = (n, omega arith, ap (λ (r : Row). column r 0) same ∙ is)
 below_more [] row n below is x (inr none) = absurd none
-below_more (r ∷ rows) row n below is x (inl same) = let it = below x (inl same) in (it.0, let low = it.1 in omega (arith, low), it.2)
+below_more (r ∷ rows) row n below is x (inl same) = let it = below x (inl same) in
+    (it.0, let low = it.1 in omega (arith, low), it.2)
 below_more (r ∷ rows) row n below is x (inr later) = below_more rows row n (λ y there. below y (inr there)) is x later
 
 abbrev pub zip_params : ℤ → Row
@@ -85,7 +89,8 @@ zip_params id = Int id ∷ []
 
 module _ (id : ℤ) (db : Database) where
   -- a row that comes next, and shows the next number, shows the zip's piece of that number
-  row_shown : (rows : List Row) (row : Row) (n : ℕ) (bytes zip : List ℕ) → ReadsFirst (asks zip_query) db (zip_params id) (rows ++ row ∷ [])
+  row_shown : (rows : List Row) (row : Row) (n : ℕ) (bytes zip : List ℕ)
+      → ReadsFirst (asks zip_query) db (zip_params id) (rows ++ row ∷ [])
       → IsShownAs row n bytes → IsZip db.trees id zip → bytes ≡ piece zip n
   row_shown rows row n bytes zip first shows is =
       let begun = begun_found (zip_params id) db 8 of_version shown by_piece (λ _. refl) (rows ++ row ∷ []) first in
@@ -95,7 +100,8 @@ module _ (id : ℤ) (db : Database) where
       bytes_same (sym shows.1 ∙ (ap (λ (r : Row). column r 1) it.3 ∙ (own.1.bytes ∙ ap (λ m. Blob (piece zip m)) same)))
 
   -- if no row is left, there is no piece of the next number
-  none_left : (rows : List Row) (n : ℕ) (zip : List ℕ) → Reads (asks zip_query) db (zip_params id) rows → AreBelow rows n → IsZip db.trees id zip → ¬ HasPiece zip n
+  none_left : (rows : List Row) (n : ℕ) (zip : List ℕ) → Reads (asks zip_query) db (zip_params id) rows
+      → AreBelow rows n → IsZip db.trees id zip → ¬ HasPiece zip n
   none_left rows n zip all below is has =
       let found = all_found (zip_params id) db 8 of_version shown by_piece (λ _. refl) rows all in
       let from = is.found n has in
@@ -106,16 +112,20 @@ module _ (id : ℤ) (db : Database) where
       omega (arith, same, low)
 
 module _ (id : ℤ) (old s t : State) (has : s.now.schema ≡ store_schema) (same : s.now ≡ old.now) where
-  pub one_more_piece : (rows : List Row) (row : Row) (n : ℕ) (bytes zip : List ℕ) → Begins zip_text (zip_params id) s (rows ++ row ∷ [])
+  pub one_more_piece : (rows : List Row) (row : Row) (n : ℕ) (bytes zip : List ℕ)
+      → Begins zip_text (zip_params id) s (rows ++ row ∷ [])
       → IsShownAs row n bytes → IsZip old.now.trees id zip → take (begin n) zip ++ bytes ≡ take (begin (n + 1)) zip
   one_more_piece rows row n bytes zip begins shows is =
       let first = subst (λ db. ReadsFirst (asks zip_query) db (zip_params id) (rows ++ row ∷ [])) same
-      (begins_as zip_text (zip_params id) s s store_schema has _ zip_is zip_plain zip_tables (rows ++ row ∷ []) begins) in
+      (begins_as zip_text (zip_params id) s s store_schema has _ zip_is zip_plain zip_tables (rows ++ row ∷ [])
+      begins) in
       ap (λ l. take (begin n) zip ++ l) (row_shown id old.now rows row n bytes zip first shows is) ∙ next_piece zip n
 
-  pub whole_zip : (rows : List Row) (n : ℕ) (zip : List ℕ) → Shown zip_text (zip_params id) s t rows → AreBelow rows n → IsZip old.now.trees id zip → take (begin n) zip ≡ zip
+  pub whole_zip : (rows : List Row) (n : ℕ) (zip : List ℕ) → Shown zip_text (zip_params id) s t rows → AreBelow rows n
+      → IsZip old.now.trees id zip → take (begin n) zip ≡ zip
   whole_zip rows n zip all below is =
-      let read = subst (λ db. Reads (asks zip_query) db (zip_params id) rows) same (reads_as zip_text (zip_params id) s t store_schema has _ zip_is zip_plain zip_tables rows all) in
+      let read = subst (λ db. Reads (asks zip_query) db (zip_params id) rows) same
+      (reads_as zip_text (zip_params id) s t store_schema has _ zip_is zip_plain zip_tables rows all) in
       no_more zip n (none_left id old.now rows n zip read below is)
 
 -- ---- a query that is asked of a connection that is open
@@ -123,11 +133,18 @@ module _ (id : ℤ) (old s t : State) (has : s.now.schema ≡ store_schema) (sam
 module _ (sql : List ℕ) (params : Row) (plain : IsPlain (understood store_schema sql)) (old new : State)
     (opened : HasCleanDisk old → IsTrue old.is_open) (survives : Survives old new (CommitsShowing sql params old)) where
   pub plain_then : (w : World) → Stands old w → HasCleanDisk new → IsPlain (understood old.now.schema sql)
-  plain_then w stands clean = let was = was_clean old new survives.clean clean in subst (λ s. IsPlain (understood s sql)) (sym (stands was (opened was)).schema) plain
+  plain_then w stands clean = let was = was_clean old new survives.clean clean in
+      subst (λ s. IsPlain (understood s sql)) (sym (stands was (opened was)).schema) plain
 
-  pub asked_spares : (HasCleanDisk new → IsPlain (understood old.now.schema sql) → IsUnchangedOrUndone old new) → Spares old new
+  pub asked_spares : (HasCleanDisk new → IsPlain (understood old.now.schema sql) → IsUnchangedOrUndone old new)
+      → Spares old new
   asked_spares outcome = record {
     clean = survives.clean;
-    stays = λ w stands. stands_still old new w survives.clean (λ clean. outcome clean (plain_then w stands clean)) stands;
-    left = λ clean w stands db may. elim (survives.crash clean db may) [ inl was ↦ was | inr commits ↦ absurd (never_commits sql params old db (plain_then w stands clean) commits) ];
+    stays = λ w stands. stands_still old new w survives.clean (λ clean. outcome clean (plain_then w stands clean))
+        stands;
+    left = λ clean w stands db may.
+        elim (survives.crash clean db may) [
+          | inl was ↦ was
+          | inr commits ↦ absurd (never_commits sql params old db (plain_then w stands clean) commits)
+        ];
   }

@@ -11,11 +11,13 @@ use Rattle.store.specs.Counted.{counting}
 below : (k n : ℕ) → n ≡ min k most_counted → n < most_counted → n ≡ k
 below k n is few = omega (arith, is, few)
 
-pub total_of_count : (w : World) (count : ℕ) (total : Option ℕ) → ((n : ℕ) → total ≡ Some n → (n ≡ count) × (n < most_counted)) → count ≡ versions_in w
+pub total_of_count : (w : World) (count : ℕ) (total : Option ℕ)
+    → ((n : ℕ) → total ≡ Some n → (n ≡ count) × (n < most_counted)) → count ≡ versions_in w
     → IsTotal w total
 total_of_count w count total exact is n kept = let it = exact n kept in below (map.len w.entries) n (it.0 ∙ is) it.1
 
-pub count_of_total : (w : World) (total : Option ℕ) (n m : ℕ) → total ≡ Some n → m ≡ min n most_counted → IsTotal w total → m ≡ versions_in w
+pub count_of_total : (w : World) (total : Option ℕ) (n m : ℕ) → total ≡ Some n → m ≡ min n most_counted
+    → IsTotal w total → m ≡ versions_in w
 count_of_total w total n m kept capped right = capped ∙ ap (λ k. min k most_counted) (right n kept)
 
 -- ---- the count of failures after a fault

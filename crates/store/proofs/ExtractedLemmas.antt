@@ -36,7 +36,8 @@ is_read a b spares = record {
   left = λ clean w x y stands only db may. only db (spares.left clean w stands.0 db may);
 }
 
-pub fault_tells : (There : Type 0) (x : World) (r : Refusal) → r ≢ refusal.BadSchema → r ≢ refusal.NotEmpty → r ≢ refusal.NoTeam → Tells There x (Err r)
+pub fault_tells : (There : Type 0) (x : World) (r : Refusal) → r ≢ refusal.BadSchema → r ≢ refusal.NotEmpty
+    → r ≢ refusal.NoTeam → Tells There x (Err r)
 fault_tells There x refusal.Device a b c = tt
 fault_tells There x refusal.Memory a b c = tt
 fault_tells There x refusal.BadSchema a b c = absurd (a refl)
@@ -49,7 +50,8 @@ wanted_is_world (wanted.Teams ts) w is = chains_world w _ is
 wanted_is_world wanted.All w is = is
 
 -- after a change from x to the next world, done if the result is Ok, a crash leaves what `AfterFill` says
-pub after_fill : (old new : State) (x next : World) (result : Result (Unit {0}) Refusal) → HasCleanDisk new → Stands old x → ChangesAt old new (is_ok result) x next
+pub after_fill : (old new : State) (x next : World) (result : Result (Unit {0}) Refusal) → HasCleanDisk new
+    → Stands old x → ChangesAt old new (is_ok result) x next
     → AfterFill (shown_of old) (shown_of new) x result next
 after_fill old new x next (Ok u) clean stands change = record {
   either = λ only. change.left clean stands (narrow old x only);
@@ -59,17 +61,26 @@ after_fill old new x next (Ok u) clean stands change = record {
 after_fill old new x next (Err e) clean stands change = record {
   either = λ only. change.left clean stands (narrow old x only);
   alone = tt;
-  failed = elim (change.failed refl clean stands) [ inl two ↦ inl two | inr none ↦ inr (λ y z only db may. only db (none db may)) ];
+  failed = elim (change.failed refl clean stands) [
+    | inl two ↦ inl two
+    | inr none ↦ inr (λ y z only db may. only db (none db may))
+  ];
 }
 
 -- what a crash leaves does not depend on what the store caches
-pub fill_kept : (old new : State) (kept kept_new : Kept) (n n_new : ℕ) (x next : World) (result : Result (Unit {0}) Refusal)
-    → AfterFill (shown_of old) (shown_of new) x result next → AfterFill (shown_with old kept n) (shown_with new kept_new n_new) x result next
-fill_kept old new kept kept_new n n_new x next result after = record { either = after.either; alone = after.alone; failed = after.failed }
+pub fill_kept : (old new : State) (kept kept_new : Kept) (n n_new : ℕ) (x next : World)
+    (result : Result (Unit {0}) Refusal)
+    → AfterFill (shown_of old) (shown_of new) x result next
+    → AfterFill (shown_with old kept n) (shown_with new kept_new n_new) x result next
+fill_kept old new kept kept_new n n_new x next result after =
+    record { either = after.either; alone = after.alone; failed = after.failed }
 
--- a change from x to the next world, done if the result is Ok, fills the store as `FillsAt` says, without what it caches
-pub fills_at : (old new : State) (There : Type 0) (next x : World) (result : Result (Unit {0}) Refusal) → HasCleanDisk new → StandsFor old x → IsWorld next
-    → ChangesAt old new (is_ok result) x next → Tells There x result → FillsAt (shown_of old) (shown_of new) There next x result
+-- a change from x to the next world, done if the result is Ok, fills the store as `FillsAt` says, without what it
+-- caches
+pub fills_at : (old new : State) (There : Type 0) (next x : World) (result : Result (Unit {0}) Refusal)
+    → HasCleanDisk new → StandsFor old x → IsWorld next
+    → ChangesAt old new (is_ok result) x next → Tells There x result
+    → FillsAt (shown_of old) (shown_of new) There next x result
 fills_at old new There next x (Ok u) clean stands is change tells = record {
   tells = tells;
   ok = (change.world stands.0, is);
@@ -94,9 +105,11 @@ on_err_both A (Ok u) b a = tt
 on_err_both A (Err e) b a = (a, b)
 
 -- a fill holds with what the stores cache too, if the source caches what it did, and the fresh store nothing
-pub fills_kept : (There : World → Type 0) (next : World → World) (a a_new b b_new : State) (kept kept_new old new : Kept) (n n_new m m_new : ℕ) (r : Result (Unit {0}) Refusal) → kept_new ≡ kept
+pub fills_kept : (There : World → Type 0) (next : World → World) (a a_new b b_new : State)
+    (kept kept_new old new : Kept) (n n_new m m_new : ℕ) (r : Result (Unit {0}) Refusal) → kept_new ≡ kept
     → IsNothing new → FillsBy There next (shown_of a) (shown_of a_new) (shown_of b) (shown_of b_new) r
-    → FillsBy There next (shown_with a kept n) (shown_with a_new kept_new n_new) (shown_with b old m) (shown_with b_new new m_new) r
+    → FillsBy There next (shown_with a kept n) (shown_with a_new kept_new n_new) (shown_with b old m)
+    (shown_with b_new new m_new) r
 fills_kept There next a a_new b b_new kept kept_new old new n n_new m m_new r same none does = record {
   reads = record {
     honest = does.reads.honest;
@@ -122,9 +135,14 @@ fills_kept There next a a_new b b_new kept kept_new old new n n_new m m_new r sa
 -- ---- one team
 
 one_team : (w : World) (t : List ℕ) → IsTeam w t → AreTeams w (t ∷ [])
-one_team w t is = (not_cons t [], λ u there. elim there [ inl same ↦ subst (IsTeam w) (sym same) is | inr none ↦ absurd none ])
+one_team w t is = (
+  not_cons t [],
+  λ u there.
+      elim there [ inl same ↦ subst (IsTeam w) (sym same) is | inr none ↦ absurd none ],
+)
 
-one_tells : (w x : World) (t : List ℕ) (r : Result (Unit {0}) Refusal) → Tells (AreTeams w (t ∷ [])) x r → Tells (IsTeam w t) x r
+one_tells : (w x : World) (t : List ℕ) (r : Result (Unit {0}) Refusal) → Tells (AreTeams w (t ∷ [])) x r
+    → Tells (IsTeam w t) x r
 one_tells w x t (Ok u) h = (h.0.1 t (inl refl), h.1)
 one_tells w x t (Err refusal.NoTeam) h = λ is. h (one_team w t is)
 one_tells w x t (Err refusal.NotEmpty) h = (h.0.1 t (inl refl), h.1)

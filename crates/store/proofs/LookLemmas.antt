@@ -29,7 +29,8 @@ module _ {D S : Type 0} {g : Ghosts D} {first : start.Ghosts S} (pair : Files D)
   still_settled now may = still_keeps now may ∙ sym still_image
 
 -- what is left of files is clean where the files are
-pub clean_left : {D : Type 0} {g : Ghosts D} (rest : Leftover D g) → AreClean g (files_left rest).0 (files_left rest).1 → IsCleanLeft rest
+pub clean_left : {D : Type 0} {g : Ghosts D} (rest : Leftover D g) → AreClean g (files_left rest).0 (files_left rest).1
+    → IsCleanLeft rest
 unfolding state files
 clean_left (left.Files now) clean = clean
 clean_left (left.Unopened now) clean = clean

@@ -1,5 +1,6 @@
 -- Migrating a store of an older schema, whole or not at all.
-use Rattle.std.proofs.Common.{◌≡◌, ◌≢◌, ◌⊎◌, ℕ, Bool, true, false, IsTrue, Result, Ok, Err, IfOk, IfErr, is_ok, inl, inr, refl, sym, subst, ◌∙◌, arith, true≢false}
+use Rattle.std.proofs.Common.{◌≡◌, ◌≢◌, ◌⊎◌, ℕ, Bool, true, false, IsTrue, Result, Ok, Err, IfOk, IfErr, is_ok, inl}
+use Rattle.std.proofs.Common.{inr, refl, sym, subst, ◌∙◌, arith, true≢false}
 use Rattle.sqlite.specs.Effect.{Database}
 use Rattle.sqlite.specs.declared.error.Error.{Error}
 use Rattle.sqlite.specs.declared.error.Error.TheVariants.{SqliteFailure}
@@ -22,7 +23,8 @@ use Rattle.migration.specs.Filled.{IsOfTables}
 use Rattle.migration.specs.Filled.{Migrates as WritesWorld}
 use Rattle.kept.specs.Kept.{IsNothing}
 use Rattle.store.specs.Shown.{shown_with}
-use Rattle.store.specs.Migrated.{IsForeign, IsVastOlder, IsOldOr, IsMigrated, is_whole, HasOlderReason, MigratesRows, Tells, MigratesAt, Migrates, HasCauseInOne}
+use Rattle.store.specs.Migrated.{IsForeign, IsVastOlder, IsOldOr, IsMigrated, is_whole, HasOlderReason, MigratesRows}
+use Rattle.store.specs.Migrated.{Tells, MigratesAt, Migrates, HasCauseInOne}
 use Rattle.setup.specs.Opened.{IsOfOpening}
 use Rattle.kept.specs.declared.kept.Kept.{Kept}
 use Rattle.store.specs.declared.migrate.Migrated.{Migrated}
@@ -37,19 +39,27 @@ use Rattle.store.proofs.ExtractedLemmas.{after_fill, fill_kept}
 -- ---- the rows
 
 -- `MigratesRows` holds of a migration that is not whole, did not read the older store, and only read the fresh one
-pub unwritten : (s f g : State) (r : Result Migrated CopyError) → is_whole r ≡ false → Spares f g → (HasCleanDisk g → (x : World) → StandsFor f x → IfOk r (IsMigrated x))
+pub unwritten : (s f g : State) (r : Result Migrated CopyError) → is_whole r ≡ false → Spares f g
+    → (HasCleanDisk g → (x : World) → StandsFor f x → IfOk r (IsMigrated x))
     → IfErr r (HasOlderReason s s) → MigratesRows s s f g r
 unwritten s f g r undone spares says cause = record {
   clean = omega arith;
-  reads = λ ready. record { left = λ _ db may. may; outcome = λ clean. inl (unchanged_itself s (ready clean)); same = λ clean _. unchanged_itself s (ready clean) };
+  reads = λ ready. record {
+    left = λ _ db may. may;
+    outcome = λ clean. inl (unchanged_itself s (ready clean));
+    same =
+        λ clean _. unchanged_itself s (ready clean);
+  };
   clean_too = spares.clean;
   spares = λ _. spares;
   says = says;
   cause = λ _. cause;
-  at = λ clean good ready x stands. (x, inr (undone, refl), subst (λ b. ChangesAt f g b x x) (sym undone) (spared_at f g x x spares));
+  at = λ clean good ready x stands.
+      (x, inr (undone, refl), subst (λ b. ChangesAt f g b x x) (sym undone) (spared_at f g x x spares));
 }
 
-old_or : (format : Format) (db : Database) (x w : World) (done : Bool) → x ≡ only_common → IsOfTables format db done w → IsOldOr db x done w
+old_or : (format : Format) (db : Database) (x w : World) (done : Bool) → x ≡ only_common → IsOfTables format db done w
+    → IsOldOr db x done w
 old_or format db x w done blank (inl is) = inl (format, is)
 old_or format db x w done blank (inr rest) = inr (rest.0, rest.1 ∙ sym blank)
 
@@ -65,11 +75,16 @@ pub written_cause : (format : Format) (s t : State) (w : Result Bool CopyError) 
 written_cause format s t w (Ok m) same reason = tt
 written_cause format s t w (Err (Fresh e)) same reason = tt
 written_cause format s t w (Err (Source e)) same reason =
-    elim (subst (λ x. IfErr x (HasReasonIf format s t)) same reason) [ inl excused ↦ inl excused | inr vast ↦ inr (format, vast) ]
+    elim (subst (λ x. IfErr x (HasReasonIf format s t)) same reason) [
+      | inl excused ↦ inl excused
+      | inr vast ↦ inr (format, vast)
+    ]
 
 -- the tables are those of an older schema, and their world may have been written into a store of `common` alone
-module _ (format : Format) (s t f m g : State) (r : Result Migrated CopyError) (schema : s.now.schema ≡ schema_of format) (first : Spares f m)
-    (blank : HasCleanDisk m → (x : World) → StandsFor f x → IsTrue m.is_open × (x ≡ only_common)) (writes : WritesWorld format s t m g (is_whole r)) where
+module _ (format : Format) (s t f m g : State) (r : Result Migrated CopyError)
+    (schema : s.now.schema ≡ schema_of format) (first : Spares f m)
+    (blank : HasCleanDisk m → (x : World) → StandsFor f x → IsTrue m.is_open × (x ≡ only_common))
+    (writes : WritesWorld format s t m g (is_whole r)) where
   blank_at_last : HasCleanDisk g → (x : World) → StandsFor f x → IsTrue m.is_open × (x ≡ only_common)
   blank_at_last good = blank (was_clean m g writes.clean_too good)
 
@@ -88,23 +103,32 @@ module _ (format : Format) (s t f m g : State) (r : Result Migrated CopyError) (
         let it = writes.at clean good (λ late. (ready late, schema)) (λ _. is.0) still in (
           it.0,
           old_or format s.now x it.0 (is_whole r) is.1 it.1,
-          spares_at f m g (is_whole r) x it.0 first writes.clean_too (subst (λ (u : World). ChangesAt m g (is_whole r) u it.0) (sym is.1) it.2),
+          spares_at f m g (is_whole r) x it.0 first writes.clean_too
+              (subst (λ (u : World). ChangesAt m g (is_whole r) u it.0) (sym is.1) it.2),
         );
   }
 
 -- ---- the call `migrate`
 
 -- a store that was only read shows what it showed, if nothing was uncommitted
-same_tables : (s t : State) (done : Bool) → IsReadBy s t done → HasCleanDisk t → IsSettled s → IsTrue t.is_open → t.now ≡ s.now
-same_tables s t done read clean settled opened = elim (read.outcome clean) [ inl same ↦ same.0.now_is | inr undone ↦ (undone.undone opened).0 ∙ sym (settled.committed (undone.was_open opened)) ]
+same_tables : (s t : State) (done : Bool) → IsReadBy s t done → HasCleanDisk t → IsSettled s → IsTrue t.is_open
+    → t.now ≡ s.now
+same_tables s t done read clean settled opened =
+    elim (read.outcome clean) [
+      | inl same ↦ same.0.now_is
+      | inr undone ↦ (undone.undone opened).0
+          ∙ sym (settled.committed (undone.was_open opened))
+    ]
 
 world_of : (db : Database) (x w : World) → IsOldOr db x true w → IsWorld w
 world_of db x w (inl was) = was.1.is
 world_of db x w (inr rest) = absurd (true≢false rest.0)
 
 -- a change from x to w, done if the result is Ok, migrates the store as `MigratesAt` says, with nothing cached after
-at_end : (db : Database) (old new : State) (kept kept_new : Kept) (n n_new : ℕ) (x w : World) (r : Result (Unit {0}) Refusal) → IsNothing kept_new → HasCleanDisk new → StandsFor old x
-    → IsOldOr db x (is_ok r) w → ChangesAt old new (is_ok r) x w → Tells x r → MigratesAt db (shown_with old kept n) (shown_with new kept_new n_new) x r
+at_end : (db : Database) (old new : State) (kept kept_new : Kept) (n n_new : ℕ) (x w : World)
+    (r : Result (Unit {0}) Refusal) → IsNothing kept_new → HasCleanDisk new → StandsFor old x
+    → IsOldOr db x (is_ok r) w → ChangesAt old new (is_ok r) x w → Tells x r
+    → MigratesAt db (shown_with old kept n) (shown_with new kept_new n_new) x r
 at_end db old new kept kept_new n n_new x w (Ok u) none clean stands was change tells = record {
   tells = tells;
   world = w;
@@ -123,8 +147,10 @@ at_end db old new kept kept_new n n_new x w (Err e) none clean stands was change
 }
 
 -- the result of the call follows from the outcome of the rows, and the fresh store caches nothing
-module _ (s t f g : State) (kept kept_new : Kept) (n n_new : ℕ) (rows : Result Migrated CopyError) (r : Result (Unit {0}) Refusal) (moved : MigratesRows s t f g rows) (none : IsNothing kept_new)
-    (done : is_whole rows ≡ is_ok r) (full : r ≡ Err refusal.NotEmpty → rows ≡ Ok NotEmpty) (tells : (x : World) → IfOk rows (IsMigrated x) → Tells x r) where
+module _ (s t f g : State) (kept kept_new : Kept) (n n_new : ℕ) (rows : Result Migrated CopyError)
+    (r : Result (Unit {0}) Refusal) (moved : MigratesRows s t f g rows) (none : IsNothing kept_new)
+    (done : is_whole rows ≡ is_ok r) (full : r ≡ Err refusal.NotEmpty → rows ≡ Ok NotEmpty)
+    (tells : (x : World) → IfOk rows (IsMigrated x) → Tells x r) where
   spared : (r ≡ Err refusal.NotEmpty) ⊎ IsForeign s.now → Spares f g
   spared unfit = moved.spares (elim unfit [ inl e ↦ inl (full e) | inr foreign ↦ inr foreign ])
 
@@ -142,12 +168,14 @@ module _ (s t f g : State) (kept kept_new : Kept) (n n_new : ℕ) (rows : Result
     };
     at = λ clean good ready x so.
         let it = moved.at clean good ready x so.0 in
-        at_end s.now f g kept kept_new n n_new x it.0 r none good so.0 (subst (λ b. IsOldOr s.now x b it.0) done it.1) (subst (λ b. ChangesAt f g b x it.0) done it.2)
+        at_end s.now f g kept kept_new n n_new x it.0 r none good so.0 (subst (λ b. IsOldOr s.now x b it.0) done it.1)
+        (subst (λ b. ChangesAt f g b x it.0) done it.2)
         (tells x (moved.says good x so.0));
   }
 
 -- `Tells` holds of each refusal that is a fault
-pub fault_tells : (x : World) (e : Refusal) → e ≢ refusal.BadSchema → e ≢ refusal.NotEmpty → e ≢ refusal.NoTeam → Tells x (Err e)
+pub fault_tells : (x : World) (e : Refusal) → e ≢ refusal.BadSchema → e ≢ refusal.NotEmpty → e ≢ refusal.NoTeam
+    → Tells x (Err e)
 fault_tells x refusal.Device a b c = tt
 fault_tells x refusal.Memory a b c = tt
 fault_tells x refusal.BadSchema a b c = absurd (a refl)
@@ -169,7 +197,8 @@ opening_some refusal.Memory of same = cc
 opening_some refusal.BadSchema of same = cc
 opening_some refusal.NoTeam of same = of
 
-pub error_not_full : {X : Type 0} (e : Refusal) → e ≢ refusal.NotEmpty → ◌≡◌ {A = Result (Unit {0}) Refusal} (Err e) (Err refusal.NotEmpty) → X
+pub error_not_full : {X : Type 0} (e : Refusal) → e ≢ refusal.NotEmpty
+    → ◌≡◌ {A = Result (Unit {0}) Refusal} (Err e) (Err refusal.NotEmpty) → X
 error_not_full e some same = let it : e ≡ refusal.NotEmpty = cc in absurd (some it)
 
 pub done_not_full : {X : Type 0} → ◌≡◌ {A = Result (Unit {0}) Refusal} (Ok tt) (Err refusal.NotEmpty) → X
@@ -180,13 +209,16 @@ done_not_full same = absurd (never same)
 
 -- ---- why the call returns `Device`
 
-pub no_device : (s t : State) (count : ℕ) (r : Result (Unit {0}) Refusal) → r ≢ Err refusal.Device → HasCauseInOne s t count count r
-no_device s t count r other = record { no_fewer = omega arith; device = λ _ same. absurd (other same); once = omega arith; stays = λ _. refl }
+pub no_device : (s t : State) (count : ℕ) (r : Result (Unit {0}) Refusal) → r ≢ Err refusal.Device
+    → HasCauseInOne s t count count r
+no_device s t count r other =
+    record { no_fewer = omega arith; device = λ _ same. absurd (other same); once = omega arith; stays = λ _. refl }
 
 pub device_is : (r : Refusal) → ◌≡◌ {A = Result (Unit {0}) Refusal} (Err r) (Err refusal.Device) → r ≡ refusal.Device
 device_is r same = cc
 
-pub older_device : (s t : State) (e : Error) (r : Refusal) (count : ℕ) → (e ≡ SqliteFailure code.OutOfMemory → r ≡ refusal.Memory)
+pub older_device : (s t : State) (e : Error) (r : Refusal) (count : ℕ)
+    → (e ≡ SqliteFailure code.OutOfMemory → r ≡ refusal.Memory)
     → (HasCleanDisk t → HasOlderReason s t (Source e)) → HasCauseInOne s t count count (Err r)
 older_device s t e r count memory reason = record {
   no_fewer = omega arith;

@@ -14,11 +14,14 @@ use Rattle.store.specs.Migrated.{WasOf}
 use Rattle.store.specs.Older.{HoldsOlder}
 
 -- if the files hold an older database, the connection shows it
-pub finds_older : (s : State) (image : Image) → IsLive s → IsTrue s.is_open → s.now ≡ s.committed → FindsIn image s → (w : World) → HoldsOlder image w → WasOf s.now w
+pub finds_older : (s : State) (image : Image) → IsLive s → IsTrue s.is_open → s.now ≡ s.committed → FindsIn image s
+    → (w : World) → HoldsOlder image w → WasOf s.now w
 finds_older s image live opened settled finds w held =
-    let trees : s.now.trees ≡ held.db.trees = ap (λ (d : Database). d.trees) settled ∙ finds.holds held.db.trees held.holds in
+    let trees : s.now.trees ≡ held.db.trees = ap (λ (d : Database). d.trees) settled
+    ∙ finds.holds held.db.trees held.holds in
     let sound : IsSound held.db.schema s.now.trees = subst (IsSound held.db.schema) (sym trees) held.sound in
-    let schema : ◌≡◌ {A = Schema} s.now.schema held.db.schema = lists_once _ s.now.schema held.db.schema (live opened).0.lists sound.lists in
+    let schema : ◌≡◌ {A = Schema} s.now.schema held.db.schema =
+    lists_once _ s.now.schema held.db.schema (live opened).0.lists sound.lists in
     let was = held.was in (
       was.0,
       record {

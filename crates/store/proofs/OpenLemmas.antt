@@ -25,7 +25,8 @@ use Rattle.kept.specs.Kept.{IsNothing}
 use Rattle.kept.proofs.KeptLemmas.{nothing_kept}
 use Rattle.tables.specs.Causes.{IsHindered, IsVast}
 use Rattle.setup.specs.Opened.{Opens, IsBad, IsOfOpening}
-use Rattle.store.specs.Restart.{HoldsWorld, HoldsStore, HoldsNoStore, HoldsNoDatabase, IsBlank, RecoversStore, KeepsTrees, LeavesCommitted}
+use Rattle.store.specs.Restart.{HoldsWorld, HoldsStore, HoldsNoStore, HoldsNoDatabase, IsBlank, RecoversStore}
+use Rattle.store.specs.Restart.{KeepsTrees, LeavesCommitted}
 use Rattle.store.proofs.FileLemmas.{finds_empty}
 use Rattle.tables.proofs.OneWorld.{stand_for_one}
 use Rattle.setup.specs.declared.refusal.Refusal.{Refusal}
@@ -39,7 +40,8 @@ module _ (old new : State) where
   pub begins_first : old.now.schema ≡ no_schema → Opens old new → BeginsAt (shown_of new) only_common
   begins_first none it = elim it.tables [
     | inl first ↦ subst (BeginsAt (shown_of new)) first.1 it.begins
-    | inr found ↦ (let e : ◌≡◌ {A = Schema} store_schema no_schema = sym found.schema ∙ none in absurd (let t = ap (λ (s : Schema). s.tables) e in cc))
+    | inr found ↦ (let e : ◌≡◌ {A = Schema} store_schema no_schema = sym found.schema
+        ∙ none in absurd (let t = ap (λ (s : Schema). s.tables) e in cc))
   ]
 
 -- trees that list no tables are not those of the schema
@@ -57,28 +59,34 @@ begins_found old new image live opened settled finds it w held =
     let trees : old.now.trees ≡ held.0 = ap (λ (d : Database). d.trees) settled ∙ finds.holds held.0 held.1 in
     let stand : StandFor old.now.trees w = subst (λ db. StandFor db w) (sym trees) held.2 in
     elim it.tables [
-      | inl first ↦ absurd (unlisted old.now.trees (subst (λ s. IsSound s old.now.trees) first.0 (live opened).0) stand.sound)
-      | inr found ↦ subst (BeginsAt (shown_of new)) (stand_for_one old.now.trees it.world w found.means stand.means) it.begins
+      | inl first ↦ absurd (unlisted old.now.trees (subst (λ s. IsSound s old.now.trees) first.0 (live opened).0)
+          stand.sound)
+      | inr found ↦ subst (BeginsAt (shown_of new)) (stand_for_one old.now.trees it.world w found.means stand.means)
+          it.begins
     ]
 
 -- the trees of a blank file list no tables
 blank_lists_none : (s : State) (image : Image) → FindsIn image s → IsBlank image → IsSound no_schema s.committed.trees
-blank_lists_none s image finds (inl unmade) = empty_is_sound s.committed.trees (finds_empty image s.committed.trees unmade.0 finds.reads).1
+blank_lists_none s image finds (inl unmade) =
+    empty_is_sound s.committed.trees (finds_empty image s.committed.trees unmade.0 finds.reads).1
 blank_lists_none s image finds (inr bare) = subst (IsSound no_schema) (sym (finds.holds bare.0 bare.1)) bare.2
 
 -- if the files are blank, the store begins with `common` alone
 begins_blank : (old new : State) (image : Image) → IsLive old → IsTrue old.is_open → old.now ≡ old.committed
     → FindsIn image old → Opens old new → IsBlank image → BeginsAt (shown_of new) only_common
 begins_blank old new image live opened settled finds it blank =
-    let none : IsSound no_schema old.now.trees = subst (λ (d : Database). IsSound no_schema d.trees) (sym settled) (blank_lists_none old image finds blank) in
+    let none : IsSound no_schema old.now.trees =
+    subst (λ (d : Database). IsSound no_schema d.trees) (sym settled) (blank_lists_none old image finds blank) in
     elim it.tables [
       | inl first ↦ subst (BeginsAt (shown_of new)) first.1 it.begins
-      | inr found ↦ absurd (unlisted old.now.trees none (subst (λ s. IsSound s old.now.trees) found.schema (live opened).0))
+      | inr found ↦ absurd (unlisted old.now.trees none
+          (subst (λ s. IsSound s old.now.trees) found.schema (live opened).0))
     ]
 
 pub begins_store : (old new : State) (image : Image) → IsLive old → IsTrue old.is_open → old.now ≡ old.committed
     → FindsIn image old → Opens old new → (w : World) → HoldsStore image w → BeginsAt (shown_of new) w
-begins_store old new image live opened settled finds it w (inl held) = begins_found old new image live opened settled finds it w held
+begins_store old new image live opened settled finds it w (inl held) =
+    begins_found old new image live opened settled finds it w held
 begins_store old new image live opened settled finds it w (inr blank) =
     subst (BeginsAt (shown_of new)) (sym blank.1) (begins_blank old new image live opened settled finds it blank.0)
 
@@ -86,13 +94,18 @@ begins_store old new image live opened settled finds it w (inr blank) =
 pub recovers_store : (old new : State) (image : Image) → IsLive old → IsTrue old.is_open → old.now ≡ old.committed
     → FindsIn image old → (it : Opens old new) → RecoversStore image it.world
 recovers_store old new image live opened settled finds it =
-    let here : AreFoundIn image old.now.trees = subst (λ (d : Database). AreFoundIn image d.trees) (sym settled) finds.reads in
+    let here : AreFoundIn image old.now.trees =
+    subst (λ (d : Database). AreFoundIn image d.trees) (sym settled) finds.reads in
     let sound = (live opened).0 in (
       old.now.trees,
       here,
       elim it.tables [
         | inl first ↦ inr (subst (λ s. IsSound s old.now.trees) first.0 sound, first.1)
-        | inr found ↦ inl (record { sound = subst (λ s. IsSound s old.now.trees) found.schema sound; means = found.means })
+        | inr found ↦ inl (record {
+          sound = subst (λ s. IsSound s old.now.trees) found.schema sound;
+          means =
+              found.means;
+        })
       ],
     )
 
@@ -106,7 +119,8 @@ keeps_trees old new image live opened settled finds leaves db may = elim (leaves
   }
   | inr first ↦ record {
     database = λ held it. inr (
-      subst (λ (d : Trees). IsSound no_schema d) (ap (λ (d : Database). d.trees) settled ∙ finds.holds held it) (subst (λ s. IsSound s old.now.trees) first.0 (live opened).0),
+      subst (λ (d : Trees). IsSound no_schema d) (ap (λ (d : Database). d.trees) settled ∙ finds.holds held it)
+          (subst (λ s. IsSound s old.now.trees) first.0 (live opened).0),
       first.1,
     );
     nothing = λ none. inr first.1;
@@ -114,13 +128,15 @@ keeps_trees old new image live opened settled finds leaves db may = elim (leaves
 ]
 
 -- no store begins over files whose tables are bad
-pub bad_is_no_store : (old : State) (image : Image) → IsLive old → IsTrue old.is_open → old.now ≡ old.committed → FindsIn image old → IsBad old.now → HoldsNoStore image
+pub bad_is_no_store : (old : State) (image : Image) → IsLive old → IsTrue old.is_open → old.now ≡ old.committed
+    → FindsIn image old → IsBad old.now → HoldsNoStore image
 bad_is_no_store old image live opened settled finds bad w is (inl held) =
     let trees : old.now.trees ≡ held.0 = ap (λ (d : Database). d.trees) settled ∙ finds.holds held.0 held.1 in
     let stand : StandFor old.now.trees w = subst (λ db. StandFor db w) (sym trees) held.2 in
     bad.none (lists_once _ old.now.schema store_schema (live opened).0.lists stand.sound.lists) w stand.means is
 bad_is_no_store old image live opened settled finds bad w is (inr blank) =
-    let none : IsSound no_schema old.now.trees = subst (λ (d : Database). IsSound no_schema d.trees) (sym settled) (blank_lists_none old image finds blank.0) in
+    let none : IsSound no_schema old.now.trees =
+    subst (λ (d : Database). IsSound no_schema d.trees) (sym settled) (blank_lists_none old image finds blank.0) in
     bad.some (lists_once _ old.now.schema no_schema (live opened).0.lists none.lists)
 
 pub no_database_is_no_store : (image : Image) → HoldsNoDatabase image → HoldsNoStore image
@@ -129,12 +145,15 @@ no_database_is_no_store image none w is (inr (inl unmade, common)) = none (inr u
 no_database_is_no_store image none w is (inr (inr bare, common)) = none (inl (bare.0, bare.1))
 
 -- a store begins at a world with what it caches too, if it caches nothing
-pub begins_empty : (s : State) (kept : Kept) (count : ℕ) (w : World) → IsNothing kept → BeginsAt (shown_of s) w → BeginsAt (shown_with s kept count) w
-begins_empty s kept count w none it = record { honest = it.honest; stands = (it.stands, nothing_kept w kept none); left = it.left }
+pub begins_empty : (s : State) (kept : Kept) (count : ℕ) (w : World) → IsNothing kept → BeginsAt (shown_of s) w
+    → BeginsAt (shown_with s kept count) w
+begins_empty s kept count w none it =
+    record { honest = it.honest; stands = (it.stands, nothing_kept w kept none); left = it.left }
 
 -- ---- why an opening is refused
 
-pub only_memory : (r : Refusal) → IsOfOpening r → (r ≡ refusal.BadSchema → ⊥) → (r ≡ refusal.Device → ⊥) → r ≡ refusal.Memory
+pub only_memory : (r : Refusal) → IsOfOpening r → (r ≡ refusal.BadSchema → ⊥) → (r ≡ refusal.Device → ⊥)
+    → r ≡ refusal.Memory
 only_memory refusal.Device opening bad device = absurd (device refl)
 only_memory refusal.Memory opening bad device = refl
 only_memory refusal.BadSchema opening bad device = absurd (bad refl)
@@ -143,9 +162,12 @@ only_memory refusal.NoTeam opening bad device = absurd opening
 
 -- nothing hinders a call on a new connection in memory, and no table of it is vast
 pub memory_unhindered : (old new : Held MemStore) → IsEmpty (state over_memory old) → IsNew old
-    → IsTrue old.in_transaction ⊎ (IsHindered (state over_memory old) (state over_memory new) ⊎ IsVast (state over_memory old).now) → ⊥
+    → IsTrue old.in_transaction
+    ⊎ (IsHindered (state over_memory old) (state over_memory new) ⊎ IsVast (state over_memory old).now) → ⊥
 memory_unhindered old new empty fresh (inl inside) = true≢false (sym inside ∙ fresh.autocommit)
 memory_unhindered old new empty fresh (inr (inl (inl shut))) = true≢false (sym empty.0.is_open ∙ shut)
-memory_unhindered old new empty fresh (inr (inl (inr (inl limited)))) = true≢false (sym (subst IsSome fresh.unlimited limited))
+memory_unhindered old new empty fresh (inr (inl (inr (inl limited)))) =
+    true≢false (sym (subst IsSome fresh.unlimited limited))
 memory_unhindered old new empty fresh (inr (inl (inr (inr faults)))) = omega (arith, faults)
-memory_unhindered old new empty fresh (inr (inr vast)) = let e : ◌≡◌ {A = Schema} store_schema no_schema = sym vast.schema ∙ empty.2 in absurd (let t = ap (λ (s : Schema). s.tables) e in cc)
+memory_unhindered old new empty fresh (inr (inr vast)) = let e : ◌≡◌ {A = Schema} store_schema no_schema =
+    sym vast.schema ∙ empty.2 in absurd (let t = ap (λ (s : Schema). s.tables) e in cc)

@@ -12,7 +12,8 @@ use Rattle.kept.specs.Zips.{IsZipAt}
 use Rattle.kept.proofs.ZipLemmas.{stands_on}
 
 -- what is seen without the shelf is what is seen without the zip
-pub heading_seen : (seen : Option Seen) → option_map (λ (it : SeenHeading). it.heading) (seen_heading seen) ≡ without_zip seen
+pub heading_seen : (seen : Option Seen)
+    → option_map (λ (it : SeenHeading). it.heading) (seen_heading seen) ≡ without_zip seen
 heading_seen None = refl
 heading_seen (Some e) = refl
 
@@ -22,18 +23,22 @@ none_seen None is = refl
 none_seen (Some e) is = cc is
 
 -- a heading that is seen, with the cached zip of its place, is the entry that is seen
-pub whole : (w : World) (ss : List (List ℕ)) (p v : List ℕ) (h : SeenHeading) (zip : List ℕ) → Some h ≡ seen_heading (first_on w ss p v) → IsZipAt w (place h.shelf p v) zip
+pub whole : (w : World) (ss : List (List ℕ)) (p v : List ℕ) (h : SeenHeading) (zip : List ℕ)
+    → Some h ≡ seen_heading (first_on w ss p v) → IsZipAt w (place h.shelf p v) zip
     → Some (record { shelf = h.shelf; entry = entry_with h.heading zip }) ≡ first_on w ss p v
 whole w ss p v h zip = go (first_on w ss p v) refl
   where
     go : (seen : Option Seen) → first_on w ss p v ≡ seen → Some h ≡ seen_heading (first_on w ss p v)
-        → IsZipAt w (place h.shelf p v) zip → Some (record { shelf = h.shelf; entry = entry_with h.heading zip }) ≡ first_on w ss p v
+        → IsZipAt w (place h.shelf p v) zip
+        → Some (record { shelf = h.shelf; entry = entry_with h.heading zip }) ≡ first_on w ss p v
     go None is found kept = let never : Some h ≡ None = found ∙ ap seen_heading is in cc never
     go (Some e) is found kept =
         let same : h ≡ record { shelf = e.shelf; heading = heading_of e.entry } =
-        let it : Some h ≡ Some (record { shelf = e.shelf; heading = heading_of e.entry }) = found ∙ ap seen_heading is in cc it in
+        let it : Some h ≡ Some (record { shelf = e.shelf; heading = heading_of e.entry }) = found
+        ∙ ap seen_heading is in cc it in
         let at = stands_on w ss p v (Some e) is in
-        let stored : Some kept.0 ≡ Some e.entry = sym kept.1 ∙ (ap (λ (g : SeenHeading). map.get w.entries (place g.shelf p v)) same ∙ at) in
+        let stored : Some kept.0 ≡ Some e.entry = sym kept.1
+        ∙ (ap (λ (g : SeenHeading). map.get w.entries (place g.shelf p v)) same ∙ at) in
         let entry : kept.0 ≡ e.entry = cc stored in
         let zips : zip ≡ e.entry.zip = sym kept.2 ∙ ap (λ (x : Entry). x.zip) entry in
         ap (λ (g : SeenHeading). Some (record { shelf = g.shelf; entry = entry_with g.heading zip })) same

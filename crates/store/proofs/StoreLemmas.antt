@@ -1,5 +1,6 @@
 -- Calls on the tables as calls of a store.
-use Rattle.std.proofs.Common.{ℕ, List, [], ◌∷◌, ◌≡◌, ◌≤◌, false, Option, None, Result, Ok, Err, IsErr, true≢false, inl, inr, refl, sym, ap, subst, ◌∙◌, is_ok, arith}
+use Rattle.std.proofs.Common.{ℕ, List, [], ◌∷◌, ◌≡◌, ◌≤◌, false, Option, None, Result, Ok, Err, IsErr, true≢false, inl}
+use Rattle.std.proofs.Common.{inr, refl, sym, ap, subst, ◌∙◌, is_ok, arith}
 use Rattle.std.specs.FinMap as map
 use Rattle.std.specs.Prelude.{IfOk, OnOk, OnErr, IsErrAnd}
 use Rattle.std.proofs.lemmas.Result.{err_from_is_err_and}
@@ -13,7 +14,8 @@ use Rattle.world.specs.Store.{Shown, Does, DoesWhere, DoesAt, Reads, HasCause}
 use Rattle.world.specs.declared.registry.Registered.{Registered}
 use Rattle.world.specs.declared.registry.Registered.TheVariants.{Done, Name, Taken, NoTeam, NoKey, NoGroup}
 use Rattle.world.specs.declared.entry.Right.{Right}
-use Rattle.world.specs.Registry.{team_added, group_added, key_added, after_team_add, after_group_add, after_key_add, after_key_revoke}
+use Rattle.world.specs.Registry.{team_added, group_added, key_added, after_team_add, after_group_add, after_key_add}
+use Rattle.world.specs.Registry.{after_key_revoke}
 use Rattle.world.proofs.Causes.{answers, lacks_memory, handed_on, in_turn}
 use Rattle.world.proofs.Sound.{new_team, new_group}
 use Rattle.tables.specs.Means.{Stands, StandsFor}
@@ -39,7 +41,8 @@ narrow s w only db may = let it = only db may in (it.0, it.1, elim it.2 [ inl e 
 -- ---- failures that are counted
 
 -- a call has the cause of what it counted
-pub counted_cause : {T : Type 0} (old new : Shown) (given : Result T Error) (r : Result T StoreFault) → IsCounted old.failures new.failures given r → HasCause old new r
+pub counted_cause : {T : Type 0} (old new : Shown) (given : Result T Error) (r : Result T StoreFault)
+    → IsCounted old.failures new.failures given r → HasCause old new r
 counted_cause old new given r counted = record { no_fewer = counted.no_fewer; device = counted.device }
 
 -- a fault that is handed on is counted as before
@@ -50,7 +53,8 @@ counted_on before now given fault r on counted =
     subst (IsCounted before now given) (sym (it.1 ∙ ap (λ e. Err e) it.2)) counted
 
 -- what holds of the answer holds of what was counted
-counted_ok : {T : Type 0} (given : Result T Error) (r : Result T StoreFault) (P : T → Type 0) → IfOk r (λ x. given ≡ Ok x) → IfOk given P → IfOk r P
+counted_ok : {T : Type 0} (given : Result T Error) (r : Result T StoreFault) (P : T → Type 0)
+    → IfOk r (λ x. given ≡ Ok x) → IfOk given P → IfOk r P
 counted_ok given (Ok x) P same holds = subst (λ g. IfOk g P) same holds
 counted_ok given (Err e) P same holds = tt
 
@@ -58,7 +62,8 @@ not_ok : {T : Type 0} (given : Result T Error) → IsErr given → is_ok given �
 not_ok (Ok x) is = absurd (true≢false (sym is))
 not_ok (Err e) is = refl
 
-counted_end : {T : Type 0} (before now : ℕ) (given : Result T Error) (r : Result T StoreFault) → IsCounted before now given r → is_ok given ≡ is_ok r
+counted_end : {T : Type 0} (before now : ℕ) (given : Result T Error) (r : Result T StoreFault)
+    → IsCounted before now given r → is_ok given ≡ is_ok r
 counted_end before now given (Ok x) counted = ap is_ok counted.ok
 counted_end before now given (Err e) counted = not_ok given counted.err
 
@@ -69,8 +74,10 @@ no_answer P (Err e) failed = tt
 
 module _ {T : Type 0} (old new : State) (kept after : Kept) (before now : ℕ) where
   -- a read of the tables, which may cache what it found
-  pub reads_keeping : (r : Result T StoreFault) (value : World → T) → Spares old new → HasCause (shown_with old kept before) (shown_with new after now) r
-      → (HasCleanDisk new → (w : World) → StandsFor old w → AreKept w kept → IfOk r (λ x. x ≡ value w) × AreKept w after)
+  pub reads_keeping : (r : Result T StoreFault) (value : World → T) → Spares old new
+      → HasCause (shown_with old kept before) (shown_with new after now) r
+      → (HasCleanDisk new → (w : World) → StandsFor old w → AreKept w kept
+      → IfOk r (λ x. x ≡ value w) × AreKept w after)
       → Reads (shown_with old kept before) (shown_with new after now) r value
   reads_keeping r value spares cause found = record {
     honest = was_clean old new spares.clean;
@@ -83,9 +90,11 @@ module _ {T : Type 0} (old new : State) (kept after : Kept) (before now : ℕ) w
   }
 
   -- a change of the tables, whose error is counted
-  pub changes : (given : Result T Error) (r : Result T StoreFault) (fits : World → Type 0) (value : World → T) (next : World → World)
+  pub changes : (given : Result T Error) (r : Result T StoreFault) (fits : World → Type 0) (value : World → T)
+      (next : World → World)
       → IsCounted before now given r → doubt old.is_clean ≤ doubt new.is_clean
-      → (HasCleanDisk new → (w : World) → StandsFor old w → fits w → IfOk given (λ x. x ≡ value w) × ChangesAt old new (is_ok given) w (next w) × IsWorld (next w))
+      → (HasCleanDisk new → (w : World) → StandsFor old w → fits w
+      → IfOk given (λ x. x ≡ value w) × ChangesAt old new (is_ok given) w (next w) × IsWorld (next w))
       → ((w : World) → fits w → AreKept w kept → OnOk r (AreKept (next w) after) × OnErr r (AreKept w after))
       → DoesWhere fits (shown_with old kept before) (shown_with new after now) r value next
   changes given r fits value next counted up done right = record {
@@ -93,13 +102,16 @@ module _ {T : Type 0} (old new : State) (kept after : Kept) (before now : ℕ) w
     at = λ clean w stands fit.
         let it = done clean w stands.0 fit in
         changed r clean w stands.0 (value w) (next w) (counted_ok given r (λ x. x ≡ value w) counted.ok it.0)
-        (subst (λ b. ChangesAt old new b w (next w)) (counted_end before now given r counted) it.1) it.2 (right w fit stands.1);
+        (subst (λ b. ChangesAt old new b w (next w)) (counted_end before now given r counted) it.1) it.2
+        (right w fit stands.1);
     cause = counted_cause _ _ given r counted;
   }
     where
       -- a change of one world, done if the result is Ok, is what `DoesAt` says
-      changed : (r : Result T StoreFault) → HasCleanDisk new → (w : World) → StandsFor old w → (value : T) (next : World) → IfOk r (λ x. x ≡ value) → ChangesAt old new (is_ok r) w next → IsWorld next
-          → OnOk r (AreKept next after) × OnErr r (AreKept w after) → DoesAt (shown_with old kept before) (shown_with new after now) w r value next
+      changed : (r : Result T StoreFault) → HasCleanDisk new → (w : World) → StandsFor old w
+          → (value : T) (next : World) → IfOk r (λ x. x ≡ value) → ChangesAt old new (is_ok r) w next → IsWorld next
+          → OnOk r (AreKept next after) × OnErr r (AreKept w after)
+          → DoesAt (shown_with old kept before) (shown_with new after now) w r value next
       changed (Ok x) clean w stands value next answer change is right = record {
         answer = answer;
         ok = ((change.world stands.0, is), right.0);
@@ -119,19 +131,26 @@ module _ {T : Type 0} (old new : State) (kept after : Kept) (before now : ℕ) w
           either = λ only. change.left clean stands.0 (narrow old w only);
           alone = λ _. tt;
           settled = tt;
-          failed = elim (change.failed refl clean stands.0) [ inl only ↦ inl only | inr none ↦ inr (λ x y only db may. only db (none db may)) ];
+          failed = elim (change.failed refl clean stands.0) [
+            | inl only ↦ inl only
+            | inr none ↦ inr (λ x y only db may. only db (none db may))
+          ];
         };
       }
 
   -- a change of the tables whose error is counted and handed on
-  pub changes_failed : (given : Result T Error) (fault : StoreFault) (r : Result T StoreFault) (fits : World → Type 0) (value : World → T) (next : World → World)
-      → IsErr r × IsErrAnd r (λ e. e ≡ fault) → IsCounted before now given (Err fault) → doubt old.is_clean ≤ doubt new.is_clean
-      → (HasCleanDisk new → (w : World) → StandsFor old w → fits w → IfOk given (λ x. x ≡ value w) × ChangesAt old new (is_ok given) w (next w) × IsWorld (next w))
+  pub changes_failed : (given : Result T Error) (fault : StoreFault) (r : Result T StoreFault) (fits : World → Type 0)
+      (value : World → T) (next : World → World)
+      → IsErr r × IsErrAnd r (λ e. e ≡ fault) → IsCounted before now given (Err fault)
+      → doubt old.is_clean ≤ doubt new.is_clean
+      → (HasCleanDisk new → (w : World) → StandsFor old w → fits w
+      → IfOk given (λ x. x ≡ value w) × ChangesAt old new (is_ok given) w (next w) × IsWorld (next w))
       → ((w : World) → fits w → AreKept w kept → AreKept w after)
       → DoesWhere fits (shown_with old kept before) (shown_with new after now) r value next
   changes_failed given fault (Ok x) fits value next failed counted up done right = absurd failed.1
   changes_failed given fault (Err e) fits value next failed counted up done right =
-      changes given (Err e) fits value next (subst (λ f. IsCounted before now given (Err f)) (sym failed.1) counted) up done (λ w fit was. (tt, right w fit was))
+      changes given (Err e) fits value next (subst (λ f. IsCounted before now given (Err f)) (sym failed.1) counted) up
+      done (λ w fit was. (tt, right w fit was))
 
 pub answer_unit : (r : Result (Unit {0}) Error) → IfOk r (λ x. x ≡ tt)
 answer_unit (Ok x) = refl
@@ -143,77 +162,102 @@ by_result (Ok x) a b = (a, tt)
 by_result (Err e) a b = (tt, b)
 
 -- a read of the tables that caches nothing
-pub reads : {T : Type 0} (old new : State) (kept : Kept) (before now : ℕ) (r : Result T StoreFault) (value : World → T) → Spares old new
-    → HasCause (shown_with old kept before) (shown_with new kept now) r → (HasCleanDisk new → (w : World) → StandsFor old w → IfOk r (λ x. x ≡ value w))
+pub reads : {T : Type 0} (old new : State) (kept : Kept) (before now : ℕ) (r : Result T StoreFault) (value : World → T)
+    → Spares old new
+    → HasCause (shown_with old kept before) (shown_with new kept now) r
+    → (HasCleanDisk new → (w : World) → StandsFor old w → IfOk r (λ x. x ≡ value w))
     → Reads (shown_with old kept before) (shown_with new kept now) r value
 reads old new kept before now r value spares cause answer =
-    reads_keeping old new kept kept before now r value spares cause (λ clean w stands right. (answer clean w stands, right))
+    reads_keeping old new kept kept before now r value spares cause
+    (λ clean w stands right. (answer clean w stands, right))
 
 -- a read of the tables whose error is counted, and that caches nothing
-pub reads_counted : {T : Type 0} (old new : State) (kept : Kept) (before now : ℕ) (given : Result T Error) (r : Result T StoreFault) (value : World → T)
-    → Spares old new → IsCounted before now given r → (HasCleanDisk new → (w : World) → Stands old w → IfOk given (λ x. x ≡ value w))
+pub reads_counted : {T : Type 0} (old new : State) (kept : Kept) (before now : ℕ) (given : Result T Error)
+    (r : Result T StoreFault) (value : World → T)
+    → Spares old new → IsCounted before now given r
+    → (HasCleanDisk new → (w : World) → Stands old w → IfOk given (λ x. x ≡ value w))
     → Reads (shown_with old kept before) (shown_with new kept now) r value
 reads_counted old new kept before now given r value spares counted answer =
     reads old new kept before now r value spares (counted_cause _ _ given r counted)
     (λ clean w stands. counted_ok given r (λ x. x ≡ value w) counted.ok (answer clean w stands.0))
 
 -- a read of the tables whose error is counted and handed on, and that caches nothing
-pub reads_counted_none : {T : Type 0} (old new : State) (kept : Kept) (before now : ℕ) (given : Result T Error) (fault : StoreFault) (r : Result T StoreFault) (value : World → T)
-    → Spares old new → IsErr r × IsErrAnd r (λ e. e ≡ fault) → IsCounted before now given (Err fault) → Reads (shown_with old kept before) (shown_with new kept now) r value
+pub reads_counted_none : {T : Type 0} (old new : State) (kept : Kept) (before now : ℕ) (given : Result T Error)
+    (fault : StoreFault) (r : Result T StoreFault) (value : World → T)
+    → Spares old new → IsErr r × IsErrAnd r (λ e. e ≡ fault) → IsCounted before now given (Err fault)
+    → Reads (shown_with old kept before) (shown_with new kept now) r value
 reads_counted_none old new kept before now given fault r value spares failed counted =
-    reads old new kept before now r value spares (counted_cause _ _ given r (counted_on before now given fault r failed.1 counted))
+    reads old new kept before now r value spares
+    (counted_cause _ _ given r (counted_on before now given fault r failed.1 counted))
     (λ _ w _. no_answer (λ x. x ≡ value w) r failed.0)
 
 -- a read of what is cached, with no call on the tables
 pub reads_kept : {T : Type 0} (old : State) (kept after : Kept) (count : ℕ) (x : T) (value : World → T)
-    → ((w : World) → AreKept w kept → (x ≡ value w) × AreKept w after) → Reads (shown_with old kept count) (shown_with old after count) (Ok x) value
+    → ((w : World) → AreKept w kept → (x ≡ value w) × AreKept w after)
+    → Reads (shown_with old kept count) (shown_with old after count) (Ok x) value
 reads_kept old kept after count x value found = record {
   honest = λ clean. clean;
-  at = λ clean w stands. let it = found w stands.1 in record { answer = it.0; stays = (stands.0, it.1); left = λ _ _ only. only };
+  at = λ clean w stands. let it = found w stands.1 in
+      record { answer = it.0; stays = (stands.0, it.1); left = λ _ _ only. only };
   cause = answers _ _ x (omega arith);
 }
 
 -- a read stays one if the cache then changes and is still right
-pub reads_then : {T : Type 0} (start : Shown) (new : State) (kept after : Kept) (count : ℕ) (r : Result T StoreFault) (value : World → T) → Reads start (shown_with new kept count) r value
-    → (HasCleanDisk new → (w : World) → start.stands w → AreKept w kept → AreKept w after) → Reads start (shown_with new after count) r value
+pub reads_then : {T : Type 0} (start : Shown) (new : State) (kept after : Kept) (count : ℕ) (r : Result T StoreFault)
+    (value : World → T) → Reads start (shown_with new kept count) r value
+    → (HasCleanDisk new → (w : World) → start.stands w → AreKept w kept → AreKept w after)
+    → Reads start (shown_with new after count) r value
 reads_then start new kept after count r value read right = record {
   honest = read.honest;
-  at = λ clean w stands. let says = read.at clean w stands in record { answer = says.answer; stays = (says.stays.0, right clean w stands says.stays.1); left = says.left };
+  at = λ clean w stands. let says = read.at clean w stands in
+      record { answer = says.answer; stays = (says.stays.0, right clean w stands says.stays.1); left = says.left };
   cause = record { no_fewer = read.cause.no_fewer; device = read.cause.device };
 }
 
 -- what is made of a value that was read
-pub reads_as : {T U : Type 0} (start end : Shown) (f : T → U) (x : T) (y : U) (value : World → T) (other : World → U) → y ≡ f x → ((w : World) → f (value w) ≡ other w)
+pub reads_as : {T U : Type 0} (start end : Shown) (f : T → U) (x : T) (y : U) (value : World → T) (other : World → U)
+    → y ≡ f x → ((w : World) → f (value w) ≡ other w)
     → Reads start end (Ok x) value → Reads start end (Ok y) other
 reads_as start end f x y value other made same read = record {
   honest = read.honest;
-  at = λ clean w stands. let says = read.at clean w stands in record { answer = made ∙ (ap f says.answer ∙ same w); stays = says.stays; left = says.left };
+  at = λ clean w stands. let says = read.at clean w stands in
+      record { answer = made ∙ (ap f says.answer ∙ same w); stays = says.stays; left = says.left };
   cause = answers start end y read.cause.no_fewer;
 }
 
 -- if a read on the way fails, the whole read fails
-pub reads_failed : {T U : Type 0} (start end : Shown) (fault : StoreFault) (s : Result U StoreFault) (value : World → T) (other : World → U)
+pub reads_failed : {T U : Type 0} (start end : Shown) (fault : StoreFault) (s : Result U StoreFault) (value : World → T)
+    (other : World → U)
     → IsErr s × IsErrAnd s (λ e. e ≡ fault) → Reads start end (Err fault) value → Reads start end s other
 reads_failed start end fault s value other failed read = record {
   honest = read.honest;
-  at = λ clean w stands. let says = read.at clean w stands in record { answer = no_answer (λ x. x ≡ other w) s failed.0; stays = says.stays; left = says.left };
+  at = λ clean w stands. let says = read.at clean w stands in
+      record { answer = no_answer (λ x. x ≡ other w) s failed.0; stays = says.stays; left = says.left };
   cause = handed_on start end fault s failed.1 read.cause;
 }
 
 -- a read after a read, of which the second fails, is one that fails
-pub reads_failed_next : {T U V : Type 0} (start mid end : Shown) (x : T) (fault : StoreFault) (s : Result V StoreFault) (value : World → T) (next : World → U) (other : World → V)
-    → IsErr s × IsErrAnd s (λ e. e ≡ fault) → Reads start mid (Ok x) value → Reads mid end (Err fault) next → Reads start end s other
+pub reads_failed_next : {T U V : Type 0} (start mid end : Shown) (x : T) (fault : StoreFault) (s : Result V StoreFault)
+    (value : World → T) (next : World → U) (other : World → V)
+    → IsErr s × IsErrAnd s (λ e. e ≡ fault) → Reads start mid (Ok x) value → Reads mid end (Err fault) next
+    → Reads start end s other
 reads_failed_next start mid end x fault s value next other failed read then = record {
   honest = λ h. read.honest (then.honest h);
   at = λ h w stands.
       let says = read.at (then.honest h) w stands in
       let seen = then.at h w says.stays in
-      record { answer = no_answer (λ y. y ≡ other w) s failed.0; stays = seen.stays; left = λ x y was. seen.left x y (says.left x y was) };
+      record {
+        answer = no_answer (λ y. y ≡ other w) s failed.0;
+        stays = seen.stays;
+        left = λ x y was.
+            seen.left x y (says.left x y was);
+      };
   cause = in_turn start mid end x s read.cause (handed_on mid end fault s failed.1 then.cause);
 }
 
 -- a read after a read of something else
-pub reads_next : {T U : Type 0} (start mid end : Shown) (x : T) (r : Result U StoreFault) (value : World → T) (next : World → U)
+pub reads_next : {T U : Type 0} (start mid end : Shown) (x : T) (r : Result U StoreFault) (value : World → T)
+    (next : World → U)
     → Reads start mid (Ok x) value → Reads mid end r next → Reads start end r next
 reads_next start mid end x r value next read then = record {
   honest = λ h. read.honest (then.honest h);
@@ -225,47 +269,63 @@ reads_next start mid end x r value next read then = record {
 }
 
 -- two reads, after which memory runs out, are one that fails
-pub reads_no_memory : {T U V : Type 0} (start mid end : Shown) (x : T) (y : U) (s : Result V StoreFault) (value : World → T) (next : World → U) (other : World → V)
-    → IsErr s × IsErrAnd s (λ e. e ≡ Memory) → Reads start mid (Ok x) value → Reads mid end (Ok y) next → Reads start end s other
+pub reads_no_memory : {T U V : Type 0} (start mid end : Shown) (x : T) (y : U) (s : Result V StoreFault)
+    (value : World → T) (next : World → U) (other : World → V)
+    → IsErr s × IsErrAnd s (λ e. e ≡ Memory) → Reads start mid (Ok x) value → Reads mid end (Ok y) next
+    → Reads start end s other
 reads_no_memory start mid end x y s value next other failed read then = record {
   honest = λ h. read.honest (then.honest h);
   at = λ h w stands.
       let says = read.at (then.honest h) w stands in
       let seen = then.at h w says.stays in
-      record { answer = no_answer (λ z. z ≡ other w) s failed.0; stays = seen.stays; left = λ x y was. seen.left x y (says.left x y was) };
-  cause = in_turn start mid end x s read.cause (handed_on {T = ℕ} mid end Memory s failed.1 (lacks_memory mid end then.cause.no_fewer));
+      record {
+        answer = no_answer (λ z. z ≡ other w) s failed.0;
+        stays = seen.stays;
+        left = λ x y was.
+            seen.left x y (says.left x y was);
+      };
+  cause = in_turn start mid end x s read.cause
+      (handed_on {T = ℕ} mid end Memory s failed.1 (lacks_memory mid end then.cause.no_fewer));
 }
 
 -- a read with less in the cache is a read, if what remains in it is right
-pub reads_with_less : {T : Type 0} (old : State) (kept less : Kept) (count : ℕ) (end : Shown) (r : Result T StoreFault) (value : World → T) → ((w : World) → AreKept w kept → AreKept w less)
+pub reads_with_less : {T : Type 0} (old : State) (kept less : Kept) (count : ℕ) (end : Shown) (r : Result T StoreFault)
+    (value : World → T) → ((w : World) → AreKept w kept → AreKept w less)
     → Reads (shown_with old less count) end r value → Reads (shown_with old kept count) end r value
 reads_with_less old kept less count end r value right read = record {
   honest = read.honest;
-  at = λ clean w stands. let says = read.at clean w (stands.0, right w stands.1) in record { answer = says.answer; stays = says.stays; left = says.left };
+  at = λ clean w stands. let says = read.at clean w (stands.0, right w stands.1) in
+      record { answer = says.answer; stays = says.stays; left = says.left };
   cause = record { no_fewer = read.cause.no_fewer; device = read.cause.device };
 }
 
 -- a read of a shelf's group, and then a read of the tables along its chain, whose error is counted, is one read
 pub reads_along : {T : Type 0} (start : Shown) (mid new : State) (kept : Kept) (before now : ℕ) (shelf : List ℕ)
-    (group : Option (List ℕ)) (shelves : List (List ℕ)) (given : Result T Error) (r : Result T StoreFault) (value : World → List (List ℕ) → T)
-    → shelves ≡ shelf ∷ above group → Reads start (shown_with mid kept before) (Ok group) (λ w. group_of w shelf) → Spares mid new → IsCounted before now given r
-    → (HasCleanDisk new → (w : World) → Stands mid w → IfOk given (λ x. x ≡ value w shelves)) → Reads start (shown_with new kept now) r (λ w. value w (chain w shelf))
+    (group : Option (List ℕ)) (shelves : List (List ℕ)) (given : Result T Error) (r : Result T StoreFault)
+    (value : World → List (List ℕ) → T)
+    → shelves ≡ shelf ∷ above group → Reads start (shown_with mid kept before) (Ok group) (λ w. group_of w shelf)
+    → Spares mid new → IsCounted before now given r
+    → (HasCleanDisk new → (w : World) → Stands mid w → IfOk given (λ x. x ≡ value w shelves))
+    → Reads start (shown_with new kept now) r (λ w. value w (chain w shelf))
 reads_along start mid new kept before now shelf group shelves given r value along read spares counted answer = record {
   honest = λ clean. read.honest (was_clean mid new spares.clean clean);
   at = λ clean w stands.
       let says = read.at (was_clean mid new spares.clean clean) w stands in
       let same : shelves ≡ chain w shelf = along ∙ ap (λ o. shelf ∷ above o) says.answer in
       record {
-        answer = subst (λ ss. IfOk r (λ x. x ≡ value w ss)) same (counted_ok given r (λ x. x ≡ value w shelves) counted.ok (answer clean w says.stays.0.0));
+        answer = subst (λ ss. IfOk r (λ x. x ≡ value w ss)) same
+            (counted_ok given r (λ x. x ≡ value w shelves) counted.ok (answer clean w says.stays.0.0));
         stays = ((spares.stays w says.stays.0.0, says.stays.0.1), says.stays.1);
         left = λ x y only db may. says.left x y only db (spares.left clean w says.stays.0.0 db may);
       };
-  cause = in_turn start (shown_with mid kept before) (shown_with new kept now) group r read.cause (counted_cause _ _ given r counted);
+  cause = in_turn start (shown_with mid kept before) (shown_with new kept now) group r read.cause
+      (counted_cause _ _ given r counted);
 }
 
 -- a change that is refused without a call on the tables
 pub refused : {T : Type 0} (old : State) (kept : Kept) (count : ℕ) (x : T) (value : World → T) (next : World → World)
-    → ((w : World) → (x ≡ value w) × (w ≡ next w)) → Does (shown_with old kept count) (shown_with old kept count) (Ok x) value next
+    → ((w : World) → (x ≡ value w) × (w ≡ next w))
+    → Does (shown_with old kept count) (shown_with old kept count) (Ok x) value next
 refused old kept count x value next same = record {
   honest = λ clean. clean;
   at = λ clean w stands _. record {
@@ -282,14 +342,22 @@ refused old kept count x value next same = record {
   cause = answers _ _ x (omega arith);
 }
 
--- ---- the commands of the registry leave the cache as it is, except for lists, headings and absences when a team is added, and for keys when one is revoked
+-- ---- the commands of the registry leave the cache as it is, except for lists, headings and absences when a team is
+-- added, and for keys when one is revoked
 
 module _ (w : World) (kept : Kept) (right : AreKept w kept) where
-  module _ (lists : Lists) (headings : Held KeptHeading) (absences : Lacking) (none : lists ≡ []) (none_too : headings ≡ []) (none_absences : absences ≡ map.empty) where
+  module _ (lists : Lists) (headings : Held KeptHeading) (absences : Lacking) (none : lists ≡ [])
+      (none_too : headings ≡ []) (none_absences : absences ≡ map.empty) where
     pub kept_but_lists : AreKept w (record kept { lists = lists; headings = headings; absences = absences })
-    kept_but_lists = (right.0, no_lists w lists none, (right.2.0, none_absent w absences none_absences), (right.3.0, none_held _ headings none_too, right.3.2))
+    kept_but_lists = (
+      right.0,
+      no_lists w lists none,
+      (right.2.0, none_absent w absences none_absences),
+      (right.3.0, none_held _ headings none_too, right.3.2),
+    )
 
-    kept_with_shelf : (s : List ℕ) (parent : Option (List ℕ)) → map.contains_key w.shelves s ≡ false → AreKept (with_shelf w s parent) (record kept { lists = lists; headings = headings; absences = absences })
+    kept_with_shelf : (s : List ℕ) (parent : Option (List ℕ)) → map.contains_key w.shelves s ≡ false
+        → AreKept (with_shelf w s parent) (record kept { lists = lists; headings = headings; absences = absences })
     kept_with_shelf s parent free = (
       right.0,
       no_lists (with_shelf w s parent) lists none,
@@ -298,7 +366,8 @@ module _ (w : World) (kept : Kept) (right : AreKept w kept) where
     )
 
     pub kept_after_team : (name : List ℕ) (group : Option (List ℕ)) (r : Registered) → team_added w name group ≡ r
-        → AreKept (after_team_add w name group r) (record kept { lists = lists; headings = headings; absences = absences })
+        → AreKept (after_team_add w name group r)
+        (record kept { lists = lists; headings = headings; absences = absences })
     kept_after_team name group Done is = kept_with_shelf name _ (new_team w name group is).1
     kept_after_team name group Name is = kept_but_lists
     kept_after_team name group Taken is = kept_but_lists
@@ -306,7 +375,8 @@ module _ (w : World) (kept : Kept) (right : AreKept w kept) where
     kept_after_team name group NoKey is = kept_but_lists
     kept_after_team name group NoGroup is = kept_but_lists
 
-  pub kept_after_group : (name : List ℕ) (r : Registered) → group_added w name ≡ r → AreKept (after_group_add w name r) kept
+  pub kept_after_group : (name : List ℕ) (r : Registered) → group_added w name ≡ r
+      → AreKept (after_group_add w name r) kept
   kept_after_group name Done is =
       let free = (new_group w name is).1 in (
         right.0,
@@ -320,8 +390,10 @@ module _ (w : World) (kept : Kept) (right : AreKept w kept) where
   kept_after_group name NoKey is = right
   kept_after_group name NoGroup is = right
 
-  pub kept_after_key : (shelf key : List ℕ) (may : Right) (r : Registered) → key_added w shelf key ≡ r → AreKept (after_key_add w shelf key may r) kept
-  kept_after_key shelf key may Done is = (right.0, right.1, right.2, (right.3.0, right.3.1, keys_still w shelf key _ is kept.keys right.3.2))
+  pub kept_after_key : (shelf key : List ℕ) (may : Right) (r : Registered) → key_added w shelf key ≡ r
+      → AreKept (after_key_add w shelf key may r) kept
+  kept_after_key shelf key may Done is =
+      (right.0, right.1, right.2, (right.3.0, right.3.1, keys_still w shelf key _ is kept.keys right.3.2))
   kept_after_key shelf key may Name is = right
   kept_after_key shelf key may Taken is = right
   kept_after_key shelf key may NoTeam is = right
@@ -332,7 +404,8 @@ module _ (w : World) (kept : Kept) (right : AreKept w kept) where
     pub kept_but_keys : AreKept w (record kept { keys = keys })
     kept_but_keys = (right.0, right.1, right.2, (right.3.0, right.3.1, none_held _ keys none))
 
-    pub kept_after_revoke : (key : List ℕ) (r : Registered) → AreKept (after_key_revoke w key r) (record kept { keys = keys })
+    pub kept_after_revoke : (key : List ℕ) (r : Registered)
+        → AreKept (after_key_revoke w key r) (record kept { keys = keys })
     kept_after_revoke key Done = (right.0, right.1, right.2, (right.3.0, right.3.1, none_held _ keys none))
     kept_after_revoke key Name = kept_but_keys
     kept_after_revoke key Taken = kept_but_keys

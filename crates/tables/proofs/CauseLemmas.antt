@@ -1,6 +1,8 @@
 -- Why a statement that makes the tables fails.
-use Rattle.std.proofs.Common.{◌≡◌, ◌<◌, ◌≤◌, ◌/◌, suc, take, drop, slice_get, ◌⊎◌, ◌||◌, ◌+◌, ◌*◌, ◌^◌, ℕ, Bool, true, false, List, [], ◌∷◌, length, Option}
-use Rattle.std.proofs.Common.{Some, None, Ok, Err, Result, inl, inr, refl, sym, ap, subst, subst₂, ◌∙◌, codes, arith, IsTrue, true≢false, nat_lt, ltb-true}
+use Rattle.std.proofs.Common.{◌≡◌, ◌<◌, ◌≤◌, ◌/◌, suc, take, drop, slice_get, ◌⊎◌, ◌||◌, ◌+◌, ◌*◌, ◌^◌, ℕ, Bool, true}
+use Rattle.std.proofs.Common.{false, List, [], ◌∷◌, length, Option}
+use Rattle.std.proofs.Common.{Some, None, Ok, Err, Result, inl, inr, refl, sym, ap, subst, subst₂, ◌∙◌, codes, arith}
+use Rattle.std.proofs.Common.{IsTrue, true≢false, nat_lt, ltb-true}
 use Rattle.std.specs.Prelude.{IsSome}
 use Rattle.std.specs.List.{list_all, AllByRecursion}
 use Rattle.std.specs.Str.{IsUtf8}
@@ -31,7 +33,8 @@ use Rattle.sqlite.specs.Rows.{Then, stamped}
 use Rattle.sqlite.specs.declared.error.Error.{Error}
 use Rattle.sqlite.specs.Clock.{timed}
 use Rattle.sqlite.specs.Listing.{understood}
-use Rattle.sqlite.specs.State.{State, Fails, HasCause, IsNotRun, IsMisplaced, IsUnchanged, RunsCommand, ExecutesIn, Escapes, EndsScope, Survives, shows_rows, text_of, mode_of, store_error}
+use Rattle.sqlite.specs.State.{State, Fails, HasCause, IsNotRun, IsMisplaced, IsUnchanged, RunsCommand, ExecutesIn}
+use Rattle.sqlite.specs.State.{Escapes, EndsScope, Survives, shows_rows, text_of, mode_of, store_error}
 use Rattle.sqlite.specs.Held.{Held, state}
 use Rattle.sqlite.specs.Batch.{first_len, Step, RunInTurn}
 use Rattle.sqlite.specs.Order.{Row}
@@ -51,7 +54,8 @@ use Rattle.tables.proofs.PutLemmas.{IsPuttable, insert_stops}
 use Rattle.sqlite.proofs.Callers.{IsPlain, command_of, statement_of}
 
 -- the error of a failed store is excused, if it would be for a value that cannot be stored
-pub fail_excused : (old new : State) (big : Type 0) (e : Error) → (big → IsExcused old new e) → Fails old new big e → IsExcused old new e
+pub fail_excused : (old new : State) (big : Type 0) (e : Error) → (big → IsExcused old new e) → Fails old new big e
+    → IsExcused old new e
 fail_excused old new big e small h = go h.0 h.1 h.2
   where
     go : (cause : StoreError) → e ≡ store_error cause → HasCause old new big cause → IsExcused old new e
@@ -63,7 +67,8 @@ fail_excused old new big e small h = go h.0 h.1 h.2
     go Unstorable is c = small c
 
 module _ (sql : List ℕ) (old new : State) (schema : Schema) (has : old.now.schema ≡ schema) (command : Command)
-    (is : command_of (understood schema sql) ≡ command) (plain : IsPlain (understood schema sql)) (alone : IsAlone sql (understood schema sql)) where
+    (is : command_of (understood schema sql) ≡ command) (plain : IsPlain (understood schema sql))
+    (alone : IsAlone sql (understood schema sql)) where
   -- what is not run is so for want of memory, or was hindered
   pub unrun : (e : Error) → IsNotRun old new sql [] e → IsExcused old new e
   unfolding IsNotRun
@@ -83,28 +88,34 @@ module _ (sql : List ℕ) (old new : State) (schema : Schema) (has : old.now.sch
 
   abbrev Stopped : Command → List ℕ → Error → Type 0
   Stopped k text e =
-      (IsMisplaced old k e ⊎ Does old.step_limit (mode_of old) [] old.now text None k (Err (Some e))) ⊎ Fails old new (Does old.step_limit (mode_of old) [] old.now text None k (Err None)) e
+      (IsMisplaced old k e ⊎ Does old.step_limit (mode_of old) [] old.now text None k (Err (Some e)))
+      ⊎ Fails old new (Does old.step_limit (mode_of old) [] old.now text None k (Err None)) e
 
   -- a statement of a batch that fails, or is refused
-  pub stopped_as : is_query command ≡ false → (e : Error) → ExecutesIn true sql [] old new (Err e) → IsExcused old new e ⊎ Stopped command (statement_of sql (understood schema sql)) e
+  pub stopped_as : is_query command ≡ false → (e : Error) → ExecutesIn true sql [] old new (Err e)
+      → IsExcused old new e ⊎ Stopped command (statement_of sql (understood schema sql)) e
   unfolding ExecutesIn
   stopped_as quiet e (inl h) = inl (unrun e h)
   stopped_as quiet e (inr h) =
       let known = sym h.1.is ∙ ap (λ s. understood s sql) has in
       let bare = subst IsPlain (sym known) plain in
       let same = ap command_of known ∙ is in
-      let ran : RunsCommand old new sql h.0 (timed [] h.0.formats h.1.now) (Err e) = elim (cases_Bool (shows_rows true h.0)) [
-        | inl shows ↦ absurd (let query = or_false (is_query h.0.command) shows in true≢false (sym query ∙ (ap is_query same ∙ quiet)))
+      let ran : RunsCommand old new sql h.0 (timed [] h.0.formats h.1.now) (Err e) =
+      elim (cases_Bool (shows_rows true h.0)) [
+        | inl shows ↦ absurd (let query = or_false (is_query h.0.command) shows in
+            true≢false (sym query ∙ (ap is_query same ∙ quiet)))
         | inr runs ↦ rw runs at h.2
       ] in
-      inr (subst₂ (λ k t. Stopped k t e) same (ap (statement_of sql) known) (lighter h.0.command (text_of sql h.0) _ (rw (bare.0, bare.1) at ran)))
+      inr (subst₂ (λ k t. Stopped k t e) same (ap (statement_of sql) known)
+      (lighter h.0.command (text_of sql h.0) _ (rw (bare.0, bare.1) at ran)))
     where
       or_false : (b : Bool) → (b || false) ≡ true → b ≡ true
       or_false true e = refl
       or_false false e = e
 
       lighter : (k : Command) (text : List ℕ) (Changes : Type 0)
-          → ((IsMisplaced old k e ⊎ (Changes × Does old.step_limit (mode_of old) [] old.now text None k (Err (Some e)))) × IsUnchanged old new)
+          → ((IsMisplaced old k e ⊎ (Changes × Does old.step_limit (mode_of old) [] old.now text None k (Err (Some e))))
+          × IsUnchanged old new)
           ⊎ Fails old new (Does old.step_limit (mode_of old) [] old.now text None k (Err None)) e → Stopped k text e
       lighter k text Changes (inl (inl misplaced, same)) = inl (inl misplaced)
       lighter k text Changes (inl (inr refused, same)) = inl (inr refused.1)
@@ -144,13 +155,15 @@ module _ (schema : Schema) (text : List ℕ) (table : Table) (it : IsMakeable sc
 
   -- if nothing keeps the text from making the table, it is not refused
   not_refused : (reason : alter.Refusal) → RefusesTable schema text reason → ⊥
-  not_refused (why.Invalid e) is = let d : ◌≡◌ {A = Result Table CompileError} (Err e) (Ok table) = sym is ∙ it.defined in absurd (cc)
+  not_refused (why.Invalid e) is = let d : ◌≡◌ {A = Result Table CompileError} (Err e) (Ok table) = sym is
+      ∙ it.defined in absurd (cc)
   not_refused why.NameTaken h =
       let t = same_table h.0 h.1 in
       elim h.2 [
         | inl used ↦ true≢false (sym used ∙ (ap (λ (x : Table). is_used schema x.name) t ∙ it.free))
         | inr index ↦ true≢false
-            (sym index.2 ∙ all_of (λ (i : Index). is_used schema i.name ≡ false) _ index.0 it.indexes_free (subst (λ (x : Table). Has (automatics x 0 0 x.uniques) index.0) t index.1))
+            (sym index.2 ∙ all_of (λ (i : Index). is_used schema i.name ≡ false) _ index.0 it.indexes_free
+            (subst (λ (x : Table). Has (automatics x 0 0 x.uniques) index.0) t index.1))
       ]
   not_refused why.BadName h =
       let t = same_table h.0 h.1 in
@@ -160,34 +173,46 @@ module _ (schema : Schema) (text : List ℕ) (table : Table) (it : IsMakeable sc
       ]
   not_refused why.BadKey h = true≢false (sym it.formed ∙ (ap is_formed (sym (same_table h.0 h.1)) ∙ h.2))
   not_refused why.BadText h =
-      let t = same_table h.0 h.1 in true≢false (sym it.fit ∙ (ap (λ (x : Table). is_fit (Text (codes "table")) (Text x.name) (Text x.name) (Text text)) (sym t) ∙ h.2))
+      let t = same_table h.0 h.1 in
+      true≢false (sym it.fit ∙ (ap
+      (λ (x : Table). is_fit (Text (codes "table")) (Text x.name) (Text x.name) (Text text)) (sym t) ∙ h.2))
   not_refused why.TooBig h =
       let t = same_table h.0 h.1 in
       elim h.2 [
-        | inl many ↦ (let n = subst (λ (x : Table). 65536 ≤ next_tree schema + length x.uniques) t many in let few = it.few in omega (arith, n, few))
-        | inr (inl reals) ↦ (let n = subst (λ (x : Table). 2 ^ 64 ≤ table_reals x) t reals in let few = it.reals in omega (arith, n, few))
+        | inl many ↦ (let n = subst (λ (x : Table). 65536 ≤ next_tree schema + length x.uniques) t many in let few =
+            it.few in omega (arith, n, few))
+        | inr (inl reals) ↦ (let n = subst (λ (x : Table). 2 ^ 64 ≤ table_reals x) t reals in let few = it.reals in
+            omega (arith, n, few))
         | inr (inr key) ↦ (
             let n = subst (λ (x : Table). 2 ^ 64 ≤ index_reals (table_reals x) key.0) t key.2 in
-            let few = all_of (λ k. index_reals (table_reals table) k < 2 ^ 64) table.uniques key.0 it.key_reals (subst (λ (x : Table). Has x.uniques key.0) t key.1) in
+            let few = all_of (λ k. index_reals (table_reals table) k < 2 ^ 64) table.uniques key.0 it.key_reals
+            (subst (λ (x : Table). Has x.uniques key.0) t key.1) in
             omega (arith, n, few))
       ]
   not_refused (why.Violates rule) h = h
 
   always_makes : (db : Database) → db.schema ≡ schema → (stop : Option Error) → MakesTable text db (Err stop) → ⊥
-  always_makes db has None h = let t = same_table h.0 h.1 in let n = subst (λ (x : Table). 10 ^ 9 ≤ 2 * length x.name + length text + 200) t h.2 in let few = it.short in omega (arith, n, few)
+  always_makes db has None h = let t = same_table h.0 h.1 in let n =
+      subst (λ (x : Table). 10 ^ 9 ≤ 2 * length x.name + length text + 200) t h.2 in let few = it.short in
+      omega (arith, n, few)
   always_makes db has (Some e) (inl odd) = odd.0 (is_text text it.ascii)
-  always_makes db has (Some e) (inr refused) = not_refused refused.0 (subst (λ s. RefusesTable s text refused.0) has refused.1)
+  always_makes db has (Some e) (inr refused) =
+      not_refused refused.0 (subst (λ s. RefusesTable s text refused.0) has refused.1)
 
   -- no sequence is wanted
   module _ (whole : lacks_sequence (created schema table) ≡ false) where
-    sequenced : (after : Database) → after.schema ≡ created schema table → (stop : Option Error) → MakesSequence after (Err stop) → ⊥
-    sequenced after becomes stop h = let plain : lacks_sequence after.schema ≡ false = ap lacks_sequence becomes ∙ whole in let e = rw plain at h in absurd (cc)
+    sequenced : (after : Database) → after.schema ≡ created schema table → (stop : Option Error)
+        → MakesSequence after (Err stop) → ⊥
+    sequenced after becomes stop h = let plain : lacks_sequence after.schema ≡ false = ap lacks_sequence becomes
+        ∙ whole in let e = rw plain at h in absurd (cc)
 
-    pub makes_whole : (db : Database) → db.schema ≡ schema → (stop : Option Error) → Then (MakesTable text db) MakesSequence (Err stop) → ⊥
+    pub makes_whole : (db : Database) → db.schema ≡ schema → (stop : Option Error)
+        → Then (MakesTable text db) MakesSequence (Err stop) → ⊥
     makes_whole db has stop (inl first) = always_makes db has first.0 first.1
     makes_whole db has stop (inr later) =
         let made = later.1 in
-        let becomes : later.0.schema ≡ created schema table = made.is ∙ (ap (λ s. created s made.table) has ∙ ap (created schema) (same_table made.table made.defined)) in
+        let becomes : later.0.schema ≡ created schema table = made.is
+        ∙ (ap (λ s. created s made.table) has ∙ ap (created schema) (same_table made.table made.defined)) in
         sequenced later.0 becomes stop later.2
 
 -- the command makes a table or inserts, and neither begins nor ends a transaction
@@ -210,34 +235,46 @@ well_behaved s command work (inr (name, inl is, held)) = subst DoesWork is work
 well_behaved s command work (inr (name, inr is, held)) = subst DoesWork is work
 
 module _ (schema : Schema) (sql text : List ℕ) (table : Table) (is : command_of (understood schema sql) ≡ CreateTable)
-    (plain : IsPlain (understood schema sql)) (alone : IsAlone sql (understood schema sql)) (reads : statement_of sql (understood schema sql) ≡ text)
+    (plain : IsPlain (understood schema sql)) (alone : IsAlone sql (understood schema sql))
+    (reads : statement_of sql (understood schema sql) ≡ text)
     (it : IsMakeable schema text table) (whole : lacks_sequence (created schema table) ≡ false) where
-  never_stops : (limit : Option ℕ) (db : Database) → db.schema ≡ schema → (stop : Option Error) → Does limit enforced [] db text None CreateTable (Err stop) → ⊥
+  never_stops : (limit : Option ℕ) (db : Database) → db.schema ≡ schema → (stop : Option Error)
+      → Does limit enforced [] db text None CreateTable (Err stop) → ⊥
   never_stops limit db has stop (inl stopped) = makes_whole schema text table it whole db has stopped.0 stopped.1
   never_stops limit db has stop (inr made) = let e = made.2 in absurd (cc)
 
-  pub make_excused : (old new : State) (e : Error) → old.now.schema ≡ schema → ExecutesIn true sql [] old new (Err e) → IsExcused old new e
+  pub make_excused : (old new : State) (e : Error) → old.now.schema ≡ schema → ExecutesIn true sql [] old new (Err e)
+      → IsExcused old new e
   make_excused old new e has h = elim (stopped_as sql old new schema has CreateTable is plain alone refl e h) [
     | inl excused ↦ excused
     | inr (inl (inl misplaced)) ↦ absurd (well_placed old CreateTable e tt misplaced)
-    | inr (inl (inr refused)) ↦ absurd (never_stops old.step_limit old.now has (Some e) (subst (λ t. Does old.step_limit enforced [] old.now t None CreateTable (Err (Some e))) reads refused))
+    | inr (inl (inr refused)) ↦
+        absurd (never_stops old.step_limit old.now has (Some e)
+        (subst (λ t. Does old.step_limit enforced [] old.now t None CreateTable (Err (Some e))) reads refused))
     | inr (inr fails) ↦ fail_excused old new _ e
-        (λ big. absurd (never_stops old.step_limit old.now has None (subst (λ t. Does old.step_limit enforced [] old.now t None CreateTable (Err None)) reads big))) fails
+        (λ big. absurd (never_stops old.step_limit old.now has None
+        (subst (λ t. Does old.step_limit enforced [] old.now t None CreateTable (Err None)) reads big))) fails
   ]
 
 -- ---- a row is put in
 
-module _ (sql : List ℕ) (at : ℕ) (table : Table) (listed : slice_get store_schema.tables at ≡ Some table) (uncounted : table.is_counted ≡ false)
-    (terms : List Term) (width : ℕ) (source : Row) (single : value_rows (stamped table []) width (length terms / width) terms ≡ source ∷ [])
+module _ (sql : List ℕ) (at : ℕ) (table : Table) (listed : slice_get store_schema.tables at ≡ Some table)
+    (uncounted : table.is_counted ≡ false)
+    (terms : List Term) (width : ℕ) (source : Row)
+    (single : value_rows (stamped table []) width (length terms / width) terms ≡ source ∷ [])
     (idle : (row : Row) → works store_schema Enforced 0 table.tree [] (row ∷ []) ≡ [])
-    (given : (limit : Option ℕ) (db : Database) (e : Error) → RefusesSource limit db (stamped table []) (Values terms width) e → IsSome limit)
-    (is : command_of (understood store_schema sql) ≡ Insert at (Values terms width)) (plain : IsPlain (understood store_schema sql)) (alone : IsAlone sql (understood store_schema sql)) where
+    (given : (limit : Option ℕ) (db : Database) (e : Error)
+    → RefusesSource limit db (stamped table []) (Values terms width) e → IsSome limit)
+    (is : command_of (understood store_schema sql) ≡ Insert at (Values terms width))
+    (plain : IsPlain (understood store_schema sql)) (alone : IsAlone sql (understood store_schema sql)) where
   -- an INSERT of one row that may be put in fails only with an error that is excused
-  pub put_excused : (old new : State) (e : Error) → old.now.schema ≡ store_schema → (row : Row) → with_rowid Chosen (old.now.trees table.tree) (cast_row table (drop 0 source)) ≡ row
+  pub put_excused : (old new : State) (e : Error) → old.now.schema ≡ store_schema → (row : Row)
+      → with_rowid Chosen (old.now.trees table.tree) (cast_row table (drop 0 source)) ≡ row
       → IsPuttable table old.now.trees row → ExecutesIn true sql [] old new (Err e) → IsExcused old new e
   put_excused old new e has row casts it h =
       let limited =
-      insert_stops old.step_limit table uncounted terms width source single idle (given old.step_limit) at listed old.now row casts it has (statement_of sql (understood store_schema sql)) in
+      insert_stops old.step_limit table uncounted terms width source single idle (given old.step_limit) at listed
+      old.now row casts it has (statement_of sql (understood store_schema sql)) in
       elim (stopped_as sql old new store_schema has (Insert at (Values terms width)) is plain alone refl e h) [
         | inl excused ↦ excused
         | inr (inl (inl misplaced)) ↦ absurd (well_placed old (Insert at (Values terms width)) e tt misplaced)
@@ -253,29 +290,44 @@ pub record IsOnItsWay (start mid : State) : Type 0 where
   pub limit : mid.step_limit ≡ start.step_limit
   pub counts : start.faults ≤ mid.faults
 
-pub excused_since : (start mid new : State) (e : Error) → IsOnItsWay start mid → IsExcused mid new e → IsExcused start new e
+pub excused_since : (start mid new : State) (e : Error) → IsOnItsWay start mid → IsExcused mid new e
+    → IsExcused start new e
 excused_since start mid new e way (inl memory) = inl memory
 excused_since start mid new e way (inr (inl shut)) = absurd (true≢false (sym way.is_open ∙ shut))
 excused_since start mid new e way (inr (inr (inl limited))) = inr (inr (inl (subst IsSome way.limit limited)))
-excused_since start mid new e way (inr (inr (inr faults))) = let up = way.counts in inr (inr (inr (omega (arith, up, faults))))
+excused_since start mid new e way (inr (inr (inr faults))) = let up = way.counts in
+    inr (inr (inr (omega (arith, up, faults))))
 
-pub on_its_way : (start next : State) (Commits : Trees → Type 0) → Survives start next Commits → IsTrue next.is_open → IsOnItsWay start next
-on_its_way start next Commits survives opened = record { is_open = opened; limit = survives.limit; counts = survives.counts }
+pub on_its_way : (start next : State) (Commits : Trees → Type 0) → Survives start next Commits → IsTrue next.is_open
+    → IsOnItsWay start next
+on_its_way start next Commits survives opened =
+    record { is_open = opened; limit = survives.limit; counts = survives.counts }
 
-pub further : (start mid next : State) (Commits : Trees → Type 0) → IsOnItsWay start mid → Survives mid next Commits → IsTrue next.is_open → IsOnItsWay start next
-further start mid next Commits way survives opened = record { is_open = opened; limit = survives.limit ∙ way.limit; counts = omega (arith, way.counts, survives.counts) }
+pub further : (start mid next : State) (Commits : Trees → Type 0) → IsOnItsWay start mid → Survives mid next Commits
+    → IsTrue next.is_open → IsOnItsWay start next
+further start mid next Commits way survives opened =
+    record { is_open = opened; limit = survives.limit ∙ way.limit; counts = omega (arith, way.counts, survives.counts) }
 
 -- a statement of a batch within a transaction fails, or is done and others follow
 module _ {S : Type 0} (g : Ghosts S) (old new : Held S) (e : Error) where
-  pub turn_or_stop : (text first rest : List ℕ) → 0 < length text → take (first_len text) text ≡ first → drop (first_len text) text ≡ rest
+  pub turn_or_stop : (text first rest : List ℕ) → 0 < length text → take (first_len text) text ≡ first
+      → drop (first_len text) text ≡ rest
       → IsTrue old.in_transaction → (schema : Schema) → (state g old).now.schema ≡ schema → (command : Command)
-      → command_of (understood schema first) ≡ command → DoesWork command → (most : ℕ) → RunInTurn g (Some 0) (suc most) text old new (Err e)
+      → command_of (understood schema first) ≡ command → DoesWork command → (most : ℕ)
+      → RunInTurn g (Some 0) (suc most) text old new (Err e)
       → ExecutesIn true first [] (state g old) (state g new) (Err e)
-      ⊎ ((mid : Held S) × (count : ℕ) × Step g first old mid (Ok count) × RunInTurn g (Some 0) most rest mid new (Err e) × IsTrue mid.in_transaction)
+      ⊎ ((mid : Held S) × (count : ℕ) × Step g first old mid (Ok count) × RunInTurn g (Some 0) most rest mid new (Err e)
+      × IsTrue mid.in_transaction)
   unfolding EndsScope
   turn_or_stop [] first rest long a b inside schema has command is work most h = absurd (omega arith)
   turn_or_stop (c ∷ more) first rest long a b inside schema has command is work most (inr went_on) =
-      inr (went_on.0, went_on.1, subst (λ t. Step g t old went_on.0 (Ok went_on.1)) a went_on.2, subst (λ t. RunInTurn g (Some 0) most t went_on.0 new (Err e)) b went_on.3, went_on.4.0)
+      inr (
+        went_on.0,
+        went_on.1,
+        subst (λ t. Step g t old went_on.0 (Ok went_on.1)) a went_on.2,
+        subst (λ t. RunInTurn g (Some 0) most t went_on.0 new (Err e)) b went_on.3,
+        went_on.4.0,
+      )
   turn_or_stop (c ∷ more) first rest long a b inside schema has command is work most (inl (other, same, stops)) =
       let it : other ≡ e = cc in
       elim stops [

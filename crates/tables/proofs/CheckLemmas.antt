@@ -1,5 +1,6 @@
 -- The terms of the CHECKs of `access` and `piece`.
-use Rattle.std.proofs.Common.{◌≡◌, ℕ, zero, suc, pos, ◌-◌, ◌<◌, ◌≤◌, Bool, false, List, [], ◌∷◌, length, Decides, sym, ap, subst, arith, true≢false, slice_index_or}
+use Rattle.std.proofs.Common.{◌≡◌, ℕ, zero, suc, pos, ◌-◌, ◌<◌, ◌≤◌, Bool, false, List, [], ◌∷◌, length, Decides, sym}
+use Rattle.std.proofs.Common.{ap, subst, arith, true≢false, slice_index_or}
 use Rattle.sqlite_schema.specs.declared.code.Op.{Op}
 use Rattle.sqlite_schema.specs.declared.code.Op.TheVariants.{Literal, Column, Unary, Binary, Case}
 use Rattle.sqlite_schema.specs.Code.{op_term, term_to, terms_in}
@@ -11,20 +12,31 @@ use Rattle.sqlite_sql.specs.Term.{Term, lit, col, op2}
 use Rattle.tables.specs.Schema.{is_flag, is_from_zero}
 
 -- a term that no code makes within so few steps
-module _ (least : ℕ) (check : Term) (low : (nodes : List Op) (root n : ℕ) → n ≤ least → term_to nodes n root ≡ check → ⊥) where
-  only : (nodes : List Op) (root : ℕ) (b : Bool) → Decides b (term_to nodes (length nodes) root ≡ check) → Decides b (terms_in nodes (root ∷ []) ≡ check ∷ [])
-  only nodes root b it = (λ yes. ap (λ t. t ∷ []) (it.0 yes), λ same. it.1 (let e : term_to nodes (length nodes) root ≡ check = cc in e))
+module _ (least : ℕ) (check : Term)
+    (low : (nodes : List Op) (root n : ℕ) → n ≤ least → term_to nodes n root ≡ check → ⊥) where
+  only : (nodes : List Op) (root : ℕ) (b : Bool) → Decides b (term_to nodes (length nodes) root ≡ check)
+      → Decides b (terms_in nodes (root ∷ []) ≡ check ∷ [])
+  only nodes root b it = (
+    λ yes. ap (λ t. t ∷ []) (it.0 yes),
+    λ same.
+        it.1 (let e : term_to nodes (length nodes) root ≡ check = cc in e),
+  )
 
-  pub check_then : (above : ℕ → ℕ) → ((n : ℕ) → least < n → n ≡ above (n - suc least)) → (nodes : List Op) (roots : List ℕ) (b : Bool) → least < length nodes → 1 ≤ length roots
-      → length roots < 2 → ((depth : ℕ) → Decides b (term_to nodes (above depth) (slice_index_or roots 0 0) ≡ check)) → Decides b (terms_in nodes roots ≡ check ∷ [])
+  pub check_then : (above : ℕ → ℕ) → ((n : ℕ) → least < n → n ≡ above (n - suc least))
+      → (nodes : List Op) (roots : List ℕ) (b : Bool) → least < length nodes → 1 ≤ length roots
+      → length roots < 2 → ((depth : ℕ) → Decides b (term_to nodes (above depth) (slice_index_or roots 0 0) ≡ check))
+      → Decides b (terms_in nodes roots ≡ check ∷ [])
   check_then above high nodes [] b long some few h = absurd (omega arith)
   check_then above high nodes (r ∷ []) b long some few h =
-      only nodes r b (subst (λ n. Decides b (term_to nodes n r ≡ check)) (sym (high (length nodes) long)) (h (length nodes - suc least)))
+      only nodes r b (subst (λ n. Decides b (term_to nodes n r ≡ check)) (sym (high (length nodes) long))
+      (h (length nodes - suc least)))
   check_then above high nodes (r ∷ s ∷ more) b long some few h = absurd (omega arith)
 
-  pub check_else : (nodes : List Op) (roots : List ℕ) → length nodes ≤ least → 1 ≤ length roots → length roots < 2 → Decides false (terms_in nodes roots ≡ check ∷ [])
+  pub check_else : (nodes : List Op) (roots : List ℕ) → length nodes ≤ least → 1 ≤ length roots → length roots < 2
+      → Decides false (terms_in nodes roots ≡ check ∷ [])
   check_else nodes [] small some few = absurd (omega arith)
-  check_else nodes (r ∷ []) small some few = only nodes r false (λ no. absurd (true≢false (sym no)), λ same. absurd (low nodes r (length nodes) small same))
+  check_else nodes (r ∷ []) small some few =
+      only nodes r false (λ no. absurd (true≢false (sym no)), λ same. absurd (low nodes r (length nodes) small same))
   check_else nodes (r ∷ s ∷ more) small some few = absurd (omega arith)
 
 -- ---- the check of `piece`
@@ -66,7 +78,8 @@ no_branch nodes (Literal v) e = cc
 no_branch nodes (Column s a) e = cc
 no_branch nodes (Unary o a) e = cc
 no_branch nodes (Case t a b) e = cc
-no_branch nodes (Binary o a b) e = no_zero (slice_index_or nodes a (Literal Null)) (let f : term_to nodes 1 a ≡ is_zero = cc in f)
+no_branch nodes (Binary o a b) e =
+    no_zero (slice_index_or nodes a (Literal Null)) (let f : term_to nodes 1 a ≡ is_zero = cc in f)
 
 pub low_flag : (nodes : List Op) (root n : ℕ) → n ≤ 2 → term_to nodes n root ≡ is_flag → ⊥
 low_flag nodes root zero small e = cc

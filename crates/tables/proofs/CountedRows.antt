@@ -1,5 +1,6 @@
 -- As many rows as a world has entries of a path on a shelf.
-use Rattle.std.proofs.Common.{◌≡◌, ◌∙◌, ◌+◌, ℕ, suc, Bool, true, false, cond, List, [], ◌∷◌, length, filter, Option, Some, None, is_some, inl, inr, refl, sym, ap, subst, arith, true≢false}
+use Rattle.std.proofs.Common.{◌≡◌, ◌∙◌, ◌+◌, ℕ, suc, Bool, true, false, cond, List, [], ◌∷◌, length, filter, Option}
+use Rattle.std.proofs.Common.{Some, None, is_some, inl, inr, refl, sym, ap, subst, arith, true≢false}
 use Rattle.std.specs.FinMap as map
 use Rattle.std.specs.Ordering.{eq_by_cmp, is_eq}
 use Rattle.std.specs.declared.cmp.Ordering.{Ordering}
@@ -20,7 +21,8 @@ use Rattle.tables.specs.Fit.{is_on}
 
 -- ---- as many rows as there are keys
 
-ascending_filtered : {X : Type 0} (P : X → X → Type 0) (f : X → Bool) (xs : List X) → IsAscending P xs → IsAscending P (filter f xs)
+ascending_filtered : {X : Type 0} (P : X → X → Type 0) (f : X → Bool) (xs : List X) → IsAscending P xs
+    → IsAscending P (filter f xs)
 ascending_filtered P f [] up = tt
 ascending_filtered {X} P f (x ∷ xs) up = go (f x) (ascending_filtered P f xs up.1)
   where
@@ -28,7 +30,8 @@ ascending_filtered {X} P f (x ∷ xs) up = go (f x) (ascending_filtered P f xs u
     go true rest = (all_from (P x) (filter f xs) (λ y h. all_has (P x) xs y up.0 (has_filtered f xs y h).0), rest)
     go false rest = rest
 
-module _ {K X : Type 0} {R : K → K → Ordering} (o : IsTotalOrder R) (exact : map.IsAntisymmetric R) (Names : Row → K → Type 0) (same : (row : Row) (p q : K) → Names row p → Names row q → p ≡ q) where
+module _ {K X : Type 0} {R : K → K → Ordering} (o : IsTotalOrder R) (exact : map.IsAntisymmetric R)
+    (Names : Row → K → Type 0) (same : (row : Row) (p q : K) → Names row p → Names row q → p ≡ q) where
   abbrev has : map.FinMap R X → K → Type 0
   has m q = map.contains_key m q ≡ true
 
@@ -49,33 +52,46 @@ module _ {K X : Type 0} {R : K → K → Ordering} (o : IsTotalOrder R) (exact :
   gone m p = map.get-remove o m p p ∙ ap (λ r. cond (is_eq r) None (map.get m p)) (tied_itself o p)
 
   put_back : (m : map.FinMap R X) (p : K) (x : X) → map.get m p ≡ Some x → map.insert (map.remove m p) p x ≡ m
-  put_back m p x is = map.same_map o exact _ m (λ q. map.get-insert o (map.remove m p) p x q ∙ go q (eq_by_cmp R q p) refl)
+  put_back m p x is = map.same_map o exact _ m
+      (λ q. map.get-insert o (map.remove m p) p x q ∙ go q (eq_by_cmp R q p) refl)
     where
       go : (q : K) (b : Bool) → eq_by_cmp R q p ≡ b → cond b (Some x) (map.get (map.remove m p) q) ≡ map.get m q
       go q true tied = sym is ∙ ap (map.get m) (sym (tells_apart exact q p tied))
       go q false free = map.get-remove o m p q ∙ ap (λ b. cond b None (map.get m q)) free
 
-  one_fewer : (m : map.FinMap R X) (p : K) (g : Option X) → map.get m p ≡ g → is_some g ≡ true → map.len m ≡ suc (map.len (map.remove m p))
+  one_fewer : (m : map.FinMap R X) (p : K) (g : Option X) → map.get m p ≡ g → is_some g ≡ true
+      → map.len m ≡ suc (map.len (map.remove m p))
   one_fewer m p None is some = absurd (true≢false (sym some))
   one_fewer m p (Some x) is some =
-      let grown : map.len (map.insert (map.remove m p) p x) ≡ map.len (map.remove m p) + 1 = map.len-insert o (map.remove m p) p x
+      let grown : map.len (map.insert (map.remove m p) p x) ≡ map.len (map.remove m p) + 1 =
+      map.len-insert o (map.remove m p) p x
       ∙ ap (λ (g : Option X). cond (is_some g) (map.len (map.remove m p)) (map.len (map.remove m p) + 1)) (gone m p) in
       let back : map.len (map.insert (map.remove m p) p x) ≡ map.len m = ap map.len (put_back m p x is) in
       omega (arith, grown, back)
 
-  -- a map has as many keys as there are rows, if each row names a key of it, each key has a row, and no two rows name one key
-  pub rows_counted : (rows : List Row) (m : map.FinMap R X) → ((row : Row) → Has rows row → (p : K) × Names row p × has m p)
-      → ((p : K) → has m p → (row : Row) × Has rows row × Names row p) → IsAscending (λ a b. (p : K) → Names a p → Names b p → ⊥) rows → length rows ≡ map.len m
+  -- a map has as many keys as there are rows, if each row names a key of it, each key has a row, and no two rows name
+  -- one key
+  pub rows_counted : (rows : List Row) (m : map.FinMap R X)
+      → ((row : Row) → Has rows row → (p : K) × Names row p × has m p)
+      → ((p : K) → has m p → (row : Row) × Has rows row × Names row p)
+      → IsAscending (λ a b. (p : K) → Names a p → Names b p → ⊥) rows → length rows ≡ map.len m
   rows_counted [] m each found once = sym (ap map.len (no_keys m (λ q h. (found q h).1)) ∙ map.len-empty R X)
   rows_counted (r ∷ rows) m each found once =
       let it = each r (inl refl) in
       let p = it.0 in
       let less = map.remove m p in
       let rest : length rows ≡ map.len less = rows_counted rows less
-      (λ row there. let x = each row (inr there) in
-      (x.0, x.1, ap (λ (g : Option X). is_some g) (without m p x.0 (λ tied. all_has (λ b. (q : K) → Names r q → Names b q → ⊥) rows row once.0 there p it.1 (subst (Names row) tied x.1))) ∙ x.2))
+      (λ row there. let x = each row (inr there) in (
+        x.0,
+        x.1,
+        ap (λ (g : Option X). is_some g)
+            (without m p x.0 (λ tied.
+            all_has (λ b. (q : K) → Names r q → Names b q → ⊥) rows row once.0 there p it.1 (subst (Names row) tied x.1)))
+            ∙ x.2,
+      ))
       (λ q h.
-      let apart : q ≡ p → ⊥ = λ tied. true≢false (sym h ∙ (ap (map.contains_key less) tied ∙ ap (λ (g : Option X). is_some g) (gone m p))) in
+      let apart : q ≡ p → ⊥ = λ tied.
+      true≢false (sym h ∙ (ap (map.contains_key less) tied ∙ ap (λ (g : Option X). is_some g) (gone m p))) in
       let f = found q (sym (ap (λ (g : Option X). is_some g) (without m p q apart)) ∙ h) in
       elim f.1 [
         | inl here ↦ absurd (apart (same r q p (subst (λ x. Names x q) here f.2) it.1))
@@ -96,26 +112,39 @@ same_place row p q at also =
 
 -- where rows are picked by the place that they name, as many are picked as the path has versions on the shelf
 module _ (s p : List ℕ) (w : World) (db : Trees) (means : Means db w) (picked : Row → Bool)
-    (own : (q : Place) (row : Row) → IsAt row q → is_on s p q ≡ true → picked row ≡ true) (only : (q : Place) (row : Row) → IsAt row q → picked row ≡ true → is_on s p q ≡ true) where
-  retained : (q : Place) → map.get (map.retain_keys w.entries (is_on s p)) q ≡ cond (is_on s p q) (map.get w.entries q) None
+    (own : (q : Place) (row : Row) → IsAt row q → is_on s p q ≡ true → picked row ≡ true)
+    (only : (q : Place) (row : Row) → IsAt row q → picked row ≡ true → is_on s p q ≡ true) where
+  retained : (q : Place) → map.get (map.retain_keys w.entries (is_on s p)) q
+      ≡ cond (is_on s p q) (map.get w.entries q) None
   retained q = map.get-retain_keys w.entries (is_on s p) q (test_alike (is_on s p) q)
 
   abbrev found_rows : List Row
   found_rows = filter picked (db 6)
 
-  each_found : (row : Row) → Has found_rows row → (q : Place) × IsAt row q × (map.contains_key (map.retain_keys w.entries (is_on s p)) q ≡ true)
+  each_found : (row : Row) → Has found_rows row
+      → (q : Place) × IsAt row q × (map.contains_key (map.retain_keys w.entries (is_on s p)) q ≡ true)
   each_found row there =
       let f = has_filtered picked (db 6) row there in
-      let it = means.entries.each row f.0 in
-      (it.0.0, it.1.place, ap (λ (g : Option Entry). is_some g) (retained it.0.0 ∙ (ap (λ b. cond b (map.get w.entries it.0.0) None) (only it.0.0 row it.1.place f.1) ∙ it.2)))
+      let it = means.entries.each row f.0 in (
+        it.0.0,
+        it.1.place,
+        ap (λ (g : Option Entry). is_some g)
+            (retained it.0.0 ∙ (ap (λ b. cond b (map.get w.entries it.0.0) None) (only it.0.0 row it.1.place f.1)
+            ∙ it.2)),
+      )
 
-  found_each : (q : Place) → map.contains_key (map.retain_keys w.entries (is_on s p)) q ≡ true → (row : Row) × Has found_rows row × IsAt row q
-  found_each q h = go (is_on s p q) (map.get w.entries q) refl refl (sym (ap (λ (g : Option Entry). is_some g) (retained q)) ∙ h)
+  found_each : (q : Place) → map.contains_key (map.retain_keys w.entries (is_on s p)) q ≡ true
+      → (row : Row) × Has found_rows row × IsAt row q
+  found_each q h = go (is_on s p q) (map.get w.entries q) refl refl
+      (sym (ap (λ (g : Option Entry). is_some g) (retained q)) ∙ h)
     where
-      go : (b : Bool) (g : Option Entry) → is_on s p q ≡ b → map.get w.entries q ≡ g → is_some (cond b g None) ≡ true → (row : Row) × Has found_rows row × IsAt row q
+      go : (b : Bool) (g : Option Entry) → is_on s p q ≡ b → map.get w.entries q ≡ g → is_some (cond b g None) ≡ true
+          → (row : Row) × Has found_rows row × IsAt row q
       go true None passed is some = absurd (true≢false (sym some))
-      go true (Some e) passed is some = let it = means.entries.found (q, e) is in (it.0, has_kept picked (db 6) it.0 it.1 (own q it.0 it.2.place passed), it.2.place)
+      go true (Some e) passed is some = let it = means.entries.found (q, e) is in
+          (it.0, has_kept picked (db 6) it.0 it.1 (own q it.0 it.2.place passed), it.2.place)
       go false g passed is some = absurd (true≢false (sym some))
 
   pub all_counted : length found_rows ≡ count w s p
-  all_counted = rows_counted places_total places_exact IsAt same_place found_rows (map.retain_keys w.entries (is_on s p)) each_found found_each (ascending_filtered _ picked (db 6) means.places)
+  all_counted = rows_counted places_total places_exact IsAt same_place found_rows
+      (map.retain_keys w.entries (is_on s p)) each_found found_each (ascending_filtered _ picked (db 6) means.places)

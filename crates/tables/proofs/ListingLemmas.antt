@@ -1,5 +1,6 @@
 -- What a query that lists all rows answers.
-use Rattle.std.proofs.Common.{◌≡◌, ◌++◌, ℕ, pos, negsuc, false, List, [], ◌∷◌, map, flat_map, None, IsPermutation, inl, inr, refl, sym, ap, subst, subst₂, ◌∙◌, codes, lit≤, true≢false}
+use Rattle.std.proofs.Common.{◌≡◌, ◌++◌, ℕ, pos, negsuc, false, List, [], ◌∷◌, map, flat_map, None, IsPermutation, inl}
+use Rattle.std.proofs.Common.{inr, refl, sym, ap, subst, subst₂, ◌∙◌, codes, lit≤, true≢false}
 use Rattle.std.specs.Prelude.{IsSorted}
 use Rattle.std.specs.Ordering.{is_lt}
 use Rattle.std.proofs.lemmas.List.Sorted.{IsPermutation-map}
@@ -24,7 +25,8 @@ use Rattle.sqlite_rules.specs.Lists.{Has}
 use Rattle.sqlite_rules.proofs.ProbeLemmas.{has_mapped}
 use Rattle.tables.specs.Schema.{store_schema, meta_table, shelf_table, access_table, version_table, piece_table}
 use Rattle.tables.specs.Walks.{IsAlone}
-use Rattle.tables.proofs.Texts.{meta_rows_text, shelf_rows_text, key_rows_text, number_rows_text, entry_rows_text, piece_rows_text}
+use Rattle.tables.proofs.Texts.{meta_rows_text, shelf_rows_text, key_rows_text, number_rows_text, entry_rows_text}
+use Rattle.tables.proofs.Texts.{piece_rows_text}
 use Rattle.tables.proofs.Ascending.{has_permuted, Adjacent, adjacent_map, adjacent_among, sorted_adjacent}
 
 -- a query for these terms of the rows of a join in this order, with no filter, group or limit
@@ -52,48 +54,109 @@ pub is_listing : (from : Join) (project : List Term) (order : List (Term × Key)
     → IsAnswer (listing from project order) db [] out → IsListing (listing from project order) db out
 is_listing from project order db out answer =
     let q = listing from project order in
-    let listed : answer.kept ≡ map (output q) (matches db [] from ([] ∷ [])) = answer.distinct ∙ ap (map (output q)) answer.grouped in
-    record { ordered = answer.ordered; same = subst (λ l. IsPermutation l answer.ordered) listed answer.same; sorted = answer.sorted; shown = answer.shown }
+    let listed : answer.kept ≡ map (output q) (matches db [] from ([] ∷ [])) = answer.distinct
+    ∙ ap (map (output q)) answer.grouped in
+    record {
+      ordered = answer.ordered;
+      same = subst (λ l. IsPermutation l answer.ordered) listed answer.same;
+      sorted =
+          answer.sorted;
+      shown = answer.shown;
+    }
 
 -- ---- the statements
 
 -- a text asks for these terms of the rows of one table of a store, in this order
 pub record Lists (sql : List ℕ) (table : Table) (project : List Term) (order : List (Term × Key)) : Type 0 where
   pub names : List (List ℕ)
-  pub is : command_of (understood store_schema sql) ≡ Select (record { lets = []; body = listing (inner table.tree end) project order }) names
+  pub is : command_of (understood store_schema sql)
+      ≡ Select (record { lets = []; body = listing (inner table.tree end) project order }) names
   pub plain : IsPlain (understood store_schema sql)
   pub unlisted : reads_listing store_schema sql ≡ false
   pub alone : IsAlone sql (understood store_schema sql)
   -- its terms have the types that they need
-  pub typed : (db : Trees) → IsShown (λ (r : Row). r) (record { schema = store_schema; trees = db }) (record { lets = []; body = listing (inner table.tree end) project order }) [] None → ⊥
+  pub typed : (db : Trees)
+      → IsShown (λ (r : Row). r) (record { schema = store_schema; trees = db })
+      (record { lets = []; body = listing (inner table.tree end) project order }) [] None → ⊥
   pub there : Has store_schema.tables table
   pub held : (db : Trees) → overlay db [] table.tree ≡ db table.tree
 
 pub meta_rows : Lists meta_rows_text meta_table (col 1 1 ∷ col 1 2 ∷ []) []
 unfolding understood everything
-meta_rows = record { names = _; is = refl; plain = (refl, refl); unlisted = refl; alone = (lit≤ tt, refl); typed = λ trees. true≢false; there = inl refl; held = λ db. refl }
+meta_rows = record {
+  names = _;
+  is = refl;
+  plain = (refl, refl);
+  unlisted = refl;
+  alone = (lit≤ tt, refl);
+  typed =
+      λ trees. true≢false;
+  there = inl refl;
+  held = λ db. refl;
+}
 
 pub shelf_rows : Lists shelf_rows_text shelf_table (col 1 1 ∷ col 1 2 ∷ []) ((col 1 1, ascending Binary) ∷ [])
 unfolding understood everything
-shelf_rows = record { names = _; is = refl; plain = (refl, refl); unlisted = refl; alone = (lit≤ tt, refl); typed = λ trees. true≢false; there = inr (inl refl); held = λ db. refl }
+shelf_rows = record {
+  names = _;
+  is = refl;
+  plain = (refl, refl);
+  unlisted = refl;
+  alone = (lit≤ tt, refl);
+  typed =
+      λ trees. true≢false;
+  there = inr (inl refl);
+  held = λ db. refl;
+}
 
 pub key_rows : Lists key_rows_text access_table (col 1 1 ∷ []) ((col 1 1, ascending Binary) ∷ [])
 unfolding understood everything
-key_rows = record { names = _; is = refl; plain = (refl, refl); unlisted = refl; alone = (lit≤ tt, refl); typed = λ trees. true≢false; there = inr (inr (inl refl)); held = λ db. refl }
+key_rows = record {
+  names = _;
+  is = refl;
+  plain = (refl, refl);
+  unlisted = refl;
+  alone = (lit≤ tt, refl);
+  typed =
+      λ trees. true≢false;
+  there = inr (inr (inl refl));
+  held = λ db. refl;
+}
 
 abbrev pub by_number : List (Term × Key)
 by_number = (col 1 0, ascending Binary) ∷ []
 
 pub number_rows : Lists number_rows_text access_table (col 1 0 ∷ []) by_number
 unfolding understood everything
-number_rows = record { names = _; is = refl; plain = (refl, refl); unlisted = refl; alone = (lit≤ tt, refl); typed = λ trees. true≢false; there = inr (inr (inl refl)); held = λ db. refl }
+number_rows = record {
+  names = _;
+  is = refl;
+  plain = (refl, refl);
+  unlisted = refl;
+  alone = (lit≤ tt, refl);
+  typed =
+      λ trees. true≢false;
+  there = inr (inr (inl refl));
+  held = λ db. refl;
+}
 
 abbrev pub by_place : List (Term × Key)
 by_place = (col 1 2, ascending Binary) ∷ (col 1 3, ascending Binary) ∷ (col 1 4, ascending Binary) ∷ []
 
-pub entry_rows : Lists entry_rows_text version_table (col 1 2 ∷ col 1 3 ∷ col 1 4 ∷ col 1 5 ∷ col 1 6 ∷ col 1 7 ∷ col 1 8 ∷ []) by_place
+pub entry_rows : Lists entry_rows_text version_table
+    (col 1 2 ∷ col 1 3 ∷ col 1 4 ∷ col 1 5 ∷ col 1 6 ∷ col 1 7 ∷ col 1 8 ∷ []) by_place
 unfolding understood everything
-entry_rows = record { names = _; is = refl; plain = (refl, refl); unlisted = refl; alone = (lit≤ tt, refl); typed = λ trees. true≢false; there = inr (inr (inr (inl refl))); held = λ db. refl }
+entry_rows = record {
+  names = _;
+  is = refl;
+  plain = (refl, refl);
+  unlisted = refl;
+  alone = (lit≤ tt, refl);
+  typed =
+      λ trees. true≢false;
+  there = inr (inr (inr (inl refl)));
+  held = λ db. refl;
+}
 
 abbrev pub piece_columns : List Term
 piece_columns = col 1 1 ∷ col 1 2 ∷ col 1 3 ∷ []
@@ -106,27 +169,45 @@ by_piece = (col 1 1, ascending Binary) ∷ (col 1 2, ascending Binary) ∷ []
 
 pub piece_rows : Lists piece_rows_text piece_table piece_columns by_piece
 unfolding understood everything
-piece_rows = record { names = _; is = refl; plain = (refl, refl); unlisted = refl; alone = (lit≤ tt, refl); typed = λ trees. true≢false; there = inr (inr (inr (inr (inl refl)))); held = λ db. refl }
+piece_rows = record {
+  names = _;
+  is = refl;
+  plain = (refl, refl);
+  unlisted = refl;
+  alone = (lit≤ tt, refl);
+  typed =
+      λ trees. true≢false;
+  there = inr (inr (inr (inr (inl refl))));
+  held = λ db. refl;
+}
 
 -- ---- the rows that are listed
 
 -- the rows as they are shown, in some order
 pub listed_rows : (from : Join) (project : List Term) (order : List (Term × Key)) (db : Trees) (out : List Row)
-    → IsListing (listing from project order) db out → IsPermutation (map (eval_all project) (matches db [] from ([] ∷ []))) out
+    → IsListing (listing from project order) db out
+    → IsPermutation (map (eval_all project) (matches db [] from ([] ∷ []))) out
 listed_rows from project order db out it =
     let q = listing from project order in
-    subst₂ IsPermutation (map-map (λ (o : Output). o.1) (output q) (matches db [] from ([] ∷ []))) (sym it.shown) (IsPermutation-map (λ (o : Output). o.1) _ it.ordered it.same)
+    subst₂ IsPermutation (map-map (λ (o : Output). o.1) (output q) (matches db [] from ([] ∷ []))) (sym it.shown)
+    (IsPermutation-map (λ (o : Output). o.1) _ it.ordered it.same)
 
-map_singles : {X Y Z : Type 0} (f : Y → Z) (g : X → Y) (xs : List X) → map f (flat_map (λ x. g x ∷ []) xs) ≡ map (λ x. f (g x)) xs
+map_singles : {X Y Z : Type 0} (f : Y → Z) (g : X → Y) (xs : List X)
+    → map f (flat_map (λ x. g x ∷ []) xs) ≡ map (λ x. f (g x)) xs
 map_singles f g [] = refl
 map_singles f g (x ∷ xs) = ap (λ l. f (g x) ∷ l) (map_singles f g xs)
 
-pub of_table : (tree : ℕ) (project : List Term) (db : Trees) → map (eval_all project) (matches db [] (inner tree end) ([] ∷ [])) ≡ map (λ row. eval_all project ([] ∷ row ∷ [])) (db tree)
+pub of_table : (tree : ℕ) (project : List Term) (db : Trees)
+    → map (eval_all project) (matches db [] (inner tree end) ([] ∷ []))
+    ≡ map (λ row. eval_all project ([] ∷ row ∷ [])) (db tree)
 of_table tree project db = map_singles (eval_all project) (λ row. [] ∷ row ∷ []) (db tree)
 
-module _ (schema : Schema) (sql : List ℕ) (from : Join) (project : List Term) (order : List (Term × Key)) (names : List (List ℕ))
-    (is : command_of (understood schema sql) ≡ Select (record { lets = []; body = listing from project order }) names) (db : Database) where
-  pub all_listed : (rows : List Row) → Reads (command_of (understood schema sql)) db [] rows → IsListing (listing from project order) (overlay db.trees []) rows
+module _ (schema : Schema) (sql : List ℕ) (from : Join) (project : List Term) (order : List (Term × Key))
+    (names : List (List ℕ))
+    (is : command_of (understood schema sql) ≡ Select (record { lets = []; body = listing from project order }) names)
+    (db : Database) where
+  pub all_listed : (rows : List Row) → Reads (command_of (understood schema sql)) db [] rows
+      → IsListing (listing from project order) (overlay db.trees []) rows
   all_listed rows h =
       let read = subst (λ k. Reads k db [] rows) is h in
       is_listing from project order (overlay db.trees []) rows (read.answer Null)
@@ -144,24 +225,31 @@ abbrev pub InOrder : List Key → (Row → Row) → List Row → Type 0
 InOrder keys key = Adjacent (λ a b. is_lt (key_cmp 0 keys (key b) (key a)) ≡ false)
 
 -- what is listed comes with what it is sorted by
-listed_with : (q : Query) (db : Trees) (out : List Row) (it : IsListing q db out) (o : Output) → Has it.ordered o → (env : Env) × (o ≡ output q env)
+listed_with : (q : Query) (db : Trees) (out : List Row) (it : IsListing q db out) (o : Output) → Has it.ordered o
+    → (env : Env) × (o ≡ output q env)
 listed_with q db out it o there =
-    let e = has_mapped (output q) (matches db q.filter q.from ([] ∷ [])) o (has_permuted (map (output q) (matches db q.filter q.from ([] ∷ []))) it.ordered o it.same there) in
+    let e = has_mapped (output q) (matches db q.filter q.from ([] ∷ [])) o
+    (has_permuted (map (output q) (matches db q.filter q.from ([] ∷ []))) it.ordered o it.same there) in
     (e.0, e.2)
 
 -- where what is shown has the key, the rows come in its order
-pub listed_in_order : (q : Query) (db : Trees) (out : List Row) → IsListing q db out → (key : Row → Row) → ((env : Env) → (output q env).0 ≡ key (output q env).1)
+pub listed_in_order : (q : Query) (db : Trees) (out : List Row) → IsListing q db out → (key : Row → Row)
+    → ((env : Env) → (output q env).0 ≡ key (output q env).1)
     → InOrder (map (λ k. k.1) q.order) key out
 listed_in_order q db out it key shown_key =
-    let keyed = λ (o : Output) (there : Has it.ordered o). (let e = listed_with q db out it o there in ap (λ (x : Output). x.0) e.1 ∙ (shown_key e.0 ∙ ap (λ (x : Output). key x.1) (sym e.1))) in
+    let keyed = λ (o : Output) (there : Has it.ordered o).
+    (let e = listed_with q db out it o there in ap (λ (x : Output). x.0) e.1
+    ∙ (shown_key e.0 ∙ ap (λ (x : Output). key x.1) (sym e.1))) in
     subst (InOrder (map (λ k. k.1) q.order) key) (sym it.shown)
     (adjacent_map _ (λ (o : Output). o.1) it.ordered
     (adjacent_among _ _ it.ordered
-    (λ a b here there h. subst₂ (λ x y. is_lt (key_cmp 0 (map (λ k. k.1) q.order) x y) ≡ false) (keyed b there) (keyed a here) h) (sorted_adjacent (output_cmp q) it.ordered it.sorted)))
+    (λ a b here there h. subst₂ (λ x y. is_lt (key_cmp 0 (map (λ k. k.1) q.order) x y) ≡ false) (keyed b there)
+    (keyed a here) h) (sorted_adjacent (output_cmp q) it.ordered it.sorted)))
 
 -- ---- the rows of a table
 
-module _ {sql : List ℕ} {table : Table} {project : List Term} {order : List (Term × Key)} (q : Lists sql table project order) where
+module _ {sql : List ℕ} {table : Table} {project : List Term} {order : List (Term × Key)}
+    (q : Lists sql table project order) where
   abbrev AreListed : Trees → List Row → Type 0
   AreListed db rows = IsListing (listing (inner table.tree end) project order) (overlay db []) rows
 
@@ -171,15 +259,18 @@ module _ {sql : List ℕ} {table : Table} {project : List Term} {order : List (T
 
   pub rows_listed : (db : Trees) (rows : List Row) → AreListed db rows → IsPermutation (shown_of db) rows
   rows_listed db rows it =
-      subst (λ l. IsPermutation l rows) (of_table table.tree project (overlay db []) ∙ ap (map (λ row. eval_all project ([] ∷ row ∷ []))) (q.held db))
+      subst (λ l. IsPermutation l rows)
+      (of_table table.tree project (overlay db []) ∙ ap (map (λ row. eval_all project ([] ∷ row ∷ []))) (q.held db))
       (listed_rows (inner table.tree end) project order (overlay db []) rows it)
 
   pub in_its_order : (db : Trees) (rows : List Row) → AreListed db rows → (key : Row → Row)
-      → ((env : Env) → (output (listing (inner table.tree end) project order) env).0 ≡ key (output (listing (inner table.tree end) project order) env).1) → InOrder (map (λ k. k.1) order) key rows
+      → ((env : Env) → (output (listing (inner table.tree end) project order) env).0
+      ≡ key (output (listing (inner table.tree end) project order) env).1) → InOrder (map (λ k. k.1) order) key rows
   in_its_order db = listed_in_order (listing (inner table.tree end) project order) (overlay db [])
 
   -- a walk to the end shows the rows of the table
-  pub all_shown : (db : Database) (rows : List Row) → Reads (command_of (understood store_schema sql)) db [] rows → AreListed db.trees rows
+  pub all_shown : (db : Database) (rows : List Row) → Reads (command_of (understood store_schema sql)) db [] rows
+      → AreListed db.trees rows
   all_shown = all_listed store_schema sql (inner table.tree end) project order q.names q.is
 
   -- a walk that stops shows the first of them

@@ -1,12 +1,14 @@
 -- Each statement that makes the tables, on its own.
-use Rattle.std.proofs.Common.{ℕ, ◌≡◌, ◌≤◌, ◌+◌, length, true, List, [], ◌∷◌, inl, inr, refl, sym, ap, subst, ◌∙◌, codes, lit<, lit≤, arith, true≢false}
+use Rattle.std.proofs.Common.{ℕ, ◌≡◌, ◌≤◌, ◌+◌, length, true, List, [], ◌∷◌, inl, inr, refl, sym, ap, subst, ◌∙◌, codes}
+use Rattle.std.proofs.Common.{lit<, lit≤, arith, true≢false}
 use Rattle.sqlite.specs.Order.{Row}
 use Rattle.sqlite.specs.Table.{Table}
 use Rattle.sqlite.specs.Tree.{Trees}
 use Rattle.sqlite_rules.specs.Edit.{IsRefused, IsOversized}
 use Rattle.sqlite_rules.specs.declared.error.Refusal.{Refusal}
 use Rattle.sqlite_rules.specs.declared.error.Refusal.TheVariants.{Violates, Mismatch, NoRowid, BadReference, TooDeep}
-use Rattle.sqlite_schema.specs.declared.schema.Constraint.TheVariants.{Datatype, NotNull, Check, PrimaryKey, Unique, ForeignKey}
+use Rattle.sqlite_schema.specs.declared.schema.Constraint.TheVariants.{Datatype, NotNull, Check, PrimaryKey, Unique}
+use Rattle.sqlite_schema.specs.declared.schema.Constraint.TheVariants.{ForeignKey}
 use Rattle.sqlite_schema.specs.declared.schema.Keys.TheVariants.{Enforced}
 use Rattle.sqlite_schema.specs.declared.schema.Among.TheVariants.{All}
 use Rattle.sqlite_schema.specs.Rules.{Refers, Keeps, index_reals}
@@ -32,8 +34,10 @@ use Rattle.sqlite.specs.declared.types.Value.TheVariants.{Text}
 use Rattle.sqlite.specs.Listing.{understood}
 use Rattle.sqlite.proofs.Callers.{statement_of}
 use Rattle.sqlite_tied.specs.Compute.{everything}
-use Rattle.tables.specs.Schema.{store_schema, meta_table, shelf_table, access_table, version_table, piece_table, meta_text, shelf_text, access_text, version_text, piece_text}
-use Rattle.tables.proofs.CreateLemmas.{first1, first2, first3, first4, first5, first6, first7, schema0, schema1, schema2, schema3, schema4, meta_row, common_row}
+use Rattle.tables.specs.Schema.{store_schema, meta_table, shelf_table, access_table, version_table, piece_table}
+use Rattle.tables.specs.Schema.{meta_text, shelf_text, access_text, version_text, piece_text}
+use Rattle.tables.proofs.CreateLemmas.{first1, first2, first3, first4, first5, first6, first7, schema0, schema1}
+use Rattle.tables.proofs.CreateLemmas.{schema2, schema3, schema4, meta_row, common_row}
 use Rattle.tables.proofs.CauseLemmas.{IsAlone, IsMakeable}
 use Rattle.tables.proofs.PutLemmas.{IsPuttable}
 
@@ -89,7 +93,8 @@ able2 = record {
   fit = fits.1.0;
 }
 
-pub alone3 : IsAlone first3 (understood schema2 first3) × (statement_of first3 (understood schema2 first3) ≡ access_text)
+pub alone3 : IsAlone first3 (understood schema2 first3)
+    × (statement_of first3 (understood schema2 first3) ≡ access_text)
 unfolding understood everything
 alone3 = ((lit≤ tt, refl), refl)
 
@@ -111,7 +116,8 @@ able3 = record {
   fit = fits.1.1.0;
 }
 
-pub alone4 : IsAlone first4 (understood schema3 first4) × (statement_of first4 (understood schema3 first4) ≡ version_text)
+pub alone4 : IsAlone first4 (understood schema3 first4)
+    × (statement_of first4 (understood schema3 first4) ≡ version_text)
 unfolding understood everything
 alone4 = ((lit≤ tt, refl), refl)
 
@@ -171,7 +177,8 @@ pub record AreEmpty (db : Trees) : Type 0 where
   pub version : db 6 ≡ []
   pub piece : db 8 ≡ []
 
-storable : (a b c : Value) → NotNan (number a) → NotNan (number b) → NotNan (number c) → length (bytes a) + length (bytes b) + length (bytes c) ≤ 1000 → IsStorable 0 (a ∷ b ∷ c ∷ [])
+storable : (a b c : Value) → NotNan (number a) → NotNan (number b) → NotNan (number c)
+    → length (bytes a) + length (bytes b) + length (bytes c) ≤ 1000 → IsStorable 0 (a ∷ b ∷ c ∷ [])
 storable a b c x y z short = record {
   typed = λ at set. absurd (omega (arith, bit_at-zero at));
   columns = omega arith;
@@ -179,7 +186,8 @@ storable a b c x y z short = record {
   short = simp sum_by-cons (omega arith);
 }
 
-storable_pair : (a b : Value) → NotNan (number a) → NotNan (number b) → length (bytes a) + length (bytes b) ≤ 1000 → IsStorable 0 (a ∷ b ∷ [])
+storable_pair : (a b : Value) → NotNan (number a) → NotNan (number b) → length (bytes a) + length (bytes b) ≤ 1000
+    → IsStorable 0 (a ∷ b ∷ [])
 storable_pair a b x y short = record {
   typed = λ at set. absurd (omega (arith, bit_at-zero at));
   columns = omega arith;
@@ -187,16 +195,19 @@ storable_pair a b x y short = record {
   short = simp sum_by-cons (omega arith);
 }
 
-meta_unique : (db : Trees) → db 2 ≡ [] → AreEmpty db → Keeps Unique store_schema (with_tree db 0 (put_all [] (meta_row ∷ [])))
+meta_unique : (db : Trees) → db 2 ≡ [] → AreEmpty db
+    → Keeps Unique store_schema (with_tree db 0 (put_all [] (meta_row ∷ [])))
 unfolding binary first_key value_cmp lib.Ieee.is_nan lib.Ieee.lt
 meta_unique db b e = rw (b, e.access, e.version, e.piece) ((refl, tt), (tt, (tt, (tt, (tt, tt)))))
 
-common_unique : (db : Trees) → db 0 ≡ meta_row ∷ [] → AreEmpty db → Keeps Unique store_schema (with_tree db 2 (put_all [] (common_row ∷ [])))
+common_unique : (db : Trees) → db 0 ≡ meta_row ∷ [] → AreEmpty db
+    → Keeps Unique store_schema (with_tree db 2 (put_all [] (common_row ∷ [])))
 unfolding binary first_key value_cmp lib.Ieee.is_nan lib.Ieee.lt
 common_unique db a e = rw (a, e.access, e.version, e.piece) ((refl, tt), ((refl, tt), (tt, (tt, (tt, tt)))))
 
 -- no rule refuses the row of `meta` in empty tables
-meta_fine : (db : Trees) → db 0 ≡ [] → db 2 ≡ [] → AreEmpty db → (why : Refusal) → IsRefused store_schema Enforced db (record { table = meta_table; gone = []; news = meta_row ∷ [] }) why → ⊥
+meta_fine : (db : Trees) → db 0 ≡ [] → db 2 ≡ [] → AreEmpty db → (why : Refusal)
+    → IsRefused store_schema Enforced db (record { table = meta_table; gone = []; news = meta_row ∷ [] }) why → ⊥
 meta_fine db a b e (Violates Datatype) h = true≢false h
 meta_fine db a b e (Violates NotNull) h = true≢false h
 meta_fine db a b e (Violates Check) h = true≢false h
@@ -208,7 +219,9 @@ meta_fine db a b e NoRowid h = true≢false h
 meta_fine db a b e BadReference h = true≢false h
 meta_fine db a b e TooDeep h = h
 
-common_referred : (db : Trees) → IsRefused store_schema Enforced db (record { table = shelf_table; gone = []; news = common_row ∷ [] }) BadReference → ⊥
+common_referred : (db : Trees)
+    → IsRefused store_schema Enforced db (record { table = shelf_table; gone = []; news = common_row ∷ [] })
+    BadReference → ⊥
 unfolding names_same key_joined first_key
 common_referred db h = true≢false h
 
@@ -229,21 +242,32 @@ common_fine db a b e TooDeep h = h
 meta_fits : IsOversized store_schema meta_table meta_row → ⊥
 unfolding is_nan
 meta_fits (inl big) = big (storable _ _ _ tt tt tt (lit≤ tt), lit< tt)
-meta_fits (inr (i, inl is, of, big)) = big (subst (λ (x : Index). IsStorable (index_reals 0 x.columns) (entry_of x.columns meta_row)) (sym is) (storable_pair _ _ tt tt (lit≤ tt)))
-meta_fits (inr (i, inr (inl is), of, big)) = let e : 2 ≡ 0 = ap (λ (x : Index). x.table) (sym is) ∙ of in omega (arith, e)
-meta_fits (inr (i, inr (inr (inl is)), of, big)) = let e : 4 ≡ 0 = ap (λ (x : Index). x.table) (sym is) ∙ of in omega (arith, e)
-meta_fits (inr (i, inr (inr (inr (inl is))), of, big)) = let e : 6 ≡ 0 = ap (λ (x : Index). x.table) (sym is) ∙ of in omega (arith, e)
-meta_fits (inr (i, inr (inr (inr (inr (inl is)))), of, big)) = let e : 8 ≡ 0 = ap (λ (x : Index). x.table) (sym is) ∙ of in omega (arith, e)
+meta_fits (inr (i, inl is, of, big)) =
+    big (subst (λ (x : Index). IsStorable (index_reals 0 x.columns) (entry_of x.columns meta_row)) (sym is)
+    (storable_pair _ _ tt tt (lit≤ tt)))
+meta_fits (inr (i, inr (inl is), of, big)) = let e : 2 ≡ 0 = ap (λ (x : Index). x.table) (sym is)
+    ∙ of in omega (arith, e)
+meta_fits (inr (i, inr (inr (inl is)), of, big)) = let e : 4 ≡ 0 = ap (λ (x : Index). x.table) (sym is)
+    ∙ of in omega (arith, e)
+meta_fits (inr (i, inr (inr (inr (inl is))), of, big)) = let e : 6 ≡ 0 = ap (λ (x : Index). x.table) (sym is)
+    ∙ of in omega (arith, e)
+meta_fits (inr (i, inr (inr (inr (inr (inl is)))), of, big)) = let e : 8 ≡ 0 = ap (λ (x : Index). x.table) (sym is)
+    ∙ of in omega (arith, e)
 meta_fits (inr (i, inr (inr (inr (inr (inr none)))), of, big)) = none
 
 common_fits : IsOversized store_schema shelf_table common_row → ⊥
 unfolding is_nan
 common_fits (inl big) = big (storable _ _ _ tt tt tt (lit≤ tt), lit< tt)
 common_fits (inr (i, inl is, of, big)) = let e : 0 ≡ 2 = ap (λ (x : Index). x.table) (sym is) ∙ of in omega (arith, e)
-common_fits (inr (i, inr (inl is), of, big)) = big (subst (λ (x : Index). IsStorable (index_reals 0 x.columns) (entry_of x.columns common_row)) (sym is) (storable_pair _ _ tt tt (lit≤ tt)))
-common_fits (inr (i, inr (inr (inl is)), of, big)) = let e : 4 ≡ 2 = ap (λ (x : Index). x.table) (sym is) ∙ of in omega (arith, e)
-common_fits (inr (i, inr (inr (inr (inl is))), of, big)) = let e : 6 ≡ 2 = ap (λ (x : Index). x.table) (sym is) ∙ of in omega (arith, e)
-common_fits (inr (i, inr (inr (inr (inr (inl is)))), of, big)) = let e : 8 ≡ 2 = ap (λ (x : Index). x.table) (sym is) ∙ of in omega (arith, e)
+common_fits (inr (i, inr (inl is), of, big)) =
+    big (subst (λ (x : Index). IsStorable (index_reals 0 x.columns) (entry_of x.columns common_row)) (sym is)
+    (storable_pair _ _ tt tt (lit≤ tt)))
+common_fits (inr (i, inr (inr (inl is)), of, big)) = let e : 4 ≡ 2 = ap (λ (x : Index). x.table) (sym is)
+    ∙ of in omega (arith, e)
+common_fits (inr (i, inr (inr (inr (inl is))), of, big)) = let e : 6 ≡ 2 = ap (λ (x : Index). x.table) (sym is)
+    ∙ of in omega (arith, e)
+common_fits (inr (i, inr (inr (inr (inr (inl is)))), of, big)) = let e : 8 ≡ 2 = ap (λ (x : Index). x.table) (sym is)
+    ∙ of in omega (arith, e)
 common_fits (inr (i, inr (inr (inr (inr (inr none)))), of, big)) = none
 
 -- no row refers to another yet: the row of common has no parent
@@ -255,7 +279,8 @@ none_refer : (after : Trees) → after 2 ≡ [] → AreEmpty after → Refers Al
 none_refer after b e = rw (b, e.access, e.version, e.piece) (each_whole (after 0), (tt, (tt, (tt, (tt, tt)))))
 
 common_refers : (after : Trees) → after 2 ≡ common_row ∷ [] → AreEmpty after → Refers All store_schema after
-common_refers after b e = rw (b, e.access, e.version, e.piece) (each_whole (after 0), ((refl, tt), (tt, (tt, (tt, tt)))))
+common_refers after b e =
+    rw (b, e.access, e.version, e.piece) (each_whole (after 0), ((refl, tt), (tt, (tt, (tt, tt)))))
 
 -- the row of `meta` may be put into empty tables
 pub puts_meta : (db : Trees) → db 0 ≡ [] → db 2 ≡ [] → AreEmpty db → IsPuttable meta_table db meta_row

@@ -1,6 +1,8 @@
 -- A zip and its pieces.
-use Rattle.std.proofs.Common.{◌≡◌, ◌≤◌, ◌<◌, ◌+◌, ◌-◌, ◌++◌, ◌⊎◌, ℕ, zero, suc, List, [], length, take, drop, min, inl, inr, refl, sym, ap, ◌∙◌, arith, length-append, append-nil}
-use Rattle.std.proofs.lemmas.List.{length-take, length-drop, drop-drop, take-append-drop, take_all, take_at, drop_all, drop_at, nil_from_length}
+use Rattle.std.proofs.Common.{◌≡◌, ◌≤◌, ◌<◌, ◌+◌, ◌-◌, ◌++◌, ◌⊎◌, ℕ, zero, suc, List, [], length, take, drop, min, inl}
+use Rattle.std.proofs.Common.{inr, refl, sym, ap, ◌∙◌, arith, length-append, append-nil}
+use Rattle.std.proofs.lemmas.List.{length-take, length-drop, drop-drop, take-append-drop, take_all, take_at, drop_all}
+use Rattle.std.proofs.lemmas.List.{drop_at, nil_from_length}
 use Rattle.tables.specs.Pieces.{piece_size, begin, piece, HasPiece}
 
 -- what follows no number is 0
@@ -42,7 +44,8 @@ from_same : (f g : ℕ → List ℕ) → ((n : ℕ) → f n ≡ g n) → (at k :
 from_same f g same at k = ap (λ (h : ℕ → List ℕ). pieces_from h at k) (λ i n. same n i)
 
 next_begin : (n : ℕ) (l : List ℕ) → drop piece_size (drop (begin n) l) ≡ drop (begin (suc n)) l
-next_begin n l = drop-drop piece_size (begin n) l ∙ ap (λ k. drop k l) {x = begin n + piece_size} {y = begin (suc n)} (omega arith)
+next_begin n l = drop-drop piece_size (begin n) l
+    ∙ ap (λ k. drop k l) {x = begin n + piece_size} {y = begin (suc n)} (omega arith)
 
 -- the pieces of a zip, joined, are the zip
 rejoined : (zip : List ℕ) (k at : ℕ) → length zip ≤ begin (at + k) → pieces_from (piece zip) at k ≡ drop (begin at) zip
@@ -99,14 +102,16 @@ module _ (f : ℕ → List ℕ) (whole : AreWhole f) where
   unfolding pieces_from
   first_taken at k = elim (full_or_last at k) [
     | inl full ↦ take_at (f at) (pieces_from f (suc at) k) piece_size full
-    | inr last ↦ ap (λ l. take piece_size (f at ++ l)) last ∙ (ap (take piece_size) (append-nil (f at)) ∙ take_all piece_size (f at) (whole.most at))
+    | inr last ↦ ap (λ l. take piece_size (f at ++ l)) last
+        ∙ (ap (take piece_size) (append-nil (f at)) ∙ take_all piece_size (f at) (whole.most at))
   ]
 
   first_dropped : (at k : ℕ) → drop piece_size (pieces_from f at (suc k)) ≡ pieces_from f (suc at) k
   unfolding pieces_from
   first_dropped at k = elim (full_or_last at k) [
     | inl full ↦ drop_at (f at) (pieces_from f (suc at) k) piece_size full
-    | inr last ↦ ap (λ l. drop piece_size (f at ++ l)) last ∙ (ap (drop piece_size) (append-nil (f at)) ∙ (drop_all piece_size (f at) (whole.most at) ∙ sym last))
+    | inr last ↦ ap (λ l. drop piece_size (f at ++ l)) last
+        ∙ (ap (drop piece_size) (append-nil (f at)) ∙ (drop_all piece_size (f at) (whole.most at) ∙ sym last))
   ]
 
   front_dropped : (n k at : ℕ) → drop (begin n) (pieces_from f at (n + k)) ≡ pieces_from f (at + n) k
@@ -122,8 +127,11 @@ module _ (f : ℕ → List ℕ) (whole : AreWhole f) where
       let there : suc at + n ≡ at + suc n = omega arith in
       let first : begin (suc n) ≡ piece_size + begin n = omega arith in
       let l = pieces_from f at (suc n + k) in
-      ap (λ b. drop b l) first ∙ (sym (drop-drop (begin n) piece_size l) ∙ (ap (λ m. drop (begin n) (drop piece_size (pieces_from f at m))) more
-      ∙ (ap (drop (begin n)) (first_dropped at (n + k)) ∙ (front_dropped n k (suc at) ∙ ap (λ m. pieces_from f m k) there))))
+      ap (λ b. drop b l) first
+      ∙ (sym (drop-drop (begin n) piece_size l)
+      ∙ (ap (λ m. drop (begin n) (drop piece_size (pieces_from f at m))) more
+      ∙ (ap (drop (begin n)) (first_dropped at (n + k))
+      ∙ (front_dropped n k (suc at) ∙ ap (λ m. pieces_from f m k) there))))
 
   -- of k pieces, joined, each one is the piece of its number
   piece_within : (n k : ℕ) → n < k → piece (pieces_from f 0 k) n ≡ f n
@@ -131,7 +139,9 @@ module _ (f : ℕ → List ℕ) (whole : AreWhole f) where
       let rest = k - suc n in
       let all : k ≡ n + suc rest = omega (arith, within) in
       let there : 0 + n ≡ n = omega arith in
-      ap (λ m. piece (pieces_from f 0 m) n) all ∙ (ap (take piece_size) (front_dropped n (suc rest) 0 ∙ ap (λ m. pieces_from f m (suc rest)) there) ∙ first_taken n rest)
+      ap (λ m. piece (pieces_from f 0 m) n) all
+      ∙ (ap (take piece_size) (front_dropped n (suc rest) 0 ∙ ap (λ m. pieces_from f m (suc rest)) there)
+      ∙ first_taken n rest)
 
   -- if no bytes come behind the k pieces, each number has its piece
   pub piece_joined : (k : ℕ) → ((n : ℕ) → k ≤ n → length (f n) ≡ 0) → (n : ℕ) → piece (pieces_from f 0 k) n ≡ f n

@@ -1,5 +1,6 @@
 -- What the rules of the schema say of a row.
-use Rattle.std.proofs.Common.{◌≡◌, ◌⊎◌, ◌&&◌, ◌||◌, ℕ, ℤ, pos, Bool, true, false, not, cond, List, [], ◌∷◌, drop, Some, None, inl, inr, refl, sym, ap, subst, subst₂, ◌∙◌, true≢false, codes}
+use Rattle.std.proofs.Common.{◌≡◌, ◌⊎◌, ◌&&◌, ◌||◌, ℕ, ℤ, pos, Bool, true, false, not, cond, List, [], ◌∷◌, drop, Some}
+use Rattle.std.proofs.Common.{None, inl, inr, refl, sym, ap, subst, subst₂, ◌∙◌, true≢false, codes}
 use Rattle.std.specs.List.{list_any}
 use Rattle.std.specs.Ordering.{is_eq}
 use Rattle.std.specs.FinMap.{int_cmp-IsAntisymmetric}
@@ -38,14 +39,16 @@ text_from (Int n) typed present = absurd (true≢false (sym typed))
 text_from (Real x) typed present = absurd (true≢false (sym typed))
 text_from (Blob b) typed present = absurd (true≢false (sym typed))
 
-int_from : (v : Value) → suits (given (codes "publish") kind.Integer) v ≡ true → is_null v ≡ false → (n : ℤ) × (v ≡ Int n)
+int_from : (v : Value) → suits (given (codes "publish") kind.Integer) v ≡ true → is_null v ≡ false
+    → (n : ℤ) × (v ≡ Int n)
 int_from (Int n) typed present = (n, refl)
 int_from Null typed present = absurd (true≢false present)
 int_from (Text t) typed present = absurd (true≢false (sym typed))
 int_from (Real x) typed present = absurd (true≢false (sym typed))
 int_from (Blob b) typed present = absurd (true≢false (sym typed))
 
-one_of : (a b : Bool) → not (is_false (from_truth (or3 (truth (from_truth (Some a))) (truth (from_truth (Some b)))))) ≡ true → (a ≡ true) ⊎ (b ≡ true)
+one_of : (a b : Bool) → not (is_false (from_truth (or3 (truth (from_truth (Some a))) (truth (from_truth (Some b))))))
+    ≡ true → (a ≡ true) ⊎ (b ≡ true)
 one_of true b h = inl refl
 one_of false true h = inr refl
 one_of false false h = absurd (true≢false (sym h))
@@ -58,7 +61,9 @@ pub ints_equal : (m n : ℤ) → equal Binary (Int m) (Int n) ≡ true → m ≡
 ints_equal m n h = same_int m n (equal_gives (Int m) (Int n) h).2
 
 -- what passes the check is 0 or 1
-zero_or_one : (n : ℤ) → not (is_false (binary Or (binary (Compare Eq Binary) (Int n) (Int (pos 0))) (binary (Compare Eq Binary) (Int n) (Int (pos 1))))) ≡ true
+zero_or_one : (n : ℤ) → not
+    (is_false (binary Or (binary (Compare Eq Binary) (Int n) (Int (pos 0)))
+    (binary (Compare Eq Binary) (Int n) (Int (pos 1))))) ≡ true
     → (b : Bool) × (n ≡ cond b (pos 1) (pos 0))
 unfolding binary
 zero_or_one n h = elim (one_of (is_eq (value_cmp (Int n) (Int (pos 0)))) (is_eq (value_cmp (Int n) (Int (pos 1)))) h) [
@@ -73,9 +78,11 @@ held false is b h = (and_parts _ _ h).0
 
 -- ---- a row of `access`
 
--- a row of `access` that is typed and has a third value other than NULL has values of the types of `shelf` and `publish`
+-- a row of `access` that is typed and has a third value other than NULL has values of the types of `shelf` and
+-- `publish`
 typed_access : (row : Row) → are_typed None 0 access_table.columns (drop 1 row) ≡ true → is_null (column row 3) ≡ false
-    → (suits (given (codes "shelf") kind.Text) (column row 2) ≡ true) × (suits (given (codes "publish") kind.Integer) (column row 3) ≡ true)
+    → (suits (given (codes "shelf") kind.Text) (column row 2) ≡ true)
+    × (suits (given (codes "publish") kind.Integer) (column row 3) ≡ true)
 typed_access [] typed present = absurd (true≢false present)
 typed_access (a ∷ []) typed present = absurd (true≢false present)
 typed_access (a ∷ t ∷ []) typed present = absurd (true≢false present)
@@ -87,7 +94,8 @@ typed_access (a ∷ t ∷ s ∷ p ∷ rest) typed present =
     (two.0, three.0)
 
 -- the shelf is a text, and the right 0 or 1
-pub access_row : (db : Trees) → IsSound store_schema db → (row : Row) → Has (db 4) row → (column row 2 ≡ Text (text_in (column row 2))) × ((b : Bool) × (column row 3 ≡ Int (cond b (pos 1) (pos 0))))
+pub access_row : (db : Trees) → IsSound store_schema db → (row : Row) → Has (db 4) row
+    → (column row 2 ≡ Text (text_in (column row 2))) × ((b : Bool) × (column row 3 ≡ Int (cond b (pos 1) (pos 0))))
 access_row db sound row there =
     let listed : Has store_schema.tables access_table = inr (inr (inl refl)) in
     let present = keeps_at NotNull store_schema db access_table row (sound.obeys.rules NotNull) listed there in
@@ -95,39 +103,56 @@ access_row db sound row there =
     let third = and_parts _ _ second.1 in
     let shelf = not-true (is_null (column row 2)) second.0 in
     let publish = not-true (is_null (column row 3)) third.0 in
-    let typed = typed_access row (and_parts _ _ (keeps_at Datatype store_schema db access_table row (sound.obeys.rules Datatype) listed there)).0 publish in
+    let typed = typed_access row
+    (and_parts _ _ (keeps_at Datatype store_schema db access_table row (sound.obeys.rules Datatype) listed there)).0
+    publish in
     let n = int_from (column row 3) typed.1 publish in
-    let passes = (and_parts _ _ (keeps_at Check store_schema db access_table row (sound.obeys.rules Check) listed there)).0 in
-    let flag = zero_or_one n.0 (subst (λ v. not (is_false (binary Or (binary (Compare Eq Binary) v (Int (pos 0))) (binary (Compare Eq Binary) v (Int (pos 1))))) ≡ true) n.1 passes) in
+    let passes = (and_parts _ _
+    (keeps_at Check store_schema db access_table row (sound.obeys.rules Check) listed there)).0 in
+    let flag = zero_or_one n.0
+    (subst (λ v. not (is_false
+    (binary Or (binary (Compare Eq Binary) v (Int (pos 0))) (binary (Compare Eq Binary) v (Int (pos 1))))) ≡ true)
+    n.1 passes) in
     (text_from (column row 2) typed.0 shelf, (flag.0, n.1 ∙ ap Int flag.1))
 
 -- ---- shelves
 
 parents : (db : Trees) (row : Row)
-    → is_held db (2 ∷ []) row (parent_key store_schema.tables (refers 2 (codes "shelf") (codes "name"))) ≡ list_any (λ parent. equal Binary (column parent 1) (column row 2) && true) (db 2)
+    → is_held db (2 ∷ []) row (parent_key store_schema.tables (refers 2 (codes "shelf") (codes "name")))
+    ≡ list_any (λ parent. equal Binary (column parent 1) (column row 2) && true) (db 2)
 unfolding same_name key_joined first_key
 parents db row = refl
 
 parent_of : (db : Trees) (row : Row) (t : List ℕ) → column row 2 ≡ Text t
-    → list_any (λ parent. equal Binary (column parent 1) (column row 2) && true) (db 2) ≡ true → (shelf : Row) × Has (db 2) shelf × (column shelf 1 ≡ Text t)
+    → list_any (λ parent. equal Binary (column parent 1) (column row 2) && true) (db 2) ≡ true
+    → (shelf : Row) × Has (db 2) shelf × (column shelf 1 ≡ Text t)
 parent_of db row t is h =
-    let it = some_has (λ parent. equal Binary (column parent 1) (column row 2) && true) (db 2) h in
-    (it.0, it.1, equals_text (column it.0 1) t (subst (λ v. equal Binary (column it.0 1) v ≡ true) is (and_parts _ _ it.2).0))
+    let it = some_has (λ parent. equal Binary (column parent 1) (column row 2) && true) (db 2) h in (
+      it.0,
+      it.1,
+      equals_text (column it.0 1) t
+          (subst (λ v. equal Binary (column it.0 1) v ≡ true) is (and_parts _ _ it.2).0),
+    )
 
 -- the shelf that a row of `access` or of `version` names has a row
-pub key_shelf : (db : Trees) → IsSound store_schema db → (row : Row) → Has (db 4) row → (t : List ℕ) → column row 2 ≡ Text t → (shelf : Row) × Has (db 2) shelf × (column shelf 1 ≡ Text t)
+pub key_shelf : (db : Trees) → IsSound store_schema db → (row : Row) → Has (db 4) row → (t : List ℕ)
+    → column row 2 ≡ Text t → (shelf : Row) × Has (db 2) shelf × (column shelf 1 ≡ Text t)
 key_shelf db sound row there t is =
-    let h = keeps_at ForeignKey store_schema db access_table row (sound.obeys.rules ForeignKey) (inr (inr (inl refl))) there in
+    let h = keeps_at ForeignKey store_schema db access_table row (sound.obeys.rules ForeignKey) (inr (inr (inl refl)))
+    there in
     parent_of db row t is (sym (parents db row) ∙ held _ (ap is_null is) _ h)
 
-pub version_shelf : (db : Trees) → IsSound store_schema db → (row : Row) → Has (db 6) row → (t : List ℕ) → column row 2 ≡ Text t → (shelf : Row) × Has (db 2) shelf × (column shelf 1 ≡ Text t)
+pub version_shelf : (db : Trees) → IsSound store_schema db → (row : Row) → Has (db 6) row → (t : List ℕ)
+    → column row 2 ≡ Text t → (shelf : Row) × Has (db 2) shelf × (column shelf 1 ≡ Text t)
 version_shelf db sound row there t is =
-    let h = keeps_at ForeignKey store_schema db version_table row (sound.obeys.rules ForeignKey) (inr (inr (inr (inl refl)))) there in
+    let h = keeps_at ForeignKey store_schema db version_table row (sound.obeys.rules ForeignKey)
+    (inr (inr (inr (inl refl)))) there in
     parent_of db row t is (sym (parents db row) ∙ held _ (ap is_null is) _ h)
 
 -- ---- pieces
 
-typed_piece : (row : Row) → are_typed None 0 piece_table.columns (drop 1 row) ≡ true → is_null (column row 1) ≡ false → suits (given (codes "version") kind.Integer) (column row 1) ≡ true
+typed_piece : (row : Row) → are_typed None 0 piece_table.columns (drop 1 row) ≡ true → is_null (column row 1) ≡ false
+    → suits (given (codes "version") kind.Integer) (column row 1) ≡ true
 typed_piece [] typed present = absurd (true≢false present)
 typed_piece (a ∷ []) typed present = absurd (true≢false present)
 typed_piece (a ∷ v ∷ rest) typed present = (and_parts _ _ typed).0
@@ -136,21 +161,28 @@ piece_listed : Has store_schema.tables piece_table
 piece_listed = inr (inr (inr (inr (inl refl))))
 
 names_version : (db : Trees) → IsSound store_schema db → (row : Row) → Has (db 8) row → is_null (column row 1) ≡ false
-names_version db sound row there = not-true (is_null (column row 1)) (and_parts _ _ (keeps_at NotNull store_schema db piece_table row (sound.obeys.rules NotNull) piece_listed there)).0
+names_version db sound row there =
+    not-true (is_null (column row 1))
+    (and_parts _ _ (keeps_at NotNull store_schema db piece_table row (sound.obeys.rules NotNull) piece_listed there)).0
 
 -- a piece names a version by its number
-pub piece_number : (db : Trees) → IsSound store_schema db → (row : Row) → Has (db 8) row → (n : ℤ) × (column row 1 ≡ Int n)
+pub piece_number : (db : Trees) → IsSound store_schema db → (row : Row) → Has (db 8) row
+    → (n : ℤ) × (column row 1 ≡ Int n)
 piece_number db sound row there =
     let present = names_version db sound row there in
-    int_from (column row 1) (typed_piece row (and_parts _ _ (keeps_at Datatype store_schema db piece_table row (sound.obeys.rules Datatype) piece_listed there)).0 present) present
+    int_from (column row 1) (typed_piece row
+    (and_parts _ _ (keeps_at Datatype store_schema db piece_table row (sound.obeys.rules Datatype) piece_listed
+    there)).0 present) present
 
 versions : (db : Trees) (row : Row)
-    → is_held db (1 ∷ []) row (parent_key store_schema.tables (refers 1 (codes "version") (codes "id"))) ≡ list_any (λ version. equal Binary (rowid version) (column row 1) && true) (db 6)
+    → is_held db (1 ∷ []) row (parent_key store_schema.tables (refers 1 (codes "version") (codes "id")))
+    ≡ list_any (λ version. equal Binary (rowid version) (column row 1) && true) (db 6)
 unfolding same_name key_joined first_key
 versions db row = refl
 
 -- the version that a piece names has a row
-pub piece_version : (db : Trees) → IsSound store_schema db → (row : Row) → Has (db 8) row → (version : Row) × Has (db 6) version × (is_of version row ≡ true)
+pub piece_version : (db : Trees) → IsSound store_schema db → (row : Row) → Has (db 8) row
+    → (version : Row) × Has (db 6) version × (is_of version row ≡ true)
 piece_version db sound row there =
     let h = keeps_at ForeignKey store_schema db piece_table row (sound.obeys.rules ForeignKey) piece_listed there in
     let any = sym (versions db row) ∙ held (is_null (column row 1)) (names_version db sound row there) _ h in
@@ -158,8 +190,10 @@ piece_version db sound row there =
     (it.0, it.1, equal_turned (column row 1) (rowid it.0) ∙ (and_parts _ _ it.2).0)
 
 -- pieces of one version have one number of it
-pub one_version : (version : Row) (a b : Value) (m n : ℤ) → a ≡ Int m → b ≡ Int n → equal Binary a (rowid version) ≡ true → equal Binary b (rowid version) ≡ true → a ≡ b
+pub one_version : (version : Row) (a b : Value) (m n : ℤ) → a ≡ Int m → b ≡ Int n
+    → equal Binary a (rowid version) ≡ true → equal Binary b (rowid version) ≡ true → a ≡ b
 one_version version a b m n one two here there =
-    let tied : equal Binary a b ≡ true = equal_chain a (rowid version) b here (equal_turned (rowid version) b ∙ there) in
+    let tied : equal Binary a b ≡ true =
+    equal_chain a (rowid version) b here (equal_turned (rowid version) b ∙ there) in
     let ints : equal Binary (Int m) (Int n) ≡ true = subst₂ (λ x y. equal Binary x y ≡ true) one two tied in
     one ∙ (ap Int (ints_equal m n ints) ∙ sym two)

@@ -16,16 +16,27 @@ module _ (old new : State) (has : old.now.schema ≡ store_schema) (clean : HasC
       let same = tests.same clean has in
       let db = old.now.trees in
       let sound : IsSound store_schema db = subst (λ s. IsSound s db) has (live same.0.was_open).0 in
-      let fit = (tests.answer clean has).0 refl in
-      (same, record { schema = has; world = world_of db; trees = record { sound = sound; means = fit_means db sound fit }; is = fit_world db sound fit })
+      let fit = (tests.answer clean has).0 refl in (
+        same,
+        record {
+          schema = has;
+          world = world_of db;
+          trees =
+              record { sound = sound; means = fit_means db sound fit };
+          is = fit_world db sound fit;
+        },
+      )
 
-  pub found_some : (r : Result Bool Error) → IsLive old → Tests old new r AreFit → IfOk r (λ b. IsTrue b → IsUnchanged old new × StandsForSome old.now)
+  pub found_some : (r : Result Bool Error) → IsLive old → Tests old new r AreFit
+      → IfOk r (λ b. IsTrue b → IsUnchanged old new × StandsForSome old.now)
   found_some (Ok true) live tests = λ _. found_world live tests
   found_some (Ok false) live tests = λ no. absurd (true≢false (sym no))
   found_some (Err e) live tests = tt
 
-  pub found_none : (r : Result Bool Error) → IsLive old → Tests old new r AreFit → IfOk r (λ b. b ≡ false → StandsForNone old.now)
+  pub found_none : (r : Result Bool Error) → IsLive old → Tests old new r AreFit
+      → IfOk r (λ b. b ≡ false → StandsForNone old.now)
   found_none (Ok b) live tests = λ no _ w means is.
-      let sound : IsSound store_schema old.now.trees = subst (λ s. IsSound s old.now.trees) has (live (tests.same clean has).0.was_open).0 in
+      let sound : IsSound store_schema old.now.trees =
+      subst (λ s. IsSound s old.now.trees) has (live (tests.same clean has).0.was_open).0 in
       true≢false (sym ((tests.answer clean has).1 (world_fits old.now.trees w sound means is)) ∙ no)
   found_none (Err e) live tests = tt

@@ -1,5 +1,6 @@
 -- The zip that the pieces of a version make.
-use Rattle.std.proofs.Common.{◌≡◌, ◌≤◌, ◌<◌, ◌+◌, ◌⊎◌, ◌==◌, ℕ, suc, pos, Bool, true, false, cond, List, [], ◌∷◌, length}
+use Rattle.std.proofs.Common.{◌≡◌, ◌≤◌, ◌<◌, ◌+◌, ◌⊎◌, ◌==◌, ℕ, suc, pos, Bool, true, false, cond, List, [], ◌∷◌}
+use Rattle.std.proofs.Common.{length}
 use Rattle.std.proofs.Common.{map as mapped, filter, inl, inr, refl, sym, ap, ◌∙◌, arith, true≢false, eqb-true, eq-eqb}
 use Rattle.sqlite.specs.declared.types.Value.TheVariants.{Int, Blob}
 use Rattle.sqlite.specs.Order.{Row, column}
@@ -26,25 +27,38 @@ bytes_at [] n = []
 bytes_at (r ∷ rows) n = cond (nat_in (column r 2) == n) (blob_in (column r 3)) (bytes_at rows n)
 
 -- the bytes of a number are none, or those of a row that has the number
-bytes_either : (rows : List Row) (n : ℕ) → (bytes_at rows n ≡ []) ⊎ ((r : Row) × Has rows r × (nat_in (column r 2) ≡ n) × (bytes_at rows n ≡ blob_in (column r 3)))
+bytes_either : (rows : List Row) (n : ℕ)
+    → (bytes_at rows n ≡ [])
+    ⊎ ((r : Row) × Has rows r × (nat_in (column r 2) ≡ n) × (bytes_at rows n ≡ blob_in (column r 3)))
 unfolding bytes_at
 bytes_either [] n = inl refl
 bytes_either (r ∷ rows) n = go (nat_in (column r 2) == n) refl (bytes_either rows n)
   where
-    go : (b : Bool) → (nat_in (column r 2) == n) ≡ b → (bytes_at rows n ≡ []) ⊎ ((x : Row) × Has rows x × (nat_in (column x 2) ≡ n) × (bytes_at rows n ≡ blob_in (column x 3)))
-        → (cond b (blob_in (column r 3)) (bytes_at rows n) ≡ []) ⊎ ((x : Row) × Has (r ∷ rows) x × (nat_in (column x 2) ≡ n) × (cond b (blob_in (column r 3)) (bytes_at rows n) ≡ blob_in (column x 3)))
+    go : (b : Bool) → (nat_in (column r 2) == n) ≡ b
+        → (bytes_at rows n ≡ [])
+        ⊎ ((x : Row) × Has rows x × (nat_in (column x 2) ≡ n) × (bytes_at rows n ≡ blob_in (column x 3)))
+        → (cond b (blob_in (column r 3)) (bytes_at rows n) ≡ [])
+        ⊎ ((x : Row) × Has (r ∷ rows) x × (nat_in (column x 2) ≡ n)
+        × (cond b (blob_in (column r 3)) (bytes_at rows n) ≡ blob_in (column x 3)))
     go true is rest = inr (r, inl refl, eqb-true (nat_in (column r 2)) n is, refl)
     go false is (inl none) = inl none
     go false is (inr it) = inr (it.0, inr it.1, it.2, it.3)
 
-bytes_found : (rows : List Row) (n : ℕ) (r : Row) → Has rows r → nat_in (column r 2) ≡ n → ((x : Row) → Has rows x → nat_in (column x 2) ≡ n → x ≡ r) → bytes_at rows n ≡ blob_in (column r 3)
+bytes_found : (rows : List Row) (n : ℕ) (r : Row) → Has rows r → nat_in (column r 2) ≡ n
+    → ((x : Row) → Has rows x → nat_in (column x 2) ≡ n → x ≡ r) → bytes_at rows n ≡ blob_in (column r 3)
 unfolding bytes_at
 bytes_found [] n r there is one = absurd there
-bytes_found (x ∷ rows) n r there is one = go (nat_in (column x 2) == n) refl there (λ later. bytes_found rows n r later is (λ y here. one y (inr here)))
+bytes_found (x ∷ rows) n r there is one =
+    go (nat_in (column x 2) == n) refl there (λ later. bytes_found rows n r later is (λ y here. one y (inr here)))
   where
-    go : (b : Bool) → (nat_in (column x 2) == n) ≡ b → Has (x ∷ rows) r → (Has rows r → bytes_at rows n ≡ blob_in (column r 3)) → cond b (blob_in (column x 3)) (bytes_at rows n) ≡ blob_in (column r 3)
-    go true e there rest = ap (λ (y : Row). blob_in (column y 3)) (one x (inl refl) (eqb-true (nat_in (column x 2)) n e))
-    go false e (inl same) rest = absurd (true≢false (sym (eq-eqb (nat_in (column x 2)) n (ap (λ (y : Row). nat_in (column y 2)) (sym same) ∙ is)) ∙ e))
+    go : (b : Bool) → (nat_in (column x 2) == n) ≡ b → Has (x ∷ rows) r
+        → (Has rows r → bytes_at rows n ≡ blob_in (column r 3))
+        → cond b (blob_in (column x 3)) (bytes_at rows n) ≡ blob_in (column r 3)
+    go true e there rest = ap (λ (y : Row). blob_in (column y 3))
+        (one x (inl refl) (eqb-true (nat_in (column x 2)) n e))
+    go false e (inl same) rest =
+        absurd (true≢false (sym (eq-eqb (nat_in (column x 2)) n (ap (λ (y : Row). nat_in (column y 2)) (sym same) ∙ is))
+        ∙ e))
     go false e (inr later) rest = rest later
 
 -- ---- all of them
@@ -68,11 +82,14 @@ module _ (db : Trees) (fit : ArePiecesFit (mapped piece_shown (db 8))) (version 
   bytes_held : (r : Row) → Has (db 8) r → column r 3 ≡ Blob (blob_in (column r 3))
   bytes_held r there = let it = shown r there in it.holds ∙ ap (λ v. Blob (blob_in v)) (sym it.holds)
 
-  bytes_fit : (r : Row) → Has (db 8) r → (0 < length (blob_in (column r 3))) × (length (blob_in (column r 3)) ≤ piece_size)
-  bytes_fit r there = let it = shown r there in let same = ap (λ v. length (blob_in v)) it.holds in let some = it.some in let most = it.most in (omega (arith, same, some), omega (arith, same, most))
+  bytes_fit : (r : Row) → Has (db 8) r
+      → (0 < length (blob_in (column r 3))) × (length (blob_in (column r 3)) ≤ piece_size)
+  bytes_fit r there = let it = shown r there in let same = ap (λ v. length (blob_in v)) it.holds in let some =
+      it.some in let most = it.most in (omega (arith, same, some), omega (arith, same, most))
 
   number_within : (r : Row) → Has (db 8) r → nat_in (column r 2) < piece_limit
-  number_within r there = let it = shown r there in let same = ap nat_in it.numbered in let low = it.within in omega (arith, same, low)
+  number_within r there = let it = shown r there in let same = ap nat_in it.numbered in let low = it.within in
+      omega (arith, same, low)
 
   -- no two rows of the version have one number
   only_one : (a b : Row) → Has own a → Has own b → nat_in (column a 2) ≡ nat_in (column b 2) → a ≡ b
@@ -81,14 +98,18 @@ module _ (db : Trees) (fit : ArePiecesFit (mapped piece_shown (db 8))) (version 
       let two = own_there b there in
       let of_a = shown a one.0 in
       let of_b = shown b two.0 in
-      let same : column a 1 ≡ column b 1 = one_version version (column a 1) (column b 1) of_a.version of_b.version of_a.of_version of_b.of_version one.1 two.1 in
-      one_by_key (λ r. piece_key (piece_shown r)) (db 8) (ascending_from_map _ piece_shown (db 8) fit.pieces.once) a b one.0 two.0 (λ i. (int_in (same i), number i))
+      let same : column a 1 ≡ column b 1 =
+      one_version version (column a 1) (column b 1) of_a.version of_b.version of_a.of_version of_b.of_version one.1
+      two.1 in
+      one_by_key (λ r. piece_key (piece_shown r)) (db 8) (ascending_from_map _ piece_shown (db 8) fit.pieces.once) a b
+      one.0 two.0 (λ i. (int_in (same i), number i))
 
   row_bytes : (r : Row) → Has own r → bytes_at own (nat_in (column r 2)) ≡ blob_in (column r 3)
   row_bytes r there = bytes_found own (nat_in (column r 2)) r there refl (λ x here is. only_one x r here there is)
 
   -- before each but the first there is a full one
-  own_before : (r : Row) (n : ℕ) → Has own r → nat_in (column r 2) ≡ n + 1 → (b : Row) × Has own b × (nat_in (column b 2) ≡ n) × (length (blob_in (column b 3)) ≡ piece_size)
+  own_before : (r : Row) (n : ℕ) → Has own r → nat_in (column r 2) ≡ n + 1
+      → (b : Row) × Has own b × (nat_in (column b 2) ≡ n) × (length (blob_in (column b 3)) ≡ piece_size)
   own_before r n there is =
       let one = own_there r there in
       let it = fit.before (piece_shown r) n (mapped_has piece_shown (db 8) r one.0) is in
@@ -97,21 +118,29 @@ module _ (db : Trees) (fit : ArePiecesFit (mapped piece_shown (db 8))) (version 
       let same : piece_in (piece_shown b) ≡ piece_in it.0 = ap piece_in (sym from.2) in
       let version_is : int_in (column b 1) ≡ int_in (column r 1) = ap (λ (p : LastPiece). p.version) (same ∙ it.2) in
       let number_is : nat_in (column b 2) ≡ n = ap (λ (p : LastPiece). p.number) (same ∙ it.2) in
-      let full : (length (blob_in (column b 3)) == piece_size) ≡ true = ap (λ (p : LastPiece). p.is_full) (same ∙ it.2) in
+      let full : (length (blob_in (column b 3)) == piece_size) ≡ true =
+      ap (λ (p : LastPiece). p.is_full) (same ∙ it.2) in
       let of_b = shown b from.1 in
       let of_r = shown r one.0 in
-      let held_b : column b 1 ≡ Int (int_in (column b 1)) = of_b.of_version ∙ ap (λ v. Int (int_in v)) (sym of_b.of_version) in
-      let held_r : column r 1 ≡ Int (int_in (column r 1)) = of_r.of_version ∙ ap (λ v. Int (int_in v)) (sym of_r.of_version) in
+      let held_b : column b 1 ≡ Int (int_in (column b 1)) = of_b.of_version
+      ∙ ap (λ v. Int (int_in v)) (sym of_b.of_version) in
+      let held_r : column r 1 ≡ Int (int_in (column r 1)) = of_r.of_version
+      ∙ ap (λ v. Int (int_in v)) (sym of_r.of_version) in
       let column_is : column b 1 ≡ column r 1 = held_b ∙ (ap Int version_is ∙ sym held_r) in
-      let tied : is_of version b ≡ true = ap (λ v. equal Binary v (rowid version)) column_is ∙ one.1 in
-      (b, has_kept (is_of version) (db 8) b from.1 tied, number_is, eqb-true (length (blob_in (column b 3))) piece_size full)
+      let tied : is_of version b ≡ true = ap (λ v. equal Binary v (rowid version)) column_is ∙ one.1 in (
+        b,
+        has_kept (is_of version) (db 8) b from.1 tied,
+        number_is,
+        eqb-true (length (blob_in (column b 3))) piece_size full,
+      )
 
   -- if the rows fit, the bytes of each number are at most a piece, and a full one where the next number has some
   whole : AreWhole (bytes_at own)
   whole = record {
     most = λ n. elim (bytes_either own n) [
       | inl none ↦ (let none_length = ap length none in omega (arith, none_length))
-      | inr it ↦ (let same = ap length it.3 in let fits = (bytes_fit it.0 (own_there it.0 it.1).0).1 in omega (arith, same, fits))
+      | inr it ↦ (let same = ap length it.3 in let fits = (bytes_fit it.0 (own_there it.0 it.1).0).1 in
+          omega (arith, same, fits))
     ];
     full = λ n some. elim (bytes_either own (suc n)) [
       | inl none ↦ (let none_length = ap length none in absurd (omega (arith, some, none_length)))
@@ -126,7 +155,8 @@ module _ (db : Trees) (fit : ArePiecesFit (mapped piece_shown (db 8))) (version 
   none_behind : (n : ℕ) → piece_limit ≤ n → length (bytes_at own n) ≡ 0
   none_behind n high = elim (bytes_either own n) [
     | inl none ↦ ap length none
-    | inr it ↦ (let low = number_within it.0 (own_there it.0 it.1).0 in let is = it.2 in absurd (omega (arith, low, is, high)))
+    | inr it ↦ (let low = number_within it.0 (own_there it.0 it.1).0 in let is = it.2 in
+        absurd (omega (arith, low, is, high)))
   ]
 
   zip_piece : (n : ℕ) → piece (zip_of (db 8) version) n ≡ bytes_at own n
@@ -141,8 +171,11 @@ module _ (db : Trees) (fit : ArePiecesFit (mapped piece_shown (db 8))) (version 
         let n = nat_in (column r 2) in
         let bytes : piece (zip_of (db 8) version) n ≡ blob_in (column r 3) = zip_piece n ∙ row_bytes r there in
         let long = ap length bytes in
-        let some = (bytes_fit r one.0).0 in
-        (n, record { number = number_held r one.0; bytes = bytes_held r one.0 ∙ ap Blob (sym bytes) }, some_piece (zip_of (db 8) version) n (omega (arith, long, some)));
+        let some = (bytes_fit r one.0).0 in (
+          n,
+          record { number = number_held r one.0; bytes = bytes_held r one.0 ∙ ap Blob (sym bytes) },
+          some_piece (zip_of (db 8) version) n (omega (arith, long, some)),
+        );
     found = λ n has.
         let some = piece_some (zip_of (db 8) version) n has in
         let long = ap length (zip_piece n) in
@@ -150,8 +183,15 @@ module _ (db : Trees) (fit : ArePiecesFit (mapped piece_shown (db 8))) (version 
           | inl none ↦ (let none_length = ap length none in absurd (omega (arith, some, long, none_length)))
           | inr it ↦ (
               let one = own_there it.0 it.1 in
-              let bytes : piece (zip_of (db 8) version) n ≡ blob_in (column it.0 3) = zip_piece n ∙ it.3 in
-              (it.0, it.1, record { number = number_held it.0 one.0 ∙ ap (λ k. Int (pos k)) it.2; bytes = bytes_held it.0 one.0 ∙ ap Blob (sym bytes) }))
+              let bytes : piece (zip_of (db 8) version) n ≡ blob_in (column it.0 3) = zip_piece n ∙ it.3 in (
+                it.0,
+                it.1,
+                record {
+                  number = number_held it.0 one.0
+                      ∙ ap (λ k. Int (pos k)) it.2;
+                  bytes = bytes_held it.0 one.0 ∙ ap Blob (sym bytes);
+                },
+              ))
         ];
   }
 

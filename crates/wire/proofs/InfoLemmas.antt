@@ -1,5 +1,6 @@
 -- Versions and times in JSON: no byte of them is escaped.
-use Rattle.std.proofs.Common.{◌≡◌, ◌==◌, ℕ, List, [], ◌∷◌, ◌++◌, codes, drop, true, false, nat_lt, Option, Some, None, IfSome, refl, ap, ◌∙◌, append_assoc, subst, sym, inl, inr, arith}
+use Rattle.std.proofs.Common.{◌≡◌, ◌==◌, ℕ, List, [], ◌∷◌, ◌++◌, codes, drop, true, false, nat_lt, Option, Some, None}
+use Rattle.std.proofs.Common.{IfSome, refl, ap, ◌∙◌, append_assoc, subst, sym, inl, inr, arith}
 use Rattle.std.proofs.lemmas.Bool.{and_from, and_parts, cases_Bool, eqb-true}
 use Rattle.std.proofs.lemmas.Bool.Decides.{nat_tests}
 use Rattle.std.specs.Char.{is_ascii_digit}
@@ -15,7 +16,8 @@ use Rattle.wire.specs.Reply.{info_bytes}
 use Rattle.wire.proofs.PlainBytes.{is_plain_byte, version-plain}
 
 -- a text of plain bytes is written in JSON as it is, between quotation marks
-pub plain-quoted : (text : List ℕ) → list_all is_plain_byte text ≡ true → compact_text (string text) ≡ 34 ∷ (text ++ codes "\"")
+pub plain-quoted : (text : List ℕ) → list_all is_plain_byte text ≡ true
+    → compact_text (string text) ≡ 34 ∷ (text ++ codes "\"")
 unfolding serde_json_on_literals
 plain-quoted [] h = refl
 plain-quoted (b ∷ text) h =
@@ -29,7 +31,8 @@ plain-quoted (b ∷ text) h =
     let carriage : (b == 13) ≡ false = grind (arith, nat_tests) in
     let tab : (b == 9) ≡ false = grind (arith, nat_tests) in
     let control : nat_lt b 32 ≡ false = grind (arith, nat_tests) in
-    rw (quote, slash, back, feed, line, carriage, tab, control) (ap (λ (l : List ℕ). 34 ∷ (b ∷ drop 1 l)) (plain-quoted text both.1))
+    rw (quote, slash, back, feed, line, carriage, tab, control)
+    (ap (λ (l : List ℕ). 34 ∷ (b ∷ drop 1 l)) (plain-quoted text both.1))
 
 -- ---- times
 
@@ -51,7 +54,8 @@ fits-plain-byte form b plain h = elim (cases_Bool (form == 100)) [
   ]
 ]
 
-fits-plain : (form text : List ℕ) → list_all is_plain_byte form ≡ true → fits_form form text ≡ true → list_all is_plain_byte text ≡ true
+fits-plain : (form text : List ℕ) → list_all is_plain_byte form ≡ true → fits_form form text ≡ true
+    → list_all is_plain_byte text ≡ true
 fits-plain [] [] plain h = refl
 fits-plain [] (b ∷ text) plain h = cc h
 fits-plain (f ∷ form) [] plain h = cc h
@@ -69,7 +73,8 @@ regrouped : (a b c d e : List ℕ) → (((a ++ b) ++ c) ++ d) ++ e ≡ a ++ (b +
 regrouped a b c d e = simp append_assoc
 
 -- the JSON object of a version and its time is written as `info_bytes`
-pub info-written : (v : SemanticVersion) (time : Option (List ℕ)) → IsVersion v → IfSome time IsTime → compact_text (info_object v time) ≡ info_bytes v time
+pub info-written : (v : SemanticVersion) (time : Option (List ℕ)) → IsVersion v → IfSome time IsTime
+    → compact_text (info_object v time) ≡ info_bytes v time
 unfolding serde_json_on_literals
 info-written v None is none =
     let version = version_text v in
@@ -80,8 +85,10 @@ info-written v (Some time) is valid =
     let name = plain-quoted version (version-plain v is) in
     let when = plain-quoted time (time-plain time valid) in
     (λ i. codes "{\"Time\":" ++ (when i ++ (codes ",\"Version\":" ++ (name i ++ codes "}"))))
-    ∙ ap (λ (l : List ℕ). codes "{\"Time\":\"" ++ l) (append_assoc time (codes "\"") (codes ",\"Version\":\"" ++ ((version ++ codes "\"") ++ codes "}")))
-    ∙ ap (λ (l : List ℕ). codes "{\"Time\":\"" ++ (time ++ (codes "\",\"Version\":\"" ++ l))) (append_assoc version (codes "\"") (codes "}"))
+    ∙ ap (λ (l : List ℕ). codes "{\"Time\":\"" ++ l) (append_assoc time (codes "\"")
+    (codes ",\"Version\":\"" ++ ((version ++ codes "\"") ++ codes "}")))
+    ∙ ap (λ (l : List ℕ). codes
+    "{\"Time\":\"" ++ (time ++ (codes "\",\"Version\":\"" ++ l))) (append_assoc version (codes "\"") (codes "}"))
     ∙ sym (regrouped (codes "{\"Time\":\"") time (codes "\",\"Version\":\"") version (codes "\"}"))
 
 pub no-float : (v : SemanticVersion) (time : Option (List ℕ)) → has_float (info_object v time) ≡ false

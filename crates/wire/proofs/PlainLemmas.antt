@@ -1,5 +1,6 @@
 -- Texts in their escaped form.
-use Rattle.std.proofs.Common.{◌≡◌, ◌==◌, ◌⊎◌, ℕ, ◌+◌, ◌-◌, List, [], ◌∷◌, Option, Some, None, true, false, not, refl, sym, ap, ◌∙◌, inl, inr, arith, subst}
+use Rattle.std.proofs.Common.{◌≡◌, ◌==◌, ◌⊎◌, ℕ, ◌+◌, ◌-◌, List, [], ◌∷◌, Option, Some, None, true, false, not, refl}
+use Rattle.std.proofs.Common.{sym, ap, ◌∙◌, inl, inr, arith, subst}
 use Rattle.std.proofs.lemmas.Bool.{and_parts, cases_Bool, false_from_ne_true, not-true}
 use Rattle.std.proofs.lemmas.Str.{IsUtf8-from_is_utf8, is_utf8-from_IsUtf8}
 use Rattle.std.specs.Char.{is_ascii_uppercase}
@@ -48,7 +49,8 @@ plain-fault text fault is = elim (cases_Bool (is_utf8 text)) [
   | inr other ↦ rw other refl
 ]
 
-pub plain-refused : (bytes text : List ℕ) (fault : EscapeFault) → text ≡ bytes → (fault ≡ refused.Memory) ⊎ (escape_fault text ≡ Some fault)
+pub plain-refused : (bytes text : List ℕ) (fault : EscapeFault) → text ≡ bytes
+    → (fault ≡ refused.Memory) ⊎ (escape_fault text ≡ Some fault)
     → ¬ (fault ≡ refused.Memory) → plain_of bytes ≡ None
 plain-refused bytes text fault same (inl memory) other = absurd (other memory)
 plain-refused bytes text fault same (inr some) other = plain-fault bytes fault (rw same at some)
@@ -68,13 +70,15 @@ pub plain-itself : (text : List ℕ) → IsUtf8 text → list_all stands_for_its
 plain-itself text utf8 h = plain-some text text utf8 (unescaped-itself text h)
 
 -- the text computed of an escaped form is the text that has this escaped form
-plain-by : (text plain : List ℕ) → is_utf8 text ≡ true → (fault : Option EscapeFault) → escape_fault text ≡ fault → plain_of text ≡ Some plain
+plain-by : (text plain : List ℕ) → is_utf8 text ≡ true → (fault : Option EscapeFault) → escape_fault text ≡ fault
+    → plain_of text ≡ Some plain
     → IsUnescaped text plain
 unfolding plain_of
 plain-by text plain utf8 None none is =
     let found = (faults_are_exact text).0 none in
     let here : Some (unescaped text) ≡ Some plain = rw (utf8, none) at is in
-    let same : plain ≡ found.0 = ap (λ o. unwrap_or o []) (sym here) ∙ ap unescaped (sym found.1.same) ∙ unescaped-escaped found.0 found.1.no_bang in
+    let same : plain ≡ found.0 = ap (λ o. unwrap_or o []) (sym here) ∙ ap unescaped (sym found.1.same)
+    ∙ unescaped-escaped found.0 found.1.no_bang in
     subst (IsUnescaped text) (sym same) found.1
 plain-by text plain utf8 (Some fault) some is = cc (rw (utf8, some) at is)
 

@@ -1,6 +1,8 @@
 -- What the two routes match.
-use Rattle.std.proofs.Common.{◌≡◌, ◌⊎◌, ℕ, zero, suc, ◌-◌, ◌<◌, List, [], ◌∷◌, ◌++◌, length, take, drop, Option, Some, None, Bool, true, false}
-use Rattle.std.proofs.Common.{cond, refl, sym, ap, ◌∙◌, subst, arith, ◌==◌, ◌&&◌, ◌||◌, get_or, inl, inr, codes, nat_eq, length-append, ltb}
+use Rattle.std.proofs.Common.{◌≡◌, ◌⊎◌, ℕ, zero, suc, ◌-◌, ◌<◌, List, [], ◌∷◌, ◌++◌, length, take, drop, Option, Some}
+use Rattle.std.proofs.Common.{None, Bool, true, false}
+use Rattle.std.proofs.Common.{cond, refl, sym, ap, ◌∙◌, subst, arith, ◌==◌, ◌&&◌, ◌||◌, get_or, inl, inr, codes, nat_eq}
+use Rattle.std.proofs.Common.{length-append, ltb}
 use Rattle.std.specs.List.{list_any}
 use Rattle.std.specs.Cmp.Lexicographic.{pointwise, pointwise_decides}
 use Rattle.std.proofs.lemmas.Bool.{and_parts, cases_Bool, eqb-true, false_from_ne_true, false≢true, lt-ltb, or_parts}
@@ -31,14 +33,18 @@ module _ {K : Type 0} where
   param_nothing : (p : List ℕ) → (param_step {K = K} [] p).1 ≡ []
   unfolding param_step
   param_nothing p =
-      elim (has_slash p) as (λ v. (cond {A = ℕ × RowsOf K} v (0, []) (length p, [])).1 ≡ []) [ true ↦ refl | false ↦ refl ]
+      elim (has_slash p) as (λ v. (cond {A = ℕ × RowsOf K} v (0, []) (length p, [])).1 ≡ []) [
+        | true ↦ refl
+        | false ↦ refl
+      ]
 
   -- no rows match nothing
   pub seek_nothing : (k : ℕ) (p : List ℕ) → seek {K = K} k [] p ≡ None
   unfolding seek
   seek_nothing k [] = refl
   seek_nothing (suc k) (b ∷ p) = seek_nothing k p
-  seek_nothing zero (b ∷ p) = simp (seek_nothing 0 p, param_nothing (b ∷ p), seek_nothing ((param_step {K = K} [] (b ∷ p)).0 - 1) p)
+  seek_nothing zero (b ∷ p) =
+      simp (seek_nothing 0 p, param_nothing (b ∷ p), seek_nothing ((param_step {K = K} [] (b ∷ p)).0 - 1) p)
 
   pub seek_skip : (k : ℕ) (rows : RowsOf K) (p : List ℕ) → seek k rows p ≡ seek 0 rows (drop k p)
   unfolding seek
@@ -54,9 +60,11 @@ module _ {K : Type 0} where
   pub seek_both : (x : ℕ) (t u : List ℕ) (a b : K) (y : ℕ) (p : List ℕ) → (x == 256) ≡ false → (x == 257) ≡ false
       → seek 0 ((x ∷ t, a) ∷ (x ∷ u, b) ∷ []) (y ∷ p) ≡ cond (x == y) (seek 0 ((t, a) ∷ (u, b) ∷ []) p) None
   unfolding seek
-  seek_both x t u a b y p m n = rw (m, n, param_nothing (y ∷ p), seek_nothing ((param_step {K = K} [] (y ∷ p)).0 - 1) p) (by (x == y))
+  seek_both x t u a b y p m n =
+      rw (m, n, param_nothing (y ∷ p), seek_nothing ((param_step {K = K} [] (y ∷ p)).0 - 1) p) (by (x == y))
     where
-      by : (v : Bool) → or_else (seek 0 (cond v ((t, a) ∷ cond v ((u, b) ∷ []) []) (cond v ((u, b) ∷ []) [])) p) (or_else None None) ≡ cond v (seek 0 ((t, a) ∷ (u, b) ∷ []) p) None
+      by : (v : Bool) → or_else (seek 0 (cond v ((t, a) ∷ cond v ((u, b) ∷ []) []) (cond v ((u, b) ∷ []) [])) p)
+          (or_else None None) ≡ cond v (seek 0 ((t, a) ∷ (u, b) ∷ []) p) None
       by true = or_none (seek 0 ((t, a) ∷ (u, b) ∷ []) p)
       by false = or_none (seek 0 [] p) ∙ seek_nothing 0 p
 
@@ -64,16 +72,23 @@ module _ {K : Type 0} where
   pub seek_one : (x : ℕ) (t : List ℕ) (a : K) (y : ℕ) (p : List ℕ) → (x == 256) ≡ false → (x == 257) ≡ false
       → seek 0 ((x ∷ t, a) ∷ []) (y ∷ p) ≡ cond (x == y) (seek 0 ((t, a) ∷ []) p) None
   unfolding seek
-  seek_one x t a y p m n = rw (m, n, param_nothing (y ∷ p), seek_nothing ((param_step {K = K} [] (y ∷ p)).0 - 1) p) (by (x == y))
+  seek_one x t a y p m n =
+      rw (m, n, param_nothing (y ∷ p), seek_nothing ((param_step {K = K} [] (y ∷ p)).0 - 1) p) (by (x == y))
     where
-      by : (v : Bool) → or_else (seek 0 (cond v ((t, a) ∷ []) []) p) (or_else None None) ≡ cond v (seek 0 ((t, a) ∷ []) p) None
+      by : (v : Bool) → or_else (seek 0 (cond v ((t, a) ∷ []) []) p) (or_else None None)
+          ≡ cond v (seek 0 ((t, a) ∷ []) p) None
       by true = or_none (seek 0 ((t, a) ∷ []) p)
       by false = or_none (seek 0 [] p) ∙ seek_nothing 0 p
 
   -- a catch-all takes what is left, unless nothing is
   pub seek_rest : (a : K) (y : ℕ) (p : List ℕ) → (257 == y) ≡ false → seek 0 ((257 ∷ [], a) ∷ []) (y ∷ p) ≡ Some a
   unfolding seek
-  seek_rest a y p m = rw (m, seek_nothing 0 p, param_nothing (y ∷ p), seek_nothing ((param_step {K = K} [] (y ∷ p)).0 - 1) p) refl
+  seek_rest a y p m = rw (
+    m,
+    seek_nothing 0 p,
+    param_nothing (y ∷ p),
+    seek_nothing ((param_step {K = K} [] (y ∷ p)).0 - 1) p,
+  ) refl
 
   -- `-/` and what follows, or else any rest
   own_or_path : (a b : K) (y : ℕ) (p : List ℕ) → (257 == y) ≡ false
@@ -119,14 +134,16 @@ module _ {K : Type 0} where
   param_ends a b path cut slash = rw (cut, slash) refl
 
   seek_param : (a b : K) (y : ℕ) (p : List ℕ) → (256 == y) ≡ false
-      → seek 0 (keyed a b) (y ∷ p) ≡ seek ((param_step (slashed a b) (y ∷ p)).0 - 1) (param_step (slashed a b) (y ∷ p)).1 p
+      → seek 0 (keyed a b) (y ∷ p)
+      ≡ seek ((param_step (slashed a b) (y ∷ p)).0 - 1) (param_step (slashed a b) (y ∷ p)).1 p
   unfolding seek slashed keyed
   seek_param a b y p m = rw (m, seek_nothing 0 p) (or_none _)
 
 -- ---- keys
 
 -- a key without a slash is its segment, with the slash after it
-pub segment_key : (key rest : List ℕ) → list_any (λ b. b == 47) key ≡ false → segment (key ++ (47 ∷ rest)) ≡ key ++ (47 ∷ [])
+pub segment_key : (key rest : List ℕ) → list_any (λ b. b == 47) key ≡ false
+    → segment (key ++ (47 ∷ rest)) ≡ key ++ (47 ∷ [])
 segment_key [] rest none = refl
 segment_key (b ∷ key) rest none =
     let both = or_parts (b == 47) (list_any (λ x. x == 47) key) none in
@@ -138,7 +155,8 @@ cuts_key key some =
     let long = length-append key (47 ∷ []) in
     let less : ltb 1 (length (key ++ (47 ∷ []))) ≡ true = lt-ltb 1 _ (omega arith) in
     let at : length (key ++ (47 ∷ [])) - 1 ≡ length key = omega arith in
-    let end : drop (length (key ++ (47 ∷ [])) - 1) (key ++ (47 ∷ [])) ≡ 47 ∷ [] = rw at (drop_at key (47 ∷ []) (length key) refl) in
+    let end : drop (length (key ++ (47 ∷ [])) - 1) (key ++ (47 ∷ [])) ≡ 47 ∷ [] =
+    rw at (drop_at key (47 ∷ []) (length key) refl) in
     rw (less, end) refl
 
 -- a text without a slash is its segment
@@ -161,9 +179,12 @@ cuts_none text none = false_from_ne_true (cuts text (47 ∷ [])) never
     never cut =
         let front = take (length text - 1) text in
         let ends = (and_parts (ltb 1 (length text)) (pointwise nat_eq (47 ∷ []) (drop (length text - 1) text)) cut).1 in
-        let slash : 47 ∷ [] ≡ drop (length text - 1) text = (pointwise_decides Decides-eqb (47 ∷ []) (drop (length text - 1) text)).0 ends in
-        let whole : text ≡ front ++ (47 ∷ []) = sym (take-append-drop (length text - 1) text) ∙ ap (λ (l : List ℕ). front ++ l) (sym slash) in
-        let has : list_any (λ b. b == 47) (front ++ (47 ∷ [])) ≡ true = list_any-append (λ b. b == 47) front (47 ∷ []) ∙ or_true (list_any (λ b. b == 47) front) in
+        let slash : 47 ∷ [] ≡ drop (length text - 1) text =
+        (pointwise_decides Decides-eqb (47 ∷ []) (drop (length text - 1) text)).0 ends in
+        let whole : text ≡ front ++ (47 ∷ []) = sym (take-append-drop (length text - 1) text)
+        ∙ ap (λ (l : List ℕ). front ++ l) (sym slash) in
+        let has : list_any (λ b. b == 47) (front ++ (47 ∷ [])) ≡ true = list_any-append (λ b. b == 47) front (47 ∷ [])
+        ∙ or_true (list_any (λ b. b == 47) front) in
         false≢true (sym none ∙ ap (λ (l : List ℕ). list_any (λ b. b == 47) l) whole ∙ has)
 
 -- ---- forwards
@@ -179,7 +200,8 @@ module _ {K : Type 0} (a b : K) where
       → seek 0 (keyed a b) ((y ∷ key) ++ (47 ∷ rest)) ≡ seek 0 (behind a b) rest
   unfolding slashed behind
   after_key y key rest m none =
-      let takes = param_takes a b ((y ∷ key) ++ (47 ∷ rest)) ((y ∷ key) ++ (47 ∷ [])) (segment_key (y ∷ key) rest none) (cuts_key (y ∷ key) (omega arith)) in
+      let takes = param_takes a b ((y ∷ key) ++ (47 ∷ rest)) ((y ∷ key) ++ (47 ∷ [])) (segment_key (y ∷ key) rest none)
+      (cuts_key (y ∷ key) (omega arith)) in
       let long : length ((y ∷ key) ++ (47 ∷ [])) - 1 - 1 ≡ length key = omega (arith, length-append key (47 ∷ [])) in
       seek_param a b y (key ++ (47 ∷ rest)) m
       ∙ (λ i. seek ((takes i).0 - 1) (takes i).1 (key ++ (47 ∷ rest)))
@@ -189,26 +211,35 @@ module _ {K : Type 0} (a b : K) where
       ∙ seek_both 47 (45 ∷ 47 ∷ 257 ∷ []) (257 ∷ []) a b 47 rest refl refl
 
   -- what the rest of a target is matched by
-  rest_area : (rest : List ℕ) → 0 < length rest → AreBytes rest → seek 0 (behind a b) rest ≡ Some (cond (is_own rest) a b)
+  rest_area : (rest : List ℕ) → 0 < length rest → AreBytes rest
+      → seek 0 (behind a b) rest ≡ Some (cond (is_own rest) a b)
   unfolding seek behind
   rest_area [] some bytes = absurd (omega arith)
   rest_area (y ∷ []) some bytes = own_or_path a b y [] (no-token 257 (y ∷ []) (omega arith) bytes) ∙ by (45 == y)
     where
-      by : (v : Bool) → or_else (cond v (seek 0 ((47 ∷ 257 ∷ [], a) ∷ []) []) None) (Some b) ≡ Some (cond ((v && false) && false) a b)
+      by : (v : Bool) → or_else (cond v (seek 0 ((47 ∷ 257 ∷ [], a) ∷ []) []) None) (Some b)
+          ≡ Some (cond ((v && false) && false) a b)
       by true = refl
       by false = refl
-  rest_area (y ∷ s ∷ []) some bytes = own_or_path a b y (s ∷ []) (no-token 257 (y ∷ s ∷ []) (omega arith) bytes) ∙ rw (seek_one 47 (257 ∷ []) a s [] refl refl) (by (45 == y) (47 == s))
+  rest_area (y ∷ s ∷ []) some bytes = own_or_path a b y (s ∷ []) (no-token 257 (y ∷ s ∷ []) (omega arith) bytes)
+      ∙ rw (seek_one 47 (257 ∷ []) a s [] refl refl) (by (45 == y) (47 == s))
     where
-      by : (v w : Bool) → or_else (cond v (cond w (seek 0 ((257 ∷ [], a) ∷ []) []) None) None) (Some b) ≡ Some (cond ((v && (w && true)) && false) a b)
+      by : (v w : Bool) → or_else (cond v (cond w (seek 0 ((257 ∷ [], a) ∷ []) []) None) None) (Some b)
+          ≡ Some (cond ((v && (w && true)) && false) a b)
       by true true = refl
       by true false = refl
       by false w = refl
   rest_area (y ∷ s ∷ c ∷ rest) some bytes =
       own_or_path a b y (s ∷ c ∷ rest) (no-token 257 (y ∷ s ∷ c ∷ rest) (omega arith) bytes)
-      ∙ rw (seek_one 47 (257 ∷ []) a s (c ∷ rest) refl refl, seek_rest a c rest (no-token 257 (c ∷ rest) (omega arith) (λ i. bytes (suc (suc i)))), lt-ltb 2 (length (y ∷ s ∷ c ∷ rest)) (omega arith))
+      ∙ rw (
+        seek_one 47 (257 ∷ []) a s (c ∷ rest) refl refl,
+        seek_rest a c rest (no-token 257 (c ∷ rest) (omega arith) (λ i. bytes (suc (suc i)))),
+        lt-ltb 2 (length (y ∷ s ∷ c ∷ rest)) (omega arith),
+      )
       (by (45 == y) (47 == s))
     where
-      by : (v w : Bool) → or_else (cond v (cond w (Some a) None) None) (Some b) ≡ Some (cond ((v && (w && true)) && true) a b)
+      by : (v w : Bool) → or_else (cond v (cond w (Some a) None) None) (Some b)
+          ≡ Some (cond ((v && (w && true)) && true) a b)
       by true true = refl
       by true false = refl
       by false w = refl
@@ -219,10 +250,12 @@ module _ {K : Type 0} (a b : K) where
 
   after_start : (text : List ℕ) → first both_routes (codes "/k/" ++ text) ≡ seek 0 (keyed a b) text
   unfolding keyed
-  after_start text = seek_both 47 _ _ a b 47 _ refl refl ∙ seek_both 107 _ _ a b 107 _ refl refl ∙ seek_both 47 _ _ a b 47 _ refl refl
+  after_start text = seek_both 47 _ _ a b 47 _ refl refl ∙ seek_both 107 _ _ a b 107 _ refl refl
+      ∙ seek_both 47 _ _ a b 47 _ refl refl
 
   -- the route of a target that splits
-  pub first_of_split : (target key rest : List ℕ) → Splits target key rest → AreBytes target → first both_routes target ≡ Some (cond (is_own rest) a b)
+  pub first_of_split : (target key rest : List ℕ) → Splits target key rest → AreBytes target
+      → first both_routes target ≡ Some (cond (is_own rest) a b)
   first_of_split target [] rest splits bytes = absurd (omega (arith, splits.some_key))
   first_of_split target (y ∷ key) rest splits bytes =
       let whole : AreBytes (codes "/k/" ++ ((y ∷ key) ++ (47 ∷ rest))) = subst AreBytes splits.whole bytes in
@@ -252,7 +285,8 @@ split_slash (c ∷ text) = elim (cases_Bool (c == 47)) [
 
 module _ {K : Type 0} (a b : K) where
   -- what two rows that begin with one byte match begins with it
-  strip_one : (x : ℕ) (t u path : List ℕ) (r : K) → (x == 256) ≡ false → (x == 257) ≡ false → seek 0 ((x ∷ t, a) ∷ (x ∷ u, b) ∷ []) path ≡ Some r
+  strip_one : (x : ℕ) (t u path : List ℕ) (r : K) → (x == 256) ≡ false → (x == 257) ≡ false
+      → seek 0 ((x ∷ t, a) ∷ (x ∷ u, b) ∷ []) path ≡ Some r
       → (p : List ℕ) × (path ≡ x ∷ p) × (seek 0 ((t, a) ∷ (u, b) ∷ []) p ≡ Some r)
   unfolding seek
   strip_one x t u [] r m n h = cc h
@@ -265,18 +299,21 @@ module _ {K : Type 0} (a b : K) where
       → (text : List ℕ) × (target ≡ codes "/k/" ++ text) × (seek 0 (keyed a b) text ≡ Some r)
   unfolding keyed
   starts target r h =
-      let one = strip_one 47 (107 ∷ 47 ∷ 256 ∷ 47 ∷ 45 ∷ 47 ∷ 257 ∷ []) (107 ∷ 47 ∷ 256 ∷ 47 ∷ 257 ∷ []) target r refl refl h in
+      let one = strip_one 47 (107 ∷ 47 ∷ 256 ∷ 47 ∷ 45 ∷ 47 ∷ 257 ∷ []) (107 ∷ 47 ∷ 256 ∷ 47 ∷ 257 ∷ []) target r refl
+      refl h in
       let two = strip_one 107 (47 ∷ 256 ∷ 47 ∷ 45 ∷ 47 ∷ 257 ∷ []) (47 ∷ 256 ∷ 47 ∷ 257 ∷ []) one.0 r refl refl one.2 in
       let three = strip_one 47 (256 ∷ 47 ∷ 45 ∷ 47 ∷ 257 ∷ []) (256 ∷ 47 ∷ 257 ∷ []) two.0 r refl refl two.2 in
       (three.0, one.1 ∙ ap (λ (l : List ℕ). 47 ∷ l) two.1 ∙ ap (λ (l : List ℕ). 47 ∷ (107 ∷ l)) three.1, three.2)
 
   -- and then has a slash
-  no_slash_nothing : (text : List ℕ) → AreBytes text → list_any (λ c. c == 47) text ≡ false → seek 0 (keyed a b) text ≡ None
+  no_slash_nothing : (text : List ℕ) → AreBytes text → list_any (λ c. c == 47) text ≡ false
+      → seek 0 (keyed a b) text ≡ None
   unfolding seek slashed keyed
   no_slash_nothing [] bytes none = refl
   no_slash_nothing (y ∷ p) bytes none =
       let all = segment_all (y ∷ p) none in
-      let cut : cuts (segment (y ∷ p)) (47 ∷ []) ≡ false = ap (λ (l : List ℕ). cuts l (47 ∷ [])) all.0 ∙ cuts_none (y ∷ p) none in
+      let cut : cuts (segment (y ∷ p)) (47 ∷ []) ≡ false = ap (λ (l : List ℕ). cuts l (47 ∷ [])) all.0
+      ∙ cuts_none (y ∷ p) none in
       let ends = param_ends a b (y ∷ p) cut all.1 in
       let long : length (y ∷ p) - 1 ≡ length p = omega arith in
       seek_param a b y p (no-token 256 (y ∷ p) (omega arith) bytes)
@@ -305,7 +342,8 @@ module _ {K : Type 0} (a b : K) where
   key_splits : (key rest : List ℕ) (r : K) → AreBytes (key ++ (47 ∷ rest)) → list_any (λ c. c == 47) key ≡ false
       → seek 0 (keyed a b) (key ++ (47 ∷ rest)) ≡ Some r → (0 < length key) × (0 < length rest)
   key_splits [] rest r bytes none h = cc (no_key_nothing rest, h)
-  key_splits (y ∷ key) [] r bytes none h = cc (after_key a b y key [] (no-token 256 ((y ∷ key) ++ (47 ∷ [])) (omega arith) bytes) none, no_rest_nothing, h)
+  key_splits (y ∷ key) [] r bytes none h =
+      cc (after_key a b y key [] (no-token 256 ((y ∷ key) ++ (47 ∷ [])) (omega arith) bytes) none, no_rest_nothing, h)
   key_splits (y ∷ key) (c ∷ rest) r bytes none h = (omega arith, omega arith)
 
   -- a target that matches splits
@@ -319,7 +357,8 @@ module _ {K : Type 0} (a b : K) where
       elim (split_slash text) [
         | inl none ↦ absurd (cc (no_slash_nothing text inner none, start.2))
         | inr split ↦
-            let some = key_splits split.0 split.1 r (subst AreBytes split.2 inner) split.3 (sym (ap (λ (l : List ℕ). seek 0 (keyed a b) l) split.2) ∙ start.2) in (
+            let some = key_splits split.0 split.1 r (subst AreBytes split.2 inner) split.3
+            (sym (ap (λ (l : List ℕ). seek 0 (keyed a b) l) split.2) ∙ start.2) in (
               split.0,
               split.1,
               record {

@@ -1,6 +1,8 @@
 -- What the router finds is what is computed of a target.
-use Rattle.std.proofs.Common.{◌≡◌, ◌==◌, ℕ, ◌+◌, ◌<◌, List, [], ◌∷◌, ◌++◌, length, take, drop, codes, Option, Some, None, true, false}
-use Rattle.std.proofs.Common.{cond, nat_eq, nat_lt, get_or, refl, sym, ap, ◌∙◌, subst, inl, inr, arith, append_assoc, length-append}
+use Rattle.std.proofs.Common.{◌≡◌, ◌==◌, ℕ, ◌+◌, ◌<◌, List, [], ◌∷◌, ◌++◌, length, take, drop, codes, Option, Some}
+use Rattle.std.proofs.Common.{None, true, false}
+use Rattle.std.proofs.Common.{cond, nat_eq, nat_lt, get_or, refl, sym, ap, ◌∙◌, subst, inl, inr, arith, append_assoc}
+use Rattle.std.proofs.Common.{length-append}
 use Rattle.std.proofs.lemmas.Bool.{and_parts, cases_Bool, lt-ltb, ltb-true}
 use Rattle.std.proofs.lemmas.Bool.Decides.{Decides-eqb, nat_tests}
 use Rattle.std.proofs.lemmas.List.{drop_at, take-append-drop, take_at}
@@ -46,7 +48,8 @@ split-is text key rest h =
     let rests : (outer.0).1 ≡ rest = ap (λ (x : List ℕ × List ℕ). x.1) found.1 in
     let cut = around-is 47 inner.0 (outer.0).0 (outer.0).1 inner.2 in
     record {
-      whole = start-is (codes "/k/") text inner.0 inner.1 ∙ ap (λ (l : List ℕ). codes "/k/" ++ l) (cut.0 ∙ (λ i. keys i ++ (47 ∷ rests i)));
+      whole = start-is (codes "/k/") text inner.0 inner.1
+          ∙ ap (λ (l : List ℕ). codes "/k/" ++ l) (cut.0 ∙ (λ i. keys i ++ (47 ∷ rests i)));
       some = subst (λ (l : List ℕ). 0 < length l) keys found.0;
       no_slash = subst (λ (l : List ℕ). list_any (λ b. b == 47) l ≡ false) keys cut.1;
     }
@@ -99,9 +102,12 @@ pub routed-is : (text key rest : List ℕ) (a : Area) → routed_of text ≡ Som
     → (behind : List ℕ) × IsSplit text key behind × (area_of behind ≡ Some (a, rest))
 unfolding routed_of
 routed-is text key rest a h =
-    let after : List ℕ × List ℕ → Option (Area × List ℕ × List ℕ) = λ halves. option_map (λ (found : Area × List ℕ). (found.0, halves.0, found.1)) (area_of halves.1) in
+    let after : List ℕ × List ℕ
+    → Option (Area × List ℕ × List ℕ) = λ halves.
+    option_map (λ (found : Area × List ℕ). (found.0, halves.0, found.1)) (area_of halves.1) in
     let outer = then-some after (split_of text) (a, key, rest) h in
-    let inner = map-some (λ (found : Area × List ℕ). (found.0, (outer.0).0, found.1)) (area_of (outer.0).1) (a, key, rest) outer.2 in
+    let inner = map-some (λ (found : Area × List ℕ). (found.0, (outer.0).0, found.1)) (area_of (outer.0).1)
+    (a, key, rest) outer.2 in
     let keys : (outer.0).0 ≡ key = ap (λ (x : Area × List ℕ × List ℕ). x.1) inner.2 in
     let founds : inner.0 ≡ (a, rest) = ap (λ (x : Area × List ℕ × List ℕ). (x.0, x.2)) inner.2 in (
       (outer.0).1,
@@ -109,7 +115,8 @@ routed-is text key rest a h =
       inner.1 ∙ ap (λ (x : Area × List ℕ). Some x) founds,
     )
 
-pub routed-taken : (text key behind : List ℕ) (found : Area × List ℕ) → IsSplit text key behind → area_of behind ≡ Some found
+pub routed-taken : (text key behind : List ℕ) (found : Area × List ℕ) → IsSplit text key behind
+    → area_of behind ≡ Some found
     → routed_of text ≡ Some (found.0, key, found.1)
 unfolding routed_of
 routed-taken text key behind found is h = rw (split-taken text key behind is, h) refl
@@ -128,9 +135,11 @@ around-utf8 c front rest small utf8 =
     let here : get_or text (length front) 0 ≡ c = byte-at c front rest in
     let ascii : get_or text (length front) 0 < 128 = omega (arith, here) in
     let behind : drop (length front + 1) text ≡ rest =
-    ap (drop (length front + 1)) (sym (append_assoc front (c ∷ []) rest)) ∙ drop_at (front ++ (c ∷ [])) rest (length front + 1) (omega (arith, length-append front (c ∷ []))) in
+    ap (drop (length front + 1)) (sym (append_assoc front (c ∷ []) rest))
+    ∙ drop_at (front ++ (c ∷ [])) rest (length front + 1) (omega (arith, length-append front (c ∷ []))) in
     let first = IsUtf8-take text (length front) utf8 (IsCharBoundary-before_ascii text (length front) inside ascii) in
-    let second = IsUtf8-drop text (length front + 1) utf8 (IsCharBoundary-after_ascii text (length front) utf8 inside ascii) in (
+    let second = IsUtf8-drop text (length front + 1) utf8
+    (IsCharBoundary-after_ascii text (length front) utf8 inside ascii) in (
       subst IsUtf8 (take_at front (c ∷ rest) (length front) refl) first,
       subst IsUtf8 behind second,
     )
@@ -154,8 +163,10 @@ pub record IsWalked (target : List ℕ) (route : RouteOf Area) : Type 0 where
 split-of : (target key rest : List ℕ) → Splits target key rest → IsSplit target key rest
 split-of target key rest splits = record { whole = splits.whole; some = splits.some_key; no_slash = splits.no_slash }
 
--- a target that splits is walked by the shelf's route if its rest begins with a plain `-/`, and otherwise by that of paths
-walked-by : (target key behind : List ℕ) → Splits target key behind → IsUtf8 target → IsWalked target (cond (is_own behind) shelf_route path_route)
+-- a target that splits is walked by the shelf's route if its rest begins with a plain `-/`, and otherwise by that of
+-- paths
+walked-by : (target key behind : List ℕ) → Splits target key behind → IsUtf8 target
+    → IsWalked target (cond (is_own behind) shelf_route path_route)
 walked-by target key behind splits utf8 =
     let is = split-of target key behind splits in
     let texts = split-utf8 target key behind is utf8 in
@@ -168,7 +179,11 @@ walked-by target key behind splits utf8 =
             rest = drop 2 behind;
             walked = walk_shelf target key behind splits (drop 2 behind) after.0;
             routed = routed-taken target key behind (area.Shelf, drop 2 behind) is asked;
-            texts = (texts.0, (around-utf8 47 (codes "-") (drop 2 behind) (omega arith) (subst IsUtf8 after.0 texts.1)).1);
+            texts = (
+              texts.0,
+              (around-utf8 47 (codes "-") (drop 2 behind) (omega arith)
+                  (subst IsUtf8 after.0 texts.1)).1,
+            );
           })
       | inr other ↦
           rw other (record {
@@ -180,18 +195,28 @@ walked-by target key behind splits utf8 =
           })
     ]
 
-pub found-route : (target : List ℕ) (route : RouteOf Area) → AreBytes target → IsUtf8 target → first routes target ≡ Some route → IsWalked target route
+pub found-route : (target : List ℕ) (route : RouteOf Area) → AreBytes target → IsUtf8 target
+    → first routes target ≡ Some route → IsWalked target route
 found-route target route bytes utf8 h =
     let split = splits_of_first shelf_route path_route target route bytes h in
-    let found : Some (cond (is_own split.1) shelf_route path_route) ≡ Some route = sym (first_of_split shelf_route path_route target split.0 split.1 split.2 bytes) ∙ h in
+    let found : Some (cond (is_own split.1) shelf_route path_route) ≡ Some route =
+    sym (first_of_split shelf_route path_route target split.0 split.1 split.2 bytes) ∙ h in
     let same : cond (is_own split.1) shelf_route path_route ≡ route = cc found in
     subst (IsWalked target) same (walked-by target split.0 split.1 split.2 utf8)
 
-no-route-by : (target : List ℕ) → AreBytes target → first routes target ≡ None → (found : Option (Area × List ℕ × List ℕ)) → routed_of target ≡ found → found ≡ None
+no-route-by : (target : List ℕ) → AreBytes target → first routes target ≡ None
+    → (found : Option (Area × List ℕ × List ℕ)) → routed_of target ≡ found → found ≡ None
 no-route-by target bytes none None e = refl
 no-route-by target bytes none (Some (a, key, rest)) e =
     let is = routed-is target key rest a e in
-    let splits : Splits target key is.0 = record { whole = is.1.whole; some_key = is.1.some; no_slash = is.1.no_slash; some_rest = area-some is.0 (a, rest) is.2 } in
+    let splits : Splits target key is.0 =
+    record {
+      whole = is.1.whole;
+      some_key = is.1.some;
+      no_slash = is.1.no_slash;
+      some_rest =
+          area-some is.0 (a, rest) is.2;
+    } in
     cc (first_of_split shelf_route path_route target key is.0 splits bytes, none)
 
 pub no-route : (target : List ℕ) → AreBytes target → first routes target ≡ None → routed_of target ≡ None
@@ -206,7 +231,8 @@ pub record AreTaken (target : List ℕ) (a : Area) (pairs : List (List ℕ × Li
   pub are : pairs ≡ (codes "key", key) ∷ (codes "rest", rest) ∷ []
 
 -- the parameters of the route that a target matches are its key and its rest
-pub found-params : (target path : List ℕ) (route : RouteOf Area) → AreBytes target → IsUtf8 target → path ≡ target → first routes target ≡ Some route
+pub found-params : (target path : List ℕ) (route : RouteOf Area) → AreBytes target → IsUtf8 target → path ≡ target
+    → first routes target ≡ Some route
     → AreTaken target route.value (walk route.pattern route.text path route.names 0 0)
 found-params target path route bytes utf8 same found =
     let walked = found-route target route bytes utf8 found in
@@ -218,8 +244,10 @@ found-params target path route bytes utf8 same found =
       are = ap (λ (p : List ℕ). walk route.pattern route.text p route.names 0 0) same ∙ walked.walked;
     }
 
--- the parameter that `next` gives is the first of those that are left, and what it took is shown as it is where that is text
-pub next-given : (pairs left more : List (List ℕ × List ℕ)) (p : List ℕ × List ℕ) (name taken shown : List ℕ) → pairs ≡ p ∷ left
+-- the parameter that `next` gives is the first of those that are left, and what it took is shown as it is where that
+-- is text
+pub next-given : (pairs left more : List (List ℕ × List ℕ)) (p : List ℕ × List ℕ) (name taken shown : List ℕ)
+    → pairs ≡ p ∷ left
     → pairs ≡ (name, taken) ∷ more → IsUtf8 taken → Shows p.1 shown → (shown ≡ taken) × (left ≡ more)
 next-given pairs left more p name taken shown gives is utf8 shows =
     let same : p ≡ (name, taken) = cc (gives, is) in

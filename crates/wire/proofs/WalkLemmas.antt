@@ -1,5 +1,6 @@
 -- What the parameters of the two routes took.
-use Rattle.std.proofs.Common.{◌≡◌, ℕ, ◌+◌, ◌-◌, List, [], ◌∷◌, ◌++◌, length, drop, take, true, refl, sym, ap, ◌∙◌, arith, ltb, leb, length-append, length-drop, codes}
+use Rattle.std.proofs.Common.{◌≡◌, ℕ, ◌+◌, ◌-◌, List, [], ◌∷◌, ◌++◌, length, drop, take, true, refl, sym, ap, ◌∙◌}
+use Rattle.std.proofs.Common.{arith, ltb, leb, length-append, length-drop, codes}
 use Rattle.std.proofs.lemmas.Bool.{lt-ltb, le-leb}
 use Rattle.std.proofs.lemmas.List.{drop_at, take_at, drop-drop, take_all}
 use Rattle.matchit.specs.Seek.{segment}
@@ -33,13 +34,17 @@ module _ (target key rest : List ℕ) (splits : Splits target key rest) where
       (λ i. take (n i) (after_k i)) ∙ take_at key (47 ∷ rest) (length key) refl
 
   -- the target from an index in its rest on is the rest without the bytes before that index
-  left : (index n : ℕ) → index ≡ 3 + (length key + 1) + n → take (length target - index) (drop index target) ≡ drop n rest
+  left : (index n : ℕ) → index ≡ 3 + (length key + 1) + n
+      → take (length target - index) (drop index target) ≡ drop n rest
   left index n at =
-      let after = ap (λ m. drop m target) at ∙ sym (drop-drop n (3 + (length key + 1)) target) ∙ ap (λ t. drop n t) after_key in
-      ap (λ t. take (length target - index) t) after ∙ take_all (length target - index) (drop n rest) (omega (arith, long, length-drop n rest))
+      let after = ap (λ m. drop m target) at ∙ sym (drop-drop n (3 + (length key + 1)) target)
+      ∙ ap (λ t. drop n t) after_key in
+      ap (λ t. take (length target - index) t) after
+      ∙ take_all (length target - index) (drop n rest) (omega (arith, long, length-drop n rest))
 
   -- the route of paths takes the key and the rest of a target
-  pub walk_path : walk path_route.pattern path_route.text target path_route.names 0 0 ≡ (codes "key", key) ∷ (codes "rest", rest) ∷ []
+  pub walk_path : walk path_route.pattern path_route.text target path_route.names 0 0 ≡ (codes "key", key)
+      ∷ (codes "rest", rest) ∷ []
   walk_path =
       let l0 : ltb 0 (length target) ≡ true = lt-ltb 0 _ (omega (arith, long)) in
       let l1 : ltb 1 (length target) ≡ true = lt-ltb 1 _ (omega (arith, long)) in
@@ -54,7 +59,8 @@ module _ (target key rest : List ℕ) (splits : Splits target key rest) where
 
   -- the route of the shelf takes the key, and the rest without its `-/`
   pub walk_shelf : (behind : List ℕ) → rest ≡ codes "-/" ++ behind
-      → walk shelf_route.pattern shelf_route.text target shelf_route.names 0 0 ≡ (codes "key", key) ∷ (codes "rest", behind) ∷ []
+      → walk shelf_route.pattern shelf_route.text target shelf_route.names 0 0 ≡ (codes "key", key)
+      ∷ (codes "rest", behind) ∷ []
   walk_shelf behind is =
       let longer : length rest ≡ 2 + length behind = omega (arith, ap length is) in
       let l0 : ltb 0 (length target) ≡ true = lt-ltb 0 _ (omega (arith, long)) in

@@ -1,11 +1,13 @@
 -- Rows that are left to add, one step on; and what clap's shapes keep of the fields that they hide.
-use Rattle.std.proofs.Common.{◌≡◌, ◌==◌, ◌∙◌, ap, ◌<◌, ◌+◌, ◌&&◌, ℕ, Bool, List, [], ◌∷◌, true, false, not, refl, add-one, drop, drop-cons, length, map, slice_index_or}
+use Rattle.std.proofs.Common.{◌≡◌, ◌==◌, ◌∙◌, ap, ◌<◌, ◌+◌, ◌&&◌, ℕ, Bool, List, [], ◌∷◌, true, false, not, refl}
+use Rattle.std.proofs.Common.{add-one, drop, drop-cons, length, map, slice_index_or}
 use Rattle.std.specs.Prelude.{fold}
 use Rattle.clap.specs.Simple.{has_plain_fields}
 use Rattle.clap.specs.declared.builder.command.Command.{Command}
 use Rattle.clap.specs.declared.builder.command.Command.TheViews.{out-Command}
 use Rattle.clap.specs.Words.{App, Shape, Rule, shape_of, with_rule, with_subcommand}
-use Rattle.words.specs.Table.{Follows, Line, Opt, bare_command, line_of, nothing, number, option_of, rule_of_option, shape_of_line, text, texts_each}
+use Rattle.words.specs.Table.{Follows, Line, Opt, bare_command, line_of, nothing, number, option_of, rule_of_option}
+use Rattle.words.specs.Table.{shape_of_line, text, texts_each}
 use Rattle.words.specs.declared.arguments.CommandRow.{CommandRow}
 use Rattle.words.specs.declared.options.OptionRow.{OptionRow}
 
@@ -34,9 +36,11 @@ is_not true h = cc
 is_not false h = refl
 
 -- the last of what clap asks of a plain argument
-pub last_of_ten : (a b c d e f g h i j : Bool) → (a && (b && (c && (d && (e && (f && (g && (h && (i && not j))))))))) ≡ true → j ≡ false
+pub last_of_ten : (a b c d e f g h i j : Bool)
+    → (a && (b && (c && (d && (e && (f && (g && (h && (i && not j))))))))) ≡ true → j ≡ false
 last_of_ten a b c d e f g h i j all =
-    is_not j (last_of i _ (last_of h _ (last_of g _ (last_of f _ (last_of e _ (last_of d _ (last_of c _ (last_of b _ (last_of a _ all)))))))))
+    is_not j (last_of i _ (last_of h _
+    (last_of g _ (last_of f _ (last_of e _ (last_of d _ (last_of c _ (last_of b _ (last_of a _ all)))))))))
 
 pub option_is_simple : (option : Opt) → (rule_of_option option).is_simple ≡ true
 option_is_simple option = go option.follows refl
@@ -57,10 +61,12 @@ line_is_plain line = stays_plain (bare_command line) (map rule_of_option line.op
 
 fields_are_local : (fields : _) → has_plain_fields fields ≡ true → fields.has_globals ≡ false
 fields_are_local fields plain =
-    is_not _ (first_of_two (not fields.has_globals) _ (last_of (not fields.allow_external_subcommands) _ (last_of (length fields.groups.items == 0) _ plain)))
+    is_not _ (first_of_two (not fields.has_globals) _
+    (last_of (not fields.allow_external_subcommands) _ (last_of (length fields.groups.items == 0) _ plain)))
 
 -- the command of a row has no global option
 pub row_is_local : (made : Command) (rows : List CommandRow) (i : ℕ) (d : CommandRow)
     → shape_of made ≡ shape_of_line (line_of (slice_index_or rows i d)) → (out-Command made).has_globals ≡ false
 row_is_local made rows i d is =
-    fields_are_local (out-Command made) (ap (λ (s : Shape). s.is_plain) is ∙ line_is_plain (line_of (slice_index_or rows i d)))
+    fields_are_local (out-Command made)
+    (ap (λ (s : Shape). s.is_plain) is ∙ line_is_plain (line_of (slice_index_or rows i d)))

@@ -23,7 +23,8 @@ pub lacks_memory : {T : Type 0} (old new : Shown) → old.failures ≤ new.failu
 lacks_memory old new no_fewer = record { no_fewer = no_fewer; device = λ never. absurd (let e = never in cc) }
 
 -- a fault that is handed on has the cause that it had
-pub handed_on : {T U : Type 0} (old new : Shown) (fault : StoreFault) (result : Result U StoreFault) → IsErrAnd result (λ e. e ≡ fault) → HasCause {T = T} old new (Err fault) → HasCause old new result
+pub handed_on : {T U : Type 0} (old new : Shown) (fault : StoreFault) (result : Result U StoreFault)
+    → IsErrAnd result (λ e. e ≡ fault) → HasCause {T = T} old new (Err fault) → HasCause old new result
 handed_on old new fault (Ok x) on cause = absurd on
 handed_on old new fault (Err e) on cause = record {
   no_fewer = cause.no_fewer;
@@ -34,7 +35,8 @@ handed_on old new fault (Err e) on cause = record {
     error_is a b same = cc
 
 -- a fault of the second of two calls has its cause in it
-pub in_turn : {T U : Type 0} (old mid new : Shown) (x : T) (result : Result U StoreFault) → HasCause old mid (Ok x) → HasCause mid new result → HasCause old new result
+pub in_turn : {T U : Type 0} (old mid new : Shown) (x : T) (result : Result U StoreFault) → HasCause old mid (Ok x)
+    → HasCause mid new result → HasCause old new result
 in_turn old mid new x result first next = record {
   no_fewer = omega (arith, first.no_fewer, next.no_fewer);
   device = λ failed. grown_before _ _ _ first.no_fewer (next.device failed);

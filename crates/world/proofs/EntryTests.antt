@@ -1,5 +1,6 @@
 -- The test of an entry passes exactly those that may stand.
-use Rattle.std.proofs.Common.{◌≡◌, ◌≤◌, ℕ, List, [], ◌∷◌, Bool, true, false, cond, refl, ◌∙◌, sym, ap, Option, Some, None, length}
+use Rattle.std.proofs.Common.{◌≡◌, ◌≤◌, ℕ, List, [], ◌∷◌, Bool, true, false, cond, refl, ◌∙◌, sym, ap, Option, Some}
+use Rattle.std.proofs.Common.{None, length}
 use Rattle.std.specs.Prelude.{◌&&◌, bytes_eq, is_none, is_ok, nat_le, not}
 use Rattle.std.proofs.lemmas.Bool.{and_parts, and_from, le-leb, leb-true, not-false, true≢false}
 use Rattle.modver.proofs.Readings.{version-of}
@@ -13,7 +14,8 @@ use Rattle.world.specs.declared.entry.Entry.{Entry}
 use Rattle.world.specs.declared.entry_test.Misfit.TheVariants as misfit
 use Rattle.world.specs.declared.reading.Reading.{Reading}
 use Rattle.world.specs.declared.reading.Reading.TheVariants.{Module, Fault}
-use Rattle.world.specs.EntryTest.{EntryTestIsExact, first_failing, goes_with, has_fault, has_more, is_entry, is_small, is_time_of, module_misfit, names_other, own_misfit}
+use Rattle.world.specs.EntryTest.{EntryTestIsExact, first_failing, goes_with, has_fault, has_more, is_entry, is_small}
+use Rattle.world.specs.EntryTest.{is_time_of, module_misfit, names_other, own_misfit}
 use Rattle.world.specs.Forms.{fits, is_path, suffix_of}
 use Rattle.world.specs.GoMods.{IsGoModOf, reading_of}
 use Rattle.world.specs.World.{IsEntry, IsTimeOf, gomod_limit, place, zip_limit}
@@ -21,13 +23,15 @@ use Rattle.world.proofs.PathForm.{path_form}
 use Rattle.world.proofs.Orders.{text_same, text_self}
 
 -- none of three checks fails
-none_fails : {A : Type 0} (a b c : Bool) (x y z : A) → is_none (first_failing ((a, x) ∷ (b, y) ∷ (c, z) ∷ [])) ≡ true → (a ≡ false) × (b ≡ false) × (c ≡ false)
+none_fails : {A : Type 0} (a b c : Bool) (x y z : A) → is_none (first_failing ((a, x) ∷ (b, y) ∷ (c, z) ∷ [])) ≡ true
+    → (a ≡ false) × (b ≡ false) × (c ≡ false)
 none_fails true b c x y z e = absurd (true≢false (sym e))
 none_fails false true c x y z e = absurd (true≢false (sym e))
 none_fails false false true x y z e = absurd (true≢false (sym e))
 none_fails false false false x y z e = (refl, refl, refl)
 
-all_pass : {A : Type 0} (a b c : Bool) (x y z : A) → a ≡ false → b ≡ false → c ≡ false → is_none (first_failing ((a, x) ∷ (b, y) ∷ (c, z) ∷ [])) ≡ true
+all_pass : {A : Type 0} (a b c : Bool) (x y z : A) → a ≡ false → b ≡ false → c ≡ false
+    → is_none (first_failing ((a, x) ∷ (b, y) ∷ (c, z) ∷ [])) ≡ true
 all_pass a b c x y z p q r = rw (p, q, r) refl
 
 -- ---- what the test says
@@ -46,7 +50,8 @@ small_so e is =
 
 -- a go.mod that was read
 pub gomod_so : (path : List ℕ) (is_marked : Bool) (bytes : List ℕ) (r : Reading) → reading_of bytes ≡ r
-    → has_fault r ≡ false → names_other path r ≡ false → (is_marked && has_more r) ≡ false → IsGoModOf path is_marked bytes
+    → has_fault r ≡ false → names_other path r ≡ false → (is_marked && has_more r) ≡ false
+    → IsGoModOf path is_marked bytes
 gomod_so path is_marked bytes (Fault line) read sound named bare = absurd (true≢false sound)
 gomod_so path is_marked bytes (Module m) read sound named bare = record {
   says = m;
@@ -59,9 +64,12 @@ gomod_so path is_marked bytes (Module m) read sound named bare = record {
 version_so : (s path version : List ℕ) (e : Entry) (v : SemanticVersion) → is_path path ≡ true
     → version_of version ≡ Some v → goes_with (Some path) (Some v) e ≡ true → IsEntry (place s path version) e
 version_so s path version e v well named at =
-    let all = and_parts (is_none (own_misfit path v e)) (is_none (module_misfit path v.marked (reading_of e.gomod))) at in
-    let own = none_fails (not (is_small e)) (not (fits (suffix_of path) v)) (not (is_time_of (class_of v) e.time)) _ _ _ all.0 in
-    let gomod = none_fails (has_fault (reading_of e.gomod)) (names_other path (reading_of e.gomod)) (v.marked && has_more (reading_of e.gomod)) _ _ _ all.1 in
+    let all = and_parts (is_none (own_misfit path v e))
+    (is_none (module_misfit path v.marked (reading_of e.gomod))) at in
+    let own = none_fails (not (is_small e)) (not (fits (suffix_of path) v)) (not (is_time_of (class_of v) e.time)) _ _ _
+    all.0 in
+    let gomod = none_fails (has_fault (reading_of e.gomod)) (names_other path (reading_of e.gomod))
+    (v.marked && has_more (reading_of e.gomod)) _ _ _ all.1 in
     let sizes = small_so e (not-false (is_small e) own.0) in
     record {
       path = path_form path well;
@@ -76,9 +84,11 @@ version_so s path version e v well named at =
 -- if the test passes, the entry may stand at the place
 entry_so : (s path version : List ℕ) (e : Entry) → is_entry path version e ≡ true → IsEntry (place s path version) e
 entry_so s path version e =
-    elim (is_path path) as (λ b. is_path path ≡ b → goes_with (cond b (Some path) None) (version_of version) e ≡ true → IsEntry (place s path version) e) [
+    elim (is_path path) as (λ b. is_path path ≡ b → goes_with (cond b (Some path) None) (version_of version) e ≡ true
+    → IsEntry (place s path version) e) [
       | true ↦ λ well.
-          elim (version_of version) as (λ o. version_of version ≡ o → goes_with (Some path) o e ≡ true → IsEntry (place s path version) e) [
+          elim (version_of version) as
+          (λ o. version_of version ≡ o → goes_with (Some path) o e ≡ true → IsEntry (place s path version) e) [
             | None ↦ λ _ at. absurd (true≢false (sym at))
             | Some v ↦ λ named at. version_so s path version e v well named at
           ] refl
@@ -96,20 +106,25 @@ not_more : (a b : Bool) → (a ≡ true → b ≡ true) → (a && not b) ≡ fal
 not_more true b f = ap not (f refl)
 not_more false b f = refl
 
-gomod_passes : (path : List ℕ) (is_marked : Bool) (bytes : List ℕ) → IsGoModOf path is_marked bytes → is_none (module_misfit path is_marked (reading_of bytes)) ≡ true
+gomod_passes : (path : List ℕ) (is_marked : Bool) (bytes : List ℕ) → IsGoModOf path is_marked bytes
+    → is_none (module_misfit path is_marked (reading_of bytes)) ≡ true
 gomod_passes path is_marked bytes is =
     ap (λ r. is_none (module_misfit path is_marked r)) is.reads
-    ∙ all_pass false (not (bytes_eq is.says.path path)) (is_marked && not is.says.bare) (misfit.GoMod 0) misfit.ModulePath misfit.NotBare refl
+    ∙ all_pass false (not (bytes_eq is.says.path path)) (is_marked && not is.says.bare) (misfit.GoMod 0)
+    misfit.ModulePath misfit.NotBare refl
     (ap not (ap (λ p. bytes_eq p path) is.names ∙ text_self path)) (not_more is_marked is.says.bare is.bare)
 
 entry_passes : (s path version : List ℕ) (e : Entry) → IsEntry (place s path version) e → is_entry path version e ≡ true
 entry_passes s path version e is =
     let v : SemanticVersion = is.version.0 in
-    let small : is_small e ≡ true = and_from (nat_le (length e.gomod) gomod_limit) _ (le-leb (length e.gomod) gomod_limit is.gomod) (le-leb (length e.zip) zip_limit is.zip) in
+    let small : is_small e ≡ true =
+    and_from (nat_le (length e.gomod) gomod_limit) _ (le-leb (length e.gomod) gomod_limit is.gomod)
+    (le-leb (length e.zip) zip_limit is.zip) in
     ap (λ b. goes_with (cond b (Some path) None) (version_of version) e) (ap is_ok is.path)
     ∙ ap (λ o. goes_with (Some path) o e) ((version-of version v).1 is.version.1)
     ∙ and_from (is_none (own_misfit path v e)) _
-    (all_pass (not (is_small e)) (not (fits (suffix_of path) v)) (not (is_time_of (class_of v) e.time)) _ _ _ (ap not small) (ap not is.fits) (ap not (time_passes (class_of v) e.time is.time)))
+    (all_pass (not (is_small e)) (not (fits (suffix_of path) v)) (not (is_time_of (class_of v) e.time)) _ _ _
+    (ap not small) (ap not is.fits) (ap not (time_passes (class_of v) e.time is.time)))
     (gomod_passes path v.marked e.gomod is.reads)
 
 pub entry_exact : EntryTestIsExact

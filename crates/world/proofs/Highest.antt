@@ -16,7 +16,8 @@ use Rattle.world.specs.Latest.{higher, highest, unretracted}
 use Rattle.world.proofs.Members.{no_member, first_member, later_member, member_cases}
 
 rank_total : IsTotalOrder rank_cmp
-rank_total = then_total (on_total class_rank nat_cmp_total) (then_total (on_total stamp_number nat_cmp_total) precedence_total)
+rank_total = then_total (on_total class_rank nat_cmp_total)
+    (then_total (on_total stamp_number nat_cmp_total) precedence_total)
 
 -- ---- one version after another
 
@@ -29,7 +30,9 @@ not_above_itself : (v : SemanticVersion) → IsAbove v v → ⊥
 not_above_itself v above = cc (above, tied_itself rank_total v)
 
 above_through : (x y z : SemanticVersion) → IsAbove x y → IsAbove y z → IsAbove x z
-above_through x y z xy yz = turned-back rank_cmp rank_total x z (rank_total.trans z y x (turned rank_cmp rank_total y z yz) (turned rank_cmp rank_total x y xy))
+above_through x y z xy yz =
+    turned-back rank_cmp rank_total x z
+    (rank_total.trans z y x (turned rank_cmp rank_total y z yz) (turned rank_cmp rank_total x y xy))
 
 -- what is above a version is above each that is not above that
 above_lower : (x y z : SemanticVersion) → IsAbove x y → is_greater (rank_cmp z y) ≡ false → IsAbove x z
@@ -37,7 +40,8 @@ above_lower x y z xy not_higher = by_order (rank_cmp z y) refl
   where
     by_order : (o : Ordering) → rank_cmp z y ≡ o → IsAbove x z
     by_order Less e = turned-back rank_cmp rank_total x z (rank_total.trans z y x e (turned rank_cmp rank_total x y xy))
-    by_order Equal e = turned-back rank_cmp rank_total x z (rank_total.congr z y x e ∙ turned rank_cmp rank_total x y xy)
+    by_order Equal e = turned-back rank_cmp rank_total x z
+        (rank_total.congr z y x e ∙ turned rank_cmp rank_total x y xy)
     by_order Greater e = absurd (true≢false (sym (ap is_greater e) ∙ not_higher))
 
 -- ---- the highest of a list
@@ -45,19 +49,25 @@ above_lower x y z xy not_higher = by_order (rank_cmp z y) refl
 alone : (v : SemanticVersion) → IsTop (among (v ∷ [])) v
 alone v = record {
   member = first_member v [];
-  highest = λ u at. elim (member_cases v u [] at) [ inl same ↦ subst (λ y. IsAbove y v → ⊥) same (not_above_itself v) | inr never ↦ absurd (no_member u never) ];
+  highest = λ u at. elim (member_cases v u [] at) [
+    | inl same ↦ subst (λ y. IsAbove y v → ⊥) same (not_above_itself v)
+    | inr never ↦ absurd (no_member u never)
+  ];
 }
 
-stays : (v u : SemanticVersion) (vs : List SemanticVersion) → IsTop (among vs) u → is_greater (rank_cmp u v) ≡ true → IsTop (among (v ∷ vs)) u
+stays : (v u : SemanticVersion) (vs : List SemanticVersion) → IsTop (among vs) u → is_greater (rank_cmp u v) ≡ true
+    → IsTop (among (v ∷ vs)) u
 stays v u vs top is = record {
   member = later_member v u vs top.member;
   highest = λ y at. elim (member_cases v y vs at) [
-    | inl same ↦ subst (λ z. IsAbove z u → ⊥) same (λ above. not_above_itself u (above_through u v u (greater (rank_cmp u v) is) above))
+    | inl same ↦ subst (λ z. IsAbove z u → ⊥) same
+        (λ above. not_above_itself u (above_through u v u (greater (rank_cmp u v) is) above))
     | inr rest ↦ top.highest y rest
   ];
 }
 
-takes_over : (v u : SemanticVersion) (vs : List SemanticVersion) → IsTop (among vs) u → is_greater (rank_cmp u v) ≡ false → IsTop (among (v ∷ vs)) v
+takes_over : (v u : SemanticVersion) (vs : List SemanticVersion) → IsTop (among vs) u
+    → is_greater (rank_cmp u v) ≡ false → IsTop (among (v ∷ vs)) v
 takes_over v u vs top is = record {
   member = first_member v vs;
   highest = λ y at. elim (member_cases v y vs at) [
@@ -66,9 +76,11 @@ takes_over v u vs top is = record {
   ];
 }
 
-higher_top : (v u : SemanticVersion) (vs : List SemanticVersion) → IsTop (among vs) u → IsTop (among (v ∷ vs)) (higher v (Some u))
+higher_top : (v u : SemanticVersion) (vs : List SemanticVersion) → IsTop (among vs) u
+    → IsTop (among (v ∷ vs)) (higher v (Some u))
 higher_top v u vs top =
-    elim (is_greater (rank_cmp u v)) as (λ b. is_greater (rank_cmp u v) ≡ b → IsTop (among (v ∷ vs)) (if b then u else v)) [
+    elim (is_greater (rank_cmp u v)) as
+    (λ b. is_greater (rank_cmp u v) ≡ b → IsTop (among (v ∷ vs)) (if b then u else v)) [
       | true ↦ λ is. stays v u vs top is
       | false ↦ λ is. takes_over v u vs top is
     ] refl
@@ -81,7 +93,8 @@ pub highest_top : (vs : List SemanticVersion) (v : SemanticVersion) → highest 
 highest_top [] v e = cc e
 highest_top (x ∷ vs) v e =
     let is : higher x (highest vs) ≡ v = cc e in
-    subst (IsTop (among (x ∷ vs))) is (elim (highest vs) as (λ o. highest vs ≡ o → IsTop (among (x ∷ vs)) (higher x o)) [
+    subst (IsTop (among (x ∷ vs))) is
+    (elim (highest vs) as (λ o. highest vs ≡ o → IsTop (among (x ∷ vs)) (higher x o)) [
       | None ↦ λ none. subst (λ us. IsTop (among (x ∷ us)) x) (sym (none_highest vs none)) (alone x)
       | Some u ↦ λ some. higher_top x u vs (highest_top vs u some)
     ] refl)
@@ -96,7 +109,9 @@ module _ (m : GoModule) (v : SemanticVersion) where
   pub left : (vs : List SemanticVersion) → Contains (unretracted m vs) v ↔ IsLeft vs
   left [] = (λ at. absurd (no_member v at), λ h. absurd (no_member v h.0))
   left (x ∷ vs) =
-      elim (is_retracted m x) as (λ b. is_retracted m x ≡ b → Contains (if b then unretracted m vs else x ∷ unretracted m vs) v ↔ IsLeft (x ∷ vs)) [
+      elim (is_retracted m x) as
+      (λ b. is_retracted m x ≡ b
+      → Contains (if b then unretracted m vs else x ∷ unretracted m vs) v ↔ IsLeft (x ∷ vs)) [
         | true ↦ λ gone. (
           λ at. let rest = (left vs).0 at in (later_member x v vs rest.0, rest.1),
           λ h. elim (member_cases x v vs h.0) [
@@ -106,7 +121,8 @@ module _ (m : GoModule) (v : SemanticVersion) where
         )
         | false ↦ λ stands. (
           λ at. elim (member_cases x v (unretracted m vs) at) [
-            | inl same ↦ subst (λ y. Contains (x ∷ vs) y × (¬ IsRetracted m y)) same (first_member x vs, iff_false (is_retracted-decides m x) stands)
+            | inl same ↦ subst (λ y. Contains (x ∷ vs) y × (¬ IsRetracted m y)) same
+                (first_member x vs, iff_false (is_retracted-decides m x) stands)
             | inr later ↦ let rest = (left vs).0 later in (later_member x v vs rest.0, rest.1)
           ],
           λ h. elim (member_cases x v vs h.0) [

@@ -1,5 +1,6 @@
 -- The members of a set in its order.
-use Rattle.std.proofs.Common.{◌≡◌, List, [], ◌∷◌, Bool, true, false, refl, ◌∙◌, sym, ap, subst, Option, Some, None, length, arith, true≢false}
+use Rattle.std.proofs.Common.{◌≡◌, List, [], ◌∷◌, Bool, true, false, refl, ◌∙◌, sym, ap, subst, Option, Some, None}
+use Rattle.std.proofs.Common.{length, arith, true≢false}
 use Rattle.std.specs.Prelude.{map as each, is_some, ◌&&◌, ◌||◌}
 use Rattle.std.specs.BTreeSet.{insert_key}
 use Rattle.std.specs.Cmp.{IsTotalOrder, alike_right, tied_itself}
@@ -42,16 +43,19 @@ module _ {K : Type 0} {R : K → K → Ordering} (o : IsTotalOrder R) where
   unfolding in_order
   in_order-members s q =
       sym (map.contains_key-keys (map.from_entries {R = R} (bare (set.items s))) q)
-      ∙ ap is_some (map.get-from_entries o (bare (set.items s)) q) ∙ found q (set.items s) ∙ sym (set.contains-items s q)
+      ∙ ap is_some (map.get-from_entries o (bare (set.items s)) q) ∙ found q (set.items s)
+      ∙ sym (set.contains-items s q)
 
   -- a set made from rising keys has these keys in its order
-  pub in_order-from_list : map.IsAntisymmetric R → (ks : List K) → T (map.is_sorted R (bare ks)) → in_order (set.from_list {R = R} ks) ≡ ks
+  pub in_order-from_list : map.IsAntisymmetric R → (ks : List K) → T (map.is_sorted R (bare ks))
+      → in_order (set.from_list {R = R} ks) ≡ ks
   unfolding in_order
   in_order-from_list exact ks rise =
       let items = set.items (set.from_list {R = R} ks) in
       ap map.keys (map.same_map o exact (map.from_entries {R = R} (bare items)) (map.from_sorted (bare ks)) (λ q.
       map.get-from_entries o (bare items) q
-      ∙ same_marks _ _ (found q items ∙ sym (set.contains-items (set.from_list ks) q) ∙ set.contains-from_list o ks q ∙ sym (found q ks))
+      ∙ same_marks _ _ (found q items ∙ sym (set.contains-items (set.from_list ks) q) ∙ set.contains-from_list o ks q
+      ∙ sym (found q ks))
       ∙ sym (map.get-from_sorted R (bare ks) q rise)))
       ∙ ap (each (λ e. e.0)) (map.entries-from_sorted R (bare ks) rise) ∙ keys_bare ks
 
@@ -62,28 +66,35 @@ module _ {K : Type 0} {R : K → K → Ordering} (o : IsTotalOrder R) where
   no_keys [] e = refl
   no_keys (k ∷ ks) e =
       let there : set.contains (set.from_list {R = R} (k ∷ ks)) k ≡ true =
-      set.contains-insert o (set.from_list ks) k k ∙ ap (λ r. is_eq r || set.contains (set.from_list {R = R} ks) k) (tied_itself o k) in
+      set.contains-insert o (set.from_list ks) k k
+      ∙ ap (λ r. is_eq r || set.contains (set.from_list {R = R} ks) k) (tied_itself o k) in
       absurd (true≢false (sym there ∙ ap (λ s. set.contains s k) e ∙ set.contains-empty R k))
 
   pub nothing_there : (ks : List K) → length ks ≡ 0 → set.from_list {R = R} ks ≡ set.empty
   nothing_there [] e = refl
   nothing_there (k ∷ ks) e = absurd (omega arith)
 
-  among_more : (ks : List K) (k q : K) → list_any (eq_by_cmp R q) (insert_key R ks k) ≡ (eq_by_cmp R q k || list_any (eq_by_cmp R q) ks)
+  among_more : (ks : List K) (k q : K)
+      → list_any (eq_by_cmp R q) (insert_key R ks k) ≡ (eq_by_cmp R q k || list_any (eq_by_cmp R q) ks)
   among_more [] k q = refl
   among_more (x ∷ xs) k q =
       elim (R k x)
-      as (λ r. R k x ≡ r → list_any (eq_by_cmp R q) (match_ordering r (k ∷ x ∷ xs) (x ∷ xs) (x ∷ insert_key R xs k)) ≡ (eq_by_cmp R q k || (eq_by_cmp R q x || list_any (eq_by_cmp R q) xs))) [
+      as (λ r. R k x ≡ r → list_any (eq_by_cmp R q) (match_ordering r (k ∷ x ∷ xs) (x ∷ xs) (x ∷ insert_key R xs k))
+      ≡ (eq_by_cmp R q k || (eq_by_cmp R q x || list_any (eq_by_cmp R q) xs))) [
         | Less ↦ λ _. refl
-        | Equal ↦ λ tie. twice (eq_by_cmp R q x) _ ∙ ap (λ r. is_eq r || (eq_by_cmp R q x || list_any (eq_by_cmp R q) xs)) (sym (alike_right o k x q tie))
-        | Greater ↦ λ _. ap (λ b. eq_by_cmp R q x || b) (among_more xs k q) ∙ turned (eq_by_cmp R q x) (eq_by_cmp R q k) _
+        | Equal ↦ λ tie. twice (eq_by_cmp R q x) _
+            ∙ ap (λ r. is_eq r || (eq_by_cmp R q x || list_any (eq_by_cmp R q) xs)) (sym (alike_right o k x q tie))
+        | Greater ↦ λ _. ap (λ b. eq_by_cmp R q x || b) (among_more xs k q)
+            ∙ turned (eq_by_cmp R q x) (eq_by_cmp R q k) _
       ] refl
 
   -- one more key
-  pub one_more_key : map.IsAntisymmetric R → (ks : List K) (k : K) → set.from_list {R = R} (insert_key R ks k) ≡ set.insert (set.from_list ks) k
+  pub one_more_key : map.IsAntisymmetric R → (ks : List K) (k : K)
+      → set.from_list {R = R} (insert_key R ks k) ≡ set.insert (set.from_list ks) k
   one_more_key exact ks k = set.same_set o exact _ _ (λ q.
       set.contains-from_list o (insert_key R ks k) q ∙ among_more ks k q
-      ∙ ap (λ b. eq_by_cmp R q k || b) (sym (set.contains-from_list o ks q)) ∙ sym (set.contains-insert o (set.from_list ks) k q))
+      ∙ ap (λ b. eq_by_cmp R q k || b) (sym (set.contains-from_list o ks q))
+      ∙ sym (set.contains-insert o (set.from_list ks) k q))
 
 pub less_is : (r : Ordering) → r ≡ Less → T (is_lt r)
 less_is Less e = tt
@@ -117,19 +128,25 @@ module _ {K X : Type 0} (R : K → K → Ordering) where
   keys_rise [] up = tt
   keys_rise (e ∷ es) up = both _ _ (below_keys e.0 es (first _ _ up)) (keys_rise es (second _ _ up))
 
-module _ {K : Type 0} {R : K → K → Ordering} (o : IsTotalOrder R) (exact : map.IsAntisymmetric R) (s : set.FinSet R) where
-  -- a set that has the keys of a map has them in the order of the map
-  pub in_order-keys : {X : Type 0} (m : map.FinMap R X) → ((q : K) → set.contains s q ≡ is_some (map.get m q)) → in_order s ≡ map.keys m
-  in_order-keys m same =
-      ap in_order (set.same_set o exact s (set.from_list (map.keys m)) (λ q. same q ∙ map.contains_key-keys m q ∙ sym (set.contains-from_list o (map.keys m) q)))
-      ∙ in_order-from_list o exact (map.keys m) (keys_rise R (map.entries m) (map.entries_sorted m))
+module _ {K : Type 0} {R : K → K → Ordering} (o : IsTotalOrder R) (exact : map.IsAntisymmetric R) (s : set.FinSet R)
+  where
+    -- a set that has the keys of a map has them in the order of the map
+    pub in_order-keys : {X : Type 0} (m : map.FinMap R X) → ((q : K) → set.contains s q ≡ is_some (map.get m q))
+        → in_order s ≡ map.keys m
+    in_order-keys m same =
+        ap in_order (set.same_set o exact s (set.from_list (map.keys m))
+        (λ q. same q ∙ map.contains_key-keys m q ∙ sym (set.contains-from_list o (map.keys m) q)))
+        ∙ in_order-from_list o exact (map.keys m) (keys_rise R (map.entries m) (map.entries_sorted m))
 
-  -- a set that has nothing is the empty list in its order
-  pub in_order-nothing : ((q : K) → set.contains s q ≡ false) → in_order s ≡ []
-  in_order-nothing none = ap in_order (set.same_set o exact s (set.from_list []) (λ q. none q ∙ sym (set.contains-from_list o [] q))) ∙ in_order-from_list o exact [] tt
+    -- a set that has nothing is the empty list in its order
+    pub in_order-nothing : ((q : K) → set.contains s q ≡ false) → in_order s ≡ []
+    in_order-nothing none = ap in_order
+        (set.same_set o exact s (set.from_list []) (λ q. none q ∙ sym (set.contains-from_list o [] q)))
+        ∙ in_order-from_list o exact [] tt
 
 module _ {Y K : Type 0} (R : K → K → Ordering) (f : Y → K) where
-  above_all : (x : Y) (ys : List Y) → AllByRecursion (λ y. R (f x) (f y) ≡ Less) ys → T (below_all R (f x) (bare (each f ys)))
+  above_all : (x : Y) (ys : List Y) → AllByRecursion (λ y. R (f x) (f y) ≡ Less) ys
+      → T (below_all R (f x) (bare (each f ys)))
   above_all x [] above = tt
   above_all x (y ∷ ys) above = both _ _ (less_is (R (f x) (f y)) above.0) (above_all x ys above.1)
 
@@ -144,4 +161,5 @@ each_itself [] = refl
 each_itself (k ∷ ks) = ap (λ rest. k ∷ rest) (each_itself ks)
 
 pub risen : {K : Type 0} (R : K → K → Ordering) (ks : List K) → IsStrictlySortedBy R ks → T (map.is_sorted R (bare ks))
-risen {K = K} R ks up = subst (λ (xs : List K). T (map.is_sorted R (bare xs))) (each_itself ks) (rising R (λ k. k) ks up)
+risen {K = K} R ks up = subst (λ (xs : List K). T (map.is_sorted R (bare xs))) (each_itself ks)
+    (rising R (λ k. k) ks up)

@@ -1,5 +1,6 @@
 -- Lists of versions that are kept.
-use Rattle.std.proofs.Common.{◌≡◌, ◌≤◌, ◌<◌, ◌+◌, ◌++◌, ℕ, List, [], ◌∷◌, Bool, false, not, Some, length, get_or, refl, sym, ap, subst, ◌∙◌, arith, filter}
+use Rattle.std.proofs.Common.{◌≡◌, ◌≤◌, ◌<◌, ◌+◌, ◌++◌, ℕ, List, [], ◌∷◌, Bool, false, not, Some, length, get_or, refl}
+use Rattle.std.proofs.Common.{sym, ap, subst, ◌∙◌, arith, filter}
 use Rattle.std.specs.Prelude.{bytes_eq, is_some}
 use Rattle.std.specs.List.{swap_remove, position}
 use Rattle.std.specs.Option.{option_or}
@@ -19,7 +20,8 @@ use Rattle.world.specs.World.{World, chain, place, seen_at, first_on, with_entry
 use Rattle.world.specs.Lines.{in_order}
 use Rattle.world.specs.Versions.{named, by_precedence, versions_of}
 use Rattle.world.specs.Visible.{versions_seen}
-use Rattle.world.proofs.Orders.{texts_total, texts_exact, places_total, places_exact, get_elsewhere, text_apart, text_same}
+use Rattle.world.proofs.Orders.{texts_total, texts_exact, places_total, places_exact, get_elsewhere, text_apart}
+use Rattle.world.proofs.Orders.{text_same}
 use Rattle.world.proofs.Seen.{contains_versions}
 
 -- ---- none
@@ -31,17 +33,23 @@ no_lists w lists none = subst (AreLists w) (sym none) (All-nil (IsListIn w))
 
 module _ (lists : List KeptList) (i : ℕ) (x : KeptList) (same : x ≡ get_or lists i x) where
   pub taken_others : (w : World) → i < length lists → AreLists w lists → AreLists w (swap_remove lists i x)
-  taken_others w within are = All-tail (IsListIn w) x _ (All-permutation (IsListIn w) lists _ (IsPermutation-swap_remove lists i x within same) are)
+  taken_others w within are =
+      All-tail (IsListIn w) x _
+      (All-permutation (IsListIn w) lists _ (IsPermutation-swap_remove lists i x within same) are)
 
   pub taken_fewer : i < length lists → versions_in (swap_remove lists i x) ≤ versions_in lists
-  taken_fewer within = let e = sum_by-swap_remove (λ (list : KeptList). length list.versions) lists i x within in omega (arith, e)
+  taken_fewer within = let e = sum_by-swap_remove (λ (list : KeptList). length list.versions) lists i x within in
+      omega (arith, e)
 
-  pub taken_versions : (s p : List ℕ) (w : World) → position (is_of s p) lists ≡ Some i → AreLists w lists → x.versions ≡ versions_of w s p
+  pub taken_versions : (s p : List ℕ) (w : World) → position (is_of s p) lists ≡ Some i → AreLists w lists
+      → x.versions ≡ versions_of w s p
   taken_versions s p w found are =
       let at = position-Some (is_of s p) lists i x found in
       let both = and_parts (bytes_eq x.shelf s) (bytes_eq x.path p) (ap (is_of s p) same ∙ at.1) in
-      let own : x.versions ≡ versions_of w x.shelf x.path = subst (IsListIn w) (sym same) (All-get_or (IsListIn w) lists i x at.0 are) in
-      own ∙ (ap (λ t. versions_of w t x.path) (text_same x.shelf s both.0) ∙ ap (versions_of w s) (text_same x.path p both.1))
+      let own : x.versions ≡ versions_of w x.shelf x.path =
+      subst (IsListIn w) (sym same) (All-get_or (IsListIn w) lists i x at.0 are) in
+      own ∙ (ap (λ t. versions_of w t x.path) (text_same x.shelf s both.0)
+      ∙ ap (versions_of w s) (text_same x.path p both.1))
 
 -- ---- those that are left where the lists of a path are forgotten
 
@@ -50,26 +58,31 @@ is_of_another p list = not (bytes_eq list.path p)
 
 pub fewer_left : (p : List ℕ) (lists : List KeptList) → versions_in (filter (is_of_another p) lists) ≤ versions_in lists
 fewer_left p lists =
-    let e = sum_by-filter_both (is_of_another p) (λ list. not (is_of_another p list)) (λ list. refl) (λ (list : KeptList). length list.versions) lists in omega (arith, e)
+    let e = sum_by-filter_both (is_of_another p) (λ list. not (is_of_another p list)) (λ list. refl)
+    (λ (list : KeptList). length list.versions) lists in omega (arith, e)
 
 -- a version of another path
 module _ (w : World) (s p v : List ℕ) (e : Entry) (other : List ℕ) (apart : bytes_eq other p ≡ false) where
-  pub on_others : (ss : List (List ℕ)) (u : List ℕ) → first_on (with_entry w (place s p v) e) ss other u ≡ first_on w ss other u
+  pub on_others : (ss : List (List ℕ)) (u : List ℕ)
+      → first_on (with_entry w (place s p v) e) ss other u ≡ first_on w ss other u
   on_others [] u = refl
   on_others (t ∷ ts) u =
       ap (λ o. option_or (seen_at o t) (first_on (with_entry w (place s p v) e) ts other u))
-      (get_elsewhere places_total places_exact w.entries (place s p v) e (place t other u) (λ i. text_apart other p apart (ap (λ (q : Place). q.path) i)))
+      (get_elsewhere places_total places_exact w.entries (place s p v) e (place t other u)
+      (λ i. text_apart other p apart (ap (λ (q : Place). q.path) i)))
       ∙ ap (λ o. option_or (seen_at (map.get w.entries (place t other u)) t) o) (on_others ts u)
 
   seen_still : (t : List ℕ) → versions_seen (with_entry w (place s p v) e) t other ≡ versions_seen w t other
   seen_still t =
       same_set texts_total texts_exact (versions_seen (with_entry w (place s p v) e) t other) (versions_seen w t other)
-      (λ u. contains_versions (with_entry w (place s p v) e) t other u ∙ (ap is_some (on_others (chain w t) u) ∙ sym (contains_versions w t other u)))
+      (λ u. contains_versions (with_entry w (place s p v) e) t other u
+      ∙ (ap is_some (on_others (chain w t) u) ∙ sym (contains_versions w t other u)))
 
   pub versions_still : (t : List ℕ) → versions_of (with_entry w (place s p v) e) t other ≡ versions_of w t other
   versions_still t = ap (λ texts. in_order (by_precedence (named (in_order texts)))) (seen_still t)
 
-pub left_still : (w : World) (s p v : List ℕ) (e : Entry) (lists : List KeptList) → AreLists w lists → AreLists (with_entry w (place s p v) e) (filter (is_of_another p) lists)
+pub left_still : (w : World) (s p v : List ℕ) (e : Entry) (lists : List KeptList) → AreLists w lists
+    → AreLists (with_entry w (place s p v) e) (filter (is_of_another p) lists)
 left_still w s p v e lists are k d within =
     let x = get_or (filter (is_of_another p) lists) k d in
     let apart = not-true (bytes_eq x.path p) (filter_passes (is_of_another p) lists k d within) in
@@ -77,5 +90,7 @@ left_still w s p v e lists are k d within =
 
 -- ---- one more
 
-pub versions_more : (lists : List KeptList) (x : KeptList) → versions_in (lists ++ x ∷ []) ≡ versions_in lists + length x.versions
-versions_more lists x = let e = sum_by-append (λ (list : KeptList). length list.versions) lists (x ∷ []) in omega (arith, e)
+pub versions_more : (lists : List KeptList) (x : KeptList)
+    → versions_in (lists ++ x ∷ []) ≡ versions_in lists + length x.versions
+versions_more lists x = let e = sum_by-append (λ (list : KeptList). length list.versions) lists (x ∷ []) in
+    omega (arith, e)

@@ -1,5 +1,6 @@
 -- The members of lists, and of sets in their order.
-use Rattle.std.proofs.Common.{◌≡◌, ◌<◌, ℕ, zero, suc, List, [], ◌∷◌, true, refl, ◌∙◌, sym, ap, subst, inl, inr, ◌⊎◌, length, get_or, arith}
+use Rattle.std.proofs.Common.{◌≡◌, ◌<◌, ℕ, zero, suc, List, [], ◌∷◌, true, refl, ◌∙◌, sym, ap, subst, inl, inr, ◌⊎◌}
+use Rattle.std.proofs.Common.{length, get_or, arith}
 use Rattle.std.specs.Prelude.{Contains, map as each}
 use Rattle.std.specs.Cmp.{IsTotalOrder, tied_itself}
 use Rattle.std.specs.FinMap as map
@@ -48,11 +49,13 @@ module _ {K : Type 0} (R : K → K → Ordering) where
   unfolding in_order
   in_order_rises s = rises _ (map.entries_sorted _)
 
-module _ {K : Type 0} {R : K → K → Ordering} (o : IsTotalOrder R) (exact : map.IsAntisymmetric R) (s : set.FinSet R) (q : K) where
+module _ {K : Type 0} {R : K → K → Ordering} (o : IsTotalOrder R) (exact : map.IsAntisymmetric R) (s : set.FinSet R)
+    (q : K) where
   pub in_order_of : set.contains s q ≡ true → Contains (in_order s) q
   in_order_of e =
       let any = Any-from_list_any (eq_by_cmp R q) (in_order s) (in_order-members o s q ∙ e) in
       subst (Contains (in_order s)) (sym (tells_apart exact q any.1 any.4)) (any.0, any.2, any.3)
 
   pub in_set_of : Contains (in_order s) q → set.contains s q ≡ true
-  in_set_of at = sym (in_order-members o s q) ∙ list_any-from_Any (eq_by_cmp R q) (in_order s) (at.0, q, at.1, at.2, ap is_eq (tied_itself o q))
+  in_set_of at = sym (in_order-members o s q)
+      ∙ list_any-from_Any (eq_by_cmp R q) (in_order s) (at.0, q, at.1, at.2, ap is_eq (tied_itself o q))

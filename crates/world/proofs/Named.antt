@@ -17,6 +17,7 @@ names_none t f faulty = elim (version_of t) as (λ o. version_of t ≡ o → Non
   | Some v ↦ λ e. absurd (not-faulty t v f ((version-of t v).0 e) faulty)
 ] refl
 
-pub read_none : (t : List ℕ) (f : VersionFault) → (IsFault t f ⊎ ((f ≡ fault.Memory) × IsHeld t)) → ¬ (f ≡ fault.Memory) → None ≡ version_of t
+pub read_none : (t : List ℕ) (f : VersionFault) → (IsFault t f ⊎ ((f ≡ fault.Memory) × IsHeld t)) → ¬ (f ≡ fault.Memory)
+    → None ≡ version_of t
 read_none t f (inl faulty) other = names_none t f faulty
 read_none t f (inr held) other = absurd (other held.0)

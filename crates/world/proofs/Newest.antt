@@ -27,7 +27,8 @@ module _ (w : World) (is : IsWorld w) (s p : List ℕ) (vs : List SemanticVersio
       ∙ ap (latest_by w s p) (is_top p all_fit ∙ ap highest are)
 
 -- the latest version, by the versions of the path as they were read from a store
-module _ (old mid : Shown) (sound : (w : World) → old.stands w → IsWorld w) (s p : List ℕ) (vs : List SemanticVersion) (read : Reads old mid (Ok vs) (λ w. versions_of w s p)) where
+module _ (old mid : Shown) (sound : (w : World) → old.stands w → IsWorld w) (s p : List ℕ) (vs : List SemanticVersion)
+    (read : Reads old mid (Ok vs) (λ w. versions_of w s p)) where
   pub none_read : ((path : List ℕ) → AllOf path vs → None ≡ highest vs) → Reads old mid (Ok None) (λ w. latest_of w s p)
   none_read none = record {
     honest = read.honest;
@@ -42,16 +43,20 @@ module _ (old mid : Shown) (sound : (w : World) → old.stands w → IsWorld w) 
   }
 
   -- the latest version, if the go.mod of the highest was read after them
-  pub latest_read : (new : Shown) (top : SemanticVersion) (shown : Option Heading) (m : Option GoModule) (v : Option SemanticVersion)
-      → ((path : List ℕ) → AllOf path vs → Some top ≡ highest vs) → Reads mid new (Ok shown) (λ w. heading w s p (version_text top))
-      → m ≡ module_of shown → ((path : List ℕ) → AllOf path vs → v ≡ highest_left m vs) → Reads old new (Ok v) (λ w. latest_of w s p)
+  pub latest_read : (new : Shown) (top : SemanticVersion) (shown : Option Heading) (m : Option GoModule)
+      (v : Option SemanticVersion)
+      → ((path : List ℕ) → AllOf path vs → Some top ≡ highest vs)
+      → Reads mid new (Ok shown) (λ w. heading w s p (version_text top))
+      → m ≡ module_of shown → ((path : List ℕ) → AllOf path vs → v ≡ highest_left m vs)
+      → Reads old new (Ok v) (λ w. latest_of w s p)
   latest_read new top shown m v is_top then is_read is_latest = record {
     honest = λ h. read.honest (then.honest h);
     at = λ h w stands.
         let given = read.at (then.honest h) w stands in
         let seen = then.at h w given.stays in
         record {
-          answer = some_latest w (sound w stands) s p vs given.answer top shown m v is_top seen.answer is_read is_latest;
+          answer = some_latest w (sound w stands) s p vs given.answer top shown m v is_top seen.answer is_read
+              is_latest;
           stays = seen.stays;
           left = λ x y was. seen.left x y (given.left x y was);
         };

@@ -1,4 +1,5 @@
--- Each go.mod that the first profile reads, the second reads with the same result, so a world of the first is one of the second.
+-- Each go.mod that the first profile reads, the second reads with the same result, so a world of the first is one of
+-- the second.
 use Rattle.std.proofs.Common.{◌≡◌, ℕ, List, Bool, ap, Result, Ok, Err}
 use Rattle.gomod.proofs.FileLaw.{reads-from_reading, reading-from_reads}
 use Rattle.gomod.proofs.MoreKeywords.{reads_more, profile_1-within}
@@ -17,13 +18,17 @@ pub reading_ok : (r : Result GoModule GoModFault) (m : GoModule) → as_reading 
 reading_ok (Ok x) m e = let same : x ≡ m = cc e in ap Ok same
 reading_ok (Err f) m e = cc e
 
-pub reads_still : (bytes : List ℕ) (m : GoModule) → reading_by profile_1 bytes ≡ Module m → reading_by profile_2 bytes ≡ Module m
+pub reads_still : (bytes : List ℕ) (m : GoModule) → reading_by profile_1 bytes ≡ Module m
+    → reading_by profile_2 bytes ≡ Module m
 reads_still bytes m e =
     let by_first = reads-from_reading profile_1 bytes m (reading_ok (gomod.reading profile_1 bytes) m e) in
-    ap as_reading (reading-from_reads profile_2 bytes m (reads_more profile_1 profile_2 bytes m profile_1-within by_first))
+    ap as_reading (reading-from_reads profile_2 bytes m
+    (reads_more profile_1 profile_2 bytes m profile_1-within by_first))
 
-gomod_still : (path : List ℕ) (is_marked : Bool) (bytes : List ℕ) → IsGoModBy profile_1 path is_marked bytes → IsGoModBy profile_2 path is_marked bytes
-gomod_still path is_marked bytes is = record { says = is.says; reads = reads_still bytes is.says is.reads; names = is.names; bare = is.bare }
+gomod_still : (path : List ℕ) (is_marked : Bool) (bytes : List ℕ) → IsGoModBy profile_1 path is_marked bytes
+    → IsGoModBy profile_2 path is_marked bytes
+gomod_still path is_marked bytes is =
+    record { says = is.says; reads = reads_still bytes is.says is.reads; names = is.names; bare = is.bare }
 
 -- an entry that may stand at a place by the first profile may stand there by the second
 entry_still : (q : Place) (e : Entry) → IsEntryBy profile_1 q e → IsEntryBy profile_2 q e

@@ -18,9 +18,11 @@ use Rattle.world.specs.Latest.{AllOf}
 use Rattle.world.specs.Lines.{in_order, EachToNext}
 use Rattle.world.specs.Versions.{with_version, named, named_on, version_cmp, by_precedence, versions_of, VersionsAscend}
 use Rattle.world.specs.Visible.{IsSeen, seen_versions, versions_among, versions_on, versions_seen}
-use Rattle.world.specs.World.{World, IsWorld, IsWorldBy, IsEntry, IsEntryBy, chain, place, text_cmp, seen_at, first_on, view}
+use Rattle.world.specs.World.{World, IsWorld, IsWorldBy, IsEntry, IsEntryBy, chain, place, text_cmp, seen_at, first_on}
+use Rattle.world.specs.World.{view}
 use Rattle.world.proofs.Orders.{texts_total, texts_exact}
-use Rattle.world.proofs.Members.{no_member, first_member, later_member, member_cases, in_order_rises, in_order_of, in_set_of}
+use Rattle.world.proofs.Members.{no_member, first_member, later_member, member_cases, in_order_rises, in_order_of}
+use Rattle.world.proofs.Members.{in_set_of}
 use Rattle.world.proofs.Precedence.{same_versions, sorted_members, below_next}
 use Rattle.world.proofs.Seen.{contains_versions}
 
@@ -58,7 +60,8 @@ named_by (t ∷ ts) v =
           | inr later ↦ let rest = (named_by ts v).0 later in (rest.0, later_member t rest.0 ts rest.1, rest.2)
         ],
         λ h. elim (member_cases t h.0 ts h.1) [
-          | inl same ↦ let is : u ≡ v = cc (sym some ∙ ap version_of same ∙ h.2) in subst (Contains (u ∷ named ts)) is (first_member u (named ts))
+          | inl same ↦ let is : u ≡ v = cc (sym some ∙ ap version_of same ∙ h.2) in
+              subst (Contains (u ∷ named ts)) is (first_member u (named ts))
           | inr later ↦ later_member u v (named ts) ((named_by ts v).1 (h.0, later, h.2))
         ],
       )
@@ -78,7 +81,8 @@ module _ (v : SemanticVersion) where
 -- ---- the versions of a path that a shelf sees
 
 -- the texts on some shelves, shelf by shelf, name the versions that all of these texts together name
-named_on_members : (w : World) (ss : List (List ℕ)) (p : List ℕ) (v : SemanticVersion) → Contains (named_on w ss p) v ↔ Contains (named (in_order (versions_on w ss p))) v
+named_on_members : (w : World) (ss : List (List ℕ)) (p : List ℕ) (v : SemanticVersion)
+    → Contains (named_on w ss p) v ↔ Contains (named (in_order (versions_on w ss p))) v
 named_on_members w [] p v = (
   λ at. absurd (no_member v at),
   λ at. let by = (named_in v set.empty).0 at in absurd (true≢false (sym by.1 ∙ set.contains-empty text_cmp by.0)),
@@ -91,13 +95,16 @@ named_on_members w (s ∷ ss) p v =
     let either = λ (t : List ℕ). set.contains-union texts_total here behind t in (
       λ at. elim (Contains-append_cases (named (in_order here)) (named_on w ss p) v at) [
         | inl one ↦ let by = (named_in v here).0 one in (named_in v all).1 (by.0, either by.0 ∙ or_left _ _ by.1, by.2)
-        | inr other ↦ let by = (named_in v behind).0 (rest.0 other) in (named_in v all).1 (by.0, either by.0 ∙ or_right (set.contains here by.0) _ by.1, by.2)
+        | inr other ↦ let by = (named_in v behind).0 (rest.0 other) in
+            (named_in v all).1 (by.0, either by.0 ∙ or_right (set.contains here by.0) _ by.1, by.2)
       ],
       λ at.
           let by = (named_in v all).0 at in
           elim (or_cases (set.contains here by.0) _ (sym (either by.0) ∙ by.1)) [
-            | inl one ↦ Contains-append_left (named (in_order here)) (named_on w ss p) v ((named_in v here).1 (by.0, one, by.2))
-            | inr other ↦ Contains-append_right (named (in_order here)) (named_on w ss p) v (rest.1 ((named_in v behind).1 (by.0, other, by.2)))
+            | inl one ↦ Contains-append_left (named (in_order here)) (named_on w ss p) v
+                ((named_in v here).1 (by.0, one, by.2))
+            | inr other ↦ Contains-append_right (named (in_order here)) (named_on w ss p) v
+                (rest.1 ((named_in v behind).1 (by.0, other, by.2)))
           ],
     )
 
@@ -106,10 +113,13 @@ pub on_chain : (w : World) (s p : List ℕ) → in_order (by_precedence (named_o
 on_chain w s p = ap in_order (same_versions _ _ (λ v. named_on_members w (chain w s) p v))
 
 -- what is seen stands on a shelf
-stands_on : (w : World) (ss : List (List ℕ)) (p v : List ℕ) (e : Seen) → first_on w ss p v ≡ Some e → map.get w.entries (place e.shelf p v) ≡ Some e.entry
+stands_on : (w : World) (ss : List (List ℕ)) (p v : List ℕ) (e : Seen) → first_on w ss p v ≡ Some e
+    → map.get w.entries (place e.shelf p v) ≡ Some e.entry
 stands_on w [] p v e found = cc found
 stands_on w (s ∷ ss) p v e found =
-    elim (map.get w.entries (place s p v)) as (λ o. map.get w.entries (place s p v) ≡ o → option_or (seen_at o s) (first_on w ss p v) ≡ Some e → map.get w.entries (place e.shelf p v) ≡ Some e.entry) [
+    elim (map.get w.entries (place s p v)) as
+    (λ o. map.get w.entries (place s p v) ≡ o → option_or (seen_at o s) (first_on w ss p v) ≡ Some e
+    → map.get w.entries (place e.shelf p v) ≡ Some e.entry) [
       | None ↦ λ _ rest. stands_on w ss p v e rest
       | Some x ↦ λ here is.
           let mine : Seen = record { shelf = s; entry = x } in
@@ -117,8 +127,10 @@ stands_on w (s ∷ ss) p v e found =
           subst (λ (y : Seen). map.get w.entries (place y.shelf p v) ≡ Some y.entry) same here
     ] refl found
 
-pub entry_by : (known : Keywords) (w : World) (s p t : List ℕ) → IsWorldBy known w → (seen : IsSeen w s p t) → IsEntryBy known (place seen.0.shelf p t) seen.0.entry
-entry_by known w s p t is seen = is.entries_fit (place seen.0.shelf p t) seen.0.entry (stands_on w (chain w s) p t seen.0 seen.1)
+pub entry_by : (known : Keywords) (w : World) (s p t : List ℕ) → IsWorldBy known w → (seen : IsSeen w s p t)
+    → IsEntryBy known (place seen.0.shelf p t) seen.0.entry
+entry_by known w s p t is seen =
+    is.entries_fit (place seen.0.shelf p t) seen.0.entry (stands_on w (chain w s) p t seen.0 seen.1)
 
 module _ (w : World) (is : IsWorld w) (s p : List ℕ) where
   pub entry_at : (t : List ℕ) (seen : IsSeen w s p t) → IsEntry (place seen.0.shelf p t) seen.0.entry
@@ -130,13 +142,21 @@ module _ (w : World) (is : IsWorld w) (s p : List ℕ) where
       let vs = versions_seen w s p in (
         λ at.
             let by = (named_by (in_order vs) v).0 at in
-            let canonical : IsCanonical by.0 v = (version-of by.0 v).0 by.2 in
-            (canonical.valid, subst (IsSeen w s p) (sym canonical.same) ((versions_are_seen w s p by.0).0 (in_set_of texts_total texts_exact vs by.0 by.1))),
+            let canonical : IsCanonical by.0 v = (version-of by.0 v).0 by.2 in (
+              canonical.valid,
+              subst (IsSeen w s p) (sym canonical.same)
+                  ((versions_are_seen w s p by.0).0 (in_set_of texts_total texts_exact vs by.0 by.1)),
+            ),
         λ seen.
             let entry = entry_at (version_text v) seen.1 in
-            let canonical : IsCanonical (version_text v) v = record { valid = seen.0; same = refl; short = entry.version.1.short } in
-            (named_by (in_order vs) v).1
-            (version_text v, in_order_of texts_total texts_exact vs (version_text v) ((versions_are_seen w s p (version_text v)).1 seen.1), (version-of (version_text v) v).1 canonical),
+            let canonical : IsCanonical (version_text v) v =
+            record { valid = seen.0; same = refl; short = entry.version.1.short } in
+            (named_by (in_order vs) v).1 (
+              version_text v,
+              in_order_of texts_total texts_exact vs (version_text v)
+                  ((versions_are_seen w s p (version_text v)).1 seen.1),
+              (version-of (version_text v) v).1 canonical,
+            ),
       )
 
   pub seen_members : (v : SemanticVersion) → Contains (versions_of w s p) v ↔ seen_versions w s p v
@@ -156,7 +176,8 @@ module _ (w : World) (is : IsWorld w) (s p : List ℕ) where
 
   -- where an entry is seen, so is its version
   pub version_there : (t : List ℕ) → IsSeen w s p t → (v : SemanticVersion) × seen_versions w s p v
-  version_there t seen = let entry = entry_at t seen in (entry.version.0, (entry.version.1.valid, subst (IsSeen w s p) (sym entry.version.1.same) seen))
+  version_there t seen = let entry = entry_at t seen in
+      (entry.version.0, (entry.version.1.valid, subst (IsSeen w s p) (sym entry.version.1.same) seen))
 
 -- ---- in ascending precedence
 
@@ -164,4 +185,9 @@ pub versions_rise : (w : World) (s p : List ℕ) → EachToNext (λ u v. version
 versions_rise w s p = in_order_rises version_cmp (by_precedence (named (in_order (versions_seen w s p))))
 
 pub versions_ascend : VersionsAscend
-versions_ascend w s p is = record { members = seen_members w is s p; ascend = below_next p (versions_of w s p) (versions_fit w is s p) (versions_rise w s p) }
+versions_ascend w s p is =
+    record {
+      members = seen_members w is s p;
+      ascend =
+          below_next p (versions_of w s p) (versions_fit w is s p) (versions_rise w s p);
+    }

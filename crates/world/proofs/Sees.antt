@@ -1,5 +1,6 @@
 -- Which shelves a shelf sees.
-use Rattle.std.proofs.Common.{◌≡◌, ℕ, List, [], ◌∷◌, true, false, cond, refl, sym, ap, subst, inl, inr, ◌⊎◌, ◌∙◌, Option, Some, None}
+use Rattle.std.proofs.Common.{◌≡◌, ℕ, List, [], ◌∷◌, true, false, cond, refl, sym, ap, subst, inl, inr, ◌⊎◌, ◌∙◌}
+use Rattle.std.proofs.Common.{Option, Some, None}
 use Rattle.std.specs.Prelude.{bytes_eq, ◌||◌, is_some}
 use Rattle.std.specs.FinMap as map
 use Rattle.std.proofs.lemmas.Bool.{true≢false, or_cases, or_left, or_right}
@@ -17,7 +18,10 @@ pub sees_common : (w : World) (s : List ℕ) → sees w s common ≡ true
 sees_common w s = or_right (bytes_eq common s) _ (common_above (group_of w s))
 
 pub only_common : (u : List ℕ) → is_among (common ∷ []) u ≡ true → u ≡ common
-only_common u e = elim (or_cases (bytes_eq u common) false e) [ inl c ↦ text_same u common c | inr never ↦ absurd (true≢false (sym never)) ]
+only_common u e = elim (or_cases (bytes_eq u common) false e) [
+  | inl c ↦ text_same u common c
+  | inr never ↦ absurd (true≢false (sym never))
+]
 
 -- ---- groups
 
@@ -37,16 +41,19 @@ parent_of w s g e = in_group (map.get w.shelves s) g e
 -- a parent is seen
 parent_above : (parent : List ℕ) → is_among (above (group_in (Some (Some parent)))) parent ≡ true
 parent_above parent =
-    elim (bytes_eq parent common) as (λ b. bytes_eq parent common ≡ b → is_among (above (cond b None (Some parent))) parent ≡ true) [
+    elim (bytes_eq parent common) as
+    (λ b. bytes_eq parent common ≡ b → is_among (above (cond b None (Some parent))) parent ≡ true) [
       | true ↦ λ same. or_left (bytes_eq parent common) false same
       | false ↦ λ _. or_left (bytes_eq parent parent) _ (text_self parent)
     ] refl
 
 pub sees_parent : (w : World) (s parent : List ℕ) → map.get w.shelves s ≡ Some (Some parent) → sees w s parent ≡ true
-sees_parent w s parent e = or_right (bytes_eq parent s) _ (ap (λ o. is_among (above (group_in o)) parent) e ∙ parent_above parent)
+sees_parent w s parent e =
+    or_right (bytes_eq parent s) _ (ap (λ o. is_among (above (group_in o)) parent) e ∙ parent_above parent)
 
 -- what stands above a shelf has no parent
-above_top : (w : World) → IsWorld w → (s t : List ℕ) (o : Option (List ℕ)) → group_of w s ≡ o → is_among (above o) t ≡ true → map.get w.shelves t ≡ Some None
+above_top : (w : World) → IsWorld w → (s t : List ℕ) (o : Option (List ℕ)) → group_of w s ≡ o
+    → is_among (above o) t ≡ true → map.get w.shelves t ≡ Some None
 above_top w is s t None e at = ap (map.get w.shelves) (only_common t at) ∙ is.has_common
 above_top w is s t (Some g) e at =
     elim (or_cases (bytes_eq t g) _ at) [
@@ -55,8 +62,13 @@ above_top w is s t (Some g) e at =
     ]
 
 -- what a shelf sees is itself, or has no parent
-pub itself_or_top : (w : World) → IsWorld w → (s t : List ℕ) → sees w s t ≡ true → (t ≡ s) ⊎ (map.get w.shelves t ≡ Some None)
-itself_or_top w is s t seen = elim (or_cases (bytes_eq t s) _ seen) [ inl here ↦ inl (text_same t s here) | inr up ↦ inr (above_top w is s t _ refl up) ]
+pub itself_or_top : (w : World) → IsWorld w → (s t : List ℕ) → sees w s t ≡ true
+    → (t ≡ s) ⊎ (map.get w.shelves t ≡ Some None)
+itself_or_top w is s t seen =
+    elim (or_cases (bytes_eq t s) _ seen) [
+      | inl here ↦ inl (text_same t s here)
+      | inr up ↦ inr (above_top w is s t _ refl up)
+    ]
 
 -- a shelf that has no parent sees itself and common
 top_sees : (w : World) (t u : List ℕ) → map.get w.shelves t ≡ Some None → sees w t u ≡ true → (u ≡ t) ⊎ (u ≡ common)
@@ -67,7 +79,8 @@ top_sees w t u top seen =
     ]
 
 -- a shelf that is seen sees nothing else
-pub sees_through : (w : World) → IsWorld w → (s t u : List ℕ) → sees w s t ≡ true → sees w t u ≡ true → sees w s u ≡ true
+pub sees_through : (w : World) → IsWorld w → (s t u : List ℕ) → sees w s t ≡ true → sees w t u ≡ true
+    → sees w s u ≡ true
 sees_through w is s t u st tu =
     elim (itself_or_top w is s t st) [
       | inl same ↦ subst (λ x. sees w x u ≡ true) same tu
@@ -78,8 +91,13 @@ sees_through w is s t u st tu =
     ]
 
 -- where it stands, so does each that it sees
-pub seen_stands : (w : World) (s u : List ℕ) → IsWorld w → map.contains_key w.shelves s ≡ true → sees w s u ≡ true → map.contains_key w.shelves u ≡ true
-seen_stands w s u is stands seen = elim (itself_or_top w is s u seen) [ inl us ↦ ap (map.contains_key w.shelves) us ∙ stands | inr top ↦ ap is_some top ]
+pub seen_stands : (w : World) (s u : List ℕ) → IsWorld w → map.contains_key w.shelves s ≡ true → sees w s u ≡ true
+    → map.contains_key w.shelves u ≡ true
+seen_stands w s u is stands seen =
+    elim (itself_or_top w is s u seen) [
+      | inl us ↦ ap (map.contains_key w.shelves) us ∙ stands
+      | inr top ↦ ap is_some top
+    ]
 
 -- ---- the chains of two worlds
 
@@ -91,11 +109,13 @@ behind : (s : List ℕ) (us vs : List (List ℕ)) → s ∷ us ≡ s ∷ vs → 
 behind s us vs e = cc e
 
 -- where a shelf has the same chain in both, so has each that it sees
-pub seen_chain : (w x : World) → IsWorld w → IsWorld x → (s t : List ℕ) → chain w s ≡ chain x s → sees w s t ≡ true → chain w t ≡ chain x t
+pub seen_chain : (w x : World) → IsWorld w → IsWorld x → (s t : List ℕ) → chain w s ≡ chain x s → sees w s t ≡ true
+    → chain w t ≡ chain x t
 seen_chain w x is_w is_x s t same seen =
     elim (or_cases (bytes_eq t s) _ seen) [
       | inl here ↦ subst (λ u. chain w u ≡ chain x u) (sym (text_same t s here)) same
       | inr up ↦
-          let in_x : is_among (above (group_of x s)) t ≡ true = subst (λ us. is_among us t ≡ true) (behind s _ _ same) up in
+          let in_x : is_among (above (group_of x s)) t ≡ true =
+          subst (λ us. is_among us t ≡ true) (behind s _ _ same) up in
           same_chain w x t (above_top w is_w s t _ refl up ∙ sym (above_top x is_x s t _ refl in_x))
     ]

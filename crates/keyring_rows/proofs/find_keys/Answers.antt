@@ -22,4 +22,5 @@ returns-clause-answer g c clean w stands =
     let new = state g.S.Store c.find_texts.new.conn in
     weaker c.find_texts.result (λ texts found.
     let holds = stands (was_clean old new c.find_texts.ensures.spares.clean clean) found.0 in
-    all_keys old.now w holds.trees.means found.1.rows texts found.1.adds found.1.read) (c.find_texts.ensures.texts clean w stands)
+    all_keys old.now w holds.trees.means found.1.rows texts found.1.adds found.1.read)
+    (c.find_texts.ensures.texts clean w stands)

@@ -6,22 +6,30 @@ pub returns-in-OnStore : goal.returns-in-OnStore
 returns-in-OnStore g c = ran _ _ _ _ _ _ _ _ _ _ _ _ _ c.in-OnStore.is (c.on_file.ensures, (refl, refl))
 
 pub returns-in-Extract : goal.returns-in-Extract
-returns-in-Extract g c = ran _ _ _ _ _ _ _ _ _ _ _ _ _ c.in-Extract.is (alone _ _ _ _ c.extract.result c.extract.ensures c.acceptance.ensures, refl)
+returns-in-Extract g c =
+    ran _ _ _ _ _ _ _ _ _ _ _ _ _ c.in-Extract.is
+    (alone _ _ _ _ c.extract.result c.extract.ensures c.acceptance.ensures, refl)
 
 pub returns-in-Migrate : goal.returns-in-Migrate
-returns-in-Migrate g c = ran _ _ _ _ _ _ _ _ _ _ _ _ _ c.in-Migrate.is (alone _ _ _ _ c.migrate.result c.migrate.ensures c.acceptance-in-Migrate.ensures, refl)
+returns-in-Migrate g c =
+    ran _ _ _ _ _ _ _ _ _ _ _ _ _ c.in-Migrate.is
+    (alone _ _ _ _ c.migrate.result c.migrate.ensures c.acceptance-in-Migrate.ensures, refl)
 
 pub returns-in-Order : goal.returns-in-Order
-returns-in-Order g c = ran _ _ _ _ _ _ _ _ _ _ _ _ _ c.in-Order.is (alone _ _ _ _ c.order.result c.order.ensures c.acceptance-in-Order.ensures, (refl, refl, refl))
+returns-in-Order g c = ran _ _ _ _ _ _ _ _ _ _ _ _ _ c.in-Order.is
+    (alone _ _ _ _ c.order.result c.order.ensures c.acceptance-in-Order.ensures, (refl, refl, refl))
 
 pub returns-in-Copy : goal.returns-in-Copy
-returns-in-Copy g c = ran _ _ _ _ _ _ _ _ _ _ _ _ _ c.in-Copy.is (alone _ _ _ _ c.copy.result c.copy.ensures c.acceptance-in-Copy.ensures, (refl, refl, refl))
+returns-in-Copy g c = ran _ _ _ _ _ _ _ _ _ _ _ _ _ c.in-Copy.is
+    (alone _ _ _ _ c.copy.result c.copy.ensures c.acceptance-in-Copy.ensures, (refl, refl, refl))
 
 pub returns-in-Stop : goal.returns-in-Stop
-returns-in-Stop g c = ran _ _ _ _ _ _ _ _ _ _ _ _ _ c.in-Stop.is (alone _ _ _ _ c.stop.result c.stop.ensures c.acceptance-in-Stop.ensures, (refl, refl, refl))
+returns-in-Stop g c = ran _ _ _ _ _ _ _ _ _ _ _ _ _ c.in-Stop.is
+    (alone _ _ _ _ c.stop.result c.stop.ensures c.acceptance-in-Stop.ensures, (refl, refl, refl))
 
 pub returns-in-Ping : goal.returns-in-Ping
-returns-in-Ping g c = ran _ _ _ _ _ _ _ _ _ _ _ _ _ c.in-Ping.is (record { pings = c.ping.ensures; input = refl }, (refl, refl, refl))
+returns-in-Ping g c = ran _ _ _ _ _ _ _ _ _ _ _ _ _ c.in-Ping.is
+    (record { pings = c.ping.ensures; input = refl }, (refl, refl, refl))
 
 pub returns-in_ok-answer_in_memory-in-AnswerInMemory : goal.returns-in_ok-answer_in_memory-in-AnswerInMemory
 returns-in_ok-answer_in_memory-in-AnswerInMemory g c = ran _ _ _ _ _ _ _ _ _ _ _ _ _ c.in-AnswerInMemory.is (

@@ -5,4 +5,5 @@ use Rattle.cli.proofs.Needed.{source_row}
 use Rattle.cli.proofs.asked.is_flagged.Goals as goal
 
 pub returns : goal.returns
-returns c = c.is_by_words.ensures ∙ ap is_by_words (c.value_source.ensures ∙ source_row (found_of c.args.options.now) c.args.name.now)
+returns c = c.is_by_words.ensures
+    ∙ ap is_by_words (c.value_source.ensures ∙ source_row (found_of c.args.options.now) c.args.name.now)

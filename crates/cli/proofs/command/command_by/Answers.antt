@@ -28,7 +28,8 @@ returns-in_default g c = record {
   errors_run = _;
   runs = inr (record {
     kind = kind_of c.no_form.result;
-    why = none_shown (texts c.args.words.now) (kind_of c.no_form.result) c.no_form.ensures (none_asked (texts c.args.words.now) c.matches_of.result c.in-Ok.matches
+    why = none_shown (texts c.args.words.now) (kind_of c.no_form.result) c.no_form.ensures
+        (none_asked (texts c.args.words.now) c.matches_of.result c.in-Ok.matches
         c.command_of.result (search rules) (search rules) c.matches_of.ensures.reads c.command_of.ensures);
     ends = c.show-in_default.ensures.ends;
     idle = refl;
@@ -46,7 +47,8 @@ returns g c = record {
   errors_run = _;
   runs = inl (record {
     command = c.in-Some.command;
-    asks = asked_for (texts c.args.words.now) c.matches_of.result c.in-Ok.matches c.in-Some.command (search rules) c.matches_of.ensures.refuses
+    asks = asked_for (texts c.args.words.now) c.matches_of.result c.in-Ok.matches c.in-Some.command (search rules)
+        c.matches_of.ensures.refuses
         c.matches_of.ensures.reads (found c.command_of.result c.in-Some.command _ (search rules) c.command_of.ensures);
     told = c.run-told.result;
     tells = c.tell_new_store.ensures;

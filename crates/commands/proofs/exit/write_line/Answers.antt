@@ -5,10 +5,12 @@ use Rattle.commands.proofs.Written.{begins_both, writes_after}
 use Rattle.commands.proofs.exit.write_line.Goals as goal
 
 pub returns : goal.returns
-returns g c = writes_after _ _ _ _ _ _ c.in_ok-write_bytes.ensures.bytes (rw (c.as_bytes.ensures.value, c.word.ensures) at c.write_both.ensures.bytes)
+returns g c = writes_after _ _ _ _ _ _ c.in_ok-write_bytes.ensures.bytes
+    (rw (c.as_bytes.ensures.value, c.word.ensures) at c.write_both.ensures.bytes)
 
 pub returns-in_err-write_bytes : goal.returns-in_err-write_bytes
 returns-in_err-write_bytes g c =
     let wrote = c.in_err-write_bytes.ensures.bytes in
     let returned = err_from_is_err_and c.from_residual.result c.from_residual.ensures.1 in
-    rw (returned.1, returned.2) (wrote.0, begins_both _ _ (codes "goshelf: ") (word c.args.refusal ++ codes "\n") wrote.1)
+    rw (returned.1, returned.2)
+    (wrote.0, begins_both _ _ (codes "goshelf: ") (word c.args.refusal ++ codes "\n") wrote.1)

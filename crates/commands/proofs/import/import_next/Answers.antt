@@ -22,7 +22,8 @@ returns-in_default-row_of-clause-steps g c =
       closing = inr (
         fields_of c.read_row.new.fields,
         c.in_default-row_of.ensures,
-        read_begins g.R.Read.remaining list (rows ++ fields_of c.read_row.new.fields ∷ []) c.read_row.new.reader (c.in_default.ensures list rows so),
+        read_begins g.R.Read.remaining list (rows ++ fields_of c.read_row.new.fields ∷ []) c.read_row.new.reader
+            (c.in_default.ensures list rows so),
       );
       output = refl;
     }
@@ -36,9 +37,11 @@ returns-in-Err-clause-steps g c =
       record { line = line_of_row row; done = does.done },
       record {
         through = does.through;
-        read = subst (λ f. HasRead g.R.Read.remaining list (rows ++ f ∷ []) c.read_row.new.reader) c.in-Some-row_of.ensures read;
+        read = subst (λ f. HasRead g.R.Read.remaining list (rows ++ f ∷ []) c.read_row.new.reader)
+            c.in-Some-row_of.ensures read;
       },
       c.in-Err.ensures.prints.0,
-      subst (λ o. PrintsFront (g.O.Write.contents c.args.output.now) (g.O.Write.contents c.print_outcome.new.output) (numbered c.args.number (outcome_text o)))
+      subst (λ o. PrintsFront (g.O.Write.contents c.args.output.now) (g.O.Write.contents c.print_outcome.new.output)
+          (numbered c.args.number (outcome_text o)))
           does.is c.in-Err.ensures.prints.1,
     )

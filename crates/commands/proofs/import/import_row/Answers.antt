@@ -6,13 +6,16 @@ use Rattle.commands.proofs.import.import_row.Goals as goal
 
 pub returns-in-Ok : goal.returns-in-Ok
 returns-in-Ok g c =
-    row_published (g.F.Sources.known c.args.sources.now) c.args.key.now _ _ (line_of_row c.args.row.now) c.in-Ok.body _ c.in-Ok.ensures c.publish_row.ensures
+    row_published (g.F.Sources.known c.args.sources.now) c.args.key.now _ _ (line_of_row c.args.row.now) c.in-Ok.body _
+    c.in-Ok.ensures c.publish_row.ensures
 
 pub returns-in-Err-NoFile : goal.returns-in-Err-NoFile
 returns-in-Err-NoFile g c =
     let files = g.F.Sources.known c.args.sources.now in
     let line = line_of_row c.args.row.now in
-    row_without_file files c.args.key.now _ line (subst (λ f. IsBodyOf files line (Err f)) c.in-Err-NoFile.field-0-is c.in-Err-NoFile.ensures)
+    row_without_file files c.args.key.now _ line
+    (subst (λ f. IsBodyOf files line (Err f)) c.in-Err-NoFile.field-0-is c.in-Err-NoFile.ensures)
 
 pub returns-in-Err-Memory : goal.returns-in-Err-Memory
-returns-in-Err-Memory g c = row_unfetched (g.F.Sources.known c.args.sources.now) c.args.key.now _ (line_of_row c.args.row.now)
+returns-in-Err-Memory g c =
+    row_unfetched (g.F.Sources.known c.args.sources.now) c.args.key.now _ (line_of_row c.args.row.now)

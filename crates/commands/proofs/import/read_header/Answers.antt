@@ -8,5 +8,6 @@ returns-else-is_header g c =
     λ list so. inr (inr (
       fields_of c.read_next.new.fields,
       λ e. cc (c.if-is_header.ensures.1 e),
-      read_begins g.R.Read.remaining list (fields_of c.read_next.new.fields ∷ []) c.read_next.new.reader (c.in-Fields.ensures list [] so),
+      read_begins g.R.Read.remaining list (fields_of c.read_next.new.fields ∷ []) c.read_next.new.reader
+          (c.in-Fields.ensures list [] so),
     ))

@@ -12,4 +12,5 @@ pub returns-in_err-write_both-clause-prints : goal.returns-in_err-write_both-cla
 returns-in_err-write_both-clause-prints g c =
     let digits = rw (c.as_bytes.ensures.value, c.format.ensures.text) at c.in_err-write_both.ensures.bytes in
     let returned = err_from_is_err_and c.from_residual.result c.from_residual.ensures.1 in
-    rw (returned.1, returned.2) (digits.0, front_of_both _ _ (decimal c.args.number ++ codes " ") (c.args.text.now ++ codes "\n") digits.1)
+    rw (returned.1, returned.2)
+    (digits.0, front_of_both _ _ (decimal c.args.number ++ codes " ") (c.args.text.now ++ codes "\n") digits.1)

@@ -11,7 +11,11 @@ returns g c =
     let new = c.new.ensures in
     record {
       trim = made.trim ∙ ap builder_trim flexible ∙ ap builder_trim plain ∙ new.trim;
-      ready = inr (inr (made.has_headers ∙ ap builder_names_headers flexible ∙ ap builder_names_headers plain, made.headers));
+      ready = inr (inr (
+        made.has_headers ∙ ap builder_names_headers flexible
+            ∙ ap builder_names_headers plain,
+        made.headers,
+      ));
       config = made.config ∙ ap builder_config flexible ∙ ap builder_config plain ∙ new.config;
       flexible = made.flexible ∙ ap builder_is_flexible flexible;
       at = rw made.state (at_beginning _ _ made.source);

@@ -12,8 +12,10 @@ loop-version-init g c =
     let p = c.args.path.now in
     record {
       between = c.requires.between;
-      gathers = gathers_first (λ w v. lines_of (row_at w s p v)) (text_in c.args.lines.now) (λ w. lines_of (rows_of_path w s p)) (λ vs. vs)
-          _ _ _ _ (λ w. versions_of w s p) (λ w. path_lines w s p) c.as_slice-version-items.ensures c.in_ok-versions.ensures.reads;
+      gathers = gathers_first (λ w v. lines_of (row_at w s p v)) (text_in c.args.lines.now)
+          (λ w. lines_of (rows_of_path w s p)) (λ vs. vs)
+          _ _ _ _ (λ w. versions_of w s p) (λ w. path_lines w s p) c.as_slice-version-items.ensures
+          c.in_ok-versions.ensures.reads;
     }
 
 pub loop-version-preserved : goal.loop-version-preserved
@@ -24,7 +26,9 @@ loop-version-preserved g c =
     let at = c.loop-version.version-index in
     record {
       between = c.in_ok-add_version.ensures.between;
-      gathers = gathered_next (λ w v. lines_of (row_at w s p v)) (text_in c.args.lines.now) (λ w. lines_of (rows_of_path w s p)) _ _ _ _ _ _
-          c.version-item.result _ _ (at_drop_more (λ rest. rest) vs at c.version-item.result c.loop-version-test.true) c.version-item.is
+      gathers = gathered_next (λ w v. lines_of (row_at w s p v)) (text_in c.args.lines.now)
+          (λ w. lines_of (rows_of_path w s p)) _ _ _ _ _ _
+          c.version-item.result _ _ (at_drop_more (λ rest. rest) vs at c.version-item.result c.loop-version-test.true)
+          c.version-item.is
           c.loop-version.invariant.gathers c.in_ok-add_version.ensures.adds;
     }

@@ -13,7 +13,9 @@ loop-text-init g c =
     let s = c.args.shelf.now in
     record {
       between = c.requires;
-      gathers = gathers_first (λ w t. lines_of (rows_of_text w s t)) (text_in c.args.lines.now) (λ w. lines_of (rows_seen w s)) in_order
+      gathers = gathers_first (λ w t. lines_of (rows_of_text w s t)) (text_in c.args.lines.now)
+          (λ w. lines_of (rows_seen w s)) in_order
           _ _ _ _ (λ w. paths_seen w s) (λ w. shelf_lines w s)
-          (ap (each string_bytes) c.into_iter-text-iterator.ensures.into_iter_gives ∙ c.iter-text-items.ensures) c.in_ok-paths.ensures.reads;
+          (ap (each string_bytes) c.into_iter-text-iterator.ensures.into_iter_gives ∙ c.iter-text-items.ensures)
+          c.in_ok-paths.ensures.reads;
     }

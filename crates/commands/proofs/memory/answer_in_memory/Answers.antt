@@ -6,8 +6,13 @@ returns-in-Ok-answer_all-clause-answers g c =
     (c.in-Ok.ensures.ok.1, served_from _ _ _ _ _ _ _ _ c.in-Ok-answer_all.ensures.heard c.in-Ok.ensures.ok.0)
 
 pub returns-clause-answers : goal.returns-clause-answers
-returns-clause-answers g c =
-    (c.in-Ok.ensures.ok.1, (c.in-Err-answer_all.field-0, served_from _ _ _ _ _ _ _ _ c.in-Err-answer_all.ensures.heard c.in-Ok.ensures.ok.0))
+returns-clause-answers g c = (
+  c.in-Ok.ensures.ok.1,
+  (
+    c.in-Err-answer_all.field-0,
+    served_from _ _ _ _ _ _ _ _ c.in-Err-answer_all.ensures.heard c.in-Ok.ensures.ok.0,
+  ),
+)
 
 pub returns-clause-cause : goal.returns-clause-cause
 returns-clause-cause g c =

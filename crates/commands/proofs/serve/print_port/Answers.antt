@@ -12,4 +12,5 @@ pub returns-in_err-write_bytes-clause-prints : goal.returns-in_err-write_bytes-c
 returns-in_err-write_bytes-clause-prints g c =
     let wrote = c.in_err-write_bytes.ensures.bytes in
     let returned = err_from_is_err_and c.from_residual.result c.from_residual.ensures.1 in
-    rw (returned.1, returned.2) (wrote.0, front_of_both _ _ (codes "listening on 127.0.0.1:") (decimal c.args.port ++ codes "\n") wrote.1)
+    rw (returned.1, returned.2)
+    (wrote.0, front_of_both _ _ (codes "listening on 127.0.0.1:") (decimal c.args.port ++ codes "\n") wrote.1)

@@ -8,5 +8,8 @@ returns-then-bytes-most c = (λ long. inr c.if-bytes-most.true, λ enough. lt-lt
 
 pub returns-else-bytes-most : goal.returns-else-bytes-most
 returns-else-bytes-most c =
-    let found = has_byte _ c.args.bytes.now c.contains.result c.contains.ensures.cases in
-    (λ is. inl (found.0 is), λ enough. elim enough [ inl there ↦ found.1 there | inr long ↦ absurd (omega (arith, long, c.if-bytes-most.false)) ])
+    let found = has_byte _ c.args.bytes.now c.contains.result c.contains.ensures.cases in (
+      λ is. inl (found.0 is),
+      λ enough.
+          elim enough [ inl there ↦ found.1 there | inr long ↦ absurd (omega (arith, long, c.if-bytes-most.false)) ],
+    )

@@ -4,7 +4,8 @@ use Rattle.control.proofs.line.line_in.Goals as goal
 
 pub returns-in-Ok : goal.returns-in-Ok
 returns-in-Ok c =
-    let front = end_cut c.args.got.now (10 ∷ []) (Some c.in_ok-line.line) c.in_ok-line.line refl c.in_ok-line.ensures.cases in
+    let front = end_cut c.args.got.now (10 ∷ []) (Some c.in_ok-line.line) c.in_ok-line.line refl
+    c.in_ok-line.ensures.cases in
     let same = sym c.in-Ok.ensures.cases.0 in
     record {
       is = front ∙ ap (λ (l : List ℕ). l ++ 10 ∷ []) same;

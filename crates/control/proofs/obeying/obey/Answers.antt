@@ -8,8 +8,10 @@ returns-in-Err-clause-obeys g c = obeys_unread _ _ _ _ _ _ _ _ _ c.in-Err.ensure
 
 pub returns-in-Ok-tell_line-clause-obeys : goal.returns-in-Ok-tell_line-clause-obeys
 returns-in-Ok-tell_line-clause-obeys g c =
-    obeys_told _ _ _ _ _ _ _ _ _ (Ok tt) c.in-Ok.ensures (rw (c.as_bytes.ensures.value, c.line.ensures) at c.in-Ok-tell_line.ensures.tells)
+    obeys_told _ _ _ _ _ _ _ _ _ (Ok tt) c.in-Ok.ensures
+    (rw (c.as_bytes.ensures.value, c.line.ensures) at c.in-Ok-tell_line.ensures.tells)
 
 pub returns-in-Err-tell_line-clause-obeys : goal.returns-in-Err-tell_line-clause-obeys
 returns-in-Err-tell_line-clause-obeys g c =
-    obeys_told _ _ _ _ _ _ _ _ _ (Err _) c.in-Ok.ensures (rw (c.as_bytes.ensures.value, c.line.ensures) at c.in-Err-tell_line.ensures.tells)
+    obeys_told _ _ _ _ _ _ _ _ _ (Err _) c.in-Ok.ensures
+    (rw (c.as_bytes.ensures.value, c.line.ensures) at c.in-Err-tell_line.ensures.tells)

@@ -7,4 +7,10 @@ returns-in-Ok g c = pings_counted _ g.K.Copies.counted c.args.tally.now c.args.s
     c.in-Ok.ensures.reads (refl, c.failures.ensures, c.in-Ok.ensures.counted) c.tell.ensures
 
 pub returns-in-Err : goal.returns-in-Err
-returns-in-Err g c = record { heard = Err c.in-Err.fault; reads = c.in-Err.ensures.reads; came = λ is. c.in-Err.ensures.cause.device (ap Err is); tells = refl }
+returns-in-Err g c = record {
+  heard = Err c.in-Err.fault;
+  reads = c.in-Err.ensures.reads;
+  came = λ is.
+      c.in-Err.ensures.cause.device (ap Err is);
+  tells = refl;
+}

@@ -11,5 +11,6 @@ invariant-loop g l =
       some : l.left ≤ l.fn.connections;
       all : UpTo g.O.Operator.came g.O.Operator.written g.P.Peer.came g.P.Peer.written g.L.Callers.is_new s.shown
           g.K.Copies.copied g.K.Copies.counted l.fn.since
-          (waiting l.fn.callers) (waiting l.callers) l.fn.shelves l.shelves (l.fn.connections - l.left) l.counter l.tally;
+          (waiting l.fn.callers) (waiting l.callers) l.fn.shelves l.shelves (l.fn.connections - l.left) l.counter
+          l.tally;
     }

@@ -7,5 +7,6 @@ returns-in_default c = no_cut c.args.line.now (rw c.in_default.is at c.split_onc
 
 pub returns-else-are_words : goal.returns-else-are_words
 returns-else-are_words c =
-    no_words c.args.line.now (c.in-Some.verb, c.in-Some.rest) c.in-Some.ensures.cases c.cut.result.0.now (option_copied c.cut.result.1)
+    no_words c.args.line.now (c.in-Some.verb, c.in-Some.rest) c.in-Some.ensures.cases c.cut.result.0.now
+    (option_copied c.cut.result.1)
     c.cut.ensures (sym c.if-are_words.ensures)

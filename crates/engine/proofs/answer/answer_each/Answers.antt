@@ -6,8 +6,12 @@ use Rattle.engine.proofs.ServedLemmas.{so_far_none, went_on, closed, failed}
 use Rattle.engine.proofs.answer.answer_each.Goals as goal
 
 pub loop-session-init : goal.loop-session-init
-loop-session-init g c =
-    (rw c.new-session.ensures.framer (so_far_none _ _ _), rw c.new-session.ensures.reads (omega arith), omega arith, omega arith)
+loop-session-init g c = (
+  rw c.new-session.ensures.framer (so_far_none _ _ _),
+  rw c.new-session.ensures.reads (omega arith),
+  omega arith,
+  omega arith,
+)
 
 pub turn-requires : goal.turn-requires
 turn-requires g c = c.loop-session.invariant.0.sound
@@ -15,7 +19,8 @@ turn-requires g c = c.loop-session.invariant.0.sound
 pub returns-in_err-turn-clause-heard : goal.returns-in_err-turn-clause-heard
 returns-in_err-turn-clause-heard g c =
     let returned = err_from_is_err_and c.from_residual.result c.from_residual.ensures.1 in
-    rw (returned.1, returned.2) (failed _ _ _ _ _ _ _ c.loop-session.invariant.0 _ _ _ c.turn.new.self.framer _ c.in_err-turn.ensures.turns)
+    rw (returned.1, returned.2)
+    (failed _ _ _ _ _ _ _ c.loop-session.invariant.0 _ _ _ c.turn.new.self.framer _ c.in_err-turn.ensures.turns)
 
 pub returns-in_err-turn-clause-cause : goal.returns-in_err-turn-clause-cause
 returns-in_err-turn-clause-cause g c =
@@ -23,11 +28,13 @@ returns-in_err-turn-clause-cause g c =
     let (far, spent, reads, writes) = c.loop-session.invariant in
     rw (returned.1, returned.2) (caused_later most_reads c.loop-session.session.reads
     (g.R.Hear.reads c.args.reader.now) (g.R.Hear.reads c.loop-session.reader) (g.R.Hear.reads c.turn.new.reader)
-    (g.W.Tell.writes c.args.writer.now) (g.W.Tell.writes c.loop-session.writer) (g.W.Tell.writes c.turn.new.writer) _ spent reads writes c.in_err-turn.ensures.cause)
+    (g.W.Tell.writes c.args.writer.now) (g.W.Tell.writes c.loop-session.writer) (g.W.Tell.writes c.turn.new.writer) _
+    spent reads writes c.in_err-turn.ensures.cause)
 
 pub returns-in-Closed-clause-heard : goal.returns-in-Closed-clause-heard
 returns-in-Closed-clause-heard g c = closed
-    _ _ _ _ _ _ _ c.loop-session.invariant.0 _ _ _ c.turn.new.self.framer c.in-Closed.field-0 _ _ (rw c.in-Closed.is at c.in_ok-turn.ensures.turns)
+    _ _ _ _ _ _ _ c.loop-session.invariant.0 _ _ _ c.turn.new.self.framer c.in-Closed.field-0 _ _
+    (rw c.in-Closed.is at c.in_ok-turn.ensures.turns)
     c.flush.ensures.bytes c.flush.ensures.which
 
 pub returns-in-Closed-clause-cause : goal.returns-in-Closed-clause-cause

@@ -10,7 +10,8 @@ use Rattle.engine.proofs.answer.answer_one.Goals as goal
 pub returns-clause-heard : goal.returns-clause-heard
 returns-clause-heard g c = first_turned
     _ _ _ _ _ _ _ c.new-session.result.framer c.turn-turned.new.self.framer c.turn-turned.result _
-    (ap (λ (f : Framing). f.held) c.new-session.ensures.framer) c.turn-turned.ensures.turns c.end_turn.ensures.bytes c.end_turn.ensures.ends
+    (ap (λ (f : Framing). f.held) c.new-session.ensures.framer) c.turn-turned.ensures.turns c.end_turn.ensures.bytes
+    c.end_turn.ensures.ends
 
 pub returns-clause-serves : goal.returns-clause-serves
 returns-clause-serves g c =
@@ -33,7 +34,8 @@ returns-clause-asks g c =
 pub returns-clause-cause : goal.returns-clause-cause
 returns-clause-cause g c = caused_ended
     most_reads (g.R.Hear.reads c.args.reader.now) (g.R.Hear.reads c.turn-turned.new.reader)
-    (g.W.Tell.writes c.args.writer.now) (g.W.Tell.writes c.turn-turned.new.writer) (g.W.Tell.writes c.end_turn.new.writer)
+    (g.W.Tell.writes c.args.writer.now) (g.W.Tell.writes c.turn-turned.new.writer)
+    (g.W.Tell.writes c.end_turn.new.writer)
     c.turn-turned.result _
     (rw c.new-session.ensures.reads at c.turn-turned.ensures.cause)
     c.turn-turned.ensures.later_writes c.end_turn.ensures.later c.end_turn.ensures.ends c.end_turn.ensures.fails

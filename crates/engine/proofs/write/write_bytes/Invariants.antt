@@ -6,7 +6,8 @@ use Rattle.engine.proofs.write.write_bytes.Given as goal
 abbrev pub invariant-loop-rest : goal.invariant-loop-rest
 invariant-loop-rest g l =
     let writes = g.W.Tell.writes in
-    ((front : List ℕ) × (l.bytes ≡ front ++ l.rest) × Appends (g.W.Write.contents l.fn.writer) (g.W.Write.contents l.writer) front)
+    ((front : List ℕ) × (l.bytes ≡ front ++ l.rest)
+    × Appends (g.W.Write.contents l.fn.writer) (g.W.Write.contents l.writer) front)
     × ((writes l.fn.writer).failed ≤ (writes l.writer).failed)
 
 abbrev pub decreases-loop-rest : goal.decreases-loop-rest

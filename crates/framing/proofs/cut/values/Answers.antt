@@ -17,11 +17,18 @@ loop-header-preserved c =
     let i = c.loop-header.header-index in
     elim c.if-is_named.branch [
       | then-is_named+in_ok-from_slice+in_ok-push w ↦
-          let e : true ≡ str_eq_ignore_ascii_case (header_bytes bytes (get_or headers i none)).0 c.args.wanted.now = cc in
-          rw (w.found-is, values_at_hit c.args.wanted.now bytes headers i none c.loop-header-test.true e, w.in_ok-push.ensures.items, map-append _ c.loop-header.found.items)
+          let e : true ≡ str_eq_ignore_ascii_case (header_bytes bytes (get_or headers i none)).0 c.args.wanted.now =
+          cc in
+          rw (
+            w.found-is,
+            values_at_hit c.args.wanted.now bytes headers i none c.loop-header-test.true e,
+            w.in_ok-push.ensures.items,
+            map-append _ c.loop-header.found.items,
+          )
           (λ i. c.loop-header.invariant i ++ (w.in_ok-from_slice.ensures.items ∙ w.of-then-is_named.ensures) i ∷ [])
       | else-is_named w ↦
-          let e : false ≡ str_eq_ignore_ascii_case (header_bytes bytes (get_or headers i none)).0 c.args.wanted.now = cc in
+          let e : false ≡ str_eq_ignore_ascii_case (header_bytes bytes (get_or headers i none)).0 c.args.wanted.now =
+          cc in
           rw (w.found-is, values_at_miss c.args.wanted.now bytes headers i none c.loop-header-test.true e)
           c.loop-header.invariant
     ]

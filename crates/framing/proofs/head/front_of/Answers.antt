@@ -8,7 +8,8 @@ returns-then-is_empty c = nothing_may_begin c.args.bytes.now (no_bytes _ c.if-is
 pub returns-in-Ok-Partial-2 : goal.returns-in-Ok-Partial-2
 returns-in-Ok-Partial-2 c =
     never_ends c.args.bytes.now (some_bytes _ c.if-is_empty.ensures)
-    (never_from_length c.args.bytes.now (rw c.in-Ok-Partial.field-0-is at c.in-Ok-Partial.ensures).partial c.if-bytes-lt-HEAD_LIMIT.false)
+    (never_from_length c.args.bytes.now (rw c.in-Ok-Partial.field-0-is at c.in-Ok-Partial.ensures).partial
+    c.if-bytes-lt-HEAD_LIMIT.false)
 
 pub returns-in-Err : goal.returns-in-Err
 returns-in-Err c =

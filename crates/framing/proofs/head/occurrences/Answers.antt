@@ -18,11 +18,13 @@ loop-header-preserved c =
     let within = All-get_or (IsHeaderWithin (length bytes)) headers i none (omega arith) c.requires in
     elim c.if-is_named.branch [
       | then-is_named w ↦
-          let e : true ≡ str_eq_ignore_ascii_case (header_bytes bytes (get_or headers i none)).0 c.args.wanted.now = cc in
+          let e : true ≡ str_eq_ignore_ascii_case (header_bytes bytes (get_or headers i none)).0 c.args.wanted.now =
+          cc in
           rw (w.found-is, values_at_hit c.args.wanted.now bytes headers i none c.loop-header-test.true e)
           (w.and-found.ensures bytes _ within.1 c.loop-header.invariant)
       | else-is_named w ↦
-          let e : false ≡ str_eq_ignore_ascii_case (header_bytes bytes (get_or headers i none)).0 c.args.wanted.now = cc in
+          let e : false ≡ str_eq_ignore_ascii_case (header_bytes bytes (get_or headers i none)).0 c.args.wanted.now =
+          cc in
           rw (w.found-is, values_at_miss c.args.wanted.now bytes headers i none c.loop-header-test.true e)
           c.loop-header.invariant
     ]

@@ -8,4 +8,5 @@ returns-else-bytes-at-ne10-clause-ends c =
     let at = c.loop-at.at in
     let last : (at - 1) + 1 ≡ at = omega (arith, c.loop-at-test.true) in
     subst (λ (n : ℕ). EndsLine (take n c.args.bytes.now)) last
-    (ends_behind c.args.bytes.now (at - 1) (omega (arith, c.loop-at-test.true, c.loop-at.invariant)) c.if-bytes-at-ne10.false)
+    (ends_behind c.args.bytes.now (at - 1) (omega (arith, c.loop-at-test.true, c.loop-at.invariant))
+    c.if-bytes-at-ne10.false)

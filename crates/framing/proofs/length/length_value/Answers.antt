@@ -10,10 +10,12 @@ pub loop-digit-preserved : goal.loop-digit-preserved
 loop-digit-preserved c =
     let i = c.loop-digit.digit-index in
     let text = c.args.text.now in
-    let digit : IsAsciiDigit (get_or text i 0) = digit_at text (sym c.is_length.ensures ∙ c.if-not-is_length.false) i c.loop-digit-test.true in
+    let digit : IsAsciiDigit (get_or text i 0) =
+    digit_at text (sym c.is_length.ensures ∙ c.if-not-is_length.false) i c.loop-digit-test.true in
     let value = digit_value_digit (get_or text i 0) digit in
     record {
-      value = rw (digits_value_more 10 text i c.loop-digit-test.true) (omega (arith, c.loop-digit.invariant.value, value));
+      value = rw (digits_value_more 10 text i c.loop-digit-test.true)
+          (omega (arith, c.loop-digit.invariant.value, value));
       small = omega (arith, c.loop-digit.invariant.small, digit, power i);
     }
   where

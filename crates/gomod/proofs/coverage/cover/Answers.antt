@@ -12,7 +12,8 @@ returns c = λ done before.
     let first = c.partition_point-first.result in
     let n = c.reached.result in
     let point =
-    IsPartitionPoint-from_clause (λ v. is_below v i.low) vs first c.partition_point-first.ensures.partitioned (below-first vs c.requires.ascend i.low) (λ a r q k. search rules) in
+    IsPartitionPoint-from_clause (λ v. is_below v i.low) vs first c.partition_point-first.ensures.partitioned
+    (below-first vs c.requires.ascend i.low) (λ a r q k. search rules) in
     let within : first ≤ length vs = c.partition_point-first.ensures.bound in
     let reach = subst (λ (l : List Version). Reaches i l n) (rest-all first vs within) c.reached.ensures in
     let all = length-drop first vs within in

@@ -9,7 +9,8 @@ returns c =
     let i = c.args.interval.now in
     let vs = c.args.versions.now in
     reaches vs c.requires i c.partition_point.result c.partition_point.ensures.bound
-    (IsPartitionPoint-from_clause (λ v. not (is_below i.high v)) vs c.partition_point.result c.partition_point.ensures.partitioned (reached-parted vs c.requires i) (λ a r q k. search rules))
+    (IsPartitionPoint-from_clause (λ v. not (is_below i.high v)) vs c.partition_point.result
+    c.partition_point.ensures.partitioned (reached-parted vs c.requires i) (λ a r q k. search rules))
 
 pub returns-then-few-near : goal.returns-then-few-near
 returns-then-few-near c =
@@ -21,4 +22,5 @@ returns-then-few-near c =
     let lt : few < near = search rules in
     let up = ascends-take vs near le c.requires in
     reaches-few vs c.requires i near few le lt
-    (IsPartitionPoint-from_clause (λ v. not (is_below i.high v)) (take near vs) few c.partition_point-few.ensures.partitioned (reached-parted (take near vs) up i) (λ a r q k. search rules))
+    (IsPartitionPoint-from_clause (λ v. not (is_below i.high v)) (take near vs) few
+    c.partition_point-few.ensures.partitioned (reached-parted (take near vs) up i) (λ a r q k. search rules))

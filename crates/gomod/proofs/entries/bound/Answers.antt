@@ -8,13 +8,15 @@ use Rattle.gomod.proofs.entries.bound.Goals as goal
 
 pub returns-in-Ok : goal.returns-in-Ok
 returns-in-Ok c =
-    let is : c.as_str.result.now ≡ value_of (symbol c.args.word.now) = c.as_str.ensures.value ∙ c.in_ok-text.ensures.value in
+    let is : c.as_str.result.now ≡ value_of (symbol c.args.word.now) = c.as_str.ensures.value
+    ∙ c.in_ok-text.ensures.value in
     ap (λ t. version_found c.args.line (version_of t)) (sym is)
     ∙ version_of-canonical c.args.line c.as_str.result.now c.in-Ok.bound c.in-Ok.ensures.ok
 
 pub returns : goal.returns
 returns c =
-    let is : c.as_str.result.now ≡ value_of (symbol c.args.word.now) = c.as_str.ensures.value ∙ c.in_ok-text.ensures.value in
+    let is : c.as_str.result.now ≡ value_of (symbol c.args.word.now) = c.as_str.ensures.value
+    ∙ c.in_ok-text.ensures.value in
     subst (λ e. Fails e (version_word c.args.line (symbol c.args.word.now))) (sym c.version_fault.ensures)
     (subst (λ t. Fails (version_fault c.args.line c.in-Err.fault) (version_found c.args.line (version_of t))) is
     (version_of-unread c.args.line c.as_str.result.now c.in-Err.fault c.in-Err.ensures.err))

@@ -11,9 +11,11 @@ pub returns-then-is_decimal : goal.returns-then-is_decimal
 returns-then-is_decimal c =
     let rest = c.args.rest.now in
     let n = c.unwrap_or-end.result in
-    let p = position_from_yields_List (λ b. not (is_ascii_digit b)) _ _ c.position.result c.position.ensures.ran (YieldsList-from_slice rest cc) (λ x b q k. search (rules, tests)) in
+    let p = position_from_yields_List (λ b. not (is_ascii_digit b)) _ _ c.position.result c.position.ensures.ran
+    (YieldsList-from_slice rest cc) (λ x b q k. search (rules, tests)) in
     let e : n ≡ digits_len rest = c.unwrap_or-end.ensures ∙ ap (λ o. unwrap_or o (length rest)) p ∙ digits_are rest in
-    let front : is_decimal (take n rest) ≡ true = sym (ap is_decimal c.split_at.ensures.front) ∙ sym c.is_decimal.ensures ∙ c.if-is_decimal.true in
+    let front : is_decimal (take n rest) ≡ true = sym (ap is_decimal c.split_at.ensures.front)
+    ∙ sym c.is_decimal.ensures ∙ c.if-is_decimal.true in
     c.is_tail.ensures ∙ ap is_tail c.split_at.ensures.back
     ∙ ap (λ b. b && is_tail (drop n rest)) (sym front)
     ∙ minor_is rest n e
@@ -22,7 +24,9 @@ pub returns-else-is_decimal : goal.returns-else-is_decimal
 returns-else-is_decimal c =
     let rest = c.args.rest.now in
     let n = c.unwrap_or-end.result in
-    let p = position_from_yields_List (λ b. not (is_ascii_digit b)) _ _ c.position.result c.position.ensures.ran (YieldsList-from_slice rest cc) (λ x b q k. search (rules, tests)) in
+    let p = position_from_yields_List (λ b. not (is_ascii_digit b)) _ _ c.position.result c.position.ensures.ran
+    (YieldsList-from_slice rest cc) (λ x b q k. search (rules, tests)) in
     let e : n ≡ digits_len rest = c.unwrap_or-end.ensures ∙ ap (λ o. unwrap_or o (length rest)) p ∙ digits_are rest in
-    let front : is_decimal (take n rest) ≡ false = sym (ap is_decimal c.split_at.ensures.front) ∙ sym c.is_decimal.ensures ∙ c.if-is_decimal.false in
+    let front : is_decimal (take n rest) ≡ false = sym (ap is_decimal c.split_at.ensures.front)
+    ∙ sym c.is_decimal.ensures ∙ c.if-is_decimal.false in
     c.if-is_decimal.false ∙ ap (λ b. b && is_tail (drop n rest)) (sym front) ∙ minor_is rest n e

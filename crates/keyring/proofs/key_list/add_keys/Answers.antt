@@ -9,5 +9,7 @@ use Rattle.keyring.proofs.key_list.add_keys.Goals as goal
 
 pub loop-key-init : goal.loop-key-init
 loop-key-init g c =
-    gathers_first (λ w k. lines_of k (map.get w.keys k)) c.args.lines.now.items key_lines in_order _ _ _ _ keys_in (λ w. refl)
-    (ap (each string_bytes) c.into_iter-key-iterator.ensures.into_iter_gives ∙ c.iter-key-items.ensures) c.in_ok-keys.ensures.reads
+    gathers_first (λ w k. lines_of k (map.get w.keys k)) c.args.lines.now.items key_lines in_order _ _ _ _ keys_in
+    (λ w. refl)
+    (ap (each string_bytes) c.into_iter-key-iterator.ensures.into_iter_gives ∙ c.iter-key-items.ensures)
+    c.in_ok-keys.ensures.reads

@@ -9,4 +9,5 @@ abbrev pub invariant-loop-key : goal.invariant-loop-key
 invariant-loop-key g l =
     let s = g.S.Shelves in
     HoldsThroughout (s.shown l.fn.shelves) (s.shown l.shelves)
-    (Gathers (λ w k. lines_of k (map.get w.keys k)) l.fn.lines.items key_lines l.lines.items (each string_bytes l.key-iterator))
+    (Gathers (λ w k. lines_of k (map.get w.keys k)) l.fn.lines.items key_lines l.lines.items
+    (each string_bytes l.key-iterator))

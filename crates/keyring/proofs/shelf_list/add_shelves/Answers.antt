@@ -9,5 +9,7 @@ use Rattle.keyring.proofs.shelf_list.add_shelves.Goals as goal
 
 pub loop-name-init : goal.loop-name-init
 loop-name-init g c =
-    gathers_first (λ w s. line_in s (map.get w.shelves s)) c.args.text.now.items shelf_text in_order _ _ _ _ shelves_in (λ w. refl)
-    (ap (each string_bytes) c.into_iter-name-iterator.ensures.into_iter_gives ∙ c.iter-name-items.ensures) c.in_ok-names.ensures.reads
+    gathers_first (λ w s. line_in s (map.get w.shelves s)) c.args.text.now.items shelf_text in_order _ _ _ _ shelves_in
+    (λ w. refl)
+    (ap (each string_bytes) c.into_iter-name-iterator.ensures.into_iter_gives ∙ c.iter-name-items.ensures)
+    c.in_ok-names.ensures.reads

@@ -9,4 +9,5 @@ abbrev pub invariant-loop-name : goal.invariant-loop-name
 invariant-loop-name g l =
     let s = g.S.Shelves in
     HoldsThroughout (s.shown l.fn.shelves) (s.shown l.shelves)
-    (Gathers (λ w s. line_in s (map.get w.shelves s)) l.fn.text.items shelf_text l.text.items (each string_bytes l.name-iterator))
+    (Gathers (λ w s. line_in s (map.get w.shelves s)) l.fn.text.items shelf_text l.text.items
+    (each string_bytes l.name-iterator))

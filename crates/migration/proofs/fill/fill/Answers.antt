@@ -30,11 +30,14 @@ returns-clause-moves g c =
     let one : Moves f (IsNamed f) s0 s1 t0 t1 true = rw c.if-not-branch.false at c.in_ok-names_schema.ensures.moves in
     let two : Moves f PutsShelves s1 s2 t1 t2 true = rw c.if-not-branch-2.false at c.in_ok-put_shelves.ensures.moves in
     let three : Moves f PutsKeys s2 s3 t2 t3 true = rw c.if-not-branch-3.false at c.in_ok-put_keys.ensures.moves in
-    let four : Moves f (PutsEntries f) s3 s4 t3 t4 true = rw c.if-not-branch-4.false at c.in_ok-put_entries.ensures.moves in
+    let four : Moves f (PutsEntries f) s3 s4 t3 t4 true =
+    rw c.if-not-branch-4.false at c.in_ok-put_entries.ensures.moves in
     let both = moves_then f (IsNamed f) PutsShelves s0 s1 s2 t0 t1 t2 true one two in
     let keyed = moves_then f (Then (IsNamed f) PutsShelves) PutsKeys s0 s2 s3 t0 t2 t3 true both three in
-    let entered = moves_then f (Then (Then (IsNamed f) PutsShelves) PutsKeys) (PutsEntries f) s0 s3 s4 t0 t3 t4 true keyed four in
-    let all = moves_then f (Then (Then (Then (IsNamed f) PutsShelves) PutsKeys) (PutsEntries f)) (PutsZips f) s0 s4 s5 t0 t4 t5 done entered c.put_zips.ensures.moves in
+    let entered = moves_then f (Then (Then (IsNamed f) PutsShelves) PutsKeys) (PutsEntries f) s0 s3 s4 t0 t3 t4 true
+    keyed four in
+    let all = moves_then f (Then (Then (Then (IsNamed f) PutsShelves) PutsKeys) (PutsEntries f)) (PutsZips f) s0 s4 s5
+    t0 t4 t5 done entered c.put_zips.ensures.moves in
     moves_weaker f (InTurn f) (Fills f) s0 s5 t0 t5 done (fills f) all
 
 pub returns-in_err-put_keys-clause-moves : goal.returns-in_err-put_keys-clause-moves
@@ -54,7 +57,8 @@ returns-in_err-put_keys-clause-moves g c =
     let both = moves_then f (IsNamed f) PutsShelves s0 s1 s2 t0 t1 t2 true one two in
     let all = moves_then f (Then (IsNamed f) PutsShelves) PutsKeys s0 s2 s3 t0 t2 t3 false both three in
     let failed = c.from_residual-in_err-put_keys in
-    subst (Moves f (Fills f) s0 s3 t0 t3) (sym (not_done failed.result failed.ensures.0)) (moves_none f (Then (Then (IsNamed f) PutsShelves) PutsKeys) (Fills f) s0 s3 t0 t3 all)
+    subst (Moves f (Fills f) s0 s3 t0 t3) (sym (not_done failed.result failed.ensures.0))
+    (moves_none f (Then (Then (IsNamed f) PutsShelves) PutsKeys) (Fills f) s0 s3 t0 t3 all)
 
 pub returns-in_err-put_entries-clause-moves : goal.returns-in_err-put_entries-clause-moves
 returns-in_err-put_entries-clause-moves g c =
@@ -75,13 +79,16 @@ returns-in_err-put_entries-clause-moves g c =
     let four : Moves f (PutsEntries f) s3 s4 t3 t4 false = c.in_err-put_entries.ensures.moves in
     let both = moves_then f (IsNamed f) PutsShelves s0 s1 s2 t0 t1 t2 true one two in
     let keyed = moves_then f (Then (IsNamed f) PutsShelves) PutsKeys s0 s2 s3 t0 t2 t3 true both three in
-    let all = moves_then f (Then (Then (IsNamed f) PutsShelves) PutsKeys) (PutsEntries f) s0 s3 s4 t0 t3 t4 false keyed four in
+    let all = moves_then f (Then (Then (IsNamed f) PutsShelves) PutsKeys) (PutsEntries f) s0 s3 s4 t0 t3 t4 false keyed
+    four in
     let failed = c.from_residual-in_err-put_entries in
-    subst (Moves f (Fills f) s0 s4 t0 t4) (sym (not_done failed.result failed.ensures.0)) (moves_none f (Then (Then (Then (IsNamed f) PutsShelves) PutsKeys) (PutsEntries f)) (Fills f) s0 s4 t0 t4 all)
+    subst (Moves f (Fills f) s0 s4 t0 t4) (sym (not_done failed.result failed.ensures.0))
+    (moves_none f (Then (Then (Then (IsNamed f) PutsShelves) PutsKeys) (PutsEntries f)) (Fills f) s0 s4 t0 t4 all)
 
 pub returns-in_err-names_schema-clause-cause : goal.returns-in_err-names_schema-clause-cause
 returns-in_err-names_schema-clause-cause g c clean has =
-    error_says _ c.from_residual.result c.in_err-names_schema.field-0.0 c.from_residual.ensures.1 (c.in_err-names_schema.ensures.cause clean has)
+    error_says _ c.from_residual.result c.in_err-names_schema.field-0.0 c.from_residual.ensures.1
+    (c.in_err-names_schema.ensures.cause clean has)
 
 pub returns-in_err-put_shelves-clause-cause : goal.returns-in_err-put_shelves-clause-cause
 returns-in_err-put_shelves-clause-cause g c clean has =
@@ -94,7 +101,8 @@ returns-in_err-put_shelves-clause-cause g c clean has =
     let one : Moves f (IsNamed f) s0 s1 t0 t1 true = rw c.if-not-branch.false at c.in_ok-names_schema.ensures.moves in
     let failed = c.from_residual-in_err-put_shelves in
     error_says _ failed.result c.in_err-put_shelves.field-0.0 failed.ensures.1
-    (fails_then f (IsNamed f) s0 s1 s2 t0 t1 one c.put_shelves.ensures.moves.clean (Err _) c.in_err-put_shelves.ensures.cause clean has)
+    (fails_then f (IsNamed f) s0 s1 s2 t0 t1 one c.put_shelves.ensures.moves.clean (Err _)
+    c.in_err-put_shelves.ensures.cause clean has)
 
 pub returns-in_err-put_keys-clause-cause : goal.returns-in_err-put_keys-clause-cause
 returns-in_err-put_keys-clause-cause g c clean has =
@@ -111,7 +119,8 @@ returns-in_err-put_keys-clause-cause g c clean has =
     let both = moves_then f (IsNamed f) PutsShelves s0 s1 s2 t0 t1 t2 true one two in
     let failed = c.from_residual-in_err-put_keys in
     error_says _ failed.result c.in_err-put_keys.field-0.0 failed.ensures.1
-    (fails_then f (Then (IsNamed f) PutsShelves) s0 s2 s3 t0 t2 both c.put_keys.ensures.moves.clean (Err _) c.in_err-put_keys.ensures.cause clean has)
+    (fails_then f (Then (IsNamed f) PutsShelves) s0 s2 s3 t0 t2 both c.put_keys.ensures.moves.clean (Err _)
+    c.in_err-put_keys.ensures.cause clean has)
 
 pub returns-in_err-put_entries-clause-cause : goal.returns-in_err-put_entries-clause-cause
 returns-in_err-put_entries-clause-cause g c clean has =
@@ -132,7 +141,8 @@ returns-in_err-put_entries-clause-cause g c clean has =
     let keyed = moves_then f (Then (IsNamed f) PutsShelves) PutsKeys s0 s2 s3 t0 t2 t3 true both three in
     let failed = c.from_residual-in_err-put_entries in
     error_says _ failed.result c.in_err-put_entries.field-0.0 failed.ensures.1
-    (fails_then f (Then (Then (IsNamed f) PutsShelves) PutsKeys) s0 s3 s4 t0 t3 keyed c.put_entries.ensures.moves.clean (Err _) c.in_err-put_entries.ensures.cause clean has)
+    (fails_then f (Then (Then (IsNamed f) PutsShelves) PutsKeys) s0 s3 s4 t0 t3 keyed c.put_entries.ensures.moves.clean
+    (Err _) c.in_err-put_entries.ensures.cause clean has)
 
 pub returns-clause-cause : goal.returns-clause-cause
 returns-clause-cause g c clean has =
@@ -153,6 +163,9 @@ returns-clause-cause g c clean has =
     let both = moves_then f (IsNamed f) PutsShelves s0 s1 s2 t0 t1 t2 true one two in
     let three : Moves f PutsKeys s2 s3 t2 t3 true = rw c.if-not-branch-3.false at c.in_ok-put_keys.ensures.moves in
     let keyed = moves_then f (Then (IsNamed f) PutsShelves) PutsKeys s0 s2 s3 t0 t2 t3 true both three in
-    let four : Moves f (PutsEntries f) s3 s4 t3 t4 true = rw c.if-not-branch-4.false at c.in_ok-put_entries.ensures.moves in
-    let entered = moves_then f (Then (Then (IsNamed f) PutsShelves) PutsKeys) (PutsEntries f) s0 s3 s4 t0 t3 t4 true keyed four in
-    fails_then f (Then (Then (Then (IsNamed f) PutsShelves) PutsKeys) (PutsEntries f)) s0 s4 s5 t0 t4 entered c.put_zips.ensures.moves.clean c.put_zips.result c.put_zips.ensures.cause clean has
+    let four : Moves f (PutsEntries f) s3 s4 t3 t4 true =
+    rw c.if-not-branch-4.false at c.in_ok-put_entries.ensures.moves in
+    let entered = moves_then f (Then (Then (IsNamed f) PutsShelves) PutsKeys) (PutsEntries f) s0 s3 s4 t0 t3 t4 true
+    keyed four in
+    fails_then f (Then (Then (Then (IsNamed f) PutsShelves) PutsKeys) (PutsEntries f)) s0 s4 s5 t0 t4 entered
+    c.put_zips.ensures.moves.clean c.put_zips.result c.put_zips.ensures.cause clean has

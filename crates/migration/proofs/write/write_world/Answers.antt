@@ -22,8 +22,10 @@ returns-in-Ok-clause-migrates g c =
     let quiet = fills.goes_on.survives in
     let ends = rw c.is_whole.ensures.value at c.in-Ok.ensures in
     let all : Migrates c.args.format old read (state g.F.Store h) (state g.F.Store end) done =
-    migrates g.F.Store h c.args.format old read last (state g.F.Store end) done fills ends.whole_survives ends.unfinished_is_lost done (λ all. all) (λ r. r)
-    (λ next opened made. ended_by g.F.Store h last (state g.F.Store end) only_common next opened (g.met.F.Store.settled h.store) quiet done ends.undone ends.whole_survives ends.unfinished_is_lost
+    migrates g.F.Store h c.args.format old read last (state g.F.Store end) done fills ends.whole_survives
+    ends.unfinished_is_lost done (λ all. all) (λ r. r)
+    (λ next opened made. ended_by g.F.Store h last (state g.F.Store end) only_common next opened
+    (g.met.F.Store.settled h.store) quiet done ends.undone ends.whole_survives ends.unfinished_is_lost
     (λ late. fills.goes_on.commit late refl) made
     ends.committed (λ db shown may. g.met.F.Store.settled end.store db shown may)) in
     subst (λ x. Migrates c.args.format old read (state g.F.Store h) (state g.F.Store x) done) same all
@@ -42,9 +44,11 @@ returns-in-Err-clause-migrates g c =
     let quiet = fills.goes_on.survives in
     let ends = rw c.is_whole.ensures.value at c.in-Err.ensures in
     let all : Migrates c.args.format old read (state g.F.Store h) (state g.F.Store end) false =
-    migrates g.F.Store h c.args.format old read last (state g.F.Store end) done fills ends.whole_survives ends.unfinished_is_lost false
+    migrates g.F.Store h c.args.format old read last (state g.F.Store end) done fills ends.whole_survives
+    ends.unfinished_is_lost false
     (λ all. absurd (true≢false (sym all))) (read_not_done old read done)
-    (λ next opened made. failed_by g.F.Store h last (state g.F.Store end) only_common next opened (g.met.F.Store.settled h.store) quiet done ends.undone ends.whole_survives ends.unfinished_is_lost
+    (λ next opened made. failed_by g.F.Store h last (state g.F.Store end) only_common next opened
+    (g.met.F.Store.settled h.store) quiet done ends.undone ends.whole_survives ends.unfinished_is_lost
     (λ late. fills.goes_on.commit late refl) made
     _ ends.failed) in
     subst (λ x. Migrates c.args.format old read (state g.F.Store h) (state g.F.Store x) false) same all

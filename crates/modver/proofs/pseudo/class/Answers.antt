@@ -8,7 +8,8 @@ pub returns-in-Some : goal.returns-in-Some
 unfolding stamp_of
 returns-in-Some c =
     let some : 0 < length c.pre_release-pre_release.result.now = grind (arith, nat_tests) in
-    class-pseudo c.args.version.now c.pre_release-pre_release.result.now c.in-Some.time c.pre_release-pre_release.ensures.identifiers some
+    class-pseudo c.args.version.now c.pre_release-pre_release.result.now c.in-Some.time
+    c.pre_release-pre_release.ensures.identifiers some
     (rw (c.minor.ensures, c.patch.ensures, c.pre_release-pre_release.ensures.identifiers) at c.in-Some.ensures)
 
 pub returns-in-None : goal.returns-in-None

@@ -24,6 +24,15 @@ returns-clause-bytes c = subst AreBytes (eight-bytes c.args.key.now) (
   c.byte_at.ensures.bound,
   (
     c.byte_at-2.ensures.bound,
-    (c.byte_at-3.ensures.bound, (c.byte_at-4.ensures.bound, (c.byte_at-5.ensures.bound, (c.byte_at-6.ensures.bound, (c.byte_at-7.ensures.bound, (c.byte_at-8.ensures.bound, tt)))))),
+    (
+      c.byte_at-3.ensures.bound,
+      (
+        c.byte_at-4.ensures.bound,
+        (
+          c.byte_at-5.ensures.bound,
+          (c.byte_at-6.ensures.bound, (c.byte_at-7.ensures.bound, (c.byte_at-8.ensures.bound, tt))),
+        ),
+      ),
+    ),
   ),
 )

@@ -22,7 +22,12 @@ returns-clause-moves g c =
     let fresh = state g.F.Store c.args.tx.now.conn.now in
     let after = state g.F.Store c.visit_rows.new.tx.conn.now in
     let walked = c.visit_rows.ensures in
-    moves_of Two (PutsEntries Two) old (state g.S.Store c.visit_rows.new.source) fresh after walked.clean c.visit_rows.result walked.reads walked.survives walked.goes_on
+    moves_of Two (PutsEntries Two) old (state g.S.Store c.visit_rows.new.source) fresh after walked.clean
+    c.visit_rows.result walked.reads walked.survives walked.goes_on
     (λ clean good has filling. if_done c.visit_rows.result
-    (λ it. (has_entries old.now it.1.0 it.1.1 _ c.visit_rows.new.visitor fresh.now.trees after.now.trees refl refl it.1.2, it.0))
+    (λ it. (
+      has_entries old.now it.1.0 it.1.1 _ c.visit_rows.new.visitor fresh.now.trees after.now.trees refl refl
+          it.1.2,
+      it.0,
+    ))
     (walked.puts clean good has filling))

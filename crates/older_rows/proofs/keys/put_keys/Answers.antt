@@ -22,7 +22,8 @@ returns-clause-moves g c =
     let fresh = state g.F.Store c.args.tx.now.conn.now in
     let after = state g.F.Store c.visit_rows.new.tx.conn.now in
     let walked = c.visit_rows.ensures in
-    moves_of c.args.format PutsKeys old (state g.S.Store c.visit_rows.new.source) fresh after walked.clean c.visit_rows.result walked.reads walked.survives walked.goes_on
+    moves_of c.args.format PutsKeys old (state g.S.Store c.visit_rows.new.source) fresh after walked.clean
+    c.visit_rows.result walked.reads walked.survives walked.goes_on
     (λ clean good has filling. if_done c.visit_rows.result
     (λ it.
     let found = all_of key_text 4 key_columns _ key_whole (λ _. refl) c.args.format old.now it.1.0 it.1.1 in

@@ -24,12 +24,17 @@ returns-clause-moves g c =
     let after = state g.F.Store c.visit_rows.new.tx.conn.now in
     let walked = c.in_ok-visit_rows.ensures in
     let end = c.visit_rows.new.visitor in
-    moves_less c.args.format (IsNamed c.args.format) old (state g.S.Store c.visit_rows.new.source) fresh after walked.clean true end.has_row (λ _. refl) walked.reads walked.survives walked.goes_on
+    moves_less c.args.format (IsNamed c.args.format) old (state g.S.Store c.visit_rows.new.source) fresh after
+    walked.clean true end.has_row (λ _. refl) walked.reads walked.survives walked.goes_on
     (λ clean good has filling all.
     let it = (rw c.if-not-branch.false at (walked.puts clean good has filling)) refl in
-    let found = all_of meta_text 0 meta_columns _ meta_whole (λ _. refl) c.args.format old.now it.1.0 it.1.1 in
-    (named c.args.format old.now.trees _ end fresh.now.trees after.now.trees it.1.0 (wrapped c.args.format c.number_of.result c.number_of.ensures) refl found it.1.2 all, it.0))
+    let found = all_of meta_text 0 meta_columns _ meta_whole (λ _. refl) c.args.format old.now it.1.0 it.1.1 in (
+      named c.args.format old.now.trees _ end fresh.now.trees after.now.trees it.1.0
+          (wrapped c.args.format c.number_of.result c.number_of.ensures) refl found it.1.2 all,
+      it.0,
+    ))
 
 pub returns-in_err-visit_rows-clause-cause : goal.returns-in_err-visit_rows-clause-cause
 returns-in_err-visit_rows-clause-cause g c clean has =
-    error_says _ c.from_residual.result c.in_err-visit_rows.field-0.0 c.from_residual.ensures.1 (c.in_err-visit_rows.ensures.cause clean has)
+    error_says _ c.from_residual.result c.in_err-visit_rows.field-0.0 c.from_residual.ensures.1
+    (c.in_err-visit_rows.ensures.cause clean has)

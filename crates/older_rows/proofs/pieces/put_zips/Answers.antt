@@ -10,5 +10,6 @@ use Rattle.older_rows.proofs.pieces.put_zips.Goals as goal
 pub returns-in-One-clause-moves : goal.returns-in-One-clause-moves
 returns-in-One-clause-moves g c =
     let is : c.args.format ≡ One = search rules in
-    moves_nothing c.args.format (PutsZips c.args.format) (state g.S.Store c.args.source.now) (state g.F.Store c.args.tx.now.conn.now)
+    moves_nothing c.args.format (PutsZips c.args.format) (state g.S.Store c.args.source.now)
+    (state g.F.Store c.args.tx.now.conn.now)
     (subst (λ f. (old db : Trees) → PutsZips f old db db) (sym is) zips_came)

@@ -1,4 +1,5 @@
-use Rattle.std.proofs.Common.{◌≡◌, IsTrue, true, false, true≢false, [], ◌∷◌, ◌++◌, inl, inr, refl, sym, subst, ◌∙◌, rules, arith, length-append}
+use Rattle.std.proofs.Common.{◌≡◌, IsTrue, true, false, true≢false, [], ◌∷◌, ◌++◌, inl, inr, refl, sym, subst, ◌∙◌}
+use Rattle.std.proofs.Common.{rules, arith, length-append}
 use Rattle.sqlite.specs.State.{HasCleanDisk, Survives, CommitsShowing}
 use Rattle.sqlite.specs.Held.{state}
 use Rattle.sqlite.specs.Listing.{understood}
@@ -24,7 +25,8 @@ returns-in_err-rows-clause-reads g c has =
     let survives : Survives old new (CommitsShowing sql [] old) = search rules in
     subst (IsReadBy old new) (sym (not_ok c.from_residual.result c.from_residual.ensures.0))
     (quiet_read old new false (commits_nothing (schema_of c.args.format) sql c.requires.plain old new survives has)
-    (λ clean. let h = rw c.in_err-rows.was at held in failed_query sql [] old new _ (h.err clean)) (λ _ done. absurd (true≢false (sym done))))
+    (λ clean. let h = rw c.in_err-rows.was at held in failed_query sql [] old new _ (h.err clean))
+    (λ _ done. absurd (true≢false (sym done))))
 
 pub returns-in_err-rows-clause-survives : goal.returns-in_err-rows-clause-survives
 returns-in_err-rows-clause-survives g c has =
@@ -39,7 +41,8 @@ returns-in_err-rows-clause-cause g c clean has =
     let new = state g.S.Store c.query.follows.lender-at-none in
     let held = rw c.in_err-rows.was at c.query.follows.holds-at-none in
     error_says _ c.from_residual.result c.in_err-rows.field-0.0 c.from_residual.ensures.1
-    (inl (query_excused (schema_of c.args.format) c.args.sql.now c.requires.walkable.query c.requires.plain c.requires.tables old new _ has (held.err clean)))
+    (inl (query_excused (schema_of c.args.format) c.args.sql.now c.requires.walkable.query c.requires.plain
+    c.requires.tables old new _ has (held.err clean)))
 
 -- ---- the rows
 
@@ -49,7 +52,8 @@ rows-init g c =
     let sql = c.args.sql.now in
     let old = state g.S.Store c.args.source.now in
     let now = c.in_ok-rows.rows.conn.now in
-    let begun = λ (clean : HasCleanDisk (state g.S.Store now)) (has : old.now.schema ≡ _). begun_plain g.S.Store sql [] c.args.source.now now
+    let begun = λ (clean : HasCleanDisk (state g.S.Store now)) (has : old.now.schema ≡ _). begun_plain g.S.Store sql []
+    c.args.source.now now
     (subst (λ s. IsPlain (understood s sql)) (sym has) c.requires.plain) (made.begun clean) in (
       refl,
       made.survives.clean,
@@ -77,7 +81,8 @@ rows-preserved g c =
     let row = c.in-Some.row.now in
     let fits : IsTrue c.in-Ok-true.field-0 = search rules in
     let still =
-    λ (clean : HasCleanDisk new) (has : old.now.schema ≡ _). unchanged_then old mid new (so_far.3 (was_clean mid new moved.survives.clean clean) has) (rw c.in_ok-row.was at (moved.same clean)) in (
+    λ (clean : HasCleanDisk new) (has : old.now.schema ≡ _). unchanged_then old mid new
+    (so_far.3 (was_clean mid new moved.survives.clean clean) has) (rw c.in_ok-row.was at (moved.same clean)) in (
       moved.same_reference ∙ so_far.0,
       omega (arith, so_far.1, moved.survives.clean),
       λ has. then_survives old mid new (so_far.2 has) (λ clean. so_far.3 clean has) moved.survives,
@@ -85,10 +90,15 @@ rows-preserved g c =
       put.same_reference ∙ so_far.4,
       goes_on_then begun at end true so_far.5 put.goes_on,
       λ clean good has filling.
-          let was = so_far.6 (was_clean mid new moved.survives.clean clean) (was_clean at end put.goes_on.survives.clean good) has filling in
+          let was = so_far.6 (was_clean mid new moved.survives.clean clean)
+          (was_clean at end put.goes_on.survives.clean good) has filling in
           let given = (rw (c.in_ok-row.was, c.in-Some.is) at (moved.ok clean)) sql [] was.1 was.2 in
-          let one = put.puts good was.0 fits in
-          (one.1, was.1 ++ row ∷ [], given, one_more g.V.Visit.Puts _ begun.now.trees was.1 _ at.now.trees row _ end.now.trees was.3 one.0),
+          let one = put.puts good was.0 fits in (
+            one.1,
+            was.1 ++ row ∷ [],
+            given,
+            one_more g.V.Visit.Puts _ begun.now.trees was.1 _ at.now.trees row _ end.now.trees was.3 one.0,
+          ),
       λ clean has.
           let was = so_far.7 (was_clean mid new moved.survives.clean clean) has in
           let given = (rw (c.in_ok-row.was, c.in-Some.is) at (moved.ok clean)) sql [] was.0 was.1 in
@@ -110,7 +120,8 @@ returns-in_err-row-clause-cause g c clean has =
     let failed = (rw c.in_err-row.was at (moved.err late)) c.args.sql.now [] was.0 was.1 in
     error_says _ c.from_residual-in_err-row.result c.in_err-row.field-0.0 c.from_residual-in_err-row.ensures.1
     (excused_same g.S.Store old now c.source-in_err-row-1.given.0 _ _ same
-    (next_excused (schema_of c.args.format) c.args.sql.now c.requires.walkable.query c.requires.plain c.requires.tables old mid has
+    (next_excused (schema_of c.args.format) c.args.sql.now c.requires.walkable.query c.requires.plain c.requires.tables
+    old mid has
     (c.rows.invariant.3 before has) (state g.S.Store now) _ (c.rows.invariant.2 has) failed))
 
 -- ---- each row was visited
@@ -127,8 +138,10 @@ returns-in_default-clause-puts g c clean good has filling =
       was.0,
       (
         was.1,
-        all_walked (schema_of c.args.format) c.args.sql.now c.requires.plain c.requires.tables (state g.S.Store c.args.source.now)
-            (state g.S.Store c.rows.rows.conn.now) (state g.S.Store now) has (c.rows.invariant.3 before has) was.1 shown,
+        all_walked (schema_of c.args.format) c.args.sql.now c.requires.plain c.requires.tables
+            (state g.S.Store c.args.source.now)
+            (state g.S.Store c.rows.rows.conn.now) (state g.S.Store now) has (c.rows.invariant.3 before has) was.1
+            shown,
         was.3,
       ),
     )
@@ -143,6 +156,7 @@ returns-clause-cause g c clean has =
     let many = was.2 in
     let old = state g.S.Store c.args.source.now in
     let shown =
-    too_many (schema_of c.args.format) c.args.sql.now c.requires.walkable.query c.requires.plain c.requires.tables old now has (c.rows.invariant.3 late has) was.0
+    too_many (schema_of c.args.format) c.args.sql.now c.requires.walkable.query c.requires.plain c.requires.tables old
+    now has (c.rows.invariant.3 late has) was.0
     (given_begin g.S.Store c.args.sql.now [] c.rows.rows.conn.now _ was.1) (omega (arith, many, c.rows-test.false)) in
     inr (c.requires.walkable.vast old.now has shown)

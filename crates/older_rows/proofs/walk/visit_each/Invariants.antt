@@ -15,13 +15,15 @@ invariant-rows g l =
     let now = state g.S.Store l.rows.conn.now in
     let begun = state g.F.Store l.fn.tx.conn.now in
     let at = state g.F.Store l.tx.conn.now in
-    (l.rows.conn.ghost_name ≡ l.initial.rows.conn.ghost_name) × (doubt old.is_clean ≤ doubt now.is_clean) × (old.now.schema ≡ schema_of l.fn.format → Survives old now (λ _. ⊥))
+    (l.rows.conn.ghost_name ≡ l.initial.rows.conn.ghost_name) × (doubt old.is_clean ≤ doubt now.is_clean)
+    × (old.now.schema ≡ schema_of l.fn.format → Survives old now (λ _. ⊥))
     × (HasCleanDisk now → old.now.schema ≡ schema_of l.fn.format → IsUnchanged old now)
     × (l.tx.conn.ghost_name ≡ l.fn.tx.conn.ghost_name) × GoesOn begun at true
     × (HasCleanDisk now → HasCleanDisk at → old.now.schema ≡ schema_of l.fn.format → Filling begun
     → Filling at × (given : List Row) × HasGiven g.S.Store l.fn.sql [] l.rows.conn.now given
     × Visits g.V.Visit.Puts l.fn.visitor begun.now.trees given l.visitor at.now.trees)
-    × (HasCleanDisk now → old.now.schema ≡ schema_of l.fn.format → (given : List Row) × HasGiven g.S.Store l.fn.sql [] l.rows.conn.now given × (length given ≡ l._turn))
+    × (HasCleanDisk now → old.now.schema ≡ schema_of l.fn.format
+    → (given : List Row) × HasGiven g.S.Store l.fn.sql [] l.rows.conn.now given × (length given ≡ l._turn))
 
 abbrev pub decreases-rows : goal.decreases-rows
 decreases-rows g l = 2 ^ 128 - l._turn

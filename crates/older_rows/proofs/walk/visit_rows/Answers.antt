@@ -5,4 +5,5 @@ use Rattle.older_rows.proofs.walk.visit_rows.Goals as goal
 
 pub returns-in-Ok-Err-clause-reads : goal.returns-in-Ok-Err-clause-reads
 returns-in-Ok-Err-clause-reads g c has =
-    read_not_done (state g.S.Store c.args.source.now) (state g.S.Store c.visit_each.new.source) true (c.in-Ok-Err.ensures.reads has)
+    read_not_done (state g.S.Store c.args.source.now) (state g.S.Store c.visit_each.new.source) true
+    (c.in-Ok-Err.ensures.reads has)

@@ -14,7 +14,9 @@ invariant_of-self-2 g c =
       same = was.same;
       usable = was.usable;
       own = was.own;
-      fronts = λ clean. rw shows (fronts_cut was.front _ file _ (was.fronts clean) (omega (arith, c.min-self.ensures)) c.args.len (omega (arith, c.min-self.ensures)));
+      fronts = λ clean. rw shows
+          (fronts_cut was.front _ file _ (was.fronts clean) (omega (arith, c.min-self.ensures)) c.args.len
+          (omega (arith, c.min-self.ensures)));
       long = λ clean. rw shows (sym (length-padded (shown file was.edits.items) c.args.len));
       short = omega (arith, c.min-self.ensures);
     }
@@ -34,5 +36,8 @@ returns-clause-others g c =
 pub returns-clause-crash : goal.returns-clause-crash
 returns-clause-crash g c left may =
     let was = c.args.self.now in
-    let file = g.D.Disk.seen was.file in
-    (shown file was.edits.items, refl, rw (may, c.in-Ok.ensures.shows file) (Cut-padded (shown file was.edits.items) c.args.len))
+    let file = g.D.Disk.seen was.file in (
+      shown file was.edits.items,
+      refl,
+      rw (may, c.in-Ok.ensures.shows file) (Cut-padded (shown file was.edits.items) c.args.len),
+    )

@@ -16,8 +16,11 @@ invariant_of-self-2 g c =
       same = was.same;
       usable = was.usable;
       own = was.own;
-      fronts = λ clean. rw shows (fronts_put was.front _ file now (was.fronts clean) (omega (arith, c.min-self.ensures)) c.args.at c.args.bytes.now (omega (arith, c.min-self.ensures)));
-      long = λ clean. rw shows (omega (arith, c.max-self.ensures, was.long clean, length_put now c.args.at c.args.bytes.now));
+      fronts = λ clean. rw shows
+          (fronts_put was.front _ file now (was.fronts clean) (omega (arith, c.min-self.ensures)) c.args.at
+          c.args.bytes.now (omega (arith, c.min-self.ensures)));
+      long = λ clean. rw shows
+          (omega (arith, c.max-self.ensures, was.long clean, length_put now c.args.at c.args.bytes.now));
       short = omega (arith, c.min-self.ensures, c.max-self.ensures, was.short);
     }
 

@@ -9,5 +9,6 @@ returns g c = inl (record {
   begins = c.in-Ok.ensures.begun.0;
   migrates = c.migrate_to-told.ensures;
   done = copy_migrated _ _ _ _ _ _ _ _ _ _ _ _ c.as_str.ensures.value c.as_str-2.ensures.value c.as_str-3.ensures.value
-      (c.in-Ok.ensures.begun.1 ∙ c.as_str.ensures.value) c.in-Ok.ensures.opened c.unlink.ensures c.unlink-2.ensures c.close.ensures;
+      (c.in-Ok.ensures.begun.1 ∙ c.as_str.ensures.value) c.in-Ok.ensures.opened c.unlink.ensures c.unlink-2.ensures
+      c.close.ensures;
 })

@@ -10,4 +10,5 @@ returns-in-Ok-true-clause-opens g c clean settled =
 
 pub returns-in-Err-clause-device : goal.returns-in-Err-clause-device
 returns-in-Err-clause-device g c clean =
-    device_reason (state g.S.Store c.args.conn.now) (state g.S.Store c.stand_for_world.new.conn) c.in-Err.error c.open_refusal.result c.open_refusal.ensures.memory (c.in-Err.ensures.cause clean)
+    device_reason (state g.S.Store c.args.conn.now) (state g.S.Store c.stand_for_world.new.conn) c.in-Err.error
+    c.open_refusal.result c.open_refusal.ensures.memory (c.in-Err.ensures.cause clean)

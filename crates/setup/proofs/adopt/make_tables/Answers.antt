@@ -13,9 +13,11 @@ returns-in-Ok-clause-opens g c clean =
       world = only_common;
       tables = inl (c.requires.empty, refl);
       begins = begins_at (state g.S.Store c.args.conn.now) (state g.S.Store c.create.new.conn)
-          (λ db shown may. g.met.S.Store.settled c.create.new.conn.store db shown may) h.0 clean only_common h.1 only_common_stands;
+          (λ db shown may. g.met.S.Store.settled c.create.new.conn.store db shown may) h.0 clean only_common h.1
+          only_common_stands;
     }
 
 pub returns-in-Err-clause-device : goal.returns-in-Err-clause-device
 returns-in-Err-clause-device g c clean outside =
-    device_hindered (state g.S.Store c.args.conn.now) (state g.S.Store c.create.new.conn) c.in-Err.error c.open_refusal.result c.open_refusal.ensures.memory (c.in-Err.ensures.cause clean outside)
+    device_hindered (state g.S.Store c.args.conn.now) (state g.S.Store c.create.new.conn) c.in-Err.error
+    c.open_refusal.result c.open_refusal.ensures.memory (c.in-Err.ensures.cause clean outside)

@@ -10,4 +10,5 @@ abbrev pub invariant-loop-team : goal.invariant-loop-team
 invariant-loop-team g l =
     Spares (state g.S.Store l.fn.source) (state g.S.Store l.source)
     × InEachWorld (state g.S.Store l.fn.source) (state g.S.Store l.source) (λ _ new w.
-    (0 < l.team-index → IsTrue new.is_open) × (IsWorld w → SeenSoFar w (map (λ team. team.now) (take l.team-index l.teams)) l.list))
+    (0 < l.team-index → IsTrue new.is_open)
+    × (IsWorld w → SeenSoFar w (map (λ team. team.now) (take l.team-index l.teams)) l.list))

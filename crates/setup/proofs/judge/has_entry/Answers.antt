@@ -12,5 +12,9 @@ pub returns-clause-answer : goal.returns-clause-answer
 returns-clause-answer g c clean x stands =
     let old = state g.F.Store c.args.conn.now in
     let h = (c.in_ok-found.ensures.row clean x stands) in
-    let holds = stands (was_clean old (state g.F.Store c.find_row.new.conn) c.find_row.ensures.spares.clean clean) h.0 in
-    (h.1, subst (λ b. Decides b (HasEntry x)) (sym c.is_some.ensures) (entry_found old.now x holds.trees.means c.in_ok-found.found h.2))
+    let holds = stands (was_clean old (state g.F.Store c.find_row.new.conn) c.find_row.ensures.spares.clean clean)
+    h.0 in (
+      h.1,
+      subst (λ b. Decides b (HasEntry x)) (sym c.is_some.ensures)
+          (entry_found old.now x holds.trees.means c.in_ok-found.found h.2),
+    )

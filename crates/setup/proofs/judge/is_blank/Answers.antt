@@ -23,10 +23,14 @@ returns-then-branch-2-clause-answer g c clean x stands is =
     (second.0, refused (more_keys x (second.1.0 c.if-branch-2.true)))
 
 pub returns-in_err-found-clause-spares : goal.returns-in_err-found-clause-spares
-returns-in_err-found-clause-spares g c = spares_then _ _ _ (spares_then _ _ _ c.has_other_shelf.ensures.spares c.has_key.ensures.spares) c.has_entry.ensures.spares
+returns-in_err-found-clause-spares g c =
+    spares_then _ _ _ (spares_then _ _ _ c.has_other_shelf.ensures.spares c.has_key.ensures.spares)
+    c.has_entry.ensures.spares
 
 pub returns-clause-spares : goal.returns-clause-spares
-returns-clause-spares g c = spares_then _ _ _ (spares_then _ _ _ c.has_other_shelf.ensures.spares c.has_key.ensures.spares) c.has_entry.ensures.spares
+returns-clause-spares g c =
+    spares_then _ _ _ (spares_then _ _ _ c.has_other_shelf.ensures.spares c.has_key.ensures.spares)
+    c.has_entry.ensures.spares
 
 pub returns-clause-answer : goal.returns-clause-answer
 returns-clause-answer g c clean x stands is =
@@ -36,5 +40,8 @@ returns-clause-answer g c clean x stands is =
     let one = c.has_other_shelf.ensures.spares.stays x stands in
     let first = c.in_ok-has_other_shelf.ensures.answer before x stands in
     let second = c.in_ok-has_key.ensures.answer late x one in
-    let third = c.in_ok-found.ensures.answer clean x (c.has_key.ensures.spares.stays x one) in
-    (third.0, blank_decides x is (λ o. true≢false (sym (first.1.1 o) ∙ c.if-branch.false)) (λ k. true≢false (sym (second.1.1 k) ∙ c.if-branch-2.false)) c.in_ok-found.found third.1)
+    let third = c.in_ok-found.ensures.answer clean x (c.has_key.ensures.spares.stays x one) in (
+      third.0,
+      blank_decides x is (λ o. true≢false (sym (first.1.1 o) ∙ c.if-branch.false))
+          (λ k. true≢false (sym (second.1.1 k) ∙ c.if-branch-2.false)) c.in_ok-found.found third.1,
+    )

@@ -2,7 +2,8 @@ use Rattle.std.proofs.Common.{◌∙◌, sym, true≢false, refl}
 use Rattle.setup.proofs.judge.judge.Goals as goal
 
 pub returns-in-Ok-true-clause-ready : goal.returns-in-Ok-true-clause-ready
-returns-in-Ok-true-clause-ready g c = λ clean w stands _. (rw c.in-Some.is at (c.in_ok-shelves.ensures.answer clean w stands)).0 refl
+returns-in-Ok-true-clause-ready g c = λ clean w stands _.
+    (rw c.in-Some.is at (c.in_ok-shelves.ensures.answer clean w stands)).0 refl
 
 pub returns-in_default-clause-verdict : goal.returns-in_default-clause-verdict
 returns-in_default-clause-verdict g c = λ clean good w x sw sx. (
@@ -19,5 +20,8 @@ returns-in-Ok-true-clause-verdict g c = λ clean good w x sw sx.
 pub returns-in-Ok-false-clause-verdict : goal.returns-in-Ok-false-clause-verdict
 returns-in-Ok-false-clause-verdict g c = λ clean good w x sw sx.
     let chosen = (rw c.in-Some.is at (c.in_ok-shelves.ensures.answer clean w sw.0)).1 sw.1 in
-    let blank = c.in-Ok-false.ensures.answer good x sx.0 sx.1 in
-    ((chosen.0, λ e. true≢false (sym (blank.1.1 e) ∙ c.in-Ok-false.field-0-test)), λ never. absurd (true≢false (sym never)))
+    let blank = c.in-Ok-false.ensures.answer good x sx.0 sx.1 in (
+      (chosen.0, λ e. true≢false (sym (blank.1.1 e) ∙ c.in-Ok-false.field-0-test)),
+      λ never.
+          absurd (true≢false (sym never)),
+    )

@@ -10,5 +10,6 @@ use Rattle.setup.proofs.write.copy_along.Given as goal
 abbrev pub invariant-loop-shelf : goal.invariant-loop-shelf
 invariant-loop-shelf g l =
     (l.tx.conn.ghost_name ≡ l.fn.tx.conn.ghost_name)
-    × Copies (Along (CopiesRows l.rows) (common ∷ names_of (take l.shelf-index l.shelves))) (state g.S.Store l.fn.source)
+    × Copies (Along (CopiesRows l.rows) (common ∷ names_of (take l.shelf-index l.shelves)))
+    (state g.S.Store l.fn.source)
     (state g.S.Store l.source) (state g.F.Store l.fn.tx.conn.now) (state g.F.Store l.tx.conn.now) true

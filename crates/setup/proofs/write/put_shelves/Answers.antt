@@ -14,11 +14,14 @@ loop-shelf-preserved g c =
     let step = c.in_ok-put_listed.ensures in (
       step.same_reference ∙ so_far.0,
       rw (take_more c.args.shelves.now c.loop-shelf.shelf-index c.shelf-item.result c.loop-shelf-test.true
-          ∙ ap (λ (s : Shelf). take c.loop-shelf.shelf-index c.args.shelves.now ++ s ∷ []) (sym c.shelf-item.is)) (puts_then _ _ _ _ _ so_far.1 step.puts),
+          ∙ ap (λ (s : Shelf). take c.loop-shelf.shelf-index c.args.shelves.now ++ s ∷ []) (sym c.shelf-item.is))
+          (puts_then _ _ _ _ _ so_far.1 step.puts),
     )
 
 pub returns-in_err-put_listed-clause-puts : goal.returns-in_err-put_listed-clause-puts
-returns-in_err-put_listed-clause-puts g c = puts_failed c.from_residual.result _ _ _ _ _ _ c.from_residual.ensures.0 c.loop-shelf.invariant.1 c.in_err-put_listed.ensures.puts
+returns-in_err-put_listed-clause-puts g c =
+    puts_failed c.from_residual.result _ _ _ _ _ _ c.from_residual.ensures.0 c.loop-shelf.invariant.1
+    c.in_err-put_listed.ensures.puts
 
 pub returns-clause-puts : goal.returns-clause-puts
 returns-clause-puts g c =

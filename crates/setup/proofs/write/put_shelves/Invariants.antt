@@ -7,4 +7,5 @@ use Rattle.setup.proofs.write.put_shelves.Given as goal
 abbrev pub invariant-loop-shelf : goal.invariant-loop-shelf
 invariant-loop-shelf g l =
     (l.tx.conn.ghost_name ≡ l.fn.tx.conn.ghost_name)
-    × Puts (PutsShelves (take l.shelf-index l.shelves)) (state g.F.Store l.fn.tx.conn.now) (state g.F.Store l.tx.conn.now) true
+    × Puts (PutsShelves (take l.shelf-index l.shelves)) (state g.F.Store l.fn.tx.conn.now)
+    (state g.F.Store l.tx.conn.now) true

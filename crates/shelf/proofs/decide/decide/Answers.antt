@@ -4,7 +4,8 @@ use Rattle.shelf.proofs.decide.decide.Goals as goal
 
 pub returns-in-Some : goal.returns-in-Some
 returns-in-Some c =
-    sym (refused c.args.publish.now c.args.right (Some c.args.gomod.now) c.args.standing c.args.count _ (sym c.request_refusal.ensures ∙ c.in-Some.is))
+    sym (refused c.args.publish.now c.args.right (Some c.args.gomod.now) c.args.standing c.args.count _
+    (sym c.request_refusal.ensures ∙ c.in-Some.is))
 
 pub returns-in-Some-gomod_refusal : goal.returns-in-Some-gomod_refusal
 returns-in-Some-gomod_refusal c =

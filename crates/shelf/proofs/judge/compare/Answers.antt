@@ -15,7 +15,8 @@ returns-clause-reads g c =
     record {
       honest = read.honest;
       at = λ honest w stands.
-          subst (λ o. ReadsAt (shown c.args.shelves.now) (shown c.compare.new.self) w c.compare.result (standing_if (entry_seen w c.args.shelf.now p.path (version_text p.version)) o)) (sym handed)
+          subst (λ o. ReadsAt (shown c.args.shelves.now) (shown c.compare.new.self) w c.compare.result
+          (standing_if (entry_seen w c.args.shelf.now p.path (version_text p.version)) o)) (sym handed)
           (read.at honest w stands);
       cause = read.cause;
     }

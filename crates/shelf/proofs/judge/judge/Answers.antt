@@ -8,7 +8,8 @@ pub returns-in-Some-clause-reads : goal.returns-in-Some-clause-reads
 returns-in-Some-clause-reads g c = record {
   honest = λ honest. honest;
   at = λ honest w stands. record {
-    answer = sym (refused_alone w c.args.holder.now c.args.publish.now c.in-Some.refused (sym c.in_ok-refused.ensures.refusal ∙ c.in-Some.is));
+    answer = sym (refused_alone w c.args.holder.now c.args.publish.now c.in-Some.refused
+        (sym c.in_ok-refused.ensures.refusal ∙ c.in-Some.is));
     stays = stands;
     left = λ x y was. was;
   };
@@ -17,7 +18,8 @@ returns-in-Some-clause-reads g c = record {
 
 pub returns-in-Some-clause-needs : goal.returns-in-Some-clause-needs
 returns-in-Some-clause-needs g c =
-    asks_nothing _ c.args.holder.now c.args.publish.now c.in-Some.refused (sym c.in_ok-refused.ensures.refusal ∙ c.in-Some.is)
+    asks_nothing _ c.args.holder.now c.args.publish.now c.in-Some.refused
+    (sym c.in_ok-refused.ensures.refusal ∙ c.in-Some.is)
 
 pub returns-clause-reads : goal.returns-clause-reads
 returns-clause-reads g c =
@@ -28,7 +30,9 @@ returns-clause-reads g c =
           let so = read.at honest w stands in
           record {
             answer =
-                subst (λ d. IfOk c.judge_by_shelf.result (λ x. x ≡ d)) (sym (judged_by_shelf w c.args.holder.now c.args.publish.now (sym c.in_ok-refused.ensures.refusal ∙ c.in_default.is)))
+                subst (λ d. IfOk c.judge_by_shelf.result (λ x. x ≡ d))
+                (sym (judged_by_shelf w c.args.holder.now c.args.publish.now
+                (sym c.in_ok-refused.ensures.refusal ∙ c.in_default.is)))
                 so.answer;
             stays = so.stays;
             left = so.left;

@@ -4,7 +4,8 @@ use Rattle.shelf.proofs.Checks.{refused_first, then_by_gomod}
 use Rattle.shelf.proofs.judge.own_refusal.Goals as goal
 
 pub returns-in-Some-clause-refusal : goal.returns-in-Some-clause-refusal
-returns-in-Some-clause-refusal c = sym (refused_first c.args.publish.now c.args.right c.in-Some.refused (sym c.request_refusal.ensures ∙ c.in-Some.is))
+returns-in-Some-clause-refusal c =
+    sym (refused_first c.args.publish.now c.args.right c.in-Some.refused (sym c.request_refusal.ensures ∙ c.in-Some.is))
 
 pub returns-in-Some-2-clause-refusal : goal.returns-in-Some-2-clause-refusal
 returns-in-Some-2-clause-refusal c =

@@ -2,4 +2,10 @@ use Rattle.shelf.proofs.Latest.{latest_is_the_top, none_is_latest, latest_is_tol
 use Rattle.shelf.proofs.laws.latest_version.Goals as goal
 
 pub returns : goal.returns
-returns c = record { top = latest_is_the_top; none = none_is_latest; told = latest_is_told; not_found = latest_is_not_found }
+returns c = record {
+  top = latest_is_the_top;
+  none = none_is_latest;
+  told = latest_is_told;
+  not_found =
+      latest_is_not_found;
+}

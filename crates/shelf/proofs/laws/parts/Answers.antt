@@ -2,4 +2,10 @@ use Rattle.shelf.proofs.Parts.{part_is_low, blind_throughout, part_tells_the_sam
 use Rattle.shelf.proofs.laws.parts.Goals as goal
 
 pub returns : goal.returns
-returns c = record { low = part_is_low; throughout = blind_throughout; told = part_tells_the_same; others = others_are_not_found }
+returns c = record {
+  low = part_is_low;
+  throughout = blind_throughout;
+  told = part_tells_the_same;
+  others =
+      others_are_not_found;
+}

@@ -2,4 +2,10 @@ use Rattle.shelf.proofs.Isolated.{marks_are_as_long, marks_are_at_their_moment, 
 use Rattle.shelf.proofs.laws.purge.Goals as goal
 
 pub returns : goal.returns
-returns c = record { length = marks_are_as_long; moment = marks_are_at_their_moment; others = only_others_go; same = purge_is_the_same }
+returns c = record {
+  length = marks_are_as_long;
+  moment = marks_are_at_their_moment;
+  others = only_others_go;
+  same =
+      purge_is_the_same;
+}

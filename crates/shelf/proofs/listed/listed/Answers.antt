@@ -6,5 +6,6 @@ use Rattle.shelf.proofs.listed.listed.Goals as goal
 
 pub returns : goal.returns
 returns c =
-    c.new.ensures ∙ filter_same _ (λ v. is_listed (class_of v)) _ (λ v b f' k. search rules) _ _ c.retain.ensures.filtered
+    c.new.ensures ∙ filter_same _ (λ v. is_listed (class_of v)) _ (λ v b f' k. search rules) _ _
+    c.retain.ensures.filtered
     ∙ ap listed c.into_vec-list.ensures

@@ -19,7 +19,8 @@ loop-event-preserved g c =
     let given = c.answer-answer.ensures in
     let items = c.in_ok-push.ensures.items in
     record {
-      runs = rw items (runs_push _ _ _ c.args.events.now c.loop-event.event-index c.event-item.result _ _ c.loop-event-test.true c.event-item.is so_far.runs given.runs);
+      runs = rw items (runs_push _ _ _ c.args.events.now c.loop-event.event-index c.event-item.result _ _
+          c.loop-event-test.true c.event-item.is so_far.runs given.runs);
       no_fewer = omega arith;
       device = λ met. elim (met_before _ _ (rw items at met)) [
         | inl before ↦ grown_more _ _ _ (so_far.device before) given.no_fewer

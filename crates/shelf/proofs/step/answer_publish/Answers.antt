@@ -20,7 +20,8 @@ returns-clause-does g c =
           let there = (g.met.S.Asked.sound _ w stands).keys_stand _ _ found in
           let then =
           subst (λ o. DoesAt (shown c.key.new.self) (shown c.publish_to.new.shelves) w c.publish_to.result
-          (decision w o c.args.publish.now) (after_decision w o c.args.publish.now (decision w o c.args.publish.now))) (sym found)
+          (decision w o c.args.publish.now) (after_decision w o c.args.publish.now (decision w o c.args.publish.now)))
+          (sym found)
           (does.at h w key.stays there) in
           after_read _ _ _ w c.publish_to.result _ _ key.left then;
       cause = in_turn _ _ _ _ _ read.cause does.cause;

@@ -12,7 +12,9 @@ returns g c =
     let result = c.step_over.result in
     record {
       does =
-          subst (λ s. Does (shown c.args.shelves.now) (shown s) result (λ w. ask_reply w asked) (λ w. after_ask w asked)) ends
-          (subst (λ s. Does (shown s) (shown c.step_over.new.shelves.inner.now) result (λ w. ask_reply w asked) (λ w. after_ask w asked)) begun
+          subst (λ s. Does (shown c.args.shelves.now) (shown s) result (λ w. ask_reply w asked)
+          (λ w. after_ask w asked)) ends
+          (subst (λ s. Does (shown s) (shown c.step_over.new.shelves.inner.now) result (λ w. ask_reply w asked)
+          (λ w. after_ask w asked)) begun
           c.step_over.ensures.does);
     }

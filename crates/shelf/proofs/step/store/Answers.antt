@@ -15,7 +15,8 @@ returns-clause-does g c =
     record {
       honest = does.honest;
       at = λ honest w stands fits.
-          subst (λ o. DoesAt (shown c.args.shelves.now) (shown c.insert.new.self) w c.insert.result tt (stored w (place_of h.shelf p) o)) (sym handed)
+          subst (λ o. DoesAt (shown c.args.shelves.now) (shown c.insert.new.self) w c.insert.result tt
+          (stored w (place_of h.shelf p) o)) (sym handed)
           (does.at honest w stands (room_for w h p _ fits.0 fits.1 handed));
       cause = does.cause;
     }

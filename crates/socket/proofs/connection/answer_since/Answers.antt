@@ -14,7 +14,10 @@ returns-clause-heard g c = rw (c.into_inner.ensures.same, c.into_inner-2.ensures
 
 pub returns-clause-asks : goal.returns-clause-asks
 returns-clause-asks g c = rw c.into_inner.ensures.same
-    (rw (ap (λ (f : Framing). f.held) c.new-session.ensures.framer, c.new-request.ensures) at c.turn-turned.ensures.asks)
+    (rw (
+      ap (λ (f : Framing). f.held) c.new-session.ensures.framer,
+      c.new-request.ensures,
+    ) at c.turn-turned.ensures.asks)
 
 pub returns-clause-flushed : goal.returns-clause-flushed
 returns-clause-flushed g c = rw c.into_inner-2.ensures.same c.end_turn-status.ensures.flushed

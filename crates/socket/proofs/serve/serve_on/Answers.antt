@@ -9,7 +9,8 @@ loop-init g c = each_none _ _ _ _ _
 
 pub loop-preserved : goal.loop-preserved
 loop-preserved g c = elim c.match-accept.branch [
-  | in-Ok w ↦ rw w.shelves-is (each_more _ _ _ _ _ _ _ _ _ _ c.loop.invariant _ w.in-Ok.ensures.takes w.in-Ok.ensures.fresh w.answer_on.ensures)
+  | in-Ok w ↦ rw w.shelves-is
+      (each_more _ _ _ _ _ _ _ _ _ _ c.loop.invariant _ w.in-Ok.ensures.takes w.in-Ok.ensures.fresh w.answer_on.ensures)
   | in-Err w ↦ rw w.shelves-is (each_same _ _ _ _ _ _ _ _ _ w.in-Err.ensures.takes c.loop.invariant)
 ]
 

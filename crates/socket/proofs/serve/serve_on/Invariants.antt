@@ -7,5 +7,6 @@ invariant-loop g l =
     let s = g.S.Shelves in
     let p = g.P.Peer in
     let waiting = g.L.Listener.waiting in
-    AnswersEach p.came p.written g.L.Listener.is_new (waiting l.fn.listener) (waiting l.listener) (s.shown l.fn.shelves) (s.shown l.shelves)
+    AnswersEach p.came p.written g.L.Listener.is_new (waiting l.fn.listener) (waiting l.listener) (s.shown l.fn.shelves)
+    (s.shown l.shelves)
     l.counter

@@ -13,14 +13,16 @@ pub returns-in_default-clause-answer : goal.returns-in_default-clause-answer
 returns-in_default-clause-answer g c clean w stands =
     let old = state g.S.Store c.args.conn.now in
     let seen = first_on w (map (λ s. s.now) c.args.shelves.now) c.args.path.now c.args.version.now in
-    standing_lacks seen c.args.entry.now (subst (HasRow old.now.trees seen) c.in_default.is (c.in_ok-row.ensures.answer clean w stands))
+    standing_lacks seen c.args.entry.now
+    (subst (HasRow old.now.trees seen) c.in_default.is (c.in_ok-row.ensures.answer clean w stands))
 
 pub returns-then-not-is_same_heading-clause-answer : goal.returns-then-not-is_same_heading-clause-answer
 returns-then-not-is_same_heading-clause-answer g c clean w stands =
     let old = state g.S.Store c.args.conn.now in
     let seen = first_on w (map (λ s. s.now) c.args.shelves.now) c.args.path.now c.args.version.now in
     let it = subst (HasRow old.now.trees seen) c.in-Some.is (c.in_ok-row.ensures.answer clean w stands) in
-    standing_other old.now.trees seen c.in-Some.row c.args.entry.now it (sym c.is_same_heading.ensures ∙ c.if-not-is_same_heading.true)
+    standing_other old.now.trees seen c.in-Some.row c.args.entry.now it
+    (sym c.is_same_heading.ensures ∙ c.if-not-is_same_heading.true)
 
 pub returns-in_err-is_same_zip-clause-spares : goal.returns-in_err-is_same_zip-clause-spares
 returns-in_err-is_same_zip-clause-spares g c = spares_then _ _ _ c.row_seen.ensures.spares c.is_same_zip.ensures.spares
@@ -40,8 +42,10 @@ returns-then-branch-clause-answer g c clean w stands =
     at (c.in_ok-is_same_zip.ensures.answer clean w (c.row_seen.ensures.spares.stays w stands)) in
     let same = c.in_ok-row.ensures.same was w stands in
     let it = subst (HasRow old.now.trees seen) c.in-Some.is (c.in_ok-row.ensures.answer was w stands) in
-    let zips = sym c.if-branch.true ∙ z.1 it.entry.zip (subst (λ (d : Database). IsZip d.trees c.in-Some.row.id it.entry.zip) (sym same) it.zip) in
-    standing_whole old.now.trees seen c.in-Some.row c.args.entry.now it true (sym c.is_same_heading.ensures ∙ c.if-not-is_same_heading.false) zips
+    let zips = sym c.if-branch.true
+    ∙ z.1 it.entry.zip (subst (λ (d : Database). IsZip d.trees c.in-Some.row.id it.entry.zip) (sym same) it.zip) in
+    standing_whole old.now.trees seen c.in-Some.row c.args.entry.now it true
+    (sym c.is_same_heading.ensures ∙ c.if-not-is_same_heading.false) zips
 
 pub returns-clause-spares : goal.returns-clause-spares
 returns-clause-spares g c = spares_then _ _ _ c.row_seen.ensures.spares c.is_same_zip.ensures.spares
@@ -58,5 +62,7 @@ returns-clause-answer g c clean w stands =
     at (c.in_ok-is_same_zip.ensures.answer clean w (c.row_seen.ensures.spares.stays w stands)) in
     let same = c.in_ok-row.ensures.same was w stands in
     let it = subst (HasRow old.now.trees seen) c.in-Some.is (c.in_ok-row.ensures.answer was w stands) in
-    let zips = sym c.if-branch.false ∙ z.1 it.entry.zip (subst (λ (d : Database). IsZip d.trees c.in-Some.row.id it.entry.zip) (sym same) it.zip) in
-    standing_whole old.now.trees seen c.in-Some.row c.args.entry.now it false (sym c.is_same_heading.ensures ∙ c.if-not-is_same_heading.false) zips
+    let zips = sym c.if-branch.false
+    ∙ z.1 it.entry.zip (subst (λ (d : Database). IsZip d.trees c.in-Some.row.id it.entry.zip) (sym same) it.zip) in
+    standing_whole old.now.trees seen c.in-Some.row c.args.entry.now it false
+    (sym c.is_same_heading.ensures ∙ c.if-not-is_same_heading.false) zips

@@ -14,7 +14,8 @@ returns-in_err-keyed-clause-changes g c clean w stands unused =
     let old = state g.S.Store c.args.conn.now in
     let e : Entry = c.args.entry.now in
     let next = with_entry w (place c.args.shelf.now c.args.path.now (version_text c.args.version.now)) e in
-    subst (λ b. ChangesAt old old b w next) (sym (not_ok c.from_residual.result c.from_residual.ensures.0)) ((spared old old (λ _. next) (spares_itself old)).at w)
+    subst (λ b. ChangesAt old old b w next) (sym (not_ok c.from_residual.result c.from_residual.ensures.0))
+    ((spared old old (λ _. next) (spares_itself old)).at w)
 
 pub returns-in_err-number-clause-changes : goal.returns-in_err-number-clause-changes
 returns-in_err-number-clause-changes g c clean w stands unused =
@@ -23,7 +24,9 @@ returns-in_err-number-clause-changes g c clean w stands unused =
     let e : Entry = c.args.entry.now in
     let next = with_entry w (place c.args.shelf.now c.args.path.now (version_text c.args.version.now)) e in
     subst
-    (λ b. ChangesAt old new b w next) (sym (not_ok c.from_residual-in_err-number.result c.from_residual-in_err-number.ensures.0)) ((spared old new (λ _. next) c.chosen_number.ensures.spares).at w)
+    (λ b. ChangesAt old new b w next)
+    (sym (not_ok c.from_residual-in_err-number.result c.from_residual-in_err-number.ensures.0))
+    ((spared old new (λ _. next) c.chosen_number.ensures.spares).at w)
 
 pub returns-clause-changes : goal.returns-clause-changes
 returns-clause-changes g c clean w stands unused =
@@ -33,4 +36,5 @@ returns-clause-changes g c clean w stands unused =
     let late = was_clean mid new c.insert_entry.ensures.clean clean in
     let h = c.in_ok-number.ensures.answer late w stands in
     let changes = rw c.in_ok-keyed.ensures at c.insert_entry.ensures.changes in
-    spares_at old mid new _ w _ c.chosen_number.ensures.spares c.insert_entry.ensures.clean (changes (λ _. h.0) w unused)
+    spares_at old mid new _ w _ c.chosen_number.ensures.spares c.insert_entry.ensures.clean
+    (changes (λ _. h.0) w unused)

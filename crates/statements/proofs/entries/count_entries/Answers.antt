@@ -24,5 +24,8 @@ returns-in-Some-clause-answer g c clean w stands =
     let p = c.args.path.now in
     let h = rw (c.params-to_sql.ensures, c.params-to_sql-2.ensures) at (c.in_ok-row.ensures.row clean w stands.0) in
     let picked = subst (Picks count_query (path_params s p) old.now) c.in-Some.is h.2 in
-    let holds = stands.0 (was_clean old (state g.S.Store c.find_row.new.conn) c.find_row.ensures.spares.clean clean) h.0 in
-    weaker c.read_count.result (λ n shown. count_read s p w old.now.trees holds.trees.means old.now refl stands.1 c.in-Some.row n picked shown) c.read_count.ensures
+    let holds = stands.0 (was_clean old (state g.S.Store c.find_row.new.conn) c.find_row.ensures.spares.clean clean)
+    h.0 in
+    weaker c.read_count.result
+    (λ n shown. count_read s p w old.now.trees holds.trees.means old.now refl stands.1 c.in-Some.row n picked shown)
+    c.read_count.ensures

@@ -22,5 +22,8 @@ returns-in-Some-clause-answer g c clean w stands =
     let old = state g.S.Store c.args.conn.now in
     let h = c.in_ok-row.ensures.row clean w stands.0 in
     let picked = subst (Picks count_all [] old.now) c.in-Some.is h.2 in
-    let holds = stands.0 (was_clean old (state g.S.Store c.find_row.new.conn) c.find_row.ensures.spares.clean clean) h.0 in
-    weaker c.read_count.result (λ n shown. all_read w old.now.trees holds.trees.means old.now refl c.in-Some.row n picked shown) c.read_count.ensures
+    let holds = stands.0 (was_clean old (state g.S.Store c.find_row.new.conn) c.find_row.ensures.spares.clean clean)
+    h.0 in
+    weaker c.read_count.result
+    (λ n shown. all_read w old.now.trees holds.trees.means old.now refl c.in-Some.row n picked shown)
+    c.read_count.ensures

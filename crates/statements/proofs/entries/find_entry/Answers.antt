@@ -28,7 +28,9 @@ returns-clause-answer g c clean w stands =
     let seen = first_on w (map (λ s. s.now) c.args.shelves.now) c.args.path.now c.args.version.now in
     let was = was_clean mid new c.find_zip.ensures.spares.clean clean in
     let range : SFits w64 c.in-Some.row.id = search rules in
-    let z = rw (to_z-of_z {w = w64} {z = c.in-Some.row.id} range) at (c.in_ok-zip.ensures.answer clean w (c.row_seen.ensures.spares.stays w stands)) in
+    let z = rw (to_z-of_z {w = w64} {z = c.in-Some.row.id} range) at (c.in_ok-zip.ensures.answer clean w
+    (c.row_seen.ensures.spares.stays w stands)) in
     let same = c.in_ok-row.ensures.same was w stands in
     let it = subst (HasRow old.now.trees seen) c.in-Some.is (c.in_ok-row.ensures.answer was w stands) in
-    entry_of_row old.now.trees seen c.in-Some.row c.in_ok-zip.zip it (z.1 it.entry.zip (subst (λ (d : Database). IsZip d.trees c.in-Some.row.id it.entry.zip) (sym same) it.zip))
+    entry_of_row old.now.trees seen c.in-Some.row c.in_ok-zip.zip it
+    (z.1 it.entry.zip (subst (λ (d : Database). IsZip d.trees c.in-Some.row.id it.entry.zip) (sym same) it.zip))

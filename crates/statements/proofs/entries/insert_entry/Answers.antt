@@ -25,11 +25,14 @@ returns-clause-changes g c opened w unused =
     let goes_on = rw begun at c.put_entry-written.ensures.goes_on in
     let add = rw begun at c.put_entry-written.ensures.added in
     let made = λ (late : HasCleanDisk last) (stands : Stands (state g.S.Store h) w) (whole : IsTrue (is_ok written)).
-    entry_written c.args.number start last w p e unused (begins_writing g.S.Store h last (state g.S.Store end) w next opened (was_clean start last goes_on.survives.clean late) stands)
+    entry_written c.args.number start last w p e unused
+    (begins_writing g.S.Store h last (state g.S.Store end) w next opened
+    (was_clean start last goes_on.survives.clean late) stands)
     (λ filling. when_ok written whole (add late filling)) in
     let ends = rw c.is_ok.ensures.value at c.in_ok-commit_if.ensures in
     let done : ChangesAt (state g.S.Store h) (state g.S.Store end) (is_ok written) w next =
-    ended_by g.S.Store h last (state g.S.Store end) w next opened (g.met.S.Store.settled h.store) goes_on.survives (is_ok written) ends.undone ends.whole_survives ends.unfinished_is_lost
+    ended_by g.S.Store h last (state g.S.Store end) w next opened (g.met.S.Store.settled h.store) goes_on.survives
+    (is_ok written) ends.undone ends.whole_survives ends.unfinished_is_lost
     (λ clean. goes_on.commit clean refl) made
     ends.committed (λ db shown may. g.met.S.Store.settled end.store db shown may) in
     let same : end ≡ c.conn-1.given.0 = search rules in
@@ -49,13 +52,17 @@ returns-in_err-commit_if-clause-changes g c opened w unused =
     let goes_on = rw begun at c.put_entry-written.ensures.goes_on in
     let add = rw begun at c.put_entry-written.ensures.added in
     let made = λ (late : HasCleanDisk last) (stands : Stands (state g.S.Store h) w) (whole : IsTrue (is_ok written)).
-    entry_written c.args.number start last w p e unused (begins_writing g.S.Store h last (state g.S.Store end) w next opened (was_clean start last goes_on.survives.clean late) stands)
+    entry_written c.args.number start last w p e unused
+    (begins_writing g.S.Store h last (state g.S.Store end) w next opened
+    (was_clean start last goes_on.survives.clean late) stands)
     (λ filling. when_ok written whole (add late filling)) in
     let ends = rw c.is_ok.ensures.value at c.in_err-commit_if.ensures in
     let done : ChangesAt (state g.S.Store h) (state g.S.Store end) false w next =
-    failed_by g.S.Store h last (state g.S.Store end) w next opened (g.met.S.Store.settled h.store) goes_on.survives (is_ok written) ends.undone ends.whole_survives ends.unfinished_is_lost
+    failed_by g.S.Store h last (state g.S.Store end) w next opened (g.met.S.Store.settled h.store) goes_on.survives
+    (is_ok written) ends.undone ends.whole_survives ends.unfinished_is_lost
     (λ clean. goes_on.commit clean refl) made
     _ ends.failed in
     let same : end ≡ c.conn-1.given.0 = search rules in
-    subst (λ b. ChangesAt (state g.S.Store h) (state g.S.Store c.conn-1.given.0) b w next) (sym (not_ok c.from_residual.result c.from_residual.ensures.0))
+    subst (λ b. ChangesAt (state g.S.Store h) (state g.S.Store c.conn-1.given.0) b w next)
+    (sym (not_ok c.from_residual.result c.from_residual.ensures.0))
     (subst (λ x. ChangesAt (state g.S.Store h) (state g.S.Store x) false w next) same done)

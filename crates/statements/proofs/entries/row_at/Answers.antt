@@ -21,18 +21,32 @@ unfolding understood everything
 returns-in_ok-read_version-in-Some-clause-answer g c clean w stands =
     let old = state g.S.Store c.args.conn.now in
     let p : Place = record { shelf = c.args.shelf.now; path = c.args.path.now; version = c.args.version.now } in
-    let h = rw (c.params-to_sql.ensures, c.params-to_sql-2.ensures, c.params-to_sql-3.ensures) at (c.in_ok-row.ensures.row clean w stands) in
+    let h = rw (
+      c.params-to_sql.ensures,
+      c.params-to_sql-2.ensures,
+      c.params-to_sql-3.ensures,
+    ) at (c.in_ok-row.ensures.row clean w stands) in
     let picked = subst (Picks row_query (place_params p) old.now) c.in-Some.is h.2 in
-    let holds = stands (was_clean old (state g.S.Store c.find_row.new.conn) c.find_row.ensures.spares.clean clean) h.0 in
-    let read = c.in_ok-read_version-in-Some.ensures in
-    (h.0, h.1, row_read p old.now w holds.trees.means c.in-Some.row c.in_ok-read_version-in-Some.field-0 picked read.0 read.1 read.2 read.3)
+    let holds = stands (was_clean old (state g.S.Store c.find_row.new.conn) c.find_row.ensures.spares.clean clean)
+    h.0 in
+    let read = c.in_ok-read_version-in-Some.ensures in (
+      h.0,
+      h.1,
+      row_read p old.now w holds.trees.means c.in-Some.row c.in_ok-read_version-in-Some.field-0 picked read.0
+          read.1 read.2 read.3,
+    )
 
 pub returns-in-None-clause-answer : goal.returns-in-None-clause-answer
 unfolding understood everything
 returns-in-None-clause-answer g c clean w stands =
     let old = state g.S.Store c.args.conn.now in
     let p : Place = record { shelf = c.args.shelf.now; path = c.args.path.now; version = c.args.version.now } in
-    let h = rw (c.params-to_sql.ensures, c.params-to_sql-2.ensures, c.params-to_sql-3.ensures) at (c.in_ok-row.ensures.row clean w stands) in
+    let h = rw (
+      c.params-to_sql.ensures,
+      c.params-to_sql-2.ensures,
+      c.params-to_sql-3.ensures,
+    ) at (c.in_ok-row.ensures.row clean w stands) in
     let picked = subst (Picks row_query (place_params p) old.now) c.in-None.is h.2 in
-    let holds = stands (was_clean old (state g.S.Store c.find_row.new.conn) c.find_row.ensures.spares.clean clean) h.0 in
+    let holds = stands (was_clean old (state g.S.Store c.find_row.new.conn) c.find_row.ensures.spares.clean clean)
+    h.0 in
     (h.0, h.1, row_lacks p old.now w holds.trees.means picked)

@@ -10,4 +10,5 @@ abbrev pub invariant-loop-shelf : goal.invariant-loop-shelf
 invariant-loop-shelf g l =
     Spares (state g.S.Store l.fn.conn) (state g.S.Store l.conn)
     × InEachWorld (state g.S.Store l.fn.conn) (state g.S.Store l.conn) (λ old new w. (new.now ≡ old.now)
-    × (first_on w (texts_of (drop l.shelf-index l.shelves)) l.path l.version ≡ first_on w (texts_of l.shelves) l.path l.version))
+    × (first_on w (texts_of (drop l.shelf-index l.shelves)) l.path l.version
+    ≡ first_on w (texts_of l.shelves) l.path l.version))

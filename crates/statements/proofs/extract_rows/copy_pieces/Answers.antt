@@ -30,9 +30,15 @@ returns-clause-copies g c =
     let source = state g.S.Store c.args.source.now in
     let fresh = state g.F.Store c.args.tx.now.conn.now in
     let done = state g.F.Store c.hand_on.new.tx.conn.now in
-    copied c.hand_on.result (CopiesPieces c.args.shelf.now) source (state g.S.Store c.hand_on.new.source) fresh done handed.looks handed.same
+    copied c.hand_on.result (CopiesPieces c.args.shelf.now) source (state g.S.Store c.hand_on.new.source) fresh done
+    handed.looks handed.same
     handed.goes_on
     (λ clean good has w means filling.
-    let read = λ (rows : List Row). subst (λ v. Reads (asks pieces_on_query) source.now (bound_value v ∷ []) rows) c.params-to_sql.ensures in
+    let read = λ (rows : List Row).
+    subst (λ v. Reads (asks pieces_on_query) source.now (bound_value v ∷ []) rows) c.params-to_sql.ensures in
     on_weaker c.hand_on.result
-    (λ it. (pieces_copied _ c.args.shelf.now source.now fresh.now.trees done.now.trees it.1.0 (read it.1.0 it.1.1) it.1.2, it.0)) (handed.puts clean good has w means filling))
+    (λ it. (
+      pieces_copied _ c.args.shelf.now source.now fresh.now.trees done.now.trees it.1.0 (read it.1.0 it.1.1)
+          it.1.2,
+      it.0,
+    )) (handed.puts clean good has w means filling))

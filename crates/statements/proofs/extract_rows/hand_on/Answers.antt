@@ -29,7 +29,8 @@ rows-init g c =
     let params = bound c.args.params.now in
     let old = state g.S.Store c.args.source.now in
     let now = c.in_ok-rows.rows.conn.now in
-    let begun = λ (clean : HasCleanDisk (state g.S.Store now)) (has : old.now.schema ≡ _). begun_plain g.S.Store sql params c.args.source.now now
+    let begun = λ (clean : HasCleanDisk (state g.S.Store now)) (has : old.now.schema ≡ _). begun_plain g.S.Store sql
+    params c.args.source.now now
     (subst (λ s. IsPlain (understood s sql)) (sym has) c.requires.plain) (made.begun clean) in (
       refl,
       made.survives.clean,
@@ -47,14 +48,16 @@ returns-in_err-row-clause-looks g c =
     let was = c.rows.invariant in
     let same : now ≡ c.source-in_err-row-1.given.0 = search rules in
     subst (λ h. Looks (state g.S.Store c.args.source.now) (state g.S.Store h)) same
-    (moved_looks (state g.S.Store c.args.source.now) (state g.S.Store c.rows.rows.conn.now) (state g.S.Store now) was.1 was.2 was.3 moved.survives
+    (moved_looks (state g.S.Store c.args.source.now) (state g.S.Store c.rows.rows.conn.now) (state g.S.Store now) was.1
+    was.2 was.3 moved.survives
     (λ clean. failed_or_same _ _ _ (rw c.in_err-row.was at (moved.kept clean))))
 
 pub returns-in_err-row-clause-same_reference : goal.returns-in_err-row-clause-same_reference
 returns-in_err-row-clause-same_reference g c = c.rows.invariant.4
 
 pub returns-in_err-row-clause-goes_on : goal.returns-in_err-row-clause-goes_on
-returns-in_err-row-clause-goes_on g c = goes_on_or_ends (state g.F.Store c.args.tx.now.conn.now) (state g.F.Store c.rows.tx.conn.now) _ c.rows.invariant.5
+returns-in_err-row-clause-goes_on g c =
+    goes_on_or_ends (state g.F.Store c.args.tx.now.conn.now) (state g.F.Store c.rows.tx.conn.now) _ c.rows.invariant.5
 
 pub returns-in_default-clause-looks : goal.returns-in_default-clause-looks
 returns-in_default-clause-looks g c =
@@ -63,7 +66,8 @@ returns-in_default-clause-looks g c =
     let was = c.rows.invariant in
     let same : now ≡ c.source-in_default-1.given.0 = search rules in
     subst (λ h. Looks (state g.S.Store c.args.source.now) (state g.S.Store h)) same
-    (moved_looks (state g.S.Store c.args.source.now) (state g.S.Store c.rows.rows.conn.now) (state g.S.Store now) was.1 was.2 was.3 moved.survives
+    (moved_looks (state g.S.Store c.args.source.now) (state g.S.Store c.rows.rows.conn.now) (state g.S.Store now) was.1
+    was.2 was.3 moved.survives
     (λ clean. inl (rw c.in_ok-row.was at (moved.same clean))))
 
 pub returns-in_default-clause-same : goal.returns-in_default-clause-same
@@ -74,7 +78,8 @@ returns-in_default-clause-same g c clean has =
     let was = c.rows.invariant.3 (omega (arith, moved.survives.clean)) has in
     let same : now ≡ c.source-in_default-1.given.0 = search rules in
     subst (λ h. IsUnchanged (state g.S.Store c.args.source.now) (state g.S.Store h)) same
-    (unchanged_then (state g.S.Store c.args.source.now) (state g.S.Store c.rows.rows.conn.now) (state g.S.Store now) was (rw c.in_ok-row.was at (moved.same late)))
+    (unchanged_then (state g.S.Store c.args.source.now) (state g.S.Store c.rows.rows.conn.now) (state g.S.Store now) was
+    (rw c.in_ok-row.was at (moved.same late)))
 
 pub returns-in_default-clause-same_reference : goal.returns-in_default-clause-same_reference
 returns-in_default-clause-same_reference g c = c.rows.invariant.4
@@ -89,12 +94,15 @@ returns-in_default-clause-puts g c clean good has w means filling =
     let late : HasCleanDisk (state g.S.Store now) = search rules in
     let before = was_clean (state g.S.Store c.rows.rows.conn.now) (state g.S.Store now) moved.survives.clean late in
     let was = c.rows.invariant.6 before good has w means filling in
-    let shown = (rw (c.in_ok-row.was, c.in_default.is) at (moved.ok late)) c.args.sql.now (bound c.args.params.now) was.1 was.2 in (
+    let shown = (rw (c.in_ok-row.was, c.in_default.is) at (moved.ok late)) c.args.sql.now (bound c.args.params.now)
+    was.1 was.2 in (
       was.0,
       (
         was.1,
-        all_shown c.args.sql.now (bound c.args.params.now) c.requires.plain c.requires.tables (state g.S.Store c.args.source.now)
-            (state g.S.Store c.rows.rows.conn.now) (state g.S.Store now) has (c.rows.invariant.3 before has) was.1 shown,
+        all_shown c.args.sql.now (bound c.args.params.now) c.requires.plain c.requires.tables
+            (state g.S.Store c.args.source.now)
+            (state g.S.Store c.rows.rows.conn.now) (state g.S.Store now) has (c.rows.invariant.3 before has) was.1
+            shown,
         was.3,
       ),
     )
@@ -106,7 +114,8 @@ returns-in-Err-clause-looks g c =
     let was = c.rows.invariant in
     let same : now ≡ c.source-in-Err-1.given.0 = search rules in
     subst (λ h. Looks (state g.S.Store c.args.source.now) (state g.S.Store h)) same
-    (moved_looks (state g.S.Store c.args.source.now) (state g.S.Store c.rows.rows.conn.now) (state g.S.Store now) was.1 was.2 was.3 moved.survives
+    (moved_looks (state g.S.Store c.args.source.now) (state g.S.Store c.rows.rows.conn.now) (state g.S.Store now) was.1
+    was.2 was.3 moved.survives
     (λ clean. inl (rw c.in_ok-row.was at (moved.same clean))))
 
 pub returns-in-Err-clause-same_reference : goal.returns-in-Err-clause-same_reference
@@ -133,7 +142,8 @@ rows-preserved g c =
     let put = c.in-Ok.ensures in
     let row = c.in-Some.row.now in
     let still =
-    λ (clean : HasCleanDisk new) (has : old.now.schema ≡ _). unchanged_then old mid new (so_far.3 (was_clean mid new moved.survives.clean clean) has) (rw c.in_ok-row.was at (moved.same clean)) in (
+    λ (clean : HasCleanDisk new) (has : old.now.schema ≡ _). unchanged_then old mid new
+    (so_far.3 (was_clean mid new moved.survives.clean clean) has) (rw c.in_ok-row.was at (moved.same clean)) in (
       moved.same_reference ∙ so_far.0,
       omega (arith, so_far.1, moved.survives.clean),
       then_survives old mid new so_far.2 moved.survives,
@@ -141,11 +151,13 @@ rows-preserved g c =
       put.same_reference ∙ so_far.4,
       goes_on_then begun at end true so_far.5 put.goes_on,
       λ clean good has w means filling.
-          let was = so_far.6 (was_clean mid new moved.survives.clean clean) (was_clean at end put.goes_on.survives.clean good) has w means filling in
+          let was = so_far.6 (was_clean mid new moved.survives.clean clean)
+          (was_clean at end put.goes_on.survives.clean good) has w means filling in
           let given = (rw (c.in_ok-row.was, c.in-Some.is) at (moved.ok clean)) sql params was.1 was.2 in
           let rows = was.1 ++ row ∷ [] in
           let fits = c.requires.fits old.now w was.1 row means
-          (some_shown sql params c.requires.plain c.requires.tables old new new has (still clean has) rows (given_begin g.S.Store sql params now rows given)) in
+          (some_shown sql params c.requires.plain c.requires.tables old new new has (still clean has) rows
+          (given_begin g.S.Store sql params now rows given)) in
           let one = put.puts good fits was.0 in
           (one.1, rows, given, one_more _ _ begun.now.trees was.1 at.now.trees row end.now.trees was.3 fits one.0),
     )
@@ -156,10 +168,13 @@ returns-clause-looks g c =
     let was = c.rows.invariant in
     let same : now ≡ c.source-2-1.given.0 = search rules in
     subst
-    (λ h. Looks (state g.S.Store c.args.source.now) (state g.S.Store h)) same (quiet_looks (state g.S.Store c.args.source.now) (state g.S.Store now) was.1 was.2 (λ clean has. inl (was.3 clean has)))
+    (λ h. Looks (state g.S.Store c.args.source.now) (state g.S.Store h)) same
+    (quiet_looks (state g.S.Store c.args.source.now) (state g.S.Store now) was.1 was.2
+    (λ clean has. inl (was.3 clean has)))
 
 pub returns-clause-same_reference : goal.returns-clause-same_reference
 returns-clause-same_reference g c = c.rows.invariant.4
 
 pub returns-clause-goes_on : goal.returns-clause-goes_on
-returns-clause-goes_on g c = goes_on_or_ends (state g.F.Store c.args.tx.now.conn.now) (state g.F.Store c.rows.tx.conn.now) _ c.rows.invariant.5
+returns-clause-goes_on g c =
+    goes_on_or_ends (state g.F.Store c.args.tx.now.conn.now) (state g.F.Store c.rows.tx.conn.now) _ c.rows.invariant.5

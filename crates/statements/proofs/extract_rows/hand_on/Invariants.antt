@@ -18,12 +18,15 @@ invariant-rows g l =
     let now = state g.S.Store l.rows.conn.now in
     let begun = state g.F.Store l.fn.tx.conn.now in
     let at = state g.F.Store l.tx.conn.now in
-    (l.rows.conn.ghost_name ≡ l.initial.rows.conn.ghost_name) × (doubt old.is_clean ≤ doubt now.is_clean) × (old.now.schema ≡ store_schema → Survives old now (λ _. ⊥))
+    (l.rows.conn.ghost_name ≡ l.initial.rows.conn.ghost_name) × (doubt old.is_clean ≤ doubt now.is_clean)
+    × (old.now.schema ≡ store_schema → Survives old now (λ _. ⊥))
     × (HasCleanDisk now → old.now.schema ≡ store_schema → IsUnchanged old now)
     × (l.tx.conn.ghost_name ≡ l.fn.tx.conn.ghost_name) × GoesOn begun at true
-    × (HasCleanDisk now → HasCleanDisk at → old.now.schema ≡ store_schema → (w : World) → Means old.now.trees w → Filling begun
+    × (HasCleanDisk now → HasCleanDisk at → old.now.schema ≡ store_schema → (w : World) → Means old.now.trees w
+    → Filling begun
     → Filling at × (given : List Row) × HasGiven g.S.Store l.fn.sql (bound l.fn.params) l.rows.conn.now given
-    × Pass (λ _ row. g.T.RowSink.Fits row) (λ db row after. g.T.RowSink.Puts row db after) begun.now.trees given at.now.trees)
+    × Pass (λ _ row. g.T.RowSink.Fits row) (λ db row after. g.T.RowSink.Puts row db after) begun.now.trees given
+    at.now.trees)
 
 abbrev pub decreases-rows : goal.decreases-rows
 decreases-rows g l = 2 ^ 128 - l._turn

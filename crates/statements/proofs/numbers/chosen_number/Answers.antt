@@ -19,7 +19,12 @@ returns-then-branch-clause-answer g c clean w stands =
     let has = (c.in_ok-has_last.ensures.answer late w stands).2.0 c.if-branch.true in
     let same = c.in_ok-has_last.ensures.same late w stands in
     let below = c.number_below_all.ensures.answer clean w (c.has_last.ensures.spares.stays w stands) in
-    weaker c.number_below_all.result (λ number it. (it.0, chosen_below (old.now.trees 6) number has (rw (ap (λ (d : Database). d.trees 6) same) at it.1))) below
+    weaker c.number_below_all.result
+    (λ number it. (
+      it.0,
+      chosen_below (old.now.trees 6) number has
+          (rw (ap (λ (d : Database). d.trees 6) same) at it.1),
+    )) below
 
 pub returns-else-branch-clause-answer : goal.returns-else-branch-clause-answer
 returns-else-branch-clause-answer g c clean w stands =

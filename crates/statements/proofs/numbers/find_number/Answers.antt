@@ -22,5 +22,9 @@ returns-in_ok-get-in-Some-clause-number g c clean w stands =
 
 pub returns-in-None-clause-number : goal.returns-in-None-clause-number
 returns-in-None-clause-number g c clean w stands =
-    let h = c.in_ok-row.ensures.row clean w stands in
-    (h.0, h.1, subst (Selects c.args.sql.now (bound c.args.params.now) (state g.S.Store c.args.conn.now).now) c.in-None.is h.2)
+    let h = c.in_ok-row.ensures.row clean w stands in (
+      h.0,
+      h.1,
+      subst (Selects c.args.sql.now (bound c.args.params.now) (state g.S.Store c.args.conn.now).now)
+          c.in-None.is h.2,
+    )

@@ -18,5 +18,9 @@ pub returns-clause-answer : goal.returns-clause-answer
 unfolding understood everything
 returns-clause-answer g c clean w stands =
     let old = state g.S.Store c.args.conn.now in
-    let h = rw c.params-to_sql.ensures at (c.in_ok-found.ensures.number clean w stands) in
-    (h.0, h.1, subst (λ b. Decides b (HasNumber (old.now.trees 6) last)) (sym c.is_some.ensures) (last_found old.now c.in_ok-found.found h.2))
+    let h = rw c.params-to_sql.ensures at (c.in_ok-found.ensures.number clean w stands) in (
+      h.0,
+      h.1,
+      subst (λ b. Decides b (HasNumber (old.now.trees 6) last)) (sym c.is_some.ensures)
+          (last_found old.now c.in_ok-found.found h.2),
+    )

@@ -20,7 +20,8 @@ returns-in-Some-clause-answer g c clean w stands =
     let h = c.in_ok-lowest.ensures.number clean w stands in
     let fits : SFits w64 c.in-Some.lowest = search rules in (
       h.1,
-      one_less old.now c.in-Some.lowest c.checked_sub.result fits (subst (PicksNumber numbers_query [] old.now) c.in-Some.is h.2)
+      one_less old.now c.in-Some.lowest c.checked_sub.result fits
+          (subst (PicksNumber numbers_query [] old.now) c.in-Some.is h.2)
           (rw (to_z-of_z {w = w64} {z = c.in-Some.lowest} fits) at c.checked_sub.ensures),
     )
 

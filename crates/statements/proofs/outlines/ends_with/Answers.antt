@@ -11,6 +11,8 @@ pub returns-in_ok-find_piece-in-Some-clause-answer : goal.returns-in_ok-find_pie
 returns-in_ok-find_piece-in-Some-clause-answer g c clean w stands =
     let old = state g.S.Store c.args.conn.now in
     let range : SFits w64 c.args.id = search rules in
-    let h = rw (to_z-of_z {w = w64} {z = c.args.id} range) at (c.in_ok-find_piece-in-Some.ensures.answer clean w stands) in
+    let h = rw (to_z-of_z {w = w64} {z = c.args.id} range) at (c.in_ok-find_piece-in-Some.ensures.answer clean w
+    stands) in
     let next : c.in-Some.next ≡ c.args.last.number + 1 = search rules in
-    λ ends zip is. none_follows old.now.trees c.args.id c.in-Some.next c.args.last c.in_ok-find_piece-in-Some.field-0 next h.1 (c.is_none.ensures ∙ ap not ends) zip is
+    λ ends zip is. none_follows old.now.trees c.args.id c.in-Some.next c.args.last c.in_ok-find_piece-in-Some.field-0
+    next h.1 (c.is_none.ensures ∙ ap not ends) zip is

@@ -20,7 +20,10 @@ unfolding understood everything
 returns-in_ok-read_piece-in-Some-clause-answer g c clean w stands =
     let old = state g.S.Store c.args.conn.now in
     let range : SFits w64 c.args.id = search rules in
-    let h = rw (c.params-to_sql.ensures, to_z-of_z {w = w64} {z = c.args.id} range) at (c.in_ok-row.ensures.row clean w stands) in
+    let h = rw (
+      c.params-to_sql.ensures,
+      to_z-of_z {w = w64} {z = c.args.id} range,
+    ) at (c.in_ok-row.ensures.row clean w stands) in
     let picked = subst (Picks last_query (zip_params c.args.id) old.now) c.in-Some.is h.2 in
     let read = c.in_ok-read_piece-in-Some.ensures in
     last_shown c.args.id old.now c.in-Some.row c.in_ok-read_piece-in-Some.field-0 picked read.number read.size
@@ -30,5 +33,8 @@ unfolding understood everything
 returns-in-None-clause-answer g c clean w stands =
     let old = state g.S.Store c.args.conn.now in
     let range : SFits w64 c.args.id = search rules in
-    let h = rw (c.params-to_sql.ensures, to_z-of_z {w = w64} {z = c.args.id} range) at (c.in_ok-row.ensures.row clean w stands) in
+    let h = rw (
+      c.params-to_sql.ensures,
+      to_z-of_z {w = w64} {z = c.args.id} range,
+    ) at (c.in_ok-row.ensures.row clean w stands) in
     none_shown c.args.id old.now (subst (Picks last_query (zip_params c.args.id) old.now) c.in-None.is h.2)

@@ -16,7 +16,8 @@ returns-in_default-clause-answer g c clean w stands =
     sym (ap in_outline (subst (HasRow old.now.trees seen) c.in_default.is (c.in_ok-row.ensures.answer clean w stands)))
 
 pub returns-in_err-zip_bytes-clause-spares : goal.returns-in_err-zip_bytes-clause-spares
-returns-in_err-zip_bytes-clause-spares g c = spares_then _ _ _ c.row_seen.ensures.spares c.find_zip_length.ensures.spares
+returns-in_err-zip_bytes-clause-spares g c =
+    spares_then _ _ _ c.row_seen.ensures.spares c.find_zip_length.ensures.spares
 
 pub returns-clause-spares : goal.returns-clause-spares
 returns-clause-spares g c = spares_then _ _ _ c.row_seen.ensures.spares c.find_zip_length.ensures.spares
@@ -29,7 +30,9 @@ returns-clause-answer g c clean w stands =
     let seen = first_on w (map (λ s. s.now) c.args.shelves.now) c.args.path.now c.args.version.now in
     let was = was_clean mid new c.find_zip_length.ensures.spares.clean clean in
     let range : SFits w64 c.in-Some.row.id = search rules in
-    let z = rw (to_z-of_z {w = w64} {z = c.in-Some.row.id} range) at (c.in_ok-zip_bytes.ensures.answer clean w (c.row_seen.ensures.spares.stays w stands)) in
+    let z = rw (to_z-of_z {w = w64} {z = c.in-Some.row.id} range) at (c.in_ok-zip_bytes.ensures.answer clean w
+    (c.row_seen.ensures.spares.stays w stands)) in
     let same = c.in_ok-row.ensures.same was w stands in
     let it = subst (HasRow old.now.trees seen) c.in-Some.is (c.in_ok-row.ensures.answer was w stands) in
-    outline_of_row old.now.trees seen c.in-Some.row _ _ it (search rules) (z it.entry.zip (subst (λ (d : Database). IsZip d.trees c.in-Some.row.id it.entry.zip) (sym same) it.zip))
+    outline_of_row old.now.trees seen c.in-Some.row _ _ it (search rules)
+    (z it.entry.zip (subst (λ (d : Database). IsZip d.trees c.in-Some.row.id it.entry.zip) (sym same) it.zip))

@@ -19,5 +19,9 @@ unfolding understood everything
 returns-clause-answer g c clean w stands =
     let old = state g.S.Store c.args.conn.now in
     let range : SFits w64 c.args.id = search rules in
-    let h = rw (c.params-to_sql.ensures, to_z-of_z {w = w64} {z = c.args.id} range, c.params-to_sql-2.ensures) at (c.find_row.ensures.row clean w stands) in
+    let h = rw (
+      c.params-to_sql.ensures,
+      to_z-of_z {w = w64} {z = c.args.id} range,
+      c.params-to_sql-2.ensures,
+    ) at (c.find_row.ensures.row clean w stands) in
     weaker c.find_row.result (λ found it. (it.1, piece_shown c.args.id c.args.number old.now found it.2)) h

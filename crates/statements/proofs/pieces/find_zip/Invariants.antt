@@ -17,5 +17,6 @@ invariant-loop-number g l =
     let now = state g.S.Store l.rows.conn.now in
     (l.rows.conn.ghost_name ≡ l.initial.rows.conn.ghost_name) × Spares old now
     × (HasCleanDisk now → (w : World) → Stands old w → (now.now ≡ old.now)
-    × (given : List Row) × HasGiven g.S.Store zip_text (zip_params l.fn.id) l.rows.conn.now given × AreBelow given l.number
+    × (given : List Row) × HasGiven g.S.Store zip_text (zip_params l.fn.id) l.rows.conn.now given
+    × AreBelow given l.number
     × ((zip : List ℕ) → IsZip old.now.trees l.fn.id zip → l.zip.items ≡ take (begin l.number) zip))

@@ -13,7 +13,14 @@ returns-clause-puts g c clean filling =
     let new = state g.S.Store c.execute.new.self.conn.now in
     let one : SFits w64 c.args.id = search rules in
     let two : SFits w64 c.args.number = search rules in
-    let ran : ExecutesInside 0 _ (piece_params c.args.id c.args.number c.args.bytes.now) old new (Ok c.in_ok-execute.field-0) =
-    rw (c.params-to_sql.ensures, c.params-to_sql-2.ensures, c.params-to_sql-3.ensures, to_z-of_z {w = w64} {z = c.args.id} one, to_z-of_z {w = w64} {z = c.args.number} two)
+    let ran : ExecutesInside 0 _ (piece_params c.args.id c.args.number c.args.bytes.now) old new
+    (Ok c.in_ok-execute.field-0) =
+    rw (
+      c.params-to_sql.ensures,
+      c.params-to_sql-2.ensures,
+      c.params-to_sql-3.ensures,
+      to_z-of_z {w = w64} {z = c.args.id} one,
+      to_z-of_z {w = w64} {z = c.args.number} two,
+    )
     at (c.in_ok-execute.ensures.runs clean filling.inside) in
     piece_put c.args.id c.args.number c.args.bytes.now _ refl (refl, refl) old new c.in_ok-execute.field-0 filling ran

@@ -1,4 +1,5 @@
-use Rattle.std.proofs.Common.{◌≡◌, true, false, take, drop, refl, sym, ap, subst, ◌∙◌, to_z, of_z, to_z-of_z, w64, SFits, rules}
+use Rattle.std.proofs.Common.{◌≡◌, true, false, take, drop, refl, sym, ap, subst, ◌∙◌, to_z, of_z, to_z-of_z, w64}
+use Rattle.std.proofs.Common.{SFits, rules}
 use Rattle.sqlite.specs.Held.{state}
 use Rattle.statements.specs.Rows.{GoesOn}
 use Rattle.statements.specs.Added.{AddsZip}
@@ -6,7 +7,8 @@ use Rattle.tables.specs.Pieces.{piece}
 use Rattle.tables.proofs.FailureLemmas.{was_clean}
 use Rattle.statements.proofs.ChangeLemmas.{not_ok}
 use Rattle.statements.proofs.GoingLemmas.{goes_on_itself, goes_on_then}
-use Rattle.statements.proofs.AddZipLemmas.{adds_nothing, adds_piece, zip_added, some_left, none_left, piece_cut, rest_cut, is_none, is_some}
+use Rattle.statements.proofs.AddZipLemmas.{adds_nothing, adds_piece, zip_added, some_left, none_left, piece_cut}
+use Rattle.statements.proofs.AddZipLemmas.{rest_cut, is_none, is_some}
 use Rattle.statements.proofs.pieces.insert_zip.Goals as goal
 
 pub loop-number-init : goal.loop-number-init
@@ -25,7 +27,8 @@ returns-then-is_empty-clause-adds g c clean filling =
     let was = so_far.3 clean filling in
     let range : SFits w64 c.args.id = search rules in
     let all = none_left zip rest n so_far.2 (is_none rest (sym c.is_empty.ensures ∙ c.if-is_empty.true)) in (
-      subst (λ m. AddsZip m zip start.now.trees at.now.trees) (to_z-of_z {w = w64} {z = c.args.id} range) (zip_added (to_z w64 (of_z w64 c.args.id)) zip n start.now.trees at.now.trees all was.0),
+      subst (λ m. AddsZip m zip start.now.trees at.now.trees) (to_z-of_z {w = w64} {z = c.args.id} range)
+          (zip_added (to_z w64 (of_z w64 c.args.id)) zip n start.now.trees at.now.trees all was.0),
       was.1,
     )
 
@@ -54,7 +57,14 @@ loop-number-preserved g c =
           let was = so_far.3 (was_clean at end put.goes_on.survives.clean clean) filling in
           let has = some_left zip rest n so_far.2 (is_some rest (sym c.is_empty.ensures ∙ c.if-is_empty.false)) in
           let range : SFits w64 c.from.result = search rules in
-          let bytes : c.split_at.result.0.now ≡ piece zip n = c.split_at.ensures.front ∙ (ap (λ k. take k rest) c.min.ensures ∙ piece_cut zip rest n so_far.2) in
-          let it = rw (to_z-of_z {w = w64} {z = c.from.result} range, c.from.ensures, bytes) at (put.puts clean was.1) in
-          (adds_piece (to_z w64 (of_z w64 c.args.id)) zip n start.now.trees at.now.trees end.now.trees was.0 has it.0, it.1),
+          let bytes : c.split_at.result.0.now ≡ piece zip n = c.split_at.ensures.front
+          ∙ (ap (λ k. take k rest) c.min.ensures ∙ piece_cut zip rest n so_far.2) in
+          let it = rw (
+            to_z-of_z {w = w64} {z = c.from.result} range,
+            c.from.ensures,
+            bytes,
+          ) at (put.puts clean was.1) in (
+            adds_piece (to_z w64 (of_z w64 c.args.id)) zip n start.now.trees at.now.trees end.now.trees was.0 has it.0,
+            it.1,
+          ),
     )

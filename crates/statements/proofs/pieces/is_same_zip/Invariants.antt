@@ -13,4 +13,6 @@ invariant-loop-number g l =
     let old = state g.S.Store l.fn.conn in
     let now = state g.S.Store l.conn in
     Spares old now
-    × (HasCleanDisk now → (w : World) → Stands old w → (now.now ≡ old.now) × ((there : List ℕ) → IsZip old.now.trees l.fn.id there → l.fn.zip ≡ take (begin l.number) there ++ l.rest))
+    × (HasCleanDisk now → (w : World) → Stands old w
+    → (now.now ≡ old.now) × ((there : List ℕ) → IsZip old.now.trees l.fn.id there
+    → l.fn.zip ≡ take (begin l.number) there ++ l.rest))

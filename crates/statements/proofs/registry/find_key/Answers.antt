@@ -22,10 +22,16 @@ returns-in_ok-read_holder-in-Some-clause-answer g c clean w stands =
     let old = state g.S.Store c.args.conn.now in
     let token = c.args.token.now in
     let h = rw c.params-to_sql.ensures at (c.in_ok-row.ensures.row clean w stands) in
-    let picked = key_found token old.now (Some c.in-Some.row) (subst (Picks key_query (Text token ∷ []) old.now) c.in-Some.is h.2) in
-    let holds = stands (was_clean old (state g.S.Store c.find_row.new.conn) c.find_row.ensures.spares.clean clean) h.0 in
-    let read = c.in_ok-read_holder-in-Some.ensures in
-    (h.0, h.1, key_some token old.now w holds.trees.means c.in-Some.row c.in_ok-read_holder-in-Some.field-0 read.1.0 picked read.0 read.1.1 read.1.2)
+    let picked = key_found token old.now (Some c.in-Some.row)
+    (subst (Picks key_query (Text token ∷ []) old.now) c.in-Some.is h.2) in
+    let holds = stands (was_clean old (state g.S.Store c.find_row.new.conn) c.find_row.ensures.spares.clean clean)
+    h.0 in
+    let read = c.in_ok-read_holder-in-Some.ensures in (
+      h.0,
+      h.1,
+      key_some token old.now w holds.trees.means c.in-Some.row c.in_ok-read_holder-in-Some.field-0 read.1.0
+          picked read.0 read.1.1 read.1.2,
+    )
 
 pub returns-in-None-clause-answer : goal.returns-in-None-clause-answer
 unfolding understood everything
@@ -34,5 +40,6 @@ returns-in-None-clause-answer g c clean w stands =
     let token = c.args.token.now in
     let h = rw c.params-to_sql.ensures at (c.in_ok-row.ensures.row clean w stands) in
     let picked = key_found token old.now None (subst (Picks key_query (Text token ∷ []) old.now) c.in-None.is h.2) in
-    let holds = stands (was_clean old (state g.S.Store c.find_row.new.conn) c.find_row.ensures.spares.clean clean) h.0 in
+    let holds = stands (was_clean old (state g.S.Store c.find_row.new.conn) c.find_row.ensures.spares.clean clean)
+    h.0 in
     (h.0, h.1, key_none token old.now w holds.trees.means picked)

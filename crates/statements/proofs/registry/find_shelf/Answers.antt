@@ -23,8 +23,13 @@ returns-in_ok-read_parent-in-Some-clause-answer g c clean w stands =
     let name = c.args.name.now in
     let h = rw c.params-to_sql.ensures at (c.in_ok-row.ensures.row clean w stands) in
     let picked = subst (Picks shelf_query (Text name ∷ []) old.now) c.in-Some.is h.2 in
-    let holds = stands (was_clean old (state g.S.Store c.find_row.new.conn) c.find_row.ensures.spares.clean clean) h.0 in
-    (h.0, h.1, shelf_some name old.now w holds.trees.means c.in-Some.row c.in_ok-read_parent-in-Some.field-0 picked c.in_ok-read_parent-in-Some.ensures)
+    let holds = stands (was_clean old (state g.S.Store c.find_row.new.conn) c.find_row.ensures.spares.clean clean)
+    h.0 in (
+      h.0,
+      h.1,
+      shelf_some name old.now w holds.trees.means c.in-Some.row c.in_ok-read_parent-in-Some.field-0 picked
+          c.in_ok-read_parent-in-Some.ensures,
+    )
 
 pub returns-in-None-clause-answer : goal.returns-in-None-clause-answer
 unfolding understood everything
@@ -33,5 +38,6 @@ returns-in-None-clause-answer g c clean w stands =
     let name = c.args.name.now in
     let h = rw c.params-to_sql.ensures at (c.in_ok-row.ensures.row clean w stands) in
     let picked = subst (Picks shelf_query (Text name ∷ []) old.now) c.in-None.is h.2 in
-    let holds = stands (was_clean old (state g.S.Store c.find_row.new.conn) c.find_row.ensures.spares.clean clean) h.0 in
+    let holds = stands (was_clean old (state g.S.Store c.find_row.new.conn) c.find_row.ensures.spares.clean clean)
+    h.0 in
     (h.0, h.1, shelf_none name old.now w holds.trees.means picked)

@@ -15,7 +15,8 @@ returns-in-Err-clause-changes g c opened w free =
     let name = c.args.name.now in
     let parent : Option (List ℕ) = option_copied c.args.parent in
     let ran = rw (c.params-to_sql.ensures, c.params-to_sql-2.ensures, parent_bound c.args.parent) at c.in-Err.ensures in
-    failed_changes _ (shelf_params name parent) shelf_insert refl (refl, refl) (inserting 1 _) old new (g.met.S.Store.settled c.args.conn.now.store) opened w
+    failed_changes _ (shelf_params name parent) shelf_insert refl (refl, refl) (inserting 1 _) old new
+    (g.met.S.Store.settled c.args.conn.now.store) opened w
     (with_shelf w name parent) (add_shelf_turns name parent w free old) ran.survives c.in-Err.error ran.runs
 
 pub returns-in-Ok-clause-changes : goal.returns-in-Ok-clause-changes
@@ -27,5 +28,6 @@ returns-in-Ok-clause-changes g c opened w free =
     let parent : Option (List ℕ) = option_copied c.args.parent in
     let ran = rw (c.params-to_sql.ensures, c.params-to_sql-2.ensures, parent_bound c.args.parent) at c.in-Ok.ensures in
     done_changes _ (shelf_params name parent) shelf_insert refl (refl, refl) (inserting 1 _) old new
-    (g.met.S.Store.settled c.execute.new.self.store) opened w (with_shelf w name parent) (add_shelf_turns name parent w free old)
+    (g.met.S.Store.settled c.execute.new.self.store) opened w (with_shelf w name parent)
+    (add_shelf_turns name parent w free old)
     ran.survives c.in-Ok.field-0 ran.runs

@@ -8,7 +8,8 @@ use Rattle.statements.proofs.registry.judge_key.Goals as goal
 pub returns-then-is_none-clause-answer : goal.returns-then-is_none-clause-answer
 returns-then-is_none-clause-answer g c clean w stands =
     let h = c.in_ok-find_shelf.ensures.answer clean w stands in
-    let none : map.contains_key w.shelves c.args.shelf.now ≡ false = sym (ap is_some h.2) ∙ (c.is_none.ensures ∙ ap not c.if-is_none.true) in
+    let none : map.contains_key w.shelves c.args.shelf.now ≡ false = sym (ap is_some h.2)
+    ∙ (c.is_none.ensures ∙ ap not c.if-is_none.true) in
     (h.1, rw (c.requires, none) refl)
 
 pub returns-in_err-find_key-clause-spares : goal.returns-in_err-find_key-clause-spares
@@ -23,8 +24,10 @@ returns-then-is_some-clause-answer g c clean w stands =
     let new = state g.S.Store c.find_key.new.conn in
     let h = c.in_ok-find_shelf.ensures.answer (was_clean mid new c.find_key.ensures.spares.clean clean) w stands in
     let k = c.in_ok-find_key.ensures.answer clean w (c.find_shelf.ensures.spares.stays w stands) in
-    let taken : map.contains_key w.keys c.args.token.now ≡ true = sym (ap is_some k.2) ∙ (sym c.is_some.ensures ∙ c.if-is_some.true) in
-    let there : map.contains_key w.shelves c.args.shelf.now ≡ true = sym (ap is_some h.2) ∙ (c.is_none.ensures ∙ ap not c.if-is_none.false) in
+    let taken : map.contains_key w.keys c.args.token.now ≡ true = sym (ap is_some k.2)
+    ∙ (sym c.is_some.ensures ∙ c.if-is_some.true) in
+    let there : map.contains_key w.shelves c.args.shelf.now ≡ true = sym (ap is_some h.2)
+    ∙ (c.is_none.ensures ∙ ap not c.if-is_none.false) in
     (k.1, rw (c.requires, there, taken) refl)
 
 pub returns-clause-spares : goal.returns-clause-spares
@@ -36,6 +39,8 @@ returns-clause-answer g c clean w stands =
     let new = state g.S.Store c.find_key.new.conn in
     let h = c.in_ok-find_shelf.ensures.answer (was_clean mid new c.find_key.ensures.spares.clean clean) w stands in
     let k = c.in_ok-find_key.ensures.answer clean w (c.find_shelf.ensures.spares.stays w stands) in
-    let free : map.contains_key w.keys c.args.token.now ≡ false = sym (ap is_some k.2) ∙ (sym c.is_some.ensures ∙ c.if-is_some.false) in
-    let there : map.contains_key w.shelves c.args.shelf.now ≡ true = sym (ap is_some h.2) ∙ (c.is_none.ensures ∙ ap not c.if-is_none.false) in
+    let free : map.contains_key w.keys c.args.token.now ≡ false = sym (ap is_some k.2)
+    ∙ (sym c.is_some.ensures ∙ c.if-is_some.false) in
+    let there : map.contains_key w.shelves c.args.shelf.now ≡ true = sym (ap is_some h.2)
+    ∙ (c.is_none.ensures ∙ ap not c.if-is_none.false) in
     (k.1, rw (c.requires, there, free) refl)

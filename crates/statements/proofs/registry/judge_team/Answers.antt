@@ -8,13 +8,15 @@ use Rattle.statements.proofs.registry.judge_team.Goals as goal
 pub returns-then-is_some-clause-answer : goal.returns-then-is_some-clause-answer
 returns-then-is_some-clause-answer g c clean w stands =
     let h = c.in_ok-find_shelf.ensures.answer clean w stands in
-    let taken : map.contains_key w.shelves c.args.name.now ≡ true = sym (ap is_some h.2) ∙ (sym c.is_some.ensures ∙ c.if-is_some.true) in
+    let taken : map.contains_key w.shelves c.args.name.now ≡ true = sym (ap is_some h.2)
+    ∙ (sym c.is_some.ensures ∙ c.if-is_some.true) in
     (h.1, rw (c.requires, taken) refl)
 
 pub returns-in_default-clause-answer : goal.returns-in_default-clause-answer
 returns-in_default-clause-answer g c clean w stands =
     let h = c.in_ok-find_shelf.ensures.answer clean w stands in
-    let free : map.contains_key w.shelves c.args.name.now ≡ false = sym (ap is_some h.2) ∙ (sym c.is_some.ensures ∙ c.if-is_some.false) in
+    let free : map.contains_key w.shelves c.args.name.now ≡ false = sym (ap is_some h.2)
+    ∙ (sym c.is_some.ensures ∙ c.if-is_some.false) in
     (h.1, rw (c.requires, free, c.in_default.is) refl)
 
 pub returns-in_err-is_group-clause-spares : goal.returns-in_err-is_group-clause-spares
@@ -29,7 +31,8 @@ returns-then-not-branch-clause-answer g c clean w stands =
     let new = state g.S.Store c.is_group.new.conn in
     let h = c.in_ok-find_shelf.ensures.answer (was_clean mid new c.is_group.ensures.spares.clean clean) w stands in
     let k = c.in_ok-is_group.ensures.answer clean w (c.find_shelf.ensures.spares.stays w stands) in
-    let free : map.contains_key w.shelves c.args.name.now ≡ false = sym (ap is_some h.2) ∙ (sym c.is_some.ensures ∙ c.if-is_some.false) in
+    let free : map.contains_key w.shelves c.args.name.now ≡ false = sym (ap is_some h.2)
+    ∙ (sym c.is_some.ensures ∙ c.if-is_some.false) in
     (k.0, rw (c.requires, free, c.in-Some.is, sym k.1, c.if-not-branch.true) refl)
 
 pub returns-clause-spares : goal.returns-clause-spares
@@ -41,5 +44,6 @@ returns-clause-answer g c clean w stands =
     let new = state g.S.Store c.is_group.new.conn in
     let h = c.in_ok-find_shelf.ensures.answer (was_clean mid new c.is_group.ensures.spares.clean clean) w stands in
     let k = c.in_ok-is_group.ensures.answer clean w (c.find_shelf.ensures.spares.stays w stands) in
-    let free : map.contains_key w.shelves c.args.name.now ≡ false = sym (ap is_some h.2) ∙ (sym c.is_some.ensures ∙ c.if-is_some.false) in
+    let free : map.contains_key w.shelves c.args.name.now ≡ false = sym (ap is_some h.2)
+    ∙ (sym c.is_some.ensures ∙ c.if-is_some.false) in
     (k.0, rw (c.requires, free, c.in-Some.is, sym k.1, c.if-not-branch.false) refl)

@@ -16,7 +16,8 @@ returns-in-Err-clause-changes g c opened w =
     let token = c.args.token.now in
     let ran = rw c.params-to_sql.ensures at c.in-Err.ensures in
     failed_changes _ (revoke_params token) (Delete 2 keys_of) refl (refl, refl) (deleting 2 keys_of) old new
-    (g.met.S.Store.settled c.args.conn.now.store) opened w (without_key w token) (revoke_turns w token old) ran.survives c.in-Err.error ran.runs
+    (g.met.S.Store.settled c.args.conn.now.store) opened w (without_key w token) (revoke_turns w token old) ran.survives
+    c.in-Err.error ran.runs
 
 pub returns-in-Ok-clause-changes : goal.returns-in-Ok-clause-changes
 unfolding understood everything

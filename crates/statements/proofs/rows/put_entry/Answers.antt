@@ -27,5 +27,12 @@ returns-clause-added g c clean filling =
     let late = was_clean mid new c.insert_zip.ensures.goes_on.survives.clean clean in
     let first = c.in_ok-id.ensures.puts late filling in
     let range : SFits w64 c.in_ok-id.id = search rules in
-    let adds = rw (to_z-of_z {w = w64} {z = c.in_ok-id.id} range, ap (λ (x : Entry). x.zip) c.entry.view_is) at (c.insert_zip.ensures.adds clean first.2) in
-    on_weaker c.insert_zip.result (λ it. (record { id = c.in_ok-id.id; is_given = first.0; mid = mid.now.trees; version = first.1; zip = it.0 }, it.1)) adds
+    let adds = rw (
+      to_z-of_z {w = w64} {z = c.in_ok-id.id} range,
+      ap (λ (x : Entry). x.zip) c.entry.view_is,
+    ) at (c.insert_zip.ensures.adds clean first.2) in
+    on_weaker c.insert_zip.result
+    (λ it. (
+      record { id = c.in_ok-id.id; is_given = first.0; mid = mid.now.trees; version = first.1; zip = it.0 },
+      it.1,
+    )) adds

@@ -14,5 +14,9 @@ returns-clause-puts g c clean filling =
     let name = c.args.name.now in
     let parent = option_copied c.args.parent in
     let ran : ExecutesInside 0 _ (shelf_params name parent) old new (Ok c.in_ok-execute.field-0) =
-    rw (c.params-to_sql.ensures, c.params-to_sql-2.ensures, parent_bound c.args.parent) at (c.in_ok-execute.ensures.runs clean filling.inside) in
+    rw (
+      c.params-to_sql.ensures,
+      c.params-to_sql-2.ensures,
+      parent_bound c.args.parent,
+    ) at (c.in_ok-execute.ensures.runs clean filling.inside) in
     shelf_put _ refl (refl, refl) old new name parent c.in_ok-execute.field-0 filling ran

@@ -40,8 +40,10 @@ returns-clause-puts g c clean filling =
     ) at (c.in_ok-execute.ensures.runs clean filling.inside) in
     let put = version_put _ refl (refl, refl) c.args.number p e old new c.in_ok-execute.field-0 filling ran in
     let range : SFits w64 c.last_insert_rowid.result = search rules in
-    let numbered = to_z-of_z {w = w64} {z = c.last_insert_rowid.result} range ∙ (c.last_insert_rowid.ensures ∙ put.1) in (
-      subst (λ n. IfSome c.args.number (λ given. n ≡ given)) (sym numbered) (number_given c.args.number (old.now.trees 6)),
+    let numbered = to_z-of_z {w = w64} {z = c.last_insert_rowid.result} range
+    ∙ (c.last_insert_rowid.ensures ∙ put.1) in (
+      subst (λ n. IfSome c.args.number (λ given. n ≡ given)) (sym numbered)
+          (number_given c.args.number (old.now.trees 6)),
       subst (λ n. Inserted old.now.trees new.now.trees version_table (version_row n p e)) (sym numbered) put.0,
       put.2,
     )

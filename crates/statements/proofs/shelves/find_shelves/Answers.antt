@@ -23,6 +23,11 @@ returns-clause-answer g c clean w stands =
     let old = state g.S.Store c.args.conn.now in
     let h = c.in_ok-rows.ensures.rows clean w stands in
     let read : Reads (asks all_query) old.now [] c.in_ok-rows.rows.items = h.1 in
-    let holds = stands (was_clean old (state g.S.Store c.find_rows.new.conn) c.find_rows.ensures.spares.clean clean) h.0 in
+    let holds = stands (was_clean old (state g.S.Store c.find_rows.new.conn) c.find_rows.ensures.spares.clean clean)
+    h.0 in
     let lists_all = rw c.as_slice.ensures.value at c.list_rows.ensures in
-    weaker c.list_rows.result (λ list lists. (c.in_ok-rows.ensures.open clean w stands, all_listed old.now w holds.trees.means c.in_ok-rows.rows.items read list lists)) lists_all
+    weaker c.list_rows.result
+    (λ list lists. (
+      c.in_ok-rows.ensures.open clean w stands,
+      all_listed old.now w holds.trees.means c.in_ok-rows.rows.items read list lists,
+    )) lists_all

@@ -23,6 +23,9 @@ unfolding understood everything
 returns-clause-adds g c clean w stands =
     let old = state g.S.Store c.args.conn.now in
     on_weaker c.add_texts.result (λ added.
-    let read = subst (λ v. Reads (asks paths_query) old.now (bound_value v ∷ []) added.1.rows) c.params-to_sql.ensures added.1.read in
-    let holds = stands (was_clean old (state g.S.Store c.add_texts.new.conn) c.add_texts.ensures.spares.clean clean) added.0 in
-    paths_added c.args.shelf.now old.now w holds.trees.means added.1.rows c.args.texts.now c.add_texts.new.texts read added.1.adds) (c.add_texts.ensures.adds clean w stands)
+    let read = subst (λ v. Reads (asks paths_query) old.now (bound_value v ∷ []) added.1.rows) c.params-to_sql.ensures
+    added.1.read in
+    let holds = stands (was_clean old (state g.S.Store c.add_texts.new.conn) c.add_texts.ensures.spares.clean clean)
+    added.0 in
+    paths_added c.args.shelf.now old.now w holds.trees.means added.1.rows c.args.texts.now c.add_texts.new.texts read
+    added.1.adds) (c.add_texts.ensures.adds clean w stands)

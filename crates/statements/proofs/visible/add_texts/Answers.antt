@@ -16,7 +16,8 @@ use Rattle.statements.proofs.visible.add_texts.Goals as goal
 
 pub returns-in_err-prepare-clause-spares : goal.returns-in_err-prepare-clause-spares
 returns-in_err-prepare-clause-spares g c =
-    quiet_spares (state g.S.Store c.args.conn.now) (state g.S.Store c.prepare.new.self) c.prepare.ensures.survives (λ clean. not_run _ _ c.args.sql.now [] _ (c.in_err-prepare.ensures.err clean []))
+    quiet_spares (state g.S.Store c.args.conn.now) (state g.S.Store c.prepare.new.self) c.prepare.ensures.survives
+    (λ clean. not_run _ _ c.args.sql.now [] _ (c.in_err-prepare.ensures.err clean []))
 
 pub returns-in_err-rows-clause-spares : goal.returns-in_err-rows-clause-spares
 returns-in_err-rows-clause-spares g c =
@@ -28,7 +29,8 @@ returns-in_err-rows-clause-spares g c =
     let params = bound c.args.params.now in
     let prepared = λ (clean : HasCleanDisk mid). (c.in_ok-prepare.ensures.ok clean).1 in
     let before = quiet_spares old mid c.prepare.ensures.survives (λ clean. inl (prepared clean)) in
-    spares_then old mid new before (asked_spares sql params c.requires.plain mid new (λ clean. (prepared clean).0.is_open) held.survives
+    spares_then old mid new before
+    (asked_spares sql params c.requires.plain mid new (λ clean. (prepared clean).0.is_open) held.survives
     (λ clean _. failed_query sql params mid new _ (held.err clean)))
 
 pub loop-init : goal.loop-init
@@ -43,12 +45,16 @@ loop-init g c =
     let prepared = λ (clean : HasCleanDisk mid). (c.in_ok-prepare.ensures.ok clean).1 in
     let opened = λ (clean : HasCleanDisk mid). (prepared clean).0.is_open in
     let before = quiet_spares old mid c.prepare.ensures.survives (λ clean. inl (prepared clean)) in
-    let begun = λ (clean : HasCleanDisk new) (plain : IsPlain (understood mid.now.schema sql)). begun_plain g.S.Store sql params c.prepare.new.self now plain (made.begun clean) in (
+    let begun = λ (clean : HasCleanDisk new) (plain : IsPlain (understood mid.now.schema sql)). begun_plain g.S.Store
+    sql params c.prepare.new.self now plain (made.begun clean) in (
       refl,
-      spares_then old mid new before (asked_spares sql params c.requires.plain mid new opened made.survives (λ clean plain. inl (begun clean plain).1)),
+      spares_then old mid new before
+          (asked_spares sql params c.requires.plain mid new opened made.survives
+          (λ clean plain. inl (begun clean plain).1)),
       λ clean w stands.
           let early = was_clean mid new made.survives.clean clean in
-          let it = begun clean (plain_then sql params c.requires.plain mid new opened made.survives w (before.stays w stands) clean) in
+          let it = begun clean (plain_then sql params c.requires.plain mid new opened made.survives w
+          (before.stays w stands) clean) in
           (it.1.0.now_is ∙ (prepared early).0.now_is, (prepared early).0.was_open, [], it.0, nothing_more _),
     )
 
@@ -59,7 +65,8 @@ returns-in_err-row-clause-spares g c =
     let same : now ≡ c.conn-in_err-row-1.given.0 = search rules in
     subst (λ h. Spares (state g.S.Store c.args.conn.now) (state g.S.Store h)) same
     (spares_then _ _ _ c.loop.invariant.1
-    (quiet_spares (state g.S.Store c.loop.rows.conn.now) (state g.S.Store now) moved.survives (λ clean. failed_or_same _ _ _ (rw c.in_err-row.was at (moved.kept clean)))))
+    (quiet_spares (state g.S.Store c.loop.rows.conn.now) (state g.S.Store now) moved.survives
+    (λ clean. failed_or_same _ _ _ (rw c.in_err-row.was at (moved.kept clean)))))
 
 pub returns-in_default-clause-spares : goal.returns-in_default-clause-spares
 returns-in_default-clause-spares g c =
@@ -67,7 +74,9 @@ returns-in_default-clause-spares g c =
     let now = c.next.follows.lender-at-none.conn.now in
     let same : now ≡ c.conn-in_default-1.given.0 = search rules in
     subst (λ h. Spares (state g.S.Store c.args.conn.now) (state g.S.Store h)) same
-    (spares_then _ _ _ c.loop.invariant.1 (quiet_spares (state g.S.Store c.loop.rows.conn.now) (state g.S.Store now) moved.survives (λ clean. inl (rw c.in_ok-row.was at (moved.same clean)))))
+    (spares_then _ _ _ c.loop.invariant.1
+    (quiet_spares (state g.S.Store c.loop.rows.conn.now) (state g.S.Store now) moved.survives
+    (λ clean. inl (rw c.in_ok-row.was at (moved.same clean)))))
 
 pub returns-in_default-clause-adds : goal.returns-in_default-clause-adds
 returns-in_default-clause-adds g c clean w stands =
@@ -87,7 +96,8 @@ returns-in_default-clause-adds g c clean w stands =
       record {
         rows = was.2;
         read =
-            subst (λ db. Reads (command_of (understood store_schema sql)) db params was.2) was.0 (reads_as sql params mid new store_schema has _ refl c.requires.plain c.requires.tables was.2 shown);
+            subst (λ db. Reads (command_of (understood store_schema sql)) db params was.2) was.0
+            (reads_as sql params mid new store_schema has _ refl c.requires.plain c.requires.tables was.2 shown);
         adds = was.4;
       },
     )
@@ -98,7 +108,9 @@ returns-in_err-text-clause-spares g c =
     let now = c.next.follows.lender-at-none.conn.now in
     let same : now ≡ c.conn-in_err-text-1.given.0 = search rules in
     subst (λ h. Spares (state g.S.Store c.args.conn.now) (state g.S.Store h)) same
-    (spares_then _ _ _ c.loop.invariant.1 (quiet_spares (state g.S.Store c.loop.rows.conn.now) (state g.S.Store now) moved.survives (λ clean. inl (rw c.in_ok-row.was at (moved.same clean)))))
+    (spares_then _ _ _ c.loop.invariant.1
+    (quiet_spares (state g.S.Store c.loop.rows.conn.now) (state g.S.Store now) moved.survives
+    (λ clean. inl (rw c.in_ok-row.was at (moved.same clean)))))
 
 pub returns-in_err-insert-clause-spares : goal.returns-in_err-insert-clause-spares
 returns-in_err-insert-clause-spares g c =
@@ -106,7 +118,9 @@ returns-in_err-insert-clause-spares g c =
     let now = c.next.follows.lender-at-none.conn.now in
     let same : now ≡ c.conn-in_err-insert-1.given.0 = search rules in
     subst (λ h. Spares (state g.S.Store c.args.conn.now) (state g.S.Store h)) same
-    (spares_then _ _ _ c.loop.invariant.1 (quiet_spares (state g.S.Store c.loop.rows.conn.now) (state g.S.Store now) moved.survives (λ clean. inl (rw c.in_ok-row.was at (moved.same clean)))))
+    (spares_then _ _ _ c.loop.invariant.1
+    (quiet_spares (state g.S.Store c.loop.rows.conn.now) (state g.S.Store now) moved.survives
+    (λ clean. inl (rw c.in_ok-row.was at (moved.same clean)))))
 
 pub loop-preserved : goal.loop-preserved
 loop-preserved g c =
@@ -118,12 +132,14 @@ loop-preserved g c =
     let new = state g.S.Store now in
     let row = c.in-Some.row.now in
     let unchanged = λ (clean : HasCleanDisk new). rw c.in_ok-row.was at (moved.same clean) in
-    let spares = spares_then old mid new so_far.1 (quiet_spares mid new moved.survives (λ clean. inl (unchanged clean))) in (
+    let spares = spares_then old mid new so_far.1
+    (quiet_spares mid new moved.survives (λ clean. inl (unchanged clean))) in (
       moved.same_reference ∙ so_far.0,
       spares,
       λ clean w stands.
           let was = so_far.2 (was_clean mid new moved.survives.clean clean) w stands in
-          let given = (rw (c.in_ok-row.was, c.in-Some.is) at (moved.ok clean)) c.args.sql.now (bound c.args.params.now) was.2 was.3 in (
+          let given = (rw (c.in_ok-row.was, c.in-Some.is) at (moved.ok clean)) c.args.sql.now (bound c.args.params.now)
+          was.2 was.3 in (
             (unchanged clean).0.now_is ∙ was.0,
             was.1,
             was.2 ++ row ∷ [],

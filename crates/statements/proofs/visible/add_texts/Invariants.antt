@@ -17,4 +17,5 @@ invariant-loop g l =
     let now = state g.S.Store l.rows.conn.now in
     (l.rows.conn.ghost_name ≡ l.initial.rows.conn.ghost_name) × Spares old now
     × (HasCleanDisk now → (w : World) → Stands old w → (now.now ≡ old.now) × IsTrue old.is_open
-    × (given : List Row) × HasGiven g.S.Store l.sql (bound l.params) l.rows.conn.now given × AddsTexts given l.fn.texts l.texts)
+    × (given : List Row) × HasGiven g.S.Store l.sql (bound l.params) l.rows.conn.now given
+    × AddsTexts given l.fn.texts l.texts)

@@ -22,7 +22,8 @@ loop-shelf-preserved g c =
       λ clean w stands.
           let before = c.loop-shelf.invariant.1 (was_clean mid new c.add_paths.ensures.spares.clean clean) w stands in
           let added = c.in_ok-add_paths.ensures.adds clean w (c.loop-shelf.invariant.0.stays w stands) in
-          let more = map_more (λ (s : Bor (List ℕ)). s.now) c.args.shelves.now c.loop-shelf.shelf-index nothing c.loop-shelf-test.true in
+          let more = map_more (λ (s : Bor (List ℕ)). s.now) c.args.shelves.now c.loop-shelf.shelf-index nothing
+          c.loop-shelf-test.true in
           added ∙ (ap (set.union _) before ∙ (sym (paths_more w _ _) ∙ ap (paths_on w) (sym more))),
     )
 

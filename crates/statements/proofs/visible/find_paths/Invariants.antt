@@ -8,4 +8,5 @@ use Rattle.statements.proofs.visible.find_paths.Given as goal
 abbrev pub invariant-loop-shelf : goal.invariant-loop-shelf
 invariant-loop-shelf g l =
     Spares (state g.S.Store l.fn.conn) (state g.S.Store l.conn)
-    × InEachWorld (state g.S.Store l.fn.conn) (state g.S.Store l.conn) (λ _ _ w. l.texts ≡ paths_on w (map (λ s. s.now) (take l.shelf-index l.shelves)))
+    × InEachWorld (state g.S.Store l.fn.conn) (state g.S.Store l.conn)
+    (λ _ _ w. l.texts ≡ paths_on w (map (λ s. s.now) (take l.shelf-index l.shelves)))

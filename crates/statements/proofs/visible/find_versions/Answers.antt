@@ -22,10 +22,13 @@ loop-shelf-preserved g c =
     let nothing : Bor (List ℕ) = record { ref_ptr = (0, 0); now = [] } in (
       spares_then _ _ _ c.loop-shelf.invariant.0 c.add_versions.ensures.spares,
       λ clean w stands.
-          let before = c.loop-shelf.invariant.1 (was_clean mid new c.add_versions.ensures.spares.clean clean) w stands in
+          let before = c.loop-shelf.invariant.1 (was_clean mid new c.add_versions.ensures.spares.clean clean) w
+          stands in
           let added = c.in_ok-add_versions.ensures.adds clean w (c.loop-shelf.invariant.0.stays w stands) in
-          let more = map_more (λ (s : Bor (List ℕ)). s.now) c.args.shelves.now c.loop-shelf.shelf-index nothing c.loop-shelf-test.true in
-          added ∙ (ap (set.union _) before ∙ (sym (versions_more w _ _ c.args.path.now) ∙ ap (λ ss. versions_on w ss c.args.path.now) (sym more))),
+          let more = map_more (λ (s : Bor (List ℕ)). s.now) c.args.shelves.now c.loop-shelf.shelf-index nothing
+          c.loop-shelf-test.true in
+          added ∙ (ap (set.union _) before
+          ∙ (sym (versions_more w _ _ c.args.path.now) ∙ ap (λ ss. versions_on w ss c.args.path.now) (sym more))),
     )
 
 pub returns-in_err-add_versions-clause-spares : goal.returns-in_err-add_versions-clause-spares
@@ -35,4 +38,6 @@ pub returns-clause-answer : goal.returns-clause-answer
 returns-clause-answer g c clean w stands =
     let texts = c.loop-shelf.invariant.1 clean w stands in
     let whole = take_all c.loop-shelf.shelf-index c.args.shelves.now c.loop-shelf-test.false in
-    c.in_ok-ascending.ensures ∙ ap (λ ts. in_order (by_precedence (named (in_order ts)))) (texts ∙ ap (λ ss. versions_on w (map (λ (s : Bor (List ℕ)). s.now) ss) c.args.path.now) whole)
+    c.in_ok-ascending.ensures
+    ∙ ap (λ ts. in_order (by_precedence (named (in_order ts))))
+    (texts ∙ ap (λ ss. versions_on w (map (λ (s : Bor (List ℕ)). s.now) ss) c.args.path.now) whole)

@@ -8,5 +8,6 @@ pub returns-in-Err-clause-bad : goal.returns-in-Err-clause-bad
 returns-in-Err-clause-bad g c bad clean =
     let (uncaught, error) = c.file_refusal-refusal.ensures.bad.0 bad in
     let count = λ (t : Tally). t.caught in
-    let same = sym (ap count c.tally_of.ensures) ∙ eqb-true _ _ (not-false _ uncaught) ∙ ap count c.tally-caught.ensures in
+    let same = sym (ap count c.tally_of.ensures) ∙ eqb-true _ _ (not-false _ uncaught)
+    ∙ ap count c.tally-caught.ensures in
     left_holds_none c.args.files c.in-Err.left c.in-Err.error (c.in-Err.ensures.cause clean) same error

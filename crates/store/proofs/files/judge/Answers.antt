@@ -14,5 +14,6 @@ returns-in-Ok-true-clause-bad g c bad clean =
     let byte = (c.in-Ok-is_odd_byte.ensures.told (probed.db.clean (and_parts _ _ clean).1)).0 c.if-not-is_odd.false in
     let blank = (c.in-Ok-true.ensures.ok clean).0 c.in-Ok-true.field-0-test in
     let size : bytes_of c.unwrap.result ≡ 4096 = search rules in
-    let same = ap₂ (λ a b. let i : Image = record { log = a; db = b } in i) looked.log.seen (c.is_odd_byte.ensures.same.seen ∙ looked.db.seen) in
+    let same = ap₂ (λ a b. let i : Image = record { log = a; db = b } in i) looked.log.seen
+    (c.is_odd_byte.ensures.same.seen ∙ looked.db.seen) in
     (subst IsOddByte looked.db.seen byte, subst₂ (λ n i. IsBlankFile (used_size n false) i) size same blank)

@@ -10,7 +10,8 @@ older_over-requires-clause-settled g c it may =
     let (log, db) = c.in-Ok.ensures.fresh in
     let files = c.in-Ok.opened.0 in
     let start = λ (b : Bool). cond b g.T.Start.log g.T.Start.db in
-    both_untouched g.T.Start.is_mixing (start files.log.is_log) (start files.db.is_log) _ _ _ _ log.1 db.1 it may.0 may.1
+    both_untouched g.T.Start.is_mixing (start files.log.is_log) (start files.db.is_log) _ _ _ _ log.1 db.1 it may.0
+    may.1
 
 pub returns-in-Ok-older_over-clause-found : goal.returns-in-Ok-older_over-clause-found
 returns-in-Ok-older_over-clause-found g c clean w held =
@@ -21,10 +22,12 @@ returns-in-Ok-older_over-clause-found g c clean w held =
 pub returns-in-Ok-older_over-clause-shows : goal.returns-in-Ok-older_over-clause-shows
 returns-in-Ok-older_over-clause-shows g c clean =
     let (log, db) = c.in-Ok.ensures.fresh in
-    subst (λ i. AreFoundIn i (file_state c.in-Ok-older_over.conn).now.trees) (holds_start g.T.Start.log g.T.Start.db _ _ _ _ _ _ log db)
+    subst (λ i. AreFoundIn i (file_state c.in-Ok-older_over.conn).now.trees)
+    (holds_start g.T.Start.log g.T.Start.db _ _ _ _ _ _ log db)
     (c.in-Ok-older_over.ensures.shows clean)
 
 pub returns-in-Err-older_over-clause-keeps : goal.returns-in-Err-older_over-clause-keeps
 returns-in-Err-older_over-clause-keeps g c clean =
     let (log, db) = c.in-Ok.ensures.fresh in
-    subst (λ i. Keeps i c.in-Err-older_over.left) (holds_start g.T.Start.log g.T.Start.db _ _ _ _ _ _ log db) (c.in-Err-older_over.ensures.keeps clean)
+    subst (λ i. Keeps i c.in-Err-older_over.left) (holds_start g.T.Start.log g.T.Start.db _ _ _ _ _ _ log db)
+    (c.in-Err-older_over.ensures.keeps clean)

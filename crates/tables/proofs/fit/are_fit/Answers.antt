@@ -3,7 +3,8 @@ use Rattle.sqlite.specs.Held.{state}
 use Rattle.sqlite.specs.State.{State}
 use Rattle.sqlite.specs.Tree.{Trees}
 use Rattle.tables.specs.Walks.{Tests}
-use Rattle.tables.specs.Fit.{shelf_shown, IsMetaFit, AreShelvesFit, AreKeysFit, AreNumbersFit, AreEntriesFit, ArePiecesFit, AreFit, meta_shown, name_shown, number_shown, entry_shown, piece_shown}
+use Rattle.tables.specs.Fit.{shelf_shown, IsMetaFit, AreShelvesFit, AreKeysFit, AreNumbersFit, AreEntriesFit}
+use Rattle.tables.specs.Fit.{ArePiecesFit, AreFit, meta_shown, name_shown, number_shown, entry_shown, piece_shown}
 use Rattle.tables.proofs.WalkLemmas.{tests_same, then_tests}
 use Rattle.tables.proofs.WalkCauses.{then_reason, error_says}
 use Rattle.tables.proofs.fit.are_fit.Goals as goal
@@ -61,29 +62,43 @@ returns-clause-tests g c =
     let numbered = rw c.if-not-branch-4.false at c.in_ok-are_numbers_fit.ensures.tests in
     let filled = rw c.if-not-branch-5.false at c.in_ok-are_entries_fit.ensures.tests in
     tests_same _ _ c.are_pieces_fit.result (λ db. FiveFit db × Pieced db) AreFit
-    (λ db it. record { named = it.0.0.0.0.0; shelves = it.0.0.0.0.1; access = it.0.0.0.1; numbers = it.0.0.1; entries = it.0.1; pieces = it.1 })
+    (λ db it. record {
+      named = it.0.0.0.0.0;
+      shelves = it.0.0.0.0.1;
+      access = it.0.0.0.1;
+      numbers = it.0.0.1;
+      entries =
+          it.0.1;
+      pieces = it.1;
+    })
     (λ db fit. (((((fit.named, fit.shelves), fit.access), fit.numbers), fit.entries), fit.pieces))
-    (then_tests _ _ _ c.are_pieces_fit.result FiveFit Pieced (five named shelved keyed numbered filled) c.are_pieces_fit.ensures.tests)
+    (then_tests _ _ _ c.are_pieces_fit.result FiveFit Pieced (five named shelved keyed numbered filled)
+    c.are_pieces_fit.ensures.tests)
 
 pub returns-in_err-are_shelves_fit-clause-cause : goal.returns-in_err-are_shelves_fit-clause-cause
 returns-in_err-are_shelves_fit-clause-cause g c clean has =
     let named = rw c.if-not-branch.false at c.in_ok-is_meta_fit.ensures.tests in
-    error_says _ c.from_residual-in_err-are_shelves_fit.result c.in_err-are_shelves_fit.field-0.0 c.from_residual-in_err-are_shelves_fit.ensures.1
-    (then_reason _ _ (state g.S.Store c.are_shelves_fit.new.conn) Named named c.are_shelves_fit.ensures.tests.looks.clean clean has (Err _) c.in_err-are_shelves_fit.ensures.cause)
+    error_says _ c.from_residual-in_err-are_shelves_fit.result c.in_err-are_shelves_fit.field-0.0
+    c.from_residual-in_err-are_shelves_fit.ensures.1
+    (then_reason _ _ (state g.S.Store c.are_shelves_fit.new.conn) Named named
+    c.are_shelves_fit.ensures.tests.looks.clean clean has (Err _) c.in_err-are_shelves_fit.ensures.cause)
 
 pub returns-in_err-are_keys_fit-clause-cause : goal.returns-in_err-are_keys_fit-clause-cause
 returns-in_err-are_keys_fit-clause-cause g c clean has =
     let named = rw c.if-not-branch.false at c.in_ok-is_meta_fit.ensures.tests in
     let shelved = rw c.if-not-branch-2.false at c.in_ok-are_shelves_fit.ensures.tests in
-    error_says _ c.from_residual-in_err-are_keys_fit.result c.in_err-are_keys_fit.field-0.0 c.from_residual-in_err-are_keys_fit.ensures.1
-    (then_reason _ _ (state g.S.Store c.are_keys_fit.new.conn) TwoFit (two named shelved) c.are_keys_fit.ensures.tests.looks.clean clean has (Err _) c.in_err-are_keys_fit.ensures.cause)
+    error_says _ c.from_residual-in_err-are_keys_fit.result c.in_err-are_keys_fit.field-0.0
+    c.from_residual-in_err-are_keys_fit.ensures.1
+    (then_reason _ _ (state g.S.Store c.are_keys_fit.new.conn) TwoFit (two named shelved)
+    c.are_keys_fit.ensures.tests.looks.clean clean has (Err _) c.in_err-are_keys_fit.ensures.cause)
 
 pub returns-in_err-are_numbers_fit-clause-cause : goal.returns-in_err-are_numbers_fit-clause-cause
 returns-in_err-are_numbers_fit-clause-cause g c clean has =
     let named = rw c.if-not-branch.false at c.in_ok-is_meta_fit.ensures.tests in
     let shelved = rw c.if-not-branch-2.false at c.in_ok-are_shelves_fit.ensures.tests in
     let keyed = rw c.if-not-branch-3.false at c.in_ok-are_keys_fit.ensures.tests in
-    error_says _ c.from_residual-in_err-are_numbers_fit.result c.in_err-are_numbers_fit.field-0.0 c.from_residual-in_err-are_numbers_fit.ensures.1
+    error_says _ c.from_residual-in_err-are_numbers_fit.result c.in_err-are_numbers_fit.field-0.0
+    c.from_residual-in_err-are_numbers_fit.ensures.1
     (then_reason _ _ (state g.S.Store c.are_numbers_fit.new.conn) ThreeFit (three named shelved keyed)
     c.are_numbers_fit.ensures.tests.looks.clean clean has (Err _) c.in_err-are_numbers_fit.ensures.cause)
 
@@ -93,7 +108,8 @@ returns-in_err-are_entries_fit-clause-cause g c clean has =
     let shelved = rw c.if-not-branch-2.false at c.in_ok-are_shelves_fit.ensures.tests in
     let keyed = rw c.if-not-branch-3.false at c.in_ok-are_keys_fit.ensures.tests in
     let numbered = rw c.if-not-branch-4.false at c.in_ok-are_numbers_fit.ensures.tests in
-    error_says _ c.from_residual-in_err-are_entries_fit.result c.in_err-are_entries_fit.field-0.0 c.from_residual-in_err-are_entries_fit.ensures.1
+    error_says _ c.from_residual-in_err-are_entries_fit.result c.in_err-are_entries_fit.field-0.0
+    c.from_residual-in_err-are_entries_fit.ensures.1
     (then_reason _ _ (state g.S.Store c.are_entries_fit.new.conn) FourFit (four named shelved keyed numbered)
     c.are_entries_fit.ensures.tests.looks.clean clean has (Err _) c.in_err-are_entries_fit.ensures.cause)
 

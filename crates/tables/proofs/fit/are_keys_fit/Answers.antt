@@ -13,10 +13,13 @@ rows_pass-requires g c = record { plain = key_rows.plain; tables = key_rows.unli
 
 pub returns-clause-tests : goal.returns-clause-tests
 returns-clause-tests g c =
-    once_tests texts_total texts_exact IsKeyRow key_in (λ (x : KeyRows). x.last) texts_in_order key_rows (state g.S.Store c.args.conn.now)
-    (state g.S.Store c.rows_pass.new.conn) c.rows_pass.result _ c.rows_pass.new.test refl c.rows_pass.ensures.looks c.rows_pass.ensures.same c.rows_pass.ensures.answer
+    once_tests texts_total texts_exact IsKeyRow key_in (λ (x : KeyRows). x.last) texts_in_order key_rows
+    (state g.S.Store c.args.conn.now)
+    (state g.S.Store c.rows_pass.new.conn) c.rows_pass.result _ c.rows_pass.new.test refl c.rows_pass.ensures.looks
+    c.rows_pass.ensures.same c.rows_pass.ensures.answer
 
 pub returns-clause-cause : goal.returns-clause-cause
 returns-clause-cause g c clean has =
     let old = state g.S.Store c.args.conn.now in
-    walk_reason key_rows old (state g.S.Store c.rows_pass.new.conn) c.rows_pass.result has (c.rows_pass.ensures.cause clean has)
+    walk_reason key_rows old (state g.S.Store c.rows_pass.new.conn) c.rows_pass.result has
+    (c.rows_pass.ensures.cause clean has)

@@ -12,7 +12,8 @@ pub returns-then-not-branch-clause-found : goal.returns-then-not-branch-clause-f
 returns-then-not-branch-clause-found c =
     let path = rw c.in-Some-2.is at c.in_ok-path.ensures.found in
     let version = rw c.in-Some-3.is at c.in_ok-version.ensures.found in
-    none_shown c.args.row.now c.in-Some-2.path.now c.in-Some-3.version.now c.in_ok-shows_entry.field-0 path.0 version.0 c.if-not-branch.true c.in_ok-shows_entry.ensures.verdict
+    none_shown c.args.row.now c.in-Some-2.path.now c.in-Some-3.version.now c.in_ok-shows_entry.field-0 path.0 version.0
+    c.if-not-branch.true c.in_ok-shows_entry.ensures.verdict
 
 pub returns-clause-found : goal.returns-clause-found
 returns-clause-found c =
@@ -23,5 +24,7 @@ returns-clause-found c =
     let shelf = rw c.in-Some.is at c.in_ok-shelf.ensures.found in
     let path = rw c.in-Some-2.is at c.in_ok-path.ensures.found in
     let version = rw c.in-Some-3.is at c.in_ok-version.ensures.found in
-    let entry = c.in_ok-shows_entry.ensures.verdict.0 c.if-not-branch.false in
-    (c.in_ok-new.ensures ∙ place_shown row s p v shelf.0 path.0 version.0, entry_shown row s p v entry.entry shelf.0 shelf.1 path.0 version.0 entry.files entry.keys (entry.may s))
+    let entry = c.in_ok-shows_entry.ensures.verdict.0 c.if-not-branch.false in (
+      c.in_ok-new.ensures ∙ place_shown row s p v shelf.0 path.0 version.0,
+      entry_shown row s p v entry.entry shelf.0 shelf.1 path.0 version.0 entry.files entry.keys (entry.may s),
+    )

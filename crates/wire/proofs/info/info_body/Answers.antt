@@ -8,4 +8,5 @@ returns c =
     let object = c.in_ok-info.ensures.object in
     let valid = c.in_ok-info.ensures.valid in
     let written = c.in_ok-text.ensures.text (ap has_float object ∙ no-float c.args.version.now c.args.time) in
-    rw c.into_bytes.ensures.value (written ∙ ap compact_text object ∙ info-written c.args.version.now c.args.time valid.0 valid.1)
+    rw c.into_bytes.ensures.value
+    (written ∙ ap compact_text object ∙ info-written c.args.version.now c.args.time valid.0 valid.1)

@@ -16,15 +16,18 @@ returns-in-Ok-unescape c =
 pub returns-in-Err-Upper : goal.returns-in-Err-Upper
 returns-in-Err-Upper c =
     let is = c.in-Err-Upper.field-0-is in
-    sym (plain-refused c.args.bytes.now _ c.in-Err-Upper.field-0 c.in-Ok.ensures.cases.0 c.in-Err-Upper.ensures.err (λ memory. cc (is, memory)))
+    sym (plain-refused c.args.bytes.now _ c.in-Err-Upper.field-0 c.in-Ok.ensures.cases.0 c.in-Err-Upper.ensures.err
+    (λ memory. cc (is, memory)))
 
 pub returns-in-Err-Bang : goal.returns-in-Err-Bang
 returns-in-Err-Bang c =
     let is = c.in-Err-Bang.field-0-is in
-    sym (plain-refused c.args.bytes.now _ c.in-Err-Bang.field-0 c.in-Ok.ensures.cases.0 c.in-Err-Bang.ensures.err (λ memory. cc (is, memory)))
+    sym (plain-refused c.args.bytes.now _ c.in-Err-Bang.field-0 c.in-Ok.ensures.cases.0 c.in-Err-Bang.ensures.err
+    (λ memory. cc (is, memory)))
 
 pub returns-then-stand_for_themselves : goal.returns-then-stand_for_themselves
 returns-then-stand_for_themselves c =
     let text = c.in-Ok.ensures.cases in
-    let themselves : list_all stands_for_itself c.args.bytes.now ≡ true = cc (c.stand_for_themselves.ensures, c.if-stand_for_themselves.true) in
+    let themselves : list_all stands_for_itself c.args.bytes.now ≡ true =
+    cc (c.stand_for_themselves.ensures, c.if-stand_for_themselves.true) in
     rw text.0 (sym (plain-itself c.args.bytes.now text.1 themselves))

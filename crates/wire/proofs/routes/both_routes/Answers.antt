@@ -20,5 +20,6 @@ pub returns-in_err-insert-2-clause-memory : goal.returns-in_err-insert-2-clause-
 unfolding matchit_on_literals
 returns-in_err-insert-2-clause-memory c =
     let why = rw (c.in_ok-insert.ensures.1, c.new-routes.ensures) at c.in_err-insert-2.ensures in
-    let is : c.in_err-insert-2.field-0.0 ≡ OutOfMemory = only_memory path_route.pattern ((shelf_route.pattern, shelf_route) ∷ []) _ refl why.1 in
+    let is : c.in_err-insert-2.field-0.0 ≡ OutOfMemory =
+    only_memory path_route.pattern ((shelf_route.pattern, shelf_route) ∷ []) _ refl why.1 in
     gives_memory _ _ c.from_residual-in_err-insert-2.ensures.1 is

@@ -9,19 +9,22 @@ returns-in_default c =
 pub returns-in_default-next : goal.returns-in_default-next
 returns-in_default-next c =
     let target = c.args.target.now in
-    let found = found-params target c.in-Ok.found.params.path.now _ (λ i. omega (arith, c.type_inv.target i)) c.utf8.target c.in-Ok.ensures.path (rw c.requires at c.in-Ok.ensures.found) in
+    let found = found-params target c.in-Ok.found.params.path.now _ (λ i. omega (arith, c.type_inv.target i))
+    c.utf8.target c.in-Ok.ensures.path (rw c.requires at c.in-Ok.ensures.found) in
     absurd (cc (c.iter-params.ensures.value, found.are, c.in_default-next.ensures.steps))
 
 pub returns-in_default-next-2 : goal.returns-in_default-next-2
 returns-in_default-next-2 c =
     let target = c.args.target.now in
-    let found = found-params target c.in-Ok.found.params.path.now _ (λ i. omega (arith, c.type_inv.target i)) c.utf8.target c.in-Ok.ensures.path (rw c.requires at c.in-Ok.ensures.found) in
+    let found = found-params target c.in-Ok.found.params.path.now _ (λ i. omega (arith, c.type_inv.target i))
+    c.utf8.target c.in-Ok.ensures.path (rw c.requires at c.in-Ok.ensures.found) in
     absurd (cc (c.iter-params.ensures.value, found.are, c.in-Some.ensures.steps.1, c.in_default-next-2.ensures.steps))
 
 pub returns : goal.returns
 returns c =
     let target = c.args.target.now in
-    let found = found-params target c.in-Ok.found.params.path.now _ (λ i. omega (arith, c.type_inv.target i)) c.utf8.target c.in-Ok.ensures.path (rw c.requires at c.in-Ok.ensures.found) in
+    let found = found-params target c.in-Ok.found.params.path.now _ (λ i. omega (arith, c.type_inv.target i))
+    c.utf8.target c.in-Ok.ensures.path (rw c.requires at c.in-Ok.ensures.found) in
     let first = c.in-Some.ensures.steps in
     let key = next-given _ _ _ first.0 _ _ _ first.1 (c.iter-params.ensures.value ∙ found.are) found.texts.0 first.3 in
     let second = c.in-Some-next.ensures.steps in

@@ -20,11 +20,13 @@ returns-clause-version c word rest (inl is) = subst (λ w. ShowVersion (w ∷ re
 returns-clause-version c word rest (inr is) = subst (λ w. ShowVersion (w ∷ rest)) (sym is) refl
 
 -- a command that shows help for its first word shows it for the program
-module _ (name : Text) (passes : turn_fault (built program).top (names_of (built program)) (walk_from nothing_held) name ≡ [])
+module _ (name : Text) (passes : turn_fault (built program).top (names_of (built program)) (walk_from nothing_held) name
+    ≡ [])
     (stops : walked (built program).top.rules (names_of (built program)) (walk_from nothing_held) name
     ≡ record (walk_from nothing_held) { stopped = Some (name, []) }) where
   follows : ((rest : List Text) → entered_fault (built program) (Some (name, codes "--help" ∷ rest)) ≡ DisplayHelp ∷ [])
-      → ((rest : List Text) → entered_fault (built program) (Some (name, codes "-h" ∷ rest)) ≡ DisplayHelp ∷ []) → HelpFollows name
+      → ((rest : List Text) → entered_fault (built program) (Some (name, codes "-h" ∷ rest)) ≡ DisplayHelp ∷ [])
+      → HelpFollows name
   follows long short word rest (inl is) = subst (λ w. ShowHelp (name ∷ w ∷ rest)) (sym is)
       (fails_below (built program) name (codes "--help" ∷ rest) DisplayHelp [] passes stops (long rest))
   follows long short word rest (inr is) = subst (λ w. ShowHelp (name ∷ w ∷ rest)) (sym is)

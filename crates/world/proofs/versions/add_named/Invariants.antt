@@ -6,4 +6,5 @@ use Rattle.world.proofs.versions.add_named.Given as goal
 
 -- the versions so far, and those that the texts that are left name
 abbrev pub invariant-loop-key : goal.invariant-loop-key
-invariant-loop-key g l = l.versions.items ++ named (each string_bytes l.key-iterator) ≡ l.initial.versions.items ++ named (map.keys l.texts)
+invariant-loop-key g l = l.versions.items ++ named (each string_bytes l.key-iterator) ≡ l.initial.versions.items
+    ++ named (map.keys l.texts)

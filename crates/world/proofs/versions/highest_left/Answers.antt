@@ -9,7 +9,8 @@ returns-in-Some c = λ path all.
     let vs = c.args.versions.now in
     let e : c.in_ok-index.field-0 ≡ Some c.in-Some.index = search rules in
     lent_at vs c.in-Some.index c.get.result c.get.ensures.lookup
-    ∙ names_highest_left m path vs all (Some c.in-Some.index) (subst (NamesTop vs (unretracted vs m)) e c.in_ok-index.ensures)
+    ∙ names_highest_left m path vs all (Some c.in-Some.index)
+    (subst (NamesTop vs (unretracted vs m)) e c.in_ok-index.ensures)
 
 pub returns-in-None : goal.returns-in-None
 returns-in-None c = λ path all.

@@ -13,13 +13,17 @@ use Rattle.engine.proofs.session.Session.turn.Goals as goal
 pub returns-in_err-message-clause-turns : goal.returns-in_err-message-clause-turns
 returns-in_err-message-clause-turns g c =
     let returned = err_from_is_err_and c.from_residual.result c.from_residual.ensures.1 in
-    rw (returned.1, returned.2) (turned_unread _ _ _ _ _ _ c.args.self.now.reads c.next_message.new.reads _ _ c.in_err-message.ensures.comes refl)
+    rw (returned.1, returned.2)
+    (turned_unread _ _ _ _ _ _ c.args.self.now.reads c.next_message.new.reads _ _ c.in_err-message.ensures.comes
+    refl)
 
 pub returns-in_default-clause-turns : goal.returns-in_default-clause-turns
 returns-in_default-clause-turns g c =
     let x : Exchange = record { message = view c.in-Message.message; outcome = Unserved } in
-    turned_message _ _ _ _ _ _ _ _ _ _ c.in-Message.message x _ refl (rw c.in-Message.is at c.in_ok-message.ensures.comes)
-    (through_unasked _ _ (g.met.S.Shelves.wider c.args.shelves.now)) c.answer_with.ensures.bytes c.answer_with.ensures.turn
+    turned_message _ _ _ _ _ _ _ _ _ _ c.in-Message.message x _ refl
+    (rw c.in-Message.is at c.in_ok-message.ensures.comes)
+    (through_unasked _ _ (g.met.S.Shelves.wider c.args.shelves.now)) c.answer_with.ensures.bytes
+    c.answer_with.ensures.turn
 
 pub returns-in-Ok-clause-turns : goal.returns-in-Ok-clause-turns
 returns-in-Ok-clause-turns g c =
@@ -30,34 +34,41 @@ returns-in-Ok-clause-turns g c =
     let (outcome, is, shown) = c.page_of_answer-page.ensures in
     let x : Exchange = record { message = m; outcome = outcome } in
     let is_one = subst (λ at. IsOutcome at c.step-answer.result outcome) sum is in
-    turned_page _ _ _ _ _ _ _ _ _ _ c.in-Message.message x c.page_of_answer-page.result _ refl (rw c.in-Message.is at c.in_ok-message.ensures.comes)
+    turned_page _ _ _ _ _ _ _ _ _ _ c.in-Message.message x c.page_of_answer-page.result _ refl
+    (rw c.in-Message.is at c.in_ok-message.ensures.comes)
     (through_asked _ _ m asking.ask ask c.step-answer.result outcome is_one c.step-answer.ensures.does)
-    (shown ∙ ap (λ at. answer_page at (answer_to outcome)) sum) c.answer_with-in-Message.ensures.bytes c.answer_with-in-Message.ensures.turn
+    (shown ∙ ap (λ at. answer_page at (answer_to outcome)) sum) c.answer_with-in-Message.ensures.bytes
+    c.answer_with-in-Message.ensures.turn
 
 pub returns-in-End-clause-turns : goal.returns-in-End-clause-turns
 returns-in-End-clause-turns g c = turned_end
-    _ _ _ _ _ _ c.args.self.now.reads c.next_message.new.reads _ c.in-End.closing _ (rw c.in-End.is at c.in_ok-message.ensures.comes) c.close_by.ensures.bytes c.close_by.ensures.turn
+    _ _ _ _ _ _ c.args.self.now.reads c.next_message.new.reads _ c.in-End.closing _
+    (rw c.in-End.is at c.in_ok-message.ensures.comes) c.close_by.ensures.bytes c.close_by.ensures.turn
 
 pub returns-in_err-message-clause-cause : goal.returns-in_err-message-clause-cause
 returns-in_err-message-clause-cause g c =
     let returned = err_from_is_err_and c.from_residual.result c.from_residual.ensures.1 in
     rw (returned.1, returned.2)
     (caused_unread _ (g.R.Hear.reads c.args.reader.now) (g.R.Hear.reads c.next_message.new.reader)
-    (g.W.Tell.writes c.args.writer.now) (g.W.Tell.writes c.args.writer.now) _ c.in_err-message.ensures.comes.0 c.in_err-message.ensures.cause)
+    (g.W.Tell.writes c.args.writer.now) (g.W.Tell.writes c.args.writer.now) _ c.in_err-message.ensures.comes.0
+    c.in_err-message.ensures.cause)
 
 pub returns-in_default-clause-cause : goal.returns-in_default-clause-cause
 returns-in_default-clause-cause g c =
     caused_unwritten
-    _ (g.R.Hear.reads c.args.reader.now) (g.R.Hear.reads c.next_message.new.reader) (g.W.Tell.writes c.args.writer.now) (g.W.Tell.writes c.answer_with.new.writer)
+    _ (g.R.Hear.reads c.args.reader.now) (g.R.Hear.reads c.next_message.new.reader) (g.W.Tell.writes c.args.writer.now)
+    (g.W.Tell.writes c.answer_with.new.writer)
     _ _ _ _ c.answer_with.ensures.bytes c.answer_with.ensures.fails
 
 pub returns-in-Ok-clause-cause : goal.returns-in-Ok-clause-cause
 returns-in-Ok-clause-cause g c =
     caused_unwritten
-    _ (g.R.Hear.reads c.args.reader.now) (g.R.Hear.reads c.next_message.new.reader) (g.W.Tell.writes c.args.writer.now) (g.W.Tell.writes c.answer_with-in-Message.new.writer)
+    _ (g.R.Hear.reads c.args.reader.now) (g.R.Hear.reads c.next_message.new.reader) (g.W.Tell.writes c.args.writer.now)
+    (g.W.Tell.writes c.answer_with-in-Message.new.writer)
     _ _ _ _ c.answer_with-in-Message.ensures.bytes c.answer_with-in-Message.ensures.fails
 
 pub returns-in-End-clause-cause : goal.returns-in-End-clause-cause
 returns-in-End-clause-cause g c = caused_unwritten
-    _ (g.R.Hear.reads c.args.reader.now) (g.R.Hear.reads c.next_message.new.reader) (g.W.Tell.writes c.args.writer.now) (g.W.Tell.writes c.close_by.new.writer)
+    _ (g.R.Hear.reads c.args.reader.now) (g.R.Hear.reads c.next_message.new.reader) (g.W.Tell.writes c.args.writer.now)
+    (g.W.Tell.writes c.close_by.new.writer)
     _ _ _ _ c.close_by.ensures.bytes c.close_by.ensures.fails

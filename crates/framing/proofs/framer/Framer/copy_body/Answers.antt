@@ -8,4 +8,5 @@ returns-clause-rest c =
     let start = c.self.inside.start in
     let held = ap (λ (f : Framing). f.held) c.self.view_is in
     let failure = ap (λ (f : Framing). f.failure) c.self.view_is in
-    same_framing _ _ _ _ (left_behind start (c.args.head + c.args.body) _ c.self.inside.bytes.items _ held (omega arith)) failure
+    same_framing _ _ _ _ (left_behind start (c.args.head + c.args.body) _ c.self.inside.bytes.items _ held
+    (omega arith)) failure

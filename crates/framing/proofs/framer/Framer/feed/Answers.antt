@@ -12,7 +12,10 @@ invariant_of-self-2 c =
     let fits = c.self.invariant.0 in
     let more = held_more c.self.inside.start _ _ _ fits items in (
       omega (arith, fits, ap length items, length-append c.self.inside.bytes.items c.args.bytes.now),
-      (λ bad failed. subst (λ (held : List ℕ). IsBad held bad) (sym more) (IsBad-append _ _ bad (c.self.invariant.1 bad failed))),
-      (λ some. subst (λ (held : List ℕ). HasBegun held c.self.inside.wanted) (sym more) (HasBegun-append _ _ _ (c.self.invariant.2 some))),
-      subst (λ (held : List ℕ). HoldsScan held c.self.inside.scan) (sym more) (holds_scan_more _ _ _ c.self.invariant.3),
+      (λ bad failed. subst (λ (held : List ℕ). IsBad held bad) (sym more)
+          (IsBad-append _ _ bad (c.self.invariant.1 bad failed))),
+      (λ some. subst (λ (held : List ℕ). HasBegun held c.self.inside.wanted) (sym more)
+          (HasBegun-append _ _ _ (c.self.invariant.2 some))),
+      subst (λ (held : List ℕ). HoldsScan held c.self.inside.scan) (sym more)
+          (holds_scan_more _ _ _ c.self.invariant.3),
     )

@@ -20,5 +20,7 @@ returns-clause-rest c =
     let failure = ap (λ (f : Framing). f.failure) c.self.view_is in
     let at = (start + c.args.head) + c.args.body in
     let left = ap (λ (v : Vec ℕ Global). v.items) c.replace-taken.ensures.after in
-    let rest = left ∙ c.in_ok-rest.ensures.items ∙ slice_to_end at c.deref.result.now ∙ ap (λ (xs : List ℕ). drop at xs) c.deref.ensures.value in
-    same_framing _ _ _ _ (rest ∙ left_behind start (c.args.head + c.args.body) at c.self.inside.bytes.items _ held (omega arith)) failure
+    let rest = left ∙ c.in_ok-rest.ensures.items ∙ slice_to_end at c.deref.result.now
+    ∙ ap (λ (xs : List ℕ). drop at xs) c.deref.ensures.value in
+    same_framing _ _ _ _ (rest
+    ∙ left_behind start (c.args.head + c.args.body) at c.self.inside.bytes.items _ held (omega arith)) failure

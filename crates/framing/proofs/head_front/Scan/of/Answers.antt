@@ -9,4 +9,5 @@ returns c =
     let at = c.last_line-at.result in
     let bytes = c.args.bytes.now in
     let whole = ap (λ (t : List ℕ). take at bytes ++ t) (slice_to_end at bytes) ∙ take-append-drop at bytes in
-    scan_begins bytes _ _ _ c.in_ok-state.state c.requires whole c.last_line-at.ensures.ends c.first_state.ensures c.in_ok-state.ensures
+    scan_begins bytes _ _ _ c.in_ok-state.state c.requires whole c.last_line-at.ensures.ends c.first_state.ensures
+    c.in_ok-state.ensures

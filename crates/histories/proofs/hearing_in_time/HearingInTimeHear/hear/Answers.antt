@@ -8,5 +8,6 @@ invariant_of-self-in-Break-1 g c = record {
 
 pub invariant_of-self-2 : goal.invariant_of-self-2
 invariant_of-self-2 g c = record {
-  since = rw c.count.ensures.first (moves _ _ _ _ _ _ _ c.in_ok-n.ensures.noted c.count.ensures.moved c.in_default.ensures.ready);
+  since = rw c.count.ensures.first
+      (moves _ _ _ _ _ _ _ c.in_ok-n.ensures.noted c.count.ensures.moved c.in_default.ensures.ready);
 }

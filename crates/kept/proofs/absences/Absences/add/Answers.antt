@@ -12,11 +12,15 @@ pub invariant_of-self-2 : goal.invariant_of-self-2
 invariant_of-self-2 c =
     let was = by_text c.self.inside.paths.entries in
     let put : by_text c.put.new.paths.entries ≡ with_shelf_at was c.args.path.now c.args.shelf.now = search rules in
-    let room = c.if-self-ge-MOST_ABSENCES.false in
-    (one_more_pair was (by_text c.put.new.paths.entries) c.args.path.now c.args.shelf.now c.self.inside.number put c.self.invariant.0, omega (arith, room))
+    let room = c.if-self-ge-MOST_ABSENCES.false in (
+      one_more_pair was (by_text c.put.new.paths.entries) c.args.path.now c.args.shelf.now c.self.inside.number put
+          c.self.invariant.0,
+      omega (arith, room),
+    )
 
 pub returns : goal.returns
 returns c = λ w are is.
     let was = by_text c.self.inside.paths.entries in
     let put : by_text c.put.new.paths.entries ≡ with_shelf_at was c.args.path.now c.args.shelf.now = search rules in
-    one_absent w was (by_text c.put.new.paths.entries) c.args.path.now c.args.shelf.now put (subst (AreAbsent w) (sym c.self.view_is) are) is
+    one_absent w was (by_text c.put.new.paths.entries) c.args.path.now c.args.shelf.now put
+    (subst (AreAbsent w) (sym c.self.view_is) are) is

@@ -18,11 +18,14 @@ invariant_of-self c =
     let now = c.if-self-ge-MOST_COUNTS.self-inside in
     let room : Has now =
     elim c.if-self-ge-MOST_COUNTS.branch [
-      | then-self-ge-MOST_COUNTS b ↦ subst Has (sym b.self-inside-is) (none_counted b.new.result b.new.ensures 0, omega arith)
-      | else-self-ge-MOST_COUNTS b ↦ subst Has (sym b.self-inside-is) (c.self.invariant.0, b.if-self-ge-MOST_COUNTS.false)
+      | then-self-ge-MOST_COUNTS b ↦
+          subst Has (sym b.self-inside-is) (none_counted b.new.result b.new.ensures 0, omega arith)
+      | else-self-ge-MOST_COUNTS b ↦
+          subst Has (sym b.self-inside-is) (c.self.invariant.0, b.if-self-ge-MOST_COUNTS.false)
     ] in
     let less = room.1 in (
-      one_more_counted now.counts c.args.shelf.now c.args.path.now c.args.number c.keep.new.self now.number c.keep.ensures.kept room.0,
+      one_more_counted now.counts c.args.shelf.now c.args.path.now c.args.number c.keep.new.self now.number
+          c.keep.ensures.kept room.0,
       omega (arith, less),
     )
 
@@ -31,7 +34,11 @@ returns c =
     let now = c.if-self-ge-MOST_COUNTS.self-inside in
     let kept : (w : World) → AreCounts w c.args.self.now → AreCounts w now.counts = λ w right.
     elim c.if-self-ge-MOST_COUNTS.branch [
-      | then-self-ge-MOST_COUNTS b ↦ subst (λ (i : Inside). AreCounts w i.counts) (sym b.self-inside-is) (empty_counts w b.new.result b.new.ensures)
-      | else-self-ge-MOST_COUNTS b ↦ subst (λ (i : Inside). AreCounts w i.counts) (sym b.self-inside-is) (subst (AreCounts w) (sym c.self.view_is) right)
+      | then-self-ge-MOST_COUNTS b ↦
+          subst (λ (i : Inside). AreCounts w i.counts) (sym b.self-inside-is)
+          (empty_counts w b.new.result b.new.ensures)
+      | else-self-ge-MOST_COUNTS b ↦
+          subst (λ (i : Inside). AreCounts w i.counts) (sym b.self-inside-is)
+          (subst (AreCounts w) (sym c.self.view_is) right)
     ] in
     record { counts = λ w right is. c.keep.ensures.counts w (kept w right) is }

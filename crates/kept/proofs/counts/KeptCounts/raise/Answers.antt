@@ -14,7 +14,8 @@ pub invariant_of-self : goal.invariant_of-self
 invariant_of-self c =
     let kept : get_under c.self.inside.counts c.args.shelf.now c.args.path.now ≡ Some c.in-Some.number =
     ap (λ t. get_under t c.args.shelf.now c.args.path.now) c.self.view_is ∙ sym c.in-Some.ensures in (
-      as_many_counted c.self.inside.counts c.args.shelf.now c.args.path.now c.in-Some-checked_add.more c.keep.new.self c.self.inside.number c.in-Some.number
+      as_many_counted c.self.inside.counts c.args.shelf.now c.args.path.now c.in-Some-checked_add.more c.keep.new.self
+          c.self.inside.number c.in-Some.number
           c.keep.ensures.kept kept c.self.invariant.0,
       c.self.invariant.1,
     )
@@ -24,9 +25,12 @@ returns-in-Some-checked_add c = λ w v e free right.
     let more : c.in-Some-checked_add.more ≡ c.in-Some.number + 1 = search rules in
     let put = put_under c.args.self.now c.args.shelf.now c.args.path.now in
     let was = ap (λ t. put_under t c.args.shelf.now c.args.path.now c.in-Some-checked_add.more) c.self.view_is in
-    raised_counts w (place c.args.shelf.now c.args.path.now v) e free c.args.self.now c.keep.new.self c.in-Some.number (sym c.in-Some.ensures)
+    raised_counts w (place c.args.shelf.now c.args.path.now v) e free c.args.self.now c.keep.new.self c.in-Some.number
+    (sym c.in-Some.ensures)
     (elim c.keep.ensures.kept [ inl is ↦ inl (is ∙ was ∙ ap put more) | inr none ↦ inr none ])
     right
 
 pub returns-in-None : goal.returns-in-None
-returns-in-None c = λ w v e _ _. empty_counts (with_entry w (place c.args.shelf.now c.args.path.now v) e) c.drop.inside.counts (c.drop.view_is ∙ c.new.ensures)
+returns-in-None c = λ w v e _ _.
+    empty_counts (with_entry w (place c.args.shelf.now c.args.path.now v) e) c.drop.inside.counts
+    (c.drop.view_is ∙ c.new.ensures)

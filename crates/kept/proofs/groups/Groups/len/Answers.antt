@@ -5,7 +5,8 @@ use Rattle.kept.specs.Weights.{most_groups}
 use Rattle.kept.proofs.groups.Groups.len.Goals as goal
 
 pub returns-clause-len : goal.returns-clause-len
-returns-clause-len c = c.len.ensures.len ∙ sym (len_text c.self.inside.shelves c.len.ensures.ordered) ∙ ap map.len c.self.view_is
+returns-clause-len c = c.len.ensures.len ∙ sym (len_text c.self.inside.shelves c.len.ensures.ordered)
+    ∙ ap map.len c.self.view_is
 
 pub returns-clause-at_most : goal.returns-clause-at_most
 returns-clause-at_most c =

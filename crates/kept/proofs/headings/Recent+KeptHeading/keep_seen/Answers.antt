@@ -8,4 +8,5 @@ use Rattle.kept.proofs.headings.Recent+KeptHeading.keep_seen.Goals as goal
 pub returns-in-Ok : goal.returns-in-Ok
 returns-in-Ok c w are is =
     one_more_held _ c.args.self.now c.keep.new.self c.in-Ok.kept c.keep.ensures are
-    (subst (λ (it : KeptHeading). Some it.seen ≡ seen_heading (view w it.shelf it.path it.version)) (sym c.in-Ok.ensures) (sym (ap option_copied c.in-Some.is) ∙ is))
+    (subst (λ (it : KeptHeading). Some it.seen ≡ seen_heading (view w it.shelf it.path it.version))
+    (sym c.in-Ok.ensures) (sym (ap option_copied c.in-Some.is) ∙ is))

@@ -7,4 +7,5 @@ use Rattle.kept.proofs.keys.Recent+KeptKey.keep_holder.Goals as goal
 pub returns-in-Ok : goal.returns-in-Ok
 returns-in-Ok c w are is =
     one_more_held _ c.args.self.now c.keep.new.self c.in-Ok.kept c.keep.ensures are
-    (subst (λ (it : KeptKey). map.get w.keys it.key ≡ Some it.holder) (sym c.in-Ok.ensures) (is ∙ ap option_copied c.in-Some.is))
+    (subst (λ (it : KeptKey). map.get w.keys it.key ≡ Some it.holder) (sym c.in-Ok.ensures)
+    (is ∙ ap option_copied c.in-Some.is))

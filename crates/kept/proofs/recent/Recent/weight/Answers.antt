@@ -5,5 +5,6 @@ use Rattle.kept.proofs.recent.Recent.weight.Goals as goal
 
 pub returns-clause-at_least : goal.returns-clause-at_least
 returns-clause-at_least g c =
-    let fits = weighed_fits g.V.Weighed.weighs (entries_in c.self.inside.cache) c.self.inside.weight g.V.Weighed.MOST c.self.invariant in
+    let fits = weighed_fits g.V.Weighed.weighs (entries_in c.self.inside.cache) c.self.inside.weight g.V.Weighed.MOST
+    c.self.invariant in
     subst (λ l. weighed_in g.V.Weighed.weighs l ≤ c.self.inside.weight) c.self.view_is fits

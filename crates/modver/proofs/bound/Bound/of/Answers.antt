@@ -10,14 +10,16 @@ use Rattle.modver.proofs.bound.Bound.of.Goals as goal
 pub returns-then-not-marked : goal.returns-then-not-marked
 returns-then-not-marked c =
     let size : length (pre_text c.args.parts.pre) ≡ 0 = grind (arith, nat_tests) in
-    let mark : false ≡ is_marked (build_text c.args.parts.build) = ap not (sym c.if-not-marked.true ∙ c.is_empty-marked.ensures) in
+    let mark : false ≡ is_marked (build_text c.args.parts.build) =
+    ap not (sym c.if-not-marked.true ∙ c.is_empty-marked.ensures) in
     let ends = release-ends (pre_text c.args.parts.pre) size in
     bound-version _ (version_of_parts (parts_of c.args.parts)) c.requires.valid refl refl refl ends mark
 
 pub invariant_of-result : goal.invariant_of-result
 invariant_of-result c =
     let size : length (pre_text c.args.parts.pre) ≡ 0 = grind (arith, nat_tests) in
-    let mark : false ≡ is_marked (build_text c.args.parts.build) = ap not (sym c.if-not-marked.true ∙ c.is_empty-marked.ensures) in
+    let mark : false ≡ is_marked (build_text c.args.parts.build) =
+    ap not (sym c.if-not-marked.true ∙ c.is_empty-marked.ensures) in
     let ends = release-ends (pre_text c.args.parts.pre) size in
     bound-valid _ (version_of_parts (parts_of c.args.parts)) c.requires.valid ends
     (bound-version _ (version_of_parts (parts_of c.args.parts)) c.requires.valid refl refl refl ends mark)
@@ -27,7 +29,8 @@ invariant_of-result c =
 pub invariant_of-result-2 : goal.invariant_of-result-2
 invariant_of-result-2 c =
     let ends =
-    built-ends c.head_of-head.result c.in_ok-tail.tail (pre_text c.args.parts.pre) _ _ _ _ (c.as_bytes.ensures.value ∙ c.as_str-2.ensures) c.in_ok-key.ensures.items c.in_ok-push_pre_release.ensures
+    built-ends c.head_of-head.result c.in_ok-tail.tail (pre_text c.args.parts.pre) _ _ _ _
+    (c.as_bytes.ensures.value ∙ c.as_str-2.ensures) c.in_ok-key.ensures.items c.in_ok-push_pre_release.ensures
     c.as_slice.ensures.value c.head_of-head.ensures.value c.head_of-head.ensures.bytes c.in_ok-tail.ensures.key in
     let mark = c.in_ok-tail.ensures.mark ∙ ap not c.is_empty-marked.ensures in
     bound-valid _ (version_of_parts (parts_of c.args.parts)) c.requires.valid ends
@@ -36,7 +39,8 @@ invariant_of-result-2 c =
 pub returns : goal.returns
 returns c =
     let ends =
-    built-ends c.head_of-head.result c.in_ok-tail.tail (pre_text c.args.parts.pre) _ _ _ _ (c.as_bytes.ensures.value ∙ c.as_str-2.ensures) c.in_ok-key.ensures.items c.in_ok-push_pre_release.ensures
+    built-ends c.head_of-head.result c.in_ok-tail.tail (pre_text c.args.parts.pre) _ _ _ _
+    (c.as_bytes.ensures.value ∙ c.as_str-2.ensures) c.in_ok-key.ensures.items c.in_ok-push_pre_release.ensures
     c.as_slice.ensures.value c.head_of-head.ensures.value c.head_of-head.ensures.bytes c.in_ok-tail.ensures.key in
     let mark = c.in_ok-tail.ensures.mark ∙ ap not c.is_empty-marked.ensures in
     bound-version _ (version_of_parts (parts_of c.args.parts)) c.requires.valid refl refl refl ends mark

@@ -7,4 +7,5 @@ pub is_moment-requires : goal.is_moment-requires
 is_moment-requires c = rw c.spelled-bytes.ensures (stamp-form c.args.stamp.now c.requires)
 
 pub invariant_of-result : goal.invariant_of-result
-invariant_of-result c = time-of_tests c.spelled-bytes.result (rw c.spelled-bytes.ensures (stamp-form c.args.stamp.now c.requires)) (sym c.if-is_moment.ensures)
+invariant_of-result c = time-of_tests c.spelled-bytes.result
+    (rw c.spelled-bytes.ensures (stamp-form c.args.stamp.now c.requires)) (sym c.if-is_moment.ensures)

@@ -13,11 +13,14 @@ returns-clause-puts g c clean filling done =
     let shown = fit.shown in
     let found = rw c.in-Some.is at c.in_ok-fit.ensures in
     let named = c.in_ok-keyed.ensures ∙ found.0 in
-    let keys = subst (ShowsKeys c.args.self.now.format c.args.row.now) named (c.in_ok-shows_keys.ensures c.if-not-branch.false) in
+    let keys = subst (ShowsKeys c.args.self.now.format c.args.row.now) named
+    (c.in_ok-shows_keys.ensures c.if-not-branch.false) in
     let follows = c.in_ok-follows.ensures c.if-not-branch-2.false in
     let put = c.in_ok-put_entry.ensures.added clean filling in
     let range : SFits w64 fit.id = search rules in
-    let adds = subst₂ (λ n v. HasAdded (Some n) old.now.trees new.now.trees (place shown.shelf.now shown.path.now v) shown.entry) (to_z-of_z {w = w64} {z = fit.id} range) named put.0 in (
+    let adds = subst₂ (λ n v.
+    HasAdded (Some n) old.now.trees new.now.trees (place shown.shelf.now shown.path.now v) shown.entry)
+    (to_z-of_z {w = w64} {z = fit.id} range) named put.0 in (
       (
         follows.1.0,
         record {

@@ -15,6 +15,7 @@ returns-in-None c =
 pub returns-in-Some : goal.returns-in-Some
 returns-in-Some c =
     record {
-      reads = reads_outlined _ _ _ (Some c.of.result) (λ w. view w c.args.shelf.now c.args.path.now (version_text c.args.version.now))
+      reads = reads_outlined _ _ _ (Some c.of.result)
+          (λ w. view w c.args.shelf.now c.args.path.now (version_text c.args.version.now))
           (λ w given. ap Some c.of.ensures ∙ ap in_outline (sym c.in-Some.is ∙ given)) c.in_ok-entry.ensures.reads;
     }

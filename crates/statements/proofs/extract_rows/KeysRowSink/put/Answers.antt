@@ -15,5 +15,12 @@ returns-clause-puts g c clean fits filling =
     let it = fits.0 in
     let shows = fits.1 in
     let ran : ExecutesInside 0 _ (key_params it.0 it.1) old new (Ok c.in_ok-execute.field-0) =
-    rw (c.in_ok-get_ref.ensures.ok.1, c.in_ok-get_ref-2.ensures.ok.1, c.in_ok-get_ref-3.ensures.ok.1, shows.0, shows.1, shows.2) at (c.in_ok-execute.ensures.runs clean filling.inside) in
+    rw (
+      c.in_ok-get_ref.ensures.ok.1,
+      c.in_ok-get_ref-2.ensures.ok.1,
+      c.in_ok-get_ref-3.ensures.ok.1,
+      shows.0,
+      shows.1,
+      shows.2,
+    ) at (c.in_ok-execute.ensures.runs clean filling.inside) in
     key_put _ refl (refl, refl) old new c.args.row.now it.0 it.1 c.in_ok-execute.field-0 shows filling ran

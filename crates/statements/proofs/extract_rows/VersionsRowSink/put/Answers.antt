@@ -17,7 +17,8 @@ returns-clause-puts g c clean fits filling =
     let shows = fits.2 in
     let id = c.in_ok-id.id in
     let range : SFits w64 id = search rules in
-    let ran : ExecutesInside 0 _ (version_params (Some id) p (record { gomod = h.gomod; zip = []; time = h.time })) old new (Ok c.in_ok-execute.field-0) =
+    let ran : ExecutesInside 0 _ (version_params (Some id) p (record { gomod = h.gomod; zip = []; time = h.time })) old
+    new (Ok c.in_ok-execute.field-0) =
     rw (
       to_z-of_z {w = w64} {z = id} range,
       c.in_ok-get_ref.ensures.ok.1,
@@ -36,4 +37,5 @@ returns-clause-puts g c clean fits filling =
       shows.order,
       shows.rank,
     ) at (c.in_ok-execute.ensures.runs clean filling.inside) in
-    version_copied _ refl (refl, refl) old new c.args.row.now id p h c.in_ok-execute.field-0 c.in_ok-id.ensures.ok.1 shows filling ran
+    version_copied _ refl (refl, refl) old new c.args.row.now id p h c.in_ok-execute.field-0 c.in_ok-id.ensures.ok.1
+    shows filling ran

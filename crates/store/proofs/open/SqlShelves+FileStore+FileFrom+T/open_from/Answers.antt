@@ -19,12 +19,15 @@ returns-in-Ok-open_over-clause-found g c clean w held =
 
 pub returns-in-Ok-open_over-clause-begun : goal.returns-in-Ok-open_over-clause-begun
 returns-in-Ok-open_over-clause-begun g c clean =
-    subst (λ i. ¬ IsStray i) (still_image c.in-Ok-look.files c.in-Ok-look.ensures.still) (c.in-Ok-open_over.ensures.begun clean)
+    subst (λ i. ¬ IsStray i) (still_image c.in-Ok-look.files c.in-Ok-look.ensures.still)
+    (c.in-Ok-open_over.ensures.begun clean)
 
 pub returns-in-Err-open_over-clause-bad : goal.returns-in-Err-open_over-clause-bad
 returns-in-Err-open_over-clause-bad g c bad clean =
-    subst HoldsNoStore (still_image c.in-Ok-look.files c.in-Ok-look.ensures.still) (c.in-Err-open_over.ensures.bad bad clean)
+    subst HoldsNoStore (still_image c.in-Ok-look.files c.in-Ok-look.ensures.still)
+    (c.in-Err-open_over.ensures.bad bad clean)
 
 pub returns-in-Err-open_over-clause-keeps : goal.returns-in-Err-open_over-clause-keeps
 returns-in-Err-open_over-clause-keeps g c clean =
-    subst (λ i. Keeps i c.in-Err-open_over.left) (still_image c.in-Ok-look.files c.in-Ok-look.ensures.still) (c.in-Err-open_over.ensures.keeps clean)
+    subst (λ i. Keeps i c.in-Err-open_over.left) (still_image c.in-Ok-look.files c.in-Ok-look.ensures.still)
+    (c.in-Err-open_over.ensures.keeps clean)

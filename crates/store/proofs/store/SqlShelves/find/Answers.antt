@@ -9,11 +9,15 @@ returns g c =
     let along : map (λ s. s.now) c.as_slice.result.now ≡ c.args.shelf.now ∷ above c.in_ok-group.group = search rules in
     record {
       reads = reads_along _ (state g.S.Store c.group_of.new.self.conn)
-          (state g.S.Store c.find_entry-found.new.conn) c.group_of.new.self.kept c.group_of.new.self.failures _ c.args.shelf.now _ _ c.find_entry-found.result c.counted.result
+          (state g.S.Store c.find_entry-found.new.conn) c.group_of.new.self.kept c.group_of.new.self.failures _
+          c.args.shelf.now _ _ c.find_entry-found.result c.counted.result
           (λ w ss. first_on w ss c.args.path.now c.args.version.now)
-          along c.in_ok-group.ensures.reads c.find_entry-found.ensures.spares c.counted.ensures c.find_entry-found.ensures.answer;
+          along c.in_ok-group.ensures.reads c.find_entry-found.ensures.spares c.counted.ensures
+          c.find_entry-found.ensures.answer;
     }
 
 pub returns-in_err-group : goal.returns-in_err-group
 returns-in_err-group g c =
-    record { reads = reads_failed _ _ _ c.from_residual.result _ _ c.from_residual.ensures c.in_err-group.ensures.reads }
+    record {
+      reads = reads_failed _ _ _ c.from_residual.result _ _ c.from_residual.ensures c.in_err-group.ensures.reads;
+    }

@@ -10,17 +10,39 @@ pub returns-in-Some : goal.returns-in-Some
 returns-in-Some g c =
     let less = record c.args.self.now.kept { headings = c.seen.new.self } in
     record {
-      reads = reads_kept (state g.S.Store c.args.self.now.conn) c.args.self.now.kept less c.args.self.now.failures (Some c.in-Some.seen) _
-          (λ w right.
-          (c.in-Some.ensures.found w right.3.1, (right.0, right.1, right.2, (right.3.0, fewer_held _ c.args.self.now.kept.headings c.seen.new.self c.seen.ensures.others right.3.1, right.3.2))));
+      reads = reads_kept (state g.S.Store c.args.self.now.conn) c.args.self.now.kept less c.args.self.now.failures
+          (Some c.in-Some.seen) _
+          (λ w right. (
+            c.in-Some.ensures.found w right.3.1,
+            (
+              right.0,
+              right.1,
+              right.2,
+              (
+                right.3.0,
+                fewer_held _ c.args.self.now.kept.headings c.seen.new.self c.seen.ensures.others right.3.1,
+                right.3.2,
+              ),
+            ),
+          ));
     }
 
 pub returns-in_err-keep_if_missed : goal.returns-in_err-keep_if_missed
 returns-in_err-keep_if_missed g c =
     let less = record c.args.self.now.kept { headings = c.seen.new.self } in
     record {
-      reads = reads_with_less (state g.S.Store c.args.self.now.conn) c.args.self.now.kept less c.args.self.now.failures _ _ _
-          (λ w right. (right.0, right.1, right.2, (right.3.0, fewer_held _ c.args.self.now.kept.headings c.seen.new.self c.seen.ensures.others right.3.1, right.3.2)))
+      reads = reads_with_less (state g.S.Store c.args.self.now.conn) c.args.self.now.kept less c.args.self.now.failures
+          _ _ _
+          (λ w right. (
+            right.0,
+            right.1,
+            right.2,
+            (
+              right.3.0,
+              fewer_held _ c.args.self.now.kept.headings c.seen.new.self c.seen.ensures.others right.3.1,
+              right.3.2,
+            ),
+          ))
           (reads_failed _ _ _ c.from_residual.result _ _ c.from_residual.ensures c.in_err-keep_if_missed.ensures.reads);
     }
 
@@ -29,8 +51,18 @@ returns-then-lacks g c =
     let less = record c.args.self.now.kept { headings = c.seen.new.self } in
     let missing : c.lacks.result ≡ true = search rules in
     record {
-      reads = reads_with_less (state g.S.Store c.args.self.now.conn) c.args.self.now.kept less c.args.self.now.failures _ _ _
-          (λ w right. (right.0, right.1, right.2, (right.3.0, fewer_held _ c.args.self.now.kept.headings c.seen.new.self c.seen.ensures.others right.3.1, right.3.2)))
+      reads = reads_with_less (state g.S.Store c.args.self.now.conn) c.args.self.now.kept less c.args.self.now.failures
+          _ _ _
+          (λ w right. (
+            right.0,
+            right.1,
+            right.2,
+            (
+              right.3.0,
+              fewer_held _ c.args.self.now.kept.headings c.seen.new.self c.seen.ensures.others right.3.1,
+              right.3.2,
+            ),
+          ))
           (reads_next _ _ _ tt _ _ _ c.in_ok-keep_if_missed.ensures.reads (record {
             honest = λ clean. clean;
             at = λ clean w stands. record {
@@ -46,9 +78,20 @@ pub returns : goal.returns
 returns g c =
     let less = record c.args.self.now.kept { headings = c.seen.new.self } in
     record {
-      reads = reads_with_less (state g.S.Store c.args.self.now.conn) c.args.self.now.kept less c.args.self.now.failures _ _ _
-          (λ w right. (right.0, right.1, right.2, (right.3.0, fewer_held _ c.args.self.now.kept.headings c.seen.new.self c.seen.ensures.others right.3.1, right.3.2)))
+      reads = reads_with_less (state g.S.Store c.args.self.now.conn) c.args.self.now.kept less c.args.self.now.failures
+          _ _ _
+          (λ w right. (
+            right.0,
+            right.1,
+            right.2,
+            (
+              right.3.0,
+              fewer_held _ c.args.self.now.kept.headings c.seen.new.self c.seen.ensures.others right.3.1,
+              right.3.2,
+            ),
+          ))
           (reads_next _ _ _ tt _ _ _ c.in_ok-keep_if_missed.ensures.reads
-          (reads_with_less (state g.S.Store c.keep_if_missed.new.self.conn) c.keep_if_missed.new.self.kept c.lacks.new.self c.keep_if_missed.new.self.failures _ _ _
+          (reads_with_less (state g.S.Store c.keep_if_missed.new.self.conn) c.keep_if_missed.new.self.kept
+          c.lacks.new.self c.keep_if_missed.new.self.failures _ _ _
           c.lacks.ensures.others c.find_heading.ensures.reads));
     }

@@ -19,16 +19,25 @@ returns g c =
     let answer = rw c.in_ok-count.ensures.ok at c.count_versions.ensures.answer in
     let kept = record c.args.self.now.kept { total = c.exact-self.result } in
     record {
-      reads = reads_keeping (state g.S.Store c.args.self.now.conn) (state g.S.Store c.count_versions.new.conn) c.args.self.now.kept kept c.args.self.now.failures _ (Ok c.in_ok-count.count) _
+      reads = reads_keeping (state g.S.Store c.args.self.now.conn) (state g.S.Store c.count_versions.new.conn)
+          c.args.self.now.kept kept c.args.self.now.failures _ (Ok c.in_ok-count.count) _
           c.count_versions.ensures.spares (counted_cause _ _ _ _ c.in_ok-count.ensures)
           (λ clean w stands right.
-          let is = answer clean w stands in
-          (is, ((right.0.0, total_of_count w c.in_ok-count.count c.exact-self.result c.exact-self.ensures is), right.1, right.2, right.3)));
+          let is = answer clean w stands in (
+            is,
+            (
+              (right.0.0, total_of_count w c.in_ok-count.count c.exact-self.result c.exact-self.ensures is),
+              right.1,
+              right.2,
+              right.3,
+            ),
+          ));
     }
 
 pub returns-in_err-count : goal.returns-in_err-count
 returns-in_err-count g c =
     record {
-      reads = reads_counted_none (state g.S.Store c.args.self.now.conn) (state g.S.Store c.count_versions.new.conn) c.args.self.now.kept c.args.self.now.failures _ _ _ c.from_residual.result _
+      reads = reads_counted_none (state g.S.Store c.args.self.now.conn) (state g.S.Store c.count_versions.new.conn)
+          c.args.self.now.kept c.args.self.now.failures _ _ _ c.from_residual.result _
           c.count_versions.ensures.spares c.from_residual.ensures c.in_err-count.ensures;
     }

@@ -15,14 +15,22 @@ returns-then-not-is_team_name g c =
     let wrong : is_team_name name ≡ false = search rules in
     record {
       does = refused (state g.S.Store c.args.self.now.conn) c.args.self.now.kept c.args.self.now.failures Name _ _
-          (λ w. let named = misnamed_group w name wrong in (named, ap (λ (r : Registered). after_group_add w name r) named));
+          (λ w. let named = misnamed_group w name wrong in
+          (named, ap (λ (r : Registered). after_group_add w name r) named));
     }
 
 pub returns : goal.returns
 returns g c =
     record {
-      does = changes (state g.S.Store c.args.self.now.conn) (state g.S.Store c.add_group.new.conn) c.args.self.now.kept c.args.self.now.kept
-          c.args.self.now.failures _ c.add_group.result c.counted.result _ _ _ c.counted.ensures c.add_group.ensures.changes.clean
-          (λ clean w stands _. (c.add_group.ensures.answer clean w stands.0, c.add_group.ensures.changes.at w, sound_group w c.args.name.now _ stands.1 refl))
-          (λ w _ right. by_result c.counted.result (kept_after_group w c.args.self.now.kept right c.args.name.now _ refl) right);
+      does = changes (state g.S.Store c.args.self.now.conn) (state g.S.Store c.add_group.new.conn) c.args.self.now.kept
+          c.args.self.now.kept
+          c.args.self.now.failures _ c.add_group.result c.counted.result _ _ _ c.counted.ensures
+          c.add_group.ensures.changes.clean
+          (λ clean w stands _. (
+            c.add_group.ensures.answer clean w stands.0,
+            c.add_group.ensures.changes.at w,
+            sound_group w c.args.name.now _ stands.1 refl,
+          ))
+          (λ w _ right. by_result c.counted.result
+          (kept_after_group w c.args.self.now.kept right c.args.name.now _ refl) right);
     }

@@ -10,7 +10,8 @@ pub returns : goal.returns
 returns g c =
     let read = rw (c.as_str.ensures.value, c.as_str-2.ensures.value) at c.in_ok-seen.ensures.reads in
     record {
-      reads = reads_as _ _ (option_map (λ (it : SeenHeading). it.heading)) c.in_ok-seen.seen c.heading_in.result _ _ c.heading_in.ensures
+      reads = reads_as _ _ (option_map (λ (it : SeenHeading). it.heading)) c.in_ok-seen.seen c.heading_in.result _ _
+          c.heading_in.ensures
           (λ w. heading_seen (view w c.args.shelf.now c.args.path.now (version_text c.args.version.now))) read;
     }
 

@@ -16,14 +16,22 @@ returns-then-not-is_key g c =
     let wrong : is_key key ≡ false = search rules in
     record {
       does = refused (state g.S.Store c.args.self.now.conn) c.args.self.now.kept c.args.self.now.failures Name _ _
-          (λ w. let named = misnamed w shelf key wrong in (named, ap (λ (r : Registered). after_key_add w shelf key c.args.right r) named));
+          (λ w. let named = misnamed w shelf key wrong in
+          (named, ap (λ (r : Registered). after_key_add w shelf key c.args.right r) named));
     }
 
 pub returns : goal.returns
 returns g c =
     record {
-      does = changes (state g.S.Store c.args.self.now.conn) (state g.S.Store c.add_key.new.conn) c.args.self.now.kept c.args.self.now.kept
-          c.args.self.now.failures _ c.add_key.result c.counted.result _ _ _ c.counted.ensures c.add_key.ensures.changes.clean
-          (λ clean w stands _. (c.add_key.ensures.answer clean w stands.0, c.add_key.ensures.changes.at w, sound_key w c.args.shelf.now c.args.key.now c.args.right _ stands.1 refl))
-          (λ w _ right. by_result c.counted.result (kept_after_key w c.args.self.now.kept right c.args.shelf.now c.args.key.now c.args.right _ refl) right);
+      does = changes (state g.S.Store c.args.self.now.conn) (state g.S.Store c.add_key.new.conn) c.args.self.now.kept
+          c.args.self.now.kept
+          c.args.self.now.failures _ c.add_key.result c.counted.result _ _ _ c.counted.ensures
+          c.add_key.ensures.changes.clean
+          (λ clean w stands _. (
+            c.add_key.ensures.answer clean w stands.0,
+            c.add_key.ensures.changes.at w,
+            sound_key w c.args.shelf.now c.args.key.now c.args.right _ stands.1 refl,
+          ))
+          (λ w _ right. by_result c.counted.result
+          (kept_after_key w c.args.self.now.kept right c.args.shelf.now c.args.key.now c.args.right _ refl) right);
     }

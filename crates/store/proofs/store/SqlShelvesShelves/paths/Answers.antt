@@ -10,10 +10,14 @@ returns g c =
     let along : map (λ s. s.now) c.as_slice.result.now ≡ c.args.shelf.now ∷ above c.in_ok-group.group = search rules in
     record {
       reads = reads_along _ (state g.S.Store c.group_of.new.self.conn)
-          (state g.S.Store c.find_paths-paths.new.conn) c.group_of.new.self.kept c.group_of.new.self.failures _ c.args.shelf.now _ _ c.find_paths-paths.result c.counted.result (λ w ss. paths_on w ss)
-          along c.in_ok-group.ensures.reads c.find_paths-paths.ensures.spares c.counted.ensures c.find_paths-paths.ensures.answer;
+          (state g.S.Store c.find_paths-paths.new.conn) c.group_of.new.self.kept c.group_of.new.self.failures _
+          c.args.shelf.now _ _ c.find_paths-paths.result c.counted.result (λ w ss. paths_on w ss)
+          along c.in_ok-group.ensures.reads c.find_paths-paths.ensures.spares c.counted.ensures
+          c.find_paths-paths.ensures.answer;
     }
 
 pub returns-in_err-group : goal.returns-in_err-group
 returns-in_err-group g c =
-    record { reads = reads_failed _ _ _ c.from_residual.result _ _ c.from_residual.ensures c.in_err-group.ensures.reads }
+    record {
+      reads = reads_failed _ _ _ c.from_residual.result _ _ c.from_residual.ensures c.in_err-group.ensures.reads;
+    }

@@ -16,7 +16,8 @@ returns-then-not-is_team_name g c =
     let wrong : is_team_name name ≡ false = search rules in
     record {
       does = refused (state g.S.Store c.args.self.now.conn) c.args.self.now.kept c.args.self.now.failures Name _ _
-          (λ w. let named = misnamed_team w name group wrong in (named, ap (λ (r : Registered). after_team_add w name group r) named));
+          (λ w. let named = misnamed_team w name group wrong in
+          (named, ap (λ (r : Registered). after_team_add w name group r) named));
     }
 
 pub returns : goal.returns
@@ -28,8 +29,17 @@ returns g c =
     let absences = c.new.result in
     record {
       does = changes (state g.S.Store c.args.self.now.conn) (state g.S.Store c.add_team.new.conn) c.args.self.now.kept
-          (record c.args.self.now.kept { lists = lists; headings = headings; absences = absences }) c.args.self.now.failures _ c.add_team.result c.counted.result _ _ _ c.counted.ensures c.add_team.ensures.changes.clean
-          (λ clean w stands _. (c.add_team.ensures.answer clean w stands.0, c.add_team.ensures.changes.at w, sound_team w name group _ stands.1 refl))
-          (λ w _ right. by_result c.counted.result (kept_after_team w c.args.self.now.kept right lists headings absences c.no_lists.ensures c.no_headings.ensures c.new.ensures name group _ refl)
-          (kept_but_lists w c.args.self.now.kept right lists headings absences c.no_lists.ensures c.no_headings.ensures c.new.ensures));
+          (record c.args.self.now.kept { lists = lists; headings = headings; absences = absences })
+          c.args.self.now.failures _ c.add_team.result c.counted.result _ _ _ c.counted.ensures
+          c.add_team.ensures.changes.clean
+          (λ clean w stands _. (
+            c.add_team.ensures.answer clean w stands.0,
+            c.add_team.ensures.changes.at w,
+            sound_team w name group _ stands.1 refl,
+          ))
+          (λ w _ right. by_result c.counted.result
+          (kept_after_team w c.args.self.now.kept right lists headings absences c.no_lists.ensures
+          c.no_headings.ensures c.new.ensures name group _ refl)
+          (kept_but_lists w c.args.self.now.kept right lists headings absences c.no_lists.ensures c.no_headings.ensures
+          c.new.ensures));
     }

@@ -7,7 +7,8 @@ use Rattle.world.proofs.Newest.{none_latest, some_latest}
 use Rattle.world.proofs.map_shelves.MapShelves.latest_among.Goals as goal
 
 pub returns-in_default : goal.returns-in_default
-returns-in_default c = λ is. none_latest c.args.self.now is c.args.shelf.now c.args.path.now c.args.versions.now c.requires c.in_default.ensures
+returns-in_default c = λ is.
+    none_latest c.args.self.now is c.args.shelf.now c.args.path.now c.args.versions.now c.requires c.in_default.ensures
 
 pub returns : goal.returns
 returns c =
@@ -15,6 +16,7 @@ returns c =
     let s = c.args.shelf.now in
     let p = c.args.path.now in
     IfOk-weaker c.latest_left.result _ (λ (v : Option SemanticVersion). IsWorld w → v ≡ latest_of w s p)
-    (λ v left is. some_latest w is s p c.args.versions.now c.requires c.in-Some.newest.now c.in_ok-heading.heading c.in_ok-gomod.gomod v
+    (λ v left is. some_latest w is s p c.args.versions.now c.requires c.in-Some.newest.now c.in_ok-heading.heading
+    c.in_ok-gomod.gomod v
     c.in-Some.ensures c.in_ok-heading.ensures c.in_ok-gomod.ensures left)
     c.latest_left.ensures

@@ -13,10 +13,16 @@ returns c =
     let w = c.args.self.now in
     let s = c.args.shelf.now in
     let p = c.args.path.now in
-    let was : World = record { keys = c.self.inside.keys; shelves = c.self.inside.shelves; entries = c.self.inside.entries } in
+    let was : World = record {
+      keys = c.self.inside.keys;
+      shelves = c.self.inside.shelves;
+      entries =
+          c.self.inside.entries;
+    } in
     let own : World → List SemanticVersion = λ x. named (in_order (versions_among s p (map.entries x.entries))) in
     ap (λ vs. in_order (by_precedence vs))
     (c.in_ok-add_versions_above.ensures
-    ∙ ap (λ vs. vs ++ named_on w (above (option_copied c.group_of.result)) p) (c.in_ok-add_versions.ensures ∙ ap (λ vs. vs ++ own was) c.new-versions.ensures.items ∙ ap own c.self.view_is)
+    ∙ ap (λ vs. vs ++ named_on w (above (option_copied c.group_of.result)) p)
+    (c.in_ok-add_versions.ensures ∙ ap (λ vs. vs ++ own was) c.new-versions.ensures.items ∙ ap own c.self.view_is)
     ∙ ap (λ g. own w ++ named_on w (above g) p) c.group_of.ensures)
     ∙ on_chain w s p

@@ -18,9 +18,11 @@ returns c = record {
         let named : is_team_name t ≡ true = search rules in
         let free : map.contains_key c.self.inside.shelves t ≡ false = search rules in
         let added : group_added w t ≡ Done =
-        ap (λ x. group_added x t) (sym is.0) ∙ group_done m t named (ap (λ (x : World). map.contains_key x.shelves t) (sym c.self.view_is) ∙ free) in
+        ap (λ x. group_added x t) (sym is.0)
+        ∙ group_done m t named (ap (λ (x : World). map.contains_key x.shelves t) (sym c.self.view_is) ∙ free) in
         done _ _ w Done (group_added w t) (after_group_add w t (group_added w t)) (sym added)
-        (c.in_ok-add_shelf.ensures.ok ∙ ap (λ x. with_group x t) is.0 ∙ ap (λ (r : Registered). after_group_add w t r) (sym added))
+        (c.in_ok-add_shelf.ensures.ok ∙ ap (λ x. with_group x t) is.0
+        ∙ ap (λ (r : Registered). after_group_add w t r) (sym added))
         (sound_group w t _ is.1 refl);
     cause = no_fault _ _ _;
   };

@@ -17,7 +17,8 @@ returns c = record {
         let s = c.args.shelf.now in
         let k = c.args.key.now in
         let h : Holder = record { shelf = s; right = c.args.right } in
-        let inside : map.FinMap text_cmp Holder → World = λ m. record { keys = m; shelves = c.self.inside.shelves; entries = c.self.inside.entries } in
+        let inside : map.FinMap text_cmp Holder
+        → World = λ m. record { keys = m; shelves = c.self.inside.shelves; entries = c.self.inside.entries } in
         let was : World = inside c.self.inside.keys in
         let same : was ≡ w = c.self.view_is ∙ is.0 in
         let named : is_key k ≡ true = search rules in
@@ -26,7 +27,8 @@ returns c = record {
         let added : key_added w s k ≡ Done = ap (λ x. key_added x s k) (sym same) ∙ key_done was s k named there free in
         done _ _ w Done (key_added w s k) (after_key_add w s k c.args.right (key_added w s k)) (sym added)
         (ap inside c.in_ok-insert.ensures.ok
-        ∙ ap (λ x. with_key was x c.in_ok-holder.holder) c.in_ok-key.ensures.ok ∙ ap (λ (x : Holder). with_key was k x) c.in_ok-holder.ensures
+        ∙ ap (λ x. with_key was x c.in_ok-holder.holder) c.in_ok-key.ensures.ok
+        ∙ ap (λ (x : Holder). with_key was k x) c.in_ok-holder.ensures
         ∙ ap (λ x. with_key x k h) same ∙ ap (λ (r : Registered). after_key_add w s k c.args.right r) (sym added))
         (sound_key w s k c.args.right _ is.1 refl);
     cause = no_fault _ _ _;

@@ -14,13 +14,15 @@ returns-clause-does c = record {
   honest = λ h. h;
   at = λ _ w is _.
       let k = c.args.key.now in
-      let inside : map.FinMap text_cmp Holder → World = λ m. record { keys = m; shelves = c.self.inside.shelves; entries = c.self.inside.entries } in
+      let inside : map.FinMap text_cmp Holder
+      → World = λ m. record { keys = m; shelves = c.self.inside.shelves; entries = c.self.inside.entries } in
       let was : World = inside c.self.inside.keys in
       let same : was ≡ w = c.self.view_is ∙ is.0 in
       let there : map.contains_key was.keys k ≡ true = search rules in
       let gone : key_revoked w k ≡ Done = ap (λ x. key_revoked x k) (sym same) ∙ key_gone was k there in
       done _ _ w Done (key_revoked w k) (after_key_revoke w k (key_revoked w k)) (sym gone)
-      (ap inside c.remove.ensures.rest ∙ ap (λ x. without_key x k) same ∙ ap (λ (r : Registered). after_key_revoke w k r) (sym gone))
+      (ap inside c.remove.ensures.rest ∙ ap (λ x. without_key x k) same
+      ∙ ap (λ (r : Registered). after_key_revoke w k r) (sym gone))
       (sound_revoke w k _ is.1);
   cause = no_fault _ _ _;
 }

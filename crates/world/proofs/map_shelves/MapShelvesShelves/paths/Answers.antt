@@ -14,12 +14,18 @@ returns c = record {
     at = λ _ w is.
         let m = c.args.self.now in
         let s = c.args.shelf.now in
-        let was : World = record { keys = c.self.inside.keys; shelves = c.self.inside.shelves; entries = c.self.inside.entries } in
+        let was : World = record {
+          keys = c.self.inside.keys;
+          shelves = c.self.inside.shelves;
+          entries =
+              c.self.inside.entries;
+        } in
         let own : World → set.FinSet text_cmp = λ x. paths_among s (map.entries x.entries) in
         read m w c.add_paths_above.new.paths (paths_seen w s) is
         (c.in_ok-add_paths_above.ensures
         ∙ ap (λ ps. set.union ps (paths_on m (above (option_copied c.group_of.result))))
-        (c.in_ok-add_paths.ensures ∙ ap (λ ps. set.union ps (own was)) c.new-paths.ensures ∙ put_first (own was) ∙ ap own c.self.view_is)
+        (c.in_ok-add_paths.ensures ∙ ap (λ ps. set.union ps (own was)) c.new-paths.ensures ∙ put_first (own was)
+        ∙ ap own c.self.view_is)
         ∙ ap (λ g. set.union (own m) (paths_on m (above g))) c.group_of.ensures
         ∙ ap (λ (x : World). paths_seen x s) is.0);
     cause = no_fault _ _ _;

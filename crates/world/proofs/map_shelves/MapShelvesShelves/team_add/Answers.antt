@@ -20,9 +20,12 @@ returns c = record {
         let free : map.contains_key c.self.inside.shelves t ≡ false = search rules in
         let has : lacks_group m g ≡ false = search rules in
         let added : team_added w t g ≡ Done =
-        ap (λ x. team_added x t g) (sym is.0) ∙ team_done m t g named (ap (λ (x : World). map.contains_key x.shelves t) (sym c.self.view_is) ∙ free) has in
+        ap (λ x. team_added x t g) (sym is.0)
+        ∙ team_done m t g named (ap (λ (x : World). map.contains_key x.shelves t) (sym c.self.view_is) ∙ free)
+        has in
         done _ _ w Done (team_added w t g) (after_team_add w t g (team_added w t g)) (sym added)
-        (c.in_ok-add_shelf.ensures.ok ∙ ap (λ (x : List ℕ). with_shelf m t (Some x)) (c.in_ok-parent.ensures ∙ c.parent_of.ensures)
+        (c.in_ok-add_shelf.ensures.ok
+        ∙ ap (λ (x : List ℕ). with_shelf m t (Some x)) (c.in_ok-parent.ensures ∙ c.parent_of.ensures)
         ∙ ap (λ x. with_team x t g) is.0 ∙ ap (λ (r : Registered). after_team_add w t g r) (sym added))
         (sound_team w t g _ is.1 refl);
     cause = no_fault _ _ _;

@@ -5,4 +5,5 @@ use Rattle.world.proofs.MapsSets.{texts_in_order}
 use Rattle.world.proofs.text_set.TextSet.iter.Goals as goal
 
 pub returns : goal.returns
-returns c = ap (each string_bytes) c.iter.ensures.rest ∙ sym (texts_in_order c.self.inside.tree.keys c.iter.ensures.ordered) ∙ ap in_order c.self.view_is
+returns c = ap (each string_bytes) c.iter.ensures.rest
+    ∙ sym (texts_in_order c.self.inside.tree.keys c.iter.ensures.ordered) ∙ ap in_order c.self.view_is

@@ -13,6 +13,7 @@ returns-in-None c =
 
 pub returns-in-Some : goal.returns-in-Some
 returns-in-Some c = on_ok_weaker c.add_keys.result
-    (λ more. more ∙ more_paths c.self.inside.shelves c.args.shelf.now c.self.invariant c.args.paths.now c.in-Some.found.now c.in-Some.ensures
+    (λ more. more ∙ more_paths c.self.inside.shelves c.args.shelf.now c.self.invariant c.args.paths.now
+    c.in-Some.found.now c.in-Some.ensures
     ∙ ap (λ m. set.union c.args.paths.now (paths_among c.args.shelf.now (map.entries m))) c.self.view_is)
     c.add_keys.ensures

@@ -22,6 +22,7 @@ returns-in-Some c =
     let p = c.args.path.now in
     let old = c.args.versions.now.items in
     on_ok_weaker c.add_named.result
-    (λ more. more ∙ ap (λ ts. old ++ named ts) (sym (the_versions c.self.inside.shelves s p c.in-Some.found.now c.in-Some.ensures))
+    (λ more. more ∙ ap (λ ts. old ++ named ts)
+    (sym (the_versions c.self.inside.shelves s p c.in-Some.found.now c.in-Some.ensures))
     ∙ ap (λ m. old ++ named (in_order (versions_among s p (map.entries m)))) c.self.view_is)
     c.add_named.ensures

@@ -7,9 +7,12 @@ use Rattle.world.proofs.maps.entry_map.EntryMap.get.Goals as goal
 pub returns-in_err-get : goal.returns-in_err-get
 returns-in_err-get c =
     let q = place c.args.shelf.now c.args.path.now c.args.version.now in
-    rw c.from_residual.ensures (nothing_at c.self.inside.shelves c.args.shelf.now c.args.path.now c.args.version.now c.in_err-get.ensures ∙ ap (λ m. map.get m q) c.self.view_is)
+    rw c.from_residual.ensures
+    (nothing_at c.self.inside.shelves c.args.shelf.now c.args.path.now c.args.version.now c.in_err-get.ensures
+    ∙ ap (λ m. map.get m q) c.self.view_is)
 
 pub returns : goal.returns
 returns c =
     let q = place c.args.shelf.now c.args.path.now c.args.version.now in
-    c.get_under.ensures ∙ something_at c.self.inside.shelves c.args.shelf.now c.args.path.now c.args.version.now c.in_ok-get.field-0.now c.in_ok-get.ensures ∙ ap (λ m. map.get m q) c.self.view_is
+    c.get_under.ensures ∙ something_at c.self.inside.shelves c.args.shelf.now c.args.path.now c.args.version.now
+    c.in_ok-get.field-0.now c.in_ok-get.ensures ∙ ap (λ m. map.get m q) c.self.view_is

@@ -15,4 +15,5 @@ returns-in-Some-clause-ok g c =
 pub returns-in-Some-clause-err : goal.returns-in-Some-clause-err
 returns-in-Some-clause-err g c =
     let lent = rw c.in-Some.is at (c.get_mut.follows.holds c.insert.new.self) in
-    on_err_weaker c.insert.result (λ same. same_found c.args.self.now c.args.first.now c.in-Some.ensures.value lent same) c.insert.ensures.err
+    on_err_weaker c.insert.result
+    (λ same. same_found c.args.self.now c.args.first.now c.in-Some.ensures.value lent same) c.insert.ensures.err

@@ -9,8 +9,10 @@ returns g c =
       (
         refl,
         λ w. at_some c.get_mut.result c.get_mut.ensures.value
-            (λ found. insert_text c.self.inside.tree (c.get_mut.follows.lender w) k w ((c.get_mut.follows.holds w).3 found) ∙ ap (λ m. map.insert m k w) c.self.view_is),
-        same_entries c.self.inside.tree c.get_mut.follows.lender-at-none c.get_mut.follows.holds-at-none ∙ c.self.view_is,
+            (λ found. insert_text c.self.inside.tree (c.get_mut.follows.lender w) k w
+            ((c.get_mut.follows.holds w).3 found) ∙ ap (λ m. map.insert m k w) c.self.view_is),
+        same_entries c.self.inside.tree c.get_mut.follows.lender-at-none c.get_mut.follows.holds-at-none
+            ∙ c.self.view_is,
       ),
       c.get_mut.ensures.value ∙ sym (get_text c.self.inside.tree k) ∙ ap (λ m. map.get m k) c.self.view_is,
     )

@@ -6,5 +6,6 @@ use Rattle.world.proofs.maps.text_map.TextMap.insert.Goals as goal
 
 pub returns-clause-ok : goal.returns-clause-ok
 returns-clause-ok g c =
-    insert_text c.self.inside.tree c.insert.new.self (string_bytes c.args.key) c.args.value c.in_ok-insert.ensures.updates
+    insert_text c.self.inside.tree c.insert.new.self (string_bytes c.args.key) c.args.value
+    c.in_ok-insert.ensures.updates
     ∙ ap (λ m. map.insert m (string_bytes c.args.key) c.args.value) c.self.view_is

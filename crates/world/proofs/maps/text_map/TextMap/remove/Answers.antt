@@ -4,7 +4,8 @@ use Rattle.world.proofs.MapsTexts.{get_text, remove_text}
 use Rattle.world.proofs.maps.text_map.TextMap.remove.Goals as goal
 
 pub returns-clause-value : goal.returns-clause-value
-returns-clause-value g c = c.remove.ensures.value ∙ sym (get_text c.self.inside.tree c.args.key.now) ∙ ap (λ m. map.get m c.args.key.now) c.self.view_is
+returns-clause-value g c = c.remove.ensures.value ∙ sym (get_text c.self.inside.tree c.args.key.now)
+    ∙ ap (λ m. map.get m c.args.key.now) c.self.view_is
 
 pub returns-clause-rest : goal.returns-clause-rest
 returns-clause-rest g c =

@@ -45,6 +45,13 @@ has_keys m t =
     ∙ ap (λ b. b || list_any (eq_by_cmp text_cmp t) (map.keys m)) (set.contains-empty text_cmp t)
     ∙ sym (map.contains_key-keys m t)
 
+-- the texts of a list, put into the empty set
+pub put_into_none : (ts : List (List ℕ)) → with_texts set.empty ts ≡ set.from_list ts
+put_into_none ts = set.same_set texts_total texts_exact _ _ (λ t.
+    contains_more set.empty ts t
+    ∙ ap (λ b. b || list_any (eq_by_cmp text_cmp t) ts) (set.contains-empty text_cmp t)
+    ∙ sym (set.contains-from_list texts_total ts t))
+
 -- a set that gets the texts of a map becomes its union with a set of these texts
 more_keys : {X : Type 0} (s u : set.FinSet text_cmp) (m : map.FinMap text_cmp X)
     → ((t : List ℕ) → set.contains u t ≡ is_some (map.get m t)) → with_texts s (map.keys m) ≡ set.union s u

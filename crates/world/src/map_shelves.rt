@@ -70,6 +70,31 @@ impl MapShelves {
         })
     }
 
+    /// Returns all keys. Fails only if memory runs out.
+    pub fn all_keys(&self) -> Result<TextSet, AllocError>
+        ensures { IfOk result (λ keys. keys ≡ set.from_list (map.keys self.now.keys)) }
+    {
+        let mut keys = TextSet::new(self.alloc);
+        self.keys.add_keys(self.alloc, &mut keys)?;
+        Ok(keys)
+    }
+
+    /// Returns the names of all shelves. Fails only if memory runs out.
+    pub fn all_shelves(&self) -> Result<TextSet, AllocError>
+        ensures { IfOk result (λ names. names ≡ set.from_list (map.keys self.now.shelves)) }
+    {
+        let mut names = TextSet::new(self.alloc);
+        self.shelves.add_keys(self.alloc, &mut names)?;
+        Ok(names)
+    }
+
+    /// Returns the parent of a shelf, or None if no shelf has this name. The parent of `common` and of a group is None.
+    pub fn parent(&self, shelf: &str) -> Option<&Option<Text>>
+        ensures { option_copied result ≡ map.get self.now.shelves shelf.now }
+    {
+        self.shelves.get(shelf)
+    }
+
     /// Returns the group of a shelf, or None if it has none.
     fn group_of(&self, shelf: &str) -> Option<&str>
         ensures { option_copied result ≡ group_of self.now shelf.now }

@@ -10,35 +10,20 @@
 //! connection is closed or limited in its steps, or a row holds a value that no store writes.
 #![tactic(auto)]
 
-ghost use Rattle.std.specs.Prelude.{◌≡◌, [], false, IfOk, OnOk, IsTrue};
+ghost use Rattle.std.specs.Prelude.{◌≡◌, [], false, IfOk, IsTrue};
 ghost use Rattle.std.specs.FinSet as set;
-ghost use Rattle.sqlite.specs.Effect.{Reads};
 ghost use Rattle.sqlite.specs.Given.{IsPlain};
 ghost use Rattle.sqlite.specs.Held.{state};
 ghost use Rattle.sqlite.specs.Listing.{understood, reads_listing};
-ghost use Rattle.sqlite.proofs.Callers.{command_of};
 ghost use Rattle.tables.specs.Schema.{store_schema};
 ghost use Rattle.statements.specs.Calls.{InEachWorld, Spares};
 ghost use Rattle.statements.specs.Lists.{AddsTexts, AddsAnswer};
 ghost use Rattle.keyring.specs.Named.{keys_in, shelves_in};
 
 use sqlite::{Alter, Connection, Error, Row};
+use statements::query::find_rows;
 use std::alloc::Global;
 use world::text_set::TextSet;
-
-/// Returns all rows of the answer to a query without parameters.
-fn find_rows<S: Alter>(conn: &mut Connection<S>, sql: &str) -> Result<Vec<Row>, Error>
-    requires plain { IsPlain (understood store_schema sql.now) }
-    requires tables { reads_listing store_schema sql.now ≡ false }
-    ensures spares { Spares (state S.Store conn.old) (state S.Store conn.new) }
-    ensures rows { InEachWorld (state S.Store conn.old) (state S.Store conn.new) (λ old _ _.
-        IfOk result (λ rows. IsTrue old.is_open
-        × Reads (command_of (understood store_schema sql.now)) old.now [] rows.items)) }
-{
-    // This fails on a closed connection, so the next line finds the tables.
-    conn.prepare(sql)?;
-    conn.query_all(sql, &[])
-}
 
 /// Returns the first value of each row.
 fn texts_of(alloc: Global, rows: &[Row]) -> Result<TextSet, Error>
@@ -64,7 +49,7 @@ fn find_texts<S: Alter>(
     ensures texts { InEachWorld (state S.Store conn.old) (state S.Store conn.new) (λ old _ _.
         IfOk result (λ texts. IsTrue old.is_open × AddsAnswer sql.now [] old.now set.empty texts)) }
 {
-    let rows = find_rows(conn, sql)?;
+    let rows = find_rows(conn, sql, &[])?;
     texts_of(alloc, rows.as_slice())
 }
 

@@ -38,7 +38,7 @@ pub fn find_row<S: Alter>(
 }
 
 /// Returns all rows of the answer to a query.
-pub(crate) fn find_rows<S: Alter>(
+pub fn find_rows<S: Alter>(
     conn: &mut Connection<S>,
     sql: &str,
     params: &[ValueRef<'_>],

@@ -3,10 +3,10 @@ use crate::rows::{column, named, on_one_line};
 use modver::{Version, read_time};
 use std::alloc::{AllocError, Global};
 use std::test::Fail;
-use wire::{Fixed, Kind, StatusCode, encode_head, fixed, fixed_line, info_body, reply_head};
+use wire::{Fixed, Kind, encode_head, fixed, fixed_line, info_body};
 
 /// - `fixed` and `line`: a reply with a fixed body, and its bytes or its line.
-/// - `zip` and `made`: the head of a zip of no bytes, written to a buffer or to memory.
+/// - `zip`: the head of a zip of no bytes.
 /// - `info`: a version, its time, and the body of its `.info`.
 ///
 /// `;` is a newline, except in `text/plain; charset=utf-8`.
@@ -47,7 +47,6 @@ line|Unavailable|503 unavailable
 line|Full|507 full
 line|BadGoMod(4)|422 bad-gomod 4
 zip||HTTP/1.1 200 OK\r;Content-Type: application/zip\r;Content-Length: 0\r;Connection: close\r;\r;
-made||HTTP/1.1 200 OK\r;Content-Type: application/zip\r;Content-Length: 0\r;Connection: close\r;\r;
 info|v1.0.0||{\"Version\":\"v1.0.0\"}
 info|v1.0.0|2024-02-29T23:59:59Z|{\"Time\":\"2024-02-29T23:59:59Z\",\"Version\":\"v1.0.0\"}
 ";
@@ -98,7 +97,6 @@ pub fn given(alloc: Global, row: &str) -> Result<String, Fail> {
     let mut line = [0; 40];
     match column(row, 0) {
         "info" => info(alloc, row),
-        "made" => on_one_line(alloc, &reply_head(alloc, StatusCode::OK, Kind::Zip, 0)?),
         "zip" => {
             let len = encode_head(Kind::Zip, 0, &mut buf);
             on_one_line(alloc, &buf[..len])

@@ -1,34 +1,13 @@
-//! Writes replies into buffers on the stack, which takes no memory, and heads into memory.
-ghost use Rattle.std.specs.Prelude.{◌≡◌, ◌+◌, ◌≤◌, ◌++◌, length, take, IfOk};
+//! Writes replies into buffers on the stack, which takes no memory.
+ghost use Rattle.std.specs.Prelude.{◌≡◌, ◌+◌, ◌≤◌, ◌++◌, length, take};
 ghost use Rattle.wire.specs.Reply.{phrase, head_with, head_bytes, fixed_text, fixed_bytes, line_bytes};
 
 use crate::reply::{Fixed, Kind, phrase_of};
-use framing::Memory;
 use http::StatusCode;
 use itoa::Buffer;
-use std::alloc::Global;
 
-/// Returns the head of a reply whose body has `len` bytes, with the empty line that ends it (RFC 9112, sections 4 and
-/// 5). It fails only if memory runs out.
-pub fn reply_head(
-    alloc: Global,
-    status: StatusCode,
-    kind: Kind,
-    len: usize,
-) -> Result<Vec<u8>, Memory>
-    ensures { IfOk result (λ head. head.items ≡ head_bytes status kind len) }
-{
-    let text = format!(in alloc;
-        "HTTP/1.1 {} {}\r\nContent-Type: {}\r\nContent-Length: {}\r\nConnection: close\r\n\r\n",
-        status.as_str(),
-        phrase_of(status),
-        kind.text(),
-        len,
-    )?;
-    Ok(text.into_bytes())
-}
-
-/// Writes the head of a 200 whose body has `len` bytes to the front of the buffer, and returns the length of the head.
+/// Writes the head of a 200 whose body has `len` bytes, with the empty line that ends it (RFC 9112, sections 4 and 5), to
+/// the front of the buffer, and returns the length of the head.
 #[tactic(auto, unfolding(crate::specs::Reply::phrase))]
 pub fn encode_head(kind: Kind, len: usize, buf: &mut [u8; 160]) -> usize
     ensures text { take result buf.new ≡ head_bytes 200 kind len }

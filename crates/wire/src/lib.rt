@@ -31,7 +31,7 @@ mod resources;
 mod routes;
 pub mod targets;
 
-pub use encode::{encode_head, fixed, fixed_line, reply_head};
+pub use encode::{encode_head, fixed, fixed_line};
 pub use framing::{Bad, Framer, Memory, Message, Next, length_value};
 pub use info::info_body;
 pub use reply::{Fixed, Kind, StatusCode};

@@ -1,4 +1,3 @@
-pub mod InMemory
 pub mod Checks
 pub mod Misfits
 pub mod Runs

@@ -9,28 +9,6 @@ use world::entry_test::{Misfit, module_misfit, own_misfit};
 use world::reading::Reading;
 use world::standing::Standing;
 
-/// Returns the outcome of the checks of a publish, in their order. The checks take the right of the key (None for an
-/// unknown key), the go.mod as it was read, how the entry compares with what the shelf sees, and how many versions of
-/// the path stand on the shelf. It needs a go.mod that was read; [`request_refusal`] has the checks that come before
-/// that. Allocates nothing.
-pub fn decide(
-    publish: &Publish,
-    right: Option<Right>,
-    gomod: &Reading,
-    standing: Standing,
-    count: u64,
-) -> Decision
-    ensures { result ≡ spec.decided publish.now right (Some gomod.now) standing count }
-{
-    if let Some(refused) = request_refusal(publish, right) {
-        return refused;
-    }
-    if let Some(refused) = gomod_refusal(publish, gomod) {
-        return refused;
-    }
-    decide_by_shelf(standing, count)
-}
-
 /// Returns the answer of the first check of the go.mod that fails, or None if all pass. Allocates nothing.
 pub fn gomod_refusal(publish: &Publish, gomod: &Reading) -> Option<Decision>
     ensures { result ≡ spec.first_failing (spec.gomod_checks publish.now (Some gomod.now)) }
@@ -121,7 +99,7 @@ fn well_formed(publish: &Publish)
 
 /// Returns the outcome of the checks against what stands, from how the entry compares with what the shelf sees and how
 /// many versions of the path stand on the shelf. Allocates nothing.
-pub(crate) fn decide_by_shelf(standing: Standing, count: u64) -> Decision
+pub fn decide_by_shelf(standing: Standing, count: u64) -> Decision
     ensures { result ≡ spec.decided_by_shelf standing count }
 {
     match standing {

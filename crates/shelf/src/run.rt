@@ -1,17 +1,14 @@
 //! Lists of events over any store.
 ghost use Rattle.std.specs.Prelude.{◌≡◌, ◌≤◌, [], ◌∷◌, IfOk, OnErr, option_copied};
-ghost use Rattle.shelf.specs.Machine.{reply_to, after, Run, MetDevice};
+ghost use Rattle.shelf.specs.Machine.{reply_to, after, MetDevice};
 ghost use Rattle.shelf.specs.Runs.{Runs};
-ghost use Rattle.world.specs.InMemory.{IsJust};
 ghost use Rattle.world.specs.Store.{Does, GrewOrFull};
-ghost use Rattle.world.specs.World.{only_common};
 
 use crate::ask::Event;
 use crate::reply::{Answer, Reply};
 use crate::step::step;
 use std::alloc::{AllocError, Global};
 use text::Text;
-use world::map_shelves::MapShelves;
 use world::registry::StoreFault;
 use world::shelves::Shelves;
 
@@ -81,22 +78,4 @@ pub fn run<S: Shelves>(
         answers.push(answer)?;
     }
     Ok(answers)
-}
-
-/// Carries out a list of events on shelves in memory that begin with `common` alone, and returns the shelves and the
-/// answers. Fails only if there is no memory for the shelves or the answers.
-pub fn run_in_memory(
-    alloc: Global,
-    events: &[Event],
-) -> Result<(MapShelves, Vec<Answer>), AllocError>
-    // The answers are those of a run of the machine, which leads to the world that the shelves hold.
-    ensures run { IfOk result (λ r. Run only_common events.now r.1.items r.0) }
-    // No device fails.
-    ensures no_device { IfOk result (λ r. ¬ MetDevice r.1.items) }
-    // The contracts of the trait hold for that world alone, and a crash leaves no other.
-    ensures shown { IfOk result (λ r. IsJust (⟦<MapShelves as Shelves>⟧.shown r.0) r.0) }
-{
-    let mut shelves = MapShelves::new(alloc)?;
-    let answers = run(alloc, &mut shelves, events)?;
-    Ok((shelves, answers))
 }

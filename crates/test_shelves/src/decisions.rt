@@ -2,7 +2,7 @@
 use modpath::ModulePath;
 use modver::{Version, read_time};
 use shelf::ask::{Body, GivenTime, Publish};
-use shelf::decide::decide;
+use shelf::decide::{decide_by_shelf, gomod_refusal, request_refusal};
 use shelf::reply::Decision;
 use std::alloc::{AllocError, Global};
 use std::test::Fail;
@@ -109,7 +109,7 @@ fn compared(publish: &Publish, seen: Option<&Entry>) -> Standing {
     }
 }
 
-/// Returns the decision on a publish whose go.mod was read.
+/// Returns the decision on a publish whose go.mod was read: that of the first check that fails.
 fn decided_as_read(
     alloc: Global,
     row: &str,
@@ -120,7 +120,13 @@ fn decided_as_read(
     let count = column(row, 8).parse::<u64>()?;
     let seen = seen(alloc, column(row, 6), column(row, 7))?;
     let standing = compared(publish, seen.as_ref());
-    Ok(decide(publish, right, reading, standing, count))
+    if let Some(refused) = request_refusal(publish, right) {
+        return Ok(refused);
+    }
+    if let Some(refused) = gomod_refusal(publish, reading) {
+        return Ok(refused);
+    }
+    Ok(decide_by_shelf(standing, count))
 }
 
 fn decided(alloc: Global, row: &str, publish: &Publish) -> Result<Decision, Fail> {

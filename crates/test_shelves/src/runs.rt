@@ -3,7 +3,7 @@ use modpath::ModulePath;
 use modver::Version;
 use shelf::ask::{Ask, Body, Event, GivenTime, Publish, Query};
 use shelf::reply::{Answer, Reply};
-use shelf::run::{run, run_in_memory};
+use shelf::run::run;
 use std::alloc::{AllocError, Global};
 use std::process::Abort;
 use std::str::from_utf8;
@@ -12,6 +12,7 @@ use test_support::rows::{answer_of, call_of, column, with_lines};
 use text::Text;
 use world::bytes::Bytes;
 use world::entry::Right;
+use world::map_shelves::MapShelves;
 
 /// Runs, with `====` between them: events and their answers. What stands before `----` runs first, and the rest then
 /// runs on the shelves that it left. Every request is for `v1.0.0`; `;` stands for a newline.
@@ -185,7 +186,8 @@ fn runs_have_their_answers(rt: HostRuntime) -> Result<(), Fail> {
     let alloc = rt.alloc();
     for script in RUNS.split("====\n") {
         let (first, rest) = script.split_once("----\n").ok_or("no second part")?;
-        let (mut shelves, answers) = run_in_memory(alloc, events(alloc, first)?.as_slice())?;
+        let mut shelves = MapShelves::new(alloc)?;
+        let answers = run(alloc, &mut shelves, events(alloc, first)?.as_slice())?;
         assert_answers(&rt, alloc, answers.as_slice(), first)?;
         let answers = run(alloc, &mut shelves, events(alloc, rest)?.as_slice())?;
         assert_answers(&rt, alloc, answers.as_slice(), rest)?;

@@ -1,21 +1,17 @@
 -- Opening the tables of a connection.
-use Rattle.std.proofs.Common.{◌≡◌, ◌⊎◌, refl, sym, ap, subst, ◌∙◌, inl, inr, IsTrue, true≢false, arith}
-use Rattle.std.specs.Prelude.{ℕ, Option, Some, None, IsSome, IsSomeAnd, List, [], ◌∷◌}
+use Rattle.std.proofs.Common.{◌≡◌, sym, ap, subst, ◌∙◌, inl, inr, IsTrue}
+use Rattle.std.specs.Prelude.{ℕ, List, [], ◌∷◌}
 use Rattle.std.specs.List.{AllZip}
 use Rattle.sqlite.specs.Order.{Row}
 use Rattle.sqlite_wal.specs.Recovery.{Image}
-use Rattle.sqlite_disk.specs.declared.Disk.{Ghosts}
-use Rattle.sqlite.specs.declared.file.Leftover.{Leftover}
-use Rattle.sqlite.specs.Files.{AreFoundIn, IsEmpty as HasNoRows, IsCleanLeft}
+use Rattle.sqlite.specs.Files.{AreFoundIn, IsEmpty as HasNoRows}
 use Rattle.sqlite.specs.Start.{FindsIn}
 use Rattle.sqlite.proofs.ListingLemmas.{empty_is_sound}
 use Rattle.sqlite_catalog.proofs.ReadLemmas.{lists_once}
-use Rattle.sqlite_trees.specs.Objects.{catalog_tree}
 use Rattle.sqlite_catalog.specs.Listing.{IsSound, IsTableRow}
 use Rattle.sqlite.specs.Tree.{Trees}
 use Rattle.sqlite.specs.Effect.{Database}
 use Rattle.sqlite.specs.State.{State, IsLive}
-use Rattle.sqlite.specs.Schema.{Schema}
 use Rattle.world.specs.World.{World, only_common}
 use Rattle.tables.specs.Schema.{store_schema, no_schema}
 use Rattle.tables.specs.Means.{StandFor}
@@ -23,26 +19,11 @@ use Rattle.store.specs.Shown.{shown_of, shown_with, BeginsAt}
 use Rattle.kept.specs.declared.kept.Kept.{Kept}
 use Rattle.kept.specs.Kept.{IsNothing}
 use Rattle.kept.proofs.KeptLemmas.{nothing_kept}
-use Rattle.tables.specs.Causes.{IsHindered, IsVast}
-use Rattle.setup.specs.Opened.{Opens, IsBad, IsOfOpening}
+use Rattle.setup.specs.Opened.{Opens, IsBad}
 use Rattle.store.specs.Restart.{HoldsWorld, HoldsStore, HoldsNoStore, HoldsNoDatabase, IsBlank, RecoversStore}
 use Rattle.store.specs.Restart.{KeepsTrees, LeavesCommitted}
 use Rattle.store.proofs.FileLemmas.{finds_empty}
 use Rattle.tables.proofs.OneWorld.{stand_for_one}
-use Rattle.setup.specs.declared.refusal.Refusal.{Refusal}
-use Rattle.setup.specs.declared.refusal.Refusal.TheVariants as refusal
-use Rattle.sqlite_trees.specs.declared.memory.MemStore.{MemStore}
-use Rattle.sqlite.specs.Held.{Held, state, IsNew}
-use Rattle.sqlite.specs.Steps.{over_memory, IsEmpty}
-
-module _ (old new : State) where
-  -- if there were no tables, the store begins with `common` alone
-  pub begins_first : old.now.schema ≡ no_schema → Opens old new → BeginsAt (shown_of new) only_common
-  begins_first none it = elim it.tables [
-    | inl first ↦ subst (BeginsAt (shown_of new)) first.1 it.begins
-    | inr found ↦ (let e : ◌≡◌ {A = Schema} store_schema no_schema = sym found.schema
-        ∙ none in absurd (let t = ap (λ (s : Schema). s.tables) e in cc))
-  ]
 
 -- trees that list no tables are not those of the schema
 unlisted : (db : Trees) → IsSound no_schema db → IsSound store_schema db → ⊥
@@ -149,25 +130,3 @@ pub begins_empty : (s : State) (kept : Kept) (count : ℕ) (w : World) → IsNot
     → BeginsAt (shown_with s kept count) w
 begins_empty s kept count w none it =
     record { honest = it.honest; stands = (it.stands, nothing_kept w kept none); left = it.left }
-
--- ---- why an opening is refused
-
-pub only_memory : (r : Refusal) → IsOfOpening r → (r ≡ refusal.BadSchema → ⊥) → (r ≡ refusal.Device → ⊥)
-    → r ≡ refusal.Memory
-only_memory refusal.Device opening bad device = absurd (device refl)
-only_memory refusal.Memory opening bad device = refl
-only_memory refusal.BadSchema opening bad device = absurd (bad refl)
-only_memory refusal.NotEmpty opening bad device = absurd opening
-only_memory refusal.NoTeam opening bad device = absurd opening
-
--- nothing hinders a call on a new connection in memory, and no table of it is vast
-pub memory_unhindered : (old new : Held MemStore) → IsEmpty (state over_memory old) → IsNew old
-    → IsTrue old.in_transaction
-    ⊎ (IsHindered (state over_memory old) (state over_memory new) ⊎ IsVast (state over_memory old).now) → ⊥
-memory_unhindered old new empty fresh (inl inside) = true≢false (sym inside ∙ fresh.autocommit)
-memory_unhindered old new empty fresh (inr (inl (inl shut))) = true≢false (sym empty.0.is_open ∙ shut)
-memory_unhindered old new empty fresh (inr (inl (inr (inl limited)))) =
-    true≢false (sym (subst IsSome fresh.unlimited limited))
-memory_unhindered old new empty fresh (inr (inl (inr (inr faults)))) = omega (arith, faults)
-memory_unhindered old new empty fresh (inr (inr vast)) = let e : ◌≡◌ {A = Schema} store_schema no_schema =
-    sym vast.schema ∙ empty.2 in absurd (let t = ap (λ (s : Schema). s.tables) e in cc)

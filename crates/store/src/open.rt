@@ -1,12 +1,9 @@
 //! Opens stores.
 
-ghost use Rattle.std.specs.Prelude.{◌≡◌, Err, IfOk, IfErr, IfSome, IsErrAnd, IsSomeAnd, IsTrue};
-ghost use Rattle.sqlite.specs.Held.{state};
+ghost use Rattle.std.specs.Prelude.{◌≡◌, IfOk, IfErr, IfSome, IsErrAnd, IsSomeAnd, IsTrue};
 ghost use Rattle.sqlite.specs.Files.{file_state, image_of, IsCleanLeft};
 ghost use Rattle.sqlite.specs.State.{HasCleanDisk};
-ghost use Rattle.sqlite.specs.Steps.{over_memory};
 ghost use Rattle.sqlite_wal.specs.Files.{image_at, outcomes};
-ghost use Rattle.world.specs.World.{only_common};
 ghost use Rattle.store.specs.Shown.{shown_with, BeginsAt};
 ghost use Rattle.setup.specs.Opened.{IsOfOpening};
 ghost use Rattle.store.specs.Names.{IsNoFileName};
@@ -16,33 +13,13 @@ use crate::files::{connect_files, open_pair};
 use crate::look::look;
 use crate::store::SqlShelves;
 use setup::refusal::Refusal;
-use sqlite::{
-    Alter, Connection, File, FileFrom, FileStore, Files, Leftover, MemStore, Start, Unknown,
-};
+use sqlite::{Alter, Connection, FileFrom, FileStore, Files, Leftover, Start};
 use sqlite_disk::Disk;
 use std::alloc::Global;
 use std::rt::HostRuntime;
 
 /// A store in a database file and its log, which held what `T` says.
 pub type FileShelves<T> = SqlShelves<FileStore<FileFrom<T>>>;
-
-impl SqlShelves<MemStore> {
-    /// Opens a store in memory that has only the shelf `common`. Fails only with `Memory`, if memory runs out.
-    pub fn open_memory(alloc: Global) -> Result<SqlShelves<MemStore>, Refusal>
-        ensures begins { IfOk result
-            (λ s. BeginsAt (shown_with (state over_memory s.conn) s.kept s.failures) only_common) }
-        ensures none_failed { IfOk result (λ s. s.failures ≡ 0) }
-        ensures refused { IfErr result (λ refusal. refusal ≡ Refusal.Memory) }
-    {
-        let Ok(conn) = Connection::open_in_memory(alloc) else {
-            return Err(Refusal::Memory);
-        };
-        match SqlShelves::adopt(alloc, conn) {
-            Ok(shelves) => Ok(shelves),
-            Err((refusal, _)) => Err(refusal),
-        }
-    }
-}
 
 impl<S: Alter> SqlShelves<S> {
     /// Closes a store and returns its connection, on which it makes no call: what was acknowledged is in the files
@@ -101,6 +78,9 @@ impl<T: Start> SqlShelves<FileStore<FileFrom<T>>> {
     /// they were opened, and hold what they held; only where there were no tables may those of a new store stand, if
     /// the disk failed or memory ran out. A log may be left beside them.
     ///
+    /// It assumes that a write that a crash tears leaves each byte old or new. As with SQLite's `synchronous=FULL`,
+    /// most commits then sync once.
+    ///
     /// No clause of `sqlite` ties a path to the bytes of a file, so no contract says that this path was opened: tests
     /// do.
     pub fn open_from(
@@ -132,24 +112,6 @@ impl<T: Start> SqlShelves<FileStore<FileFrom<T>>> {
         match open_over(rt.alloc(), files, seed) {
             Ok(shelves) => Ok(shelves),
             Err((refusal, left)) => Err((refusal, Some(left))),
-        }
-    }
-}
-
-impl SqlShelves<FileStore<File>> {
-    /// Opens the store in a file, as `open_from` does if nothing is known of what the file holds, and fails as it does.
-    /// It assumes that a write that a crash tears leaves each byte old or new. As with SQLite's
-    /// `synchronous=FULL`, most commits then sync once.
-    pub fn open_file(rt: &HostRuntime, path: &str) -> Result<FileShelves<Unknown>, Refusal>
-        ensures no_file { IsNoFileName path.now → result ≡ Err Refusal.Device }
-        ensures begins { IfOk result (λ s. HasCleanDisk (file_state s.conn)
-            → (w : _) × BeginsAt (shown_with (file_state s.conn) s.kept s.failures) w) }
-        ensures refused { IfErr result IsOfOpening }
-        ensures none_failed { IfOk result (λ s. s.failures ≡ 0) }
-    {
-        match SqlShelves::open_from(rt, path, Unknown) {
-            Ok(shelves) => Ok(shelves),
-            Err((refusal, _)) => Err(refusal),
         }
     }
 }

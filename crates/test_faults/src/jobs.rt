@@ -3,7 +3,7 @@ use crate::import::imported;
 use crate::requests::answered;
 use crate::steps::{done, set_up};
 use crate::worlds::told_by;
-use sqlite::Alter;
+use sqlite::{Alter, Connection};
 use std::alloc::Global;
 use std::test::Fail;
 use store::store::SqlShelves;
@@ -60,10 +60,14 @@ pub fn do_job<S: Alter>(
 
 /// Extracts alpha's part of a store in memory, and returns 1 if that is done.
 fn take_part<S: Alter>(alloc: Global, fresh: &mut SqlShelves<S>) -> Result<u8, Fail> {
-    let mut whole = SqlShelves::open_memory(alloc)?;
-    let done = extracted(alloc, &mut whole, fresh);
-    whole.close();
-    done
+    match SqlShelves::adopt(alloc, Connection::open_in_memory(alloc)?) {
+        Ok(mut whole) => {
+            let done = extracted(alloc, &mut whole, fresh);
+            whole.close();
+            done
+        }
+        Err(_) => Err(Fail::new("no store in memory")),
+    }
 }
 
 /// Does the steps of `SETUP` on a store, extracts alpha's part of it, and returns 1 if that is done.

@@ -1,6 +1,6 @@
 //! Runs scripts on stores in memory.
 use crate::extracts::script;
-use sqlite::{Alter, MemStore};
+use sqlite::{Alter, Connection, MemStore};
 use std::alloc::Global;
 use std::test::Fail;
 use store::store::SqlShelves;
@@ -74,13 +74,21 @@ fn wrong_row_of_two<'a, S: Alter>(
     Ok("")
 }
 
+/// Opens a new store in memory.
+fn open_memory(alloc: Global) -> Result<SqlShelves<MemStore>, Fail> {
+    match SqlShelves::adopt(alloc, Connection::open_in_memory(alloc)?) {
+        Ok(shelves) => Ok(shelves),
+        Err(_) => Err(Fail::new("no store in memory")),
+    }
+}
+
 /// Runs a script on a store and a new one in memory.
 fn wrong_row_with_part<'a>(
     alloc: Global,
     whole: &mut SqlShelves<MemStore>,
     script: &'a str,
 ) -> Result<&'a str, Fail> {
-    let mut part = SqlShelves::open_memory(alloc)?;
+    let mut part = open_memory(alloc)?;
     let wrong = wrong_row_of_two(alloc, whole, &mut part, script);
     part.close();
     wrong
@@ -88,7 +96,7 @@ fn wrong_row_with_part<'a>(
 
 /// Runs a script on two new stores in memory.
 fn wrong_row_in_memory<'a>(alloc: Global, script: &'a str) -> Result<&'a str, Fail> {
-    let mut whole = SqlShelves::open_memory(alloc)?;
+    let mut whole = open_memory(alloc)?;
     let wrong = wrong_row_with_part(alloc, &mut whole, script);
     whole.close();
     wrong

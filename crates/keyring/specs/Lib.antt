@@ -2,3 +2,5 @@ pub mod Named
 pub mod Reading
 pub mod KeyList
 pub mod ShelfList
+pub mod Revoke
+pub mod Made

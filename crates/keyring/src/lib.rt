@@ -5,9 +5,12 @@
 //!
 //! - [`key_list`]: a line for each key, which shows the digest of the key in its place.
 //! - [`shelf_list`]: a line for each shelf.
+//! - [`revoke`]: takes a key away by its fingerprint.
 #![tactic(auto)]
 
 pub mod key_list;
+pub mod made;
+pub mod revoke;
 pub mod shelf_list;
 
 use text::Text;

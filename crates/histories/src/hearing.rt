@@ -1,5 +1,5 @@
 //! A reader that keeps account of what it gave.
-ghost use Rattle.std.specs.Prelude.{◌≡◌, [], ◌∷◌, refl, IsTrue, MatchResult};
+ghost use Rattle.std.specs.Prelude.{◌≡◌, ◌+◌, [], ◌∷◌, refl, IsTrue, MatchResult};
 ghost use Rattle.std.specs.Io.KnownBytes.{IsAtEnd};
 ghost use Rattle.histories.specs.End.{ended-prop};
 ghost use Rattle.std.specs.Io.{ReadsAtMost};
@@ -67,6 +67,18 @@ impl<R: Read> Hearing<R> {
             calls: Calls::new(),
             is_over: false,
         }
+    }
+}
+
+impl<R: Read> Hearing<R> {
+    /// Notes a call that failed before it came to the reader.
+    pub(crate) fn refuse(&mut self)
+        ensures account { ⟦<Hearing<R> as Hear>⟧.account self.new ≡ ⟦<Hearing<R> as Hear>⟧.account self.old }
+        ensures reads { ⟦<Hearing<R> as Hear>⟧.reads self.new ≡ record (⟦<Hearing<R> as Hear>⟧.reads self.old)
+            { failed = times self.old.failed + 1 } }
+        ensures calls { self.new.calls ≡ self.old.calls }
+    {
+        self.failed.one_more();
     }
 }
 

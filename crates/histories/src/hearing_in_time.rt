@@ -2,7 +2,6 @@
 ghost use Rattle.std.specs.Prelude.{◌≡◌, refl, OnOk};
 ghost use Rattle.histories.specs.Timing.{IsReady, KeepsTime, Since};
 
-use crate::count::Count;
 use crate::hearing::{Hear, Hearing};
 use crate::patience::{Patience, Watch};
 use crate::start::Start;
@@ -19,8 +18,6 @@ pub struct HearingInTime<'a, C: Clock, P: Patience, K: Start, R: BoundRead> {
     clock: &'a C,
     watch: Watch<P>,
     waits: bool,
-    /// The calls that failed before they came to the reader.
-    failed: Count,
     start: PhantomData<K>,
     ghost since: { ∥ Since P.allowed K.calls watch.first watch.moved waits inner.calls.calls ∥₁ },
 }
@@ -36,7 +33,6 @@ impl<'a, C: Clock, P: Patience, K: Start, R: BoundRead + Drop> HearingInTime<'a,
             clock,
             watch: Watch::new(),
             waits: true,
-            failed: Count::new(),
             start: PhantomData,
         }
     }
@@ -61,7 +57,6 @@ impl<'a, C: Clock, P: Patience, K: Start, R: BoundRead + Drop> HearingInTime<'a,
     fn bound(&mut self) -> io::Result<()>
         ensures account { ⟦<Hearing<R> as Hear>⟧.account self.new.inner ≡ ⟦<Hearing<R> as Hear>⟧.account self.old.inner }
         ensures reads { ⟦<Hearing<R> as Hear>⟧.reads self.new.inner ≡ ⟦<Hearing<R> as Hear>⟧.reads self.old.inner }
-        ensures failed { self.new.failed ≡ self.old.failed }
         ensures ready { OnOk result (IsReady P.allowed K.calls
             self.new.watch.first self.new.watch.moved self.new.waits self.new.inner.calls.calls) }
     {
@@ -86,18 +81,14 @@ impl<'a, C: Clock, P: Patience, K: Start, R: BoundRead + Drop> Read
 
 impl<'a, C: Clock, P: Patience, K: Start, R: BoundRead + Drop> Hear
     for HearingInTime<'a, C, P, K, R> {
-    ghost use Rattle.std.specs.Prelude.{◌+◌};
-    ghost use Rattle.histories.specs.Counted.{times};
-
     ghost account = { λ h. ⟦<Hearing<R> as Hear>⟧.account h.inner };
 
     /// A call that failed before it came to the reader failed too.
-    ghost reads = { λ h. record (⟦<Hearing<R> as Hear>⟧.reads h.inner)
-        { failed = (⟦<Hearing<R> as Hear>⟧.reads h.inner).failed + times h.failed } };
+    ghost reads = { λ h. ⟦<Hearing<R> as Hear>⟧.reads h.inner };
 
     fn hear(&mut self, buf: &mut [u8]) -> io::Result<usize> {
         if let Err(e) = self.bound() {
-            self.failed.one_more();
+            self.inner.refuse();
             return Err(e);
         }
         let n = self.inner.hear(buf)?;

@@ -1,5 +1,5 @@
 //! A writer that keeps account of what it took.
-ghost use Rattle.std.specs.Prelude.{◌≡◌, [], ◌∷◌, Some, MatchResult};
+ghost use Rattle.std.specs.Prelude.{◌≡◌, ◌+◌, [], ◌∷◌, Some, MatchResult};
 ghost use Rattle.std.specs.Io.{WritesAtMost};
 ghost use Rattle.std.specs.Io.KnownBytes.{Keeps, WriteAppends};
 ghost use Rattle.histories.specs.Calls.{CallsFlush, CallsWrite, Writes, no_writes};
@@ -56,6 +56,16 @@ impl<W: Write> Telling<W> {
             failed: Count::new(),
             calls: Calls::new(),
         }
+    }
+}
+
+impl<W: Write> Telling<W> {
+    /// Notes a call that failed before it came to the writer.
+    pub(crate) fn refuse(&mut self)
+        ensures same { self.new ≡ record self.old { failed = self.new.failed } }
+        ensures failed { times self.new.failed ≡ times self.old.failed + 1 }
+    {
+        self.failed.one_more();
     }
 }
 

@@ -2,7 +2,6 @@
 ghost use Rattle.std.specs.Prelude.{◌≡◌, true, OnOk};
 ghost use Rattle.histories.specs.Timing.{IsReady, KeepsTime, Since};
 
-use crate::count::Count;
 use crate::patience::{Patience, Watch};
 use crate::start::Start;
 use crate::telling::{Tell, Telling};
@@ -18,8 +17,6 @@ pub struct TellingInTime<'a, C: Clock, P: Patience, K: Start, W> {
     inner: Telling<W>,
     clock: &'a C,
     watch: Watch<P>,
-    /// The calls that failed before they came to the writer.
-    failed: Count,
     start: PhantomData<K>,
     ghost since: { ∥ Since P.allowed K.calls watch.first watch.moved true inner.calls.calls ∥₁ },
 }
@@ -34,7 +31,6 @@ impl<'a, C: Clock, P: Patience, K: Start, W: BoundWrite + Drop> TellingInTime<'a
             inner,
             clock,
             watch: Watch::new(),
-            failed: Count::new(),
             start: PhantomData,
         }
     }
@@ -52,7 +48,6 @@ impl<'a, C: Clock, P: Patience, K: Start, W: BoundWrite + Drop> TellingInTime<'a
     fn bound(&mut self) -> io::Result<()>
         ensures contents { ⟦<Telling<W> as Write>⟧.contents self.new.inner ≡ ⟦<Telling<W> as Write>⟧.contents self.old.inner }
         ensures writes { ⟦<Telling<W> as Tell>⟧.writes self.new.inner ≡ ⟦<Telling<W> as Tell>⟧.writes self.old.inner }
-        ensures failed { self.new.failed ≡ self.old.failed }
         ensures ready { OnOk result (IsReady P.allowed K.calls
             self.new.watch.first self.new.watch.moved true self.new.inner.calls.calls) }
     {
@@ -77,16 +72,12 @@ impl<'a, C: Clock, P: Patience, K: Start, W: BoundWrite + Drop> Write
 
 impl<'a, C: Clock, P: Patience, K: Start, W: BoundWrite + Drop> Tell
     for TellingInTime<'a, C, P, K, W> {
-    ghost use Rattle.std.specs.Prelude.{◌+◌};
-    ghost use Rattle.histories.specs.Counted.{times};
-
     /// A call that failed before it came to the writer failed too.
-    ghost writes = { λ t. record (⟦<Telling<W> as Tell>⟧.writes t.inner)
-        { failed = (⟦<Telling<W> as Tell>⟧.writes t.inner).failed + times t.failed } };
+    ghost writes = { λ t. ⟦<Telling<W> as Tell>⟧.writes t.inner };
 
     fn tell(&mut self, buf: &[u8]) -> io::Result<usize> {
         if let Err(e) = self.bound() {
-            self.failed.one_more();
+            self.inner.refuse();
             return Err(e);
         }
         let n = self.inner.tell(buf)?;

@@ -6,13 +6,17 @@
 //! - [`key_list`]: a line for each key, which shows the digest of the key in its place.
 //! - [`shelf_list`]: a line for each shelf.
 //! - [`revoke`]: takes a key away by its fingerprint.
+//! - [`made`]: makes a key of random bytes.
+//! - [`in_memory`]: the trait of a store in memory.
 #![tactic(auto)]
 
+pub mod in_memory;
 pub mod key_list;
 pub mod made;
 pub mod revoke;
 pub mod shelf_list;
 
+use std::alloc::Global;
 use text::Text;
 use world::registry::StoreFault;
 use world::shelves::Shelves;
@@ -34,7 +38,8 @@ pub trait Keyring: Shelves {
         ensures reads { Reads (Self.shown self.old) (Self.shown self.new) result shelves_in };
 
     /// Returns the parent of a shelf, or None if no shelf has this name. The parent of `common` and of a group is None.
-    fn parent(&mut self, shelf: &str) -> Result<Option<Option<Text>>, StoreFault>
+    /// A store that holds its texts in memory copies the parent by `alloc`.
+    fn parent(&mut self, alloc: Global, shelf: &str) -> Result<Option<Option<Text>>, StoreFault>
         ensures reads { Reads (Self.shown self.old) (Self.shown self.new) result
             (λ w. map.get w.shelves shelf.now) };
 }

@@ -8,8 +8,8 @@ use text::Text;
 /// How many letters a key has that is made.
 const KEY_LETTERS: usize = 26;
 
-/// How many bytes give a letter: seven for each of the 36. The four others give none, since some letters would come more
-/// often than others.
+/// How many bytes give a letter: seven for each of the 36. The four others give none, since some letters would come
+/// more often than others.
 const BYTES: u8 = 252;
 
 /// Returns the key that random bytes make: 26 of `a-z0-9`. None if they make fewer. Fails only if memory runs out.

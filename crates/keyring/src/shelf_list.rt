@@ -32,17 +32,22 @@ fn add_shelves<S: Keyring>(
 {
     let names = shelves.shelves()?;
     for name in names.iter() {
-        add_shelf(shelves, name.as_str(), text)?;
+        add_shelf(alloc, shelves, name.as_str(), text)?;
     }
     Ok(())
 }
 
 /// Adds the line of a shelf, if there is such a shelf.
-fn add_shelf<S: Keyring>(shelves: &mut S, name: &str, text: &mut Vec<u8>) -> Result<(), StoreFault>
+fn add_shelf<S: Keyring>(
+    alloc: Global,
+    shelves: &mut S,
+    name: &str,
+    text: &mut Vec<u8>,
+) -> Result<(), StoreFault>
     ensures { Adds (S.shown shelves.old) (S.shown shelves.new) text.old.items text.new.items result
         (λ w. spec.line_in name.now (map.get w.shelves name.now)) }
 {
-    let Some(parent) = shelves.parent(name)? else {
+    let Some(parent) = shelves.parent(alloc, name)? else {
         return Ok(());
     };
     Ok(write_line(name, &parent, text)?)

@@ -5,6 +5,7 @@ use keyring::Keyring;
 use keyring_rows::{find_keys, find_shelf_names};
 use sqlite::Alter;
 use statements::registry::find_shelf;
+use std::alloc::Global;
 use text::Text;
 use world::registry::StoreFault;
 use world::text_set::TextSet;
@@ -20,7 +21,7 @@ impl<S: Alter> Keyring for SqlShelves<S> {
         counted(&mut self.failures, names)
     }
 
-    fn parent(&mut self, shelf: &str) -> Result<Option<Option<Text>>, StoreFault> {
+    fn parent(&mut self, _alloc: Global, shelf: &str) -> Result<Option<Option<Text>>, StoreFault> {
         let found = find_shelf(&mut self.conn, shelf);
         counted(&mut self.failures, found)
     }

@@ -6,6 +6,7 @@ runs, which are made in order, as `runs_of` of lib/program.py reads them. Each r
 lines, byte for byte, and say its word or nothing on standard error.
 """
 
+import hashlib
 import os
 import pty
 import re
@@ -47,6 +48,12 @@ group-add --db none.db --team platform
 group-add --db none.db --group platform --team alpha
 group-add --db none.db --group platform --group other
 key-add --db none.db --shelf alpha
+key-add --db none.db --shelf alpha --key A --new
+key-add --db none.db --new
+key-add --shelf alpha --new
+key-revoke --db none.db
+key-revoke --db none.db --key A --fingerprint ccaaf6d99f2c8ac7
+key-revoke --fingerprint ccaaf6d99f2c8ac7
 publish --db none.db
 import --db none.db --key A
 inventory --db none.db
@@ -106,8 +113,10 @@ goshelf team-add --control <S> --team <T> [--group <G>]
 goshelf group-add --db <F> --group <G>
 goshelf group-add --control <S> --group <G>
 goshelf key-add --db <F> --shelf <S> --key <K> [--read-only]
+goshelf key-add --db <F> --shelf <S> --new [--read-only]
 goshelf key-add --control <S> --shelf <S> --key <K> [--read-only]
 goshelf key-revoke --db <F> --key <K>
+goshelf key-revoke --db <F> --fingerprint <X>
 goshelf key-revoke --control <S> --key <K>
 goshelf serve --db <F> --port <N> [--connections <M>] [--control <S>]
 goshelf serve --db <F> --stdin [--connections <M>] [--control <S>]
@@ -118,8 +127,8 @@ OPTIONS = """
 init --db
 team-add --db --control --team --group
 group-add --db --control --group
-key-add --db --control --shelf --key --read-only
-key-revoke --db --control --key
+key-add --db --control --shelf --key --new --read-only
+key-revoke --db --control --key --fingerprint
 publish --db --key --module --version --mod --zip --time
 import --db --key --list
 inventory --db --key
@@ -314,6 +323,19 @@ shelf-list --db store.db | 0
     common common
     gamma team platform
     platform group
+key-revoke --db store.db --fingerprint c2fcda156efd8585 | 0
+key-revoke --db store.db --fingerprint c2fcda156efd8585 | 1 no-key
+key-revoke --db store.db --fingerprint ccaaf6d99f2c8ac | 1 no-key
+key-revoke --db store.db --fingerprint ccaaf6d99f2c8ac70 | 1 no-key
+key-revoke --db store.db --fingerprint CCAAF6D99F2C8AC7 | 1 no-key
+key-revoke --db store.db --fingerprint= | 1 no-key
+key-list --db store.db | 0
+    alpha publish ccaaf6d99f2c8ac7
+    alpha publish d6d1ae514132c03b
+    common read 4ae6c4eb38bf8b54
+    gamma publish 3e9e696676741f95
+    platform publish 59349fdf37ea2a6b
+inventory --db store.db --key R | 1 no-key
 """
 # what `serve` says of a file that is missing or empty
 NEW_STORE = "new store: the file of --db is missing or empty; without a key, each request gets a 404\n"
@@ -324,6 +346,8 @@ team-add --db {} --team alpha | 0
 group-add --db {} --group platform | 0
 key-add --db {} --shelf common --key C | 0
 key-revoke --db {} --key C | 1 no-key
+key-revoke --db {} --fingerprint 4ae6c4eb38bf8b54 | 1 no-key
+key-add --db {} --shelf alpha --new | 1 no-team
 publish --db {} --key C --module example.com/lib --version v1.0.0 --mod go.mod --zip empty | 1
     404 not found
 import --db {} --key C --list list.csv | 1
@@ -550,6 +574,31 @@ def who(suite):
     suite.runs("who has keys", WHO)
 
 
+def made_keys(suite):
+    """`--new` prints a key that no other run prints, and adds it."""
+    suite.runs("made keys", "init --db store.db | 0\nteam-add --db store.db --team alpha | 0")
+    made, words = [], "key-add --db store.db --shelf alpha --new".split()
+    for _ in range(40):
+        status, output, told = run(words)
+        made.append(output.decode())
+        suite.equal("key-add --new ends well", (status, told), (0, ""))
+    suite.holds("each has 26 of a-z0-9", all(re.fullmatch(r"[a-z0-9]{26}\n", key) for key in made), made)
+    suite.equal("none comes twice", len(set(made)), 40)
+    suite.equal("each of the 36 letters comes", len(set("".join(made))), 37)
+    _, output, _ = run([*words, "--read-only"])
+    reader = output.decode().strip()
+    lines = [f"alpha publish {hashlib.sha256(key.strip().encode()).hexdigest()[:16]}\n" for key in made]
+    lines.append(f"alpha read {hashlib.sha256(reader.encode()).hexdigest()[:16]}\n")
+    listed = run("key-list --db store.db".split())
+    suite.equal("key-list has them", listed, (0, "".join(sorted(lines)).encode(), ""))
+    suite.equal("a made key reads", run(["inventory", "--db", "store.db", "--key", reader])[0], 0)
+    suite.runs("no shelf", "key-add --db store.db --shelf nosuch --new | 1 no-team")
+    with open("/dev/full", "wb") as full:
+        ran = subprocess.run([PROGRAM, *words], stdout=full, stderr=subprocess.PIPE, timeout=120)
+    suite.equal("a key that cannot be printed", (ran.returncode, ran.stderr), (1, b"goshelf: io\n"))
+    suite.equal("it is not added", run("key-list --db store.db".split()), listed)
+
+
 def quick_start(suite):
     """The README's first command writes what the README says."""
     page = read(os.path.join(ROOT, "README.md")).decode()
@@ -688,6 +737,19 @@ if __name__ == "__main__":
     told = (new_store_told, new_file_told, reads_of_none)
     sys.exit(
         in_new_folders(
-            Suite(), quick_start, names, bad_usage, helped, one_store, imports, seen, groups, who, *told, serve, address
+            Suite(),
+            quick_start,
+            names,
+            bad_usage,
+            helped,
+            one_store,
+            imports,
+            seen,
+            groups,
+            who,
+            made_keys,
+            *told,
+            serve,
+            address,
         )
     )

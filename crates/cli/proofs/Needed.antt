@@ -97,6 +97,8 @@ pub no_serve : (rows : List Row) → ((n : ℕ) → AsksConnections rows n → �
 no_serve rows none action.Open asks = asks
 no_serve rows none (action.Register order) asks = asks
 no_serve rows none action.Answer asks = asks
+no_serve rows none (action.AddNew shelf right) asks = cc
+no_serve rows none (action.RevokeNamed fingerprint) asks = cc
 no_serve rows none (action.Publish words files) asks = cc
 no_serve rows none (action.Import key list) asks = cc
 no_serve rows none (action.Inventory key) asks = cc
@@ -117,6 +119,8 @@ no_command rows word init answer extract migrate copy ping stop order acts = go
     on_store db action.Open asks = asks.1
     on_store db (action.Register o) asks = order o asks.2
     on_store db action.Answer asks = answer asks.0
+    on_store db (action.AddNew shelf right) asks = acts (action.AddNew shelf right) asks.1
+    on_store db (action.RevokeNamed fingerprint) asks = acts (action.RevokeNamed fingerprint) asks.1
     on_store db (action.Publish words files) asks = acts (action.Publish words files) asks.1
     on_store db (action.Import key list) asks = acts (action.Import key list) asks.1
     on_store db (action.Inventory key) asks = acts (action.Inventory key) asks.1

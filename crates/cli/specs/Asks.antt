@@ -74,8 +74,8 @@ module _ (rows : List Row) where
   AsksOrder word (TeamAdd name group) = (word ≡ codes "team-add") × Is (codes "team") name.now × MayBe (codes "group") group
   AsksOrder word (GroupAdd name) = (word ≡ codes "group-add") × Is (codes "group") name.now
   AsksOrder word (KeyAdd shelf key right) = (word ≡ codes "key-add") × Is (codes "shelf") shelf.now × Is (codes "key") key.now
-      × (right ≡ (if is_flagged (codes "read-only") then Reads else Publishes))
-  AsksOrder word (KeyRevoke key) = (word ≡ codes "key-revoke") × Is (codes "key") key.now
+      × (is_flagged (codes "new") ≡ false) × (right ≡ (if is_flagged (codes "read-only") then Reads else Publishes))
+  AsksOrder word (KeyRevoke key) = (word ≡ codes "key-revoke") × Is (codes "key") key.now × Lacks (codes "fingerprint")
 
   -- where the connections of `serve` come in: at the port, or at standard input in its place
   abbrev pub AsksEntrance : Entrance → Type 0
@@ -86,11 +86,16 @@ module _ (rows : List Row) where
   abbrev pub AsksConnections : ℕ → Type 0
   AsksConnections n = IsNumber (codes "connections") 4294967295 n ⊎ (LacksNumber (codes "connections") × (n ≡ 4294967295))
 
-  -- an action of a command that has one form, with `--db`; the two that have another form too are below
+  -- an action of a command, or of a form of one, that only the store of a file can do
   abbrev pub AsksAction : Text → Action → Type 0
   AsksAction word action.Open = ⊥
   AsksAction word (action.Register order) = ⊥
   AsksAction word action.Answer = ⊥
+  AsksAction word (action.AddNew shelf right) = (word ≡ codes "key-add")
+      × Is (codes "shelf") shelf.now × (is_flagged (codes "new") ≡ true) × Lacks (codes "key") × Lacks (codes "control")
+      × (right ≡ (if is_flagged (codes "read-only") then Reads else Publishes))
+  AsksAction word (action.RevokeNamed fingerprint) = (word ≡ codes "key-revoke")
+      × Is (codes "fingerprint") fingerprint.now × Lacks (codes "key") × Lacks (codes "control")
   AsksAction word (action.Publish words files) = (word ≡ codes "publish")
       × Is (codes "key") words.key.now × Is (codes "module") words.path.now × Is (codes "version") words.version.now
       × MayBe (codes "time") words.time × Is (codes "mod") files.gomod.now × Is (codes "zip") files.zip.now

@@ -7,7 +7,7 @@ use Rattle.commands.specs.declared.refusal.CommandRefusal.{CommandRefusal}
 use Rattle.commands.specs.declared.refusal.CommandRefusal.TheVariants.{Io, Memory}
 use Rattle.commands.specs.Exit.{exit_of, status_of, IsSilent, Says}
 use Rattle.commands.specs.ImportLine.{PrintsFront}
-use Rattle.commands.specs.declared.action.Action.TheVariants.{Import, Publish, Register, Serve}
+use Rattle.commands.specs.declared.action.Action.TheVariants.{AddNew, Import, Publish, Register, RevokeNamed, Serve}
 use Rattle.commands.specs.declared.exit.Exit.{Exit}
 use Rattle.commands.specs.declared.exit.Exit.TheVariants.{Done, Refused, BadUsage}
 use Rattle.runner.specs.declared.Command.{Command}
@@ -50,6 +50,8 @@ MayPrint errors errors_new line = (errors_new ≡ errors) ⊎ PrintsFront errors
 abbrev pub Tells : Option (List ℕ) → Option (List ℕ) → Command → Type 0
 Tells errors errors_new (OnStore db (Serve entrance connections control)) = MayPrint errors errors_new new_store_line
 Tells errors errors_new (OnStore db (Register order)) = MayPrint errors errors_new new_file_line
+Tells errors errors_new (OnStore db (AddNew shelf right)) = MayPrint errors errors_new new_file_line
+Tells errors errors_new (OnStore db (RevokeNamed fingerprint)) = MayPrint errors errors_new new_file_line
 Tells errors errors_new (OnStore db (Publish words files)) = MayPrint errors errors_new new_file_line
 Tells errors errors_new (OnStore db (Import key list)) = MayPrint errors errors_new new_file_line
 Tells errors errors_new other = errors_new ≡ errors

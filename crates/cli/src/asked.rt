@@ -110,14 +110,36 @@ fn order_of<'a>(word: &str, options: &ArgMatches<'a>) -> Option<Order<'a>>
         "group-add" => Some(Order::GroupAdd {
             name: text(options, "group")?,
         }),
-        "key-add" => Some(Order::KeyAdd {
-            shelf: text(options, "shelf")?,
-            key: text(options, "key")?,
+        "key-add" => key_add_of(options),
+        "key-revoke" => key_revoke_of(options),
+        _ => None,
+    }
+}
+
+/// Returns the order of `key-add` with a key, or None if a key is to be made or none is named.
+fn key_add_of<'a>(options: &ArgMatches<'a>) -> Option<Order<'a>>
+    ensures { Finds result (AsksOrder (rows_of (found_of options.now)) (codes "key-add")) }
+{
+    match (
+        text(options, "shelf"),
+        text(options, "key"),
+        is_flagged(options, "new"),
+    ) {
+        (Some(shelf), Some(key), false) => Some(Order::KeyAdd {
+            shelf,
+            key,
             right: right_of(is_flagged(options, "read-only")),
         }),
-        "key-revoke" => Some(Order::KeyRevoke {
-            key: text(options, "key")?,
-        }),
+        _ => None,
+    }
+}
+
+/// Returns the order of `key-revoke` with a key, or None if the key is named by its fingerprint or not at all.
+fn key_revoke_of<'a>(options: &ArgMatches<'a>) -> Option<Order<'a>>
+    ensures { Finds result (AsksOrder (rows_of (found_of options.now)) (codes "key-revoke")) }
+{
+    match (text(options, "key"), text(options, "fingerprint")) {
+        (Some(key), None) => Some(Order::KeyRevoke { key }),
         _ => None,
     }
 }
@@ -138,6 +160,8 @@ fn action_of<'a>(word: &str, options: &ArgMatches<'a>) -> Option<Action<'a>>
     ensures { Finds result (AsksAction (rows_of (found_of options.now)) word.now) }
 {
     match word {
+        "key-add" => add_new_of(options),
+        "key-revoke" => revoke_named_of(options),
         "publish" => publish_of(options),
         "import" => Some(Action::Import {
             key: text(options, "key")?,
@@ -150,6 +174,38 @@ fn action_of<'a>(word: &str, options: &ArgMatches<'a>) -> Option<Action<'a>>
         "key-list" => Some(Action::KeyList),
         "shelf-list" => Some(Action::ShelfList),
         "serve" => serve_of(options),
+        _ => None,
+    }
+}
+
+/// Returns the action of `key-add --new`, or None if the options are those of another form.
+fn add_new_of<'a>(options: &ArgMatches<'a>) -> Option<Action<'a>>
+    ensures { Finds result (AsksAction (rows_of (found_of options.now)) (codes "key-add")) }
+{
+    match (
+        text(options, "shelf"),
+        is_flagged(options, "new"),
+        text(options, "key"),
+        text(options, "control"),
+    ) {
+        (Some(shelf), true, None, None) => {
+            let right = right_of(is_flagged(options, "read-only"));
+            Some(Action::AddNew { shelf, right })
+        }
+        _ => None,
+    }
+}
+
+/// Returns the action of `key-revoke` with a fingerprint, or None if the options are those of another form.
+fn revoke_named_of<'a>(options: &ArgMatches<'a>) -> Option<Action<'a>>
+    ensures { Finds result (AsksAction (rows_of (found_of options.now)) (codes "key-revoke")) }
+{
+    match (
+        text(options, "fingerprint"),
+        text(options, "key"),
+        text(options, "control"),
+    ) {
+        (Some(fingerprint), None, None) => Some(Action::RevokeNamed { fingerprint }),
         _ => None,
     }
 }

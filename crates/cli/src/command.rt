@@ -91,7 +91,11 @@ fn tell_new_store<P: Runner, E: Tell>(runner: &P, command: &Command, errors: &mu
         } if runner.is_new(db) => write_new_store(errors),
         Command::OnStore {
             db,
-            action: Action::Register { .. } | Action::Publish { .. } | Action::Import { .. },
+            action: Action::Register { .. }
+            | Action::AddNew { .. }
+            | Action::RevokeNamed { .. }
+            | Action::Publish { .. }
+            | Action::Import { .. },
         } if runner.is_watched() && runner.is_new(db) => write_new_file(errors),
         _ => {}
     }

@@ -8,6 +8,7 @@ use Rattle.world.specs.declared.registry.StoreFault.TheVariants as fault
 use Rattle.shelf.specs.Machine.{after}
 use Rattle.control.specs.Order.{event_of, outcome_in}
 use Rattle.control.specs.declared.order.Order.{Order}
+use Rattle.keyring.specs.Revoke.{revoked_with, after_revoke_with}
 use Rattle.commands.specs.declared.refusal.CommandRefusal.{CommandRefusal}
 use Rattle.commands.specs.declared.refusal.CommandRefusal.TheVariants as refusal
 
@@ -42,4 +43,11 @@ ending (Err fault.Memory) = Err refusal.Memory
 pub record Registers (old new : Shown) (order : Order) (result : Result (Unit {0}) CommandRefusal) : Type 0 where
   pub told : Result Registered StoreFault
   pub does : Does old new told (λ w. outcome_in w order) (λ w. after w (event_of order))
+  pub ends : result ≡ ending told
+
+-- From old to new the one key with this fingerprint was revoked, if there is one; and the command ends by that.
+pub record RevokesNamed (old new : Shown) (fingerprint : List ℕ) (result : Result (Unit {0}) CommandRefusal)
+    : Type 0 where
+  pub told : Result Registered StoreFault
+  pub does : Does old new told (λ w. revoked_with w fingerprint) (λ w. after_revoke_with w fingerprint)
   pub ends : result ≡ ending told

@@ -4,9 +4,10 @@ ghost use Rattle.commands.specs.Action as spec;
 
 use crate::answer::answer_input;
 use crate::import_file::import_file;
+use crate::new_key::add_new;
 use crate::publish::{Files, Words, publish};
 use crate::refusal::CommandRefusal;
-use crate::registry::register;
+use crate::registry::{register, revoke_named};
 use crate::report::{Named, print_inventory, print_keys, print_requirements, print_shelves};
 use crate::serve::{Entrance, serve};
 use control::{Copies, Order};
@@ -14,6 +15,7 @@ use histories::{Hear, Tell};
 use keyring::Keyring;
 use outline::outlines::Outlines;
 use std::rt::HostRuntime;
+use world::entry::Right;
 
 /// What a command does on an open store.
 #[derive(Clone, Copy, Drop)]
@@ -23,6 +25,15 @@ pub enum Action<'a> {
     /// `team-add`, `group-add`, `key-add` or `key-revoke`: carries out a registry command.
     Register {
         order: Order<'a>,
+    },
+    /// `key-add --new`: makes a key, prints it, and adds it to a shelf.
+    AddNew {
+        shelf: &'a str,
+        right: Right,
+    },
+    /// `key-revoke --fingerprint X`: revokes the key that has a fingerprint.
+    RevokeNamed {
+        fingerprint: &'a str,
     },
     /// `publish`: publishes a version from files.
     Publish {
@@ -76,6 +87,10 @@ pub fn act_on<S: Outlines + Keyring, K: Copies<S>, I: Hear, O: Tell>(
     match action {
         Action::Open => Ok(true),
         Action::Register { order } => acceptance(register(shelves, order)),
+        Action::AddNew { shelf, right } => acceptance(add_new(rt, shelves, shelf, *right, output)),
+        Action::RevokeNamed { fingerprint } => {
+            acceptance(revoke_named(rt.alloc(), shelves, fingerprint))
+        }
         Action::Publish { words, files } => publish(rt, shelves, words, files, output),
         Action::Import { key, list } => import_file(rt, shelves, key, list, output),
         Action::Inventory { key } => print_inventory(rt.alloc(), shelves, key, output),

@@ -3,6 +3,8 @@
 //! | command | what it does | where |
 //! |---|---|---|
 //! | `team-add`, `group-add`, `key-add`, `key-revoke` | does one registry command, as the machine does | [`registry`] |
+//! | `key-add --new` | makes a key, prints it, and adds it | [`new_key`] |
+//! | `key-revoke --fingerprint` | revokes the key that has a fingerprint | [`registry`] |
 //! | `publish` | asks the machine to publish two files, and prints the line of its outcome | [`publish`] |
 //! | `import` | asks the machine to publish each row of a list, and prints a line for each | [`import`], [`import_file`] |
 //! | `inventory`, `requires` | prints what a shelf sees, and what a version requires | [`report`], [`inventory`], [`requirements`] |
@@ -33,6 +35,7 @@ mod inventory_text;
 pub mod laws;
 pub mod memory;
 mod moment;
+pub mod new_key;
 pub mod order;
 pub mod ping;
 mod printing;

@@ -1,8 +1,11 @@
 //! The registry commands: teams, groups and keys.
-ghost use Rattle.commands.specs.Ending.{Registers};
+ghost use Rattle.commands.specs.Ending.{Registers, RevokesNamed};
 
 use crate::refusal::{CommandRefusal, ending};
 use control::{Order, carry_out};
+use keyring::Keyring;
+use keyring::revoke::revoke_with;
+use std::alloc::Global;
 use world::shelves::Shelves;
 
 /// Carries out a registry command as the machine does. Adding a team fails with `Name`, `Taken` or `NoGroup`, a group
@@ -12,5 +15,18 @@ pub fn register<S: Shelves>(shelves: &mut S, order: &Order) -> Result<(), Comman
     ensures { Registers (S.shown shelves.old) (S.shown shelves.new) order.now result }
 {
     let told = carry_out(shelves, order);
+    ending(told)
+}
+
+/// Revokes the key that has a fingerprint. Fails with `NoKey` if no key has it or several have, and with a fault of the
+/// store, and then changes nothing.
+pub fn revoke_named<S: Keyring>(
+    alloc: Global,
+    shelves: &mut S,
+    fingerprint: &str,
+) -> Result<(), CommandRefusal>
+    ensures { RevokesNamed (S.shown shelves.old) (S.shown shelves.new) fingerprint.now result }
+{
+    let told = revoke_with(alloc, shelves, fingerprint);
     ending(told)
 }

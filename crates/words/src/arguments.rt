@@ -171,10 +171,13 @@ const GROUP_ADD_FORMS: &str =
 
 const KEY_ADD_FORMS: &str = "\
 goshelf key-add --db <F> --shelf <S> --key <K> [--read-only]
+       goshelf key-add --db <F> --shelf <S> --new [--read-only]
        goshelf key-add --control <S> --shelf <S> --key <K> [--read-only]";
 
-const KEY_REVOKE_FORMS: &str =
-    "goshelf key-revoke --db <F> --key <K>\n       goshelf key-revoke --control <S> --key <K>";
+const KEY_REVOKE_FORMS: &str = "\
+goshelf key-revoke --db <F> --key <K>
+       goshelf key-revoke --db <F> --fingerprint <X>
+       goshelf key-revoke --control <S> --key <K>";
 
 const SERVE_FORMS: &str = "\
 goshelf serve --db <F> --port <N> [--connections <M>] [--control <S>]

@@ -88,7 +88,7 @@ const KEY: OptionRow = OptionRow {
     help: "A key that may publish",
 };
 
-pub(crate) const KEY_ADD: [OptionRow; 5] = [
+pub(crate) const KEY_ADD: [OptionRow; 6] = [
     DB_OR_CONTROL,
     CONTROL,
     OptionRow {
@@ -98,8 +98,15 @@ pub(crate) const KEY_ADD: [OptionRow; 5] = [
         help: "The shelf that the key belongs to: a team, a group, or common",
     },
     OptionRow {
+        is_required: false,
         help: "The key: 16 to 64 bytes of a-z and 0-9, which no shelf has",
         ..KEY
+    },
+    OptionRow {
+        name: "new",
+        value: Value::Flag,
+        is_required: false,
+        help: "In place of --key, make a key of 26 random letters and digits, and print it",
     },
     OptionRow {
         name: "read-only",
@@ -109,12 +116,19 @@ pub(crate) const KEY_ADD: [OptionRow; 5] = [
     },
 ];
 
-pub(crate) const KEY_REVOKE: [OptionRow; 3] = [
+pub(crate) const KEY_REVOKE: [OptionRow; 4] = [
     DB_OR_CONTROL,
     CONTROL,
     OptionRow {
+        is_required: false,
         help: "The key to revoke; its text can be added again",
         ..KEY
+    },
+    OptionRow {
+        name: "fingerprint",
+        value: Value::Text("X"),
+        is_required: false,
+        help: "In place of --key, the fingerprint of the key, as key-list prints it",
     },
 ];
 

@@ -1,0 +1,94 @@
+//! A key that is made, printed and added.
+ghost use Rattle.commands.specs.NewKey as spec;
+
+use crate::printing::print_both;
+use crate::refusal::CommandRefusal;
+use crate::registry::register;
+use control::Order;
+use histories::Tell;
+use keyring::Keyring;
+use keyring::made::key_of;
+use std::alloc::Global;
+use std::random::RandomSource;
+use std::rt::HostRuntime;
+use text::Text;
+use world::entry::Right;
+use world::registry::StoreFault;
+
+/// How many random bytes a key is made of. Of so many, practically always enough give a letter.
+const RANDOM_BYTES: usize = 64;
+
+/// Makes a key of the system's randomness, prints it on a line, and adds it to a shelf, as `key-add` adds one that is
+/// named. `NoTeam` if there is no such shelf, `Device` or `Memory` if the store meets a fault, `Io` if the system gives
+/// no random bytes or the output fails: then no key is added.
+pub fn add_new<S: Keyring, O: Tell>(
+    rt: &HostRuntime,
+    shelves: &mut S,
+    shelf: &str,
+    right: Right,
+    output: &mut O,
+) -> Result<(), CommandRefusal>
+    ensures { spec.AddsNew S.shown shelves.old shelves.new shelf.entry right
+        (O.contents output.old) (O.contents output.new) result }
+{
+    let mut bytes = [0; RANDOM_BYTES];
+    match rt.fill_bytes(&mut bytes) {
+        Ok(()) => add_made(rt.alloc(), shelves, shelf, right, &bytes, output),
+        Err(_) => Err(CommandRefusal::Io),
+    }
+}
+
+/// Prints the key that these bytes make, and adds it to a shelf. Fails as `add_new` does, and with `Io` if the bytes
+/// make no key.
+fn add_made<S: Keyring, O: Tell>(
+    alloc: Global,
+    shelves: &mut S,
+    shelf: &str,
+    right: Right,
+    bytes: &[u8],
+    output: &mut O,
+) -> Result<(), CommandRefusal>
+    ensures { spec.AddsMade (S.shown shelves.old) (S.shown shelves.new) shelf.entry right bytes.now
+        (O.contents output.old) (O.contents output.new) result }
+{
+    let found = shelves.parent(alloc, shelf);
+    let key = match made(alloc, found, bytes) {
+        Ok(key) => key,
+        Err(refusal) => return Err(refusal),
+    };
+    match print_both(key.as_str().as_bytes(), b"\n", output) {
+        Ok(()) => {
+            let key = key.as_str();
+            register(shelves, &Order::KeyAdd { shelf, key, right })
+        }
+        Err(_) => Err(CommandRefusal::Io),
+    }
+}
+
+/// Returns the key that the bytes make, for a shelf that was looked up. `NoTeam` if there is no such shelf, `Device` or
+/// `Memory` if the store met a fault, `Memory` if memory runs out, and `Io` if the bytes make no key.
+fn made(
+    alloc: Global,
+    found: Result<Option<Option<Text>>, StoreFault>,
+    bytes: &[u8],
+) -> Result<Text, CommandRefusal>
+    ensures { spec.Makes found bytes.now result }
+{
+    match found {
+        Ok(Some(_)) => made_key(alloc, bytes),
+        Ok(None) => Err(CommandRefusal::NoTeam),
+        Err(StoreFault::Device) => Err(CommandRefusal::Device),
+        Err(StoreFault::Memory) => Err(CommandRefusal::Memory),
+    }
+}
+
+/// Returns the key that the bytes make. `Memory` if memory runs out, and `Io` if they make none.
+fn made_key(alloc: Global, bytes: &[u8]) -> Result<Text, CommandRefusal>
+    ensures { spec.MakesKey bytes.now result }
+{
+    match key_of(alloc, bytes) {
+        Ok(Some(key)) => Ok(key),
+        Ok(None) => Err(CommandRefusal::Io),
+        Err(_) => Err(CommandRefusal::Memory),
+    }
+}

@@ -5,7 +5,8 @@ use Rattle.histories.specs.Account.{Account}
 use Rattle.sqlite.specs.State.{State}
 use Rattle.world.specs.Store.{Shown}
 use Rattle.commands.specs.declared.refusal.CommandRefusal.{CommandRefusal}
-use Rattle.runner.specs.Command.{Deeds, Runs}
+use Rattle.file_action.specs.OnFile.{Deeds}
+use Rattle.runner.specs.Command.{Runs}
 use Rattle.runner.specs.declared.Command.{Command}
 
 -- files of stores to which nothing was done before, and then this

@@ -1,5 +1,6 @@
 //! What runs a command: the files of the system, or any other `Runner`.
 use commands::refusal::CommandRefusal;
+use file_action::host::ActionHost;
 use files::files::StoreFiles;
 use histories::{Hear, Tell};
 use runner::found::{ClosedFile, OpenedStore};
@@ -45,7 +46,7 @@ impl<'a> Runner for SystemStores<'a> {
     ghost use Rattle.cli.specs.Afresh.{RunsAfresh};
 
     ghost ran = { λ _ _.
-        RunsAfresh ⟦<SystemHost<'a> as Host<OpenedStore, ClosedFile>>⟧.acts
+        RunsAfresh ⟦<SystemHost<'a> as ActionHost<OpenedStore>>⟧.acts
         ⟦<SystemHost<'a> as Host<OpenedStore, ClosedFile>>⟧.state_of
         ⟦<SystemHost<'a> as Host<OpenedStore, ClosedFile>>⟧.shown
         ⟦<SystemStoreFiles<'a> as StoreFiles<OpenedStore, ClosedFile, Refusal>>⟧.begins

@@ -6,7 +6,8 @@ use Rattle.histories.specs.Account.{Account}
 use Rattle.world.specs.Store.{Shown}
 use Rattle.commands.specs.Action.{acceptance}
 use Rattle.commands.specs.declared.refusal.CommandRefusal.{CommandRefusal}
-use Rattle.runner.specs.Command.{Deeds, EndsAlone, Runs}
+use Rattle.file_action.specs.OnFile.{Deeds}
+use Rattle.runner.specs.Command.{EndsAlone, Runs}
 use Rattle.runner.specs.declared.Command.{Command}
 
 -- what running a command did, running an equal one did (the stores are parameters, so that neither of them is unfolded)

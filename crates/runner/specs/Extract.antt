@@ -7,7 +7,8 @@ use Rattle.store.specs.Parts.{ExtractsTeams}
 use Rattle.setup.specs.declared.refusal.Refusal.{Refusal as Unopened}
 use Rattle.commands.specs.declared.refusal.CommandRefusal.{CommandRefusal}
 use Rattle.commands.specs.declared.refusal.CommandRefusal.TheVariants.{NotEmpty}
-use Rattle.runner.specs.Opened.{unopened, store_result, LeavesSource}
+use Rattle.file_action.specs.Refusal.{unopened}
+use Rattle.runner.specs.Opened.{store_result, LeavesSource}
 
 module _ {S F : Type 0} (shown : S → Shown) (shown_too : F → Shown) (source source_new : S) where
   -- the teams' part of the source was put into an open store, or it was not, and the result says why

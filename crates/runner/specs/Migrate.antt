@@ -14,7 +14,8 @@ use Rattle.store.specs.Older.{FindsOlder}
 use Rattle.setup.specs.declared.refusal.Refusal.{Refusal as Unopened}
 use Rattle.commands.specs.declared.refusal.CommandRefusal.{CommandRefusal}
 use Rattle.commands.specs.declared.refusal.CommandRefusal.TheVariants.{NotEmpty}
-use Rattle.runner.specs.Opened.{unopened, store_result, LeavesSource}
+use Rattle.file_action.specs.Refusal.{unopened}
+use Rattle.runner.specs.Opened.{store_result, LeavesSource}
 
 module _ {C F : Type 0} (state_of : C → State) (shown : F → Shown) (old old_new : C) where
   -- what the older store has was put into an open one, or it was not, and the result says why

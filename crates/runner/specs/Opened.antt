@@ -7,27 +7,14 @@ use Rattle.world.specs.World.{World}
 use Rattle.store.specs.Shown.{BeginsAt}
 use Rattle.store.specs.Restart.{HoldsStore, RecoversStore}
 use Rattle.setup.specs.declared.refusal.Refusal.{Refusal as Unopened}
-use Rattle.setup.specs.declared.refusal.Refusal.TheVariants as store
 use Rattle.commands.specs.declared.refusal.CommandRefusal.{CommandRefusal}
 use Rattle.commands.specs.declared.refusal.CommandRefusal.TheVariants as refusal
-
--- the refusal of the command, by that of the store
-abbrev pub unopened : Unopened → CommandRefusal
-unopened store.Device = refusal.Device
-unopened store.Memory = refusal.Memory
-unopened store.BadSchema = refusal.BadSchema
-unopened store.NotEmpty = refusal.NotEmpty
-unopened store.NoTeam = refusal.NoTeam
+use Rattle.file_action.specs.Refusal.{unopened, unmade}
 
 -- the result of the command, by that of the store
 abbrev pub store_result : Result (Unit {0}) Unopened → Result (Unit {0}) CommandRefusal
 store_result (Ok u) = Ok tt
 store_result (Err why) = Err (unopened why)
-
--- the refusal of a file that a new store is made in, whose tables are not judged: a file that has any has bytes
-abbrev pub unmade : CommandRefusal → CommandRefusal
-unmade refusal.BadSchema = refusal.NotEmpty
-unmade other = other
 
 -- A store that was just opened over files that held this. If its disk was honest, it stands for a world that the files
 -- held, or for `common` alone if they were blank, and a crash leaves only that world.

@@ -7,8 +7,8 @@ ghost use Rattle.store.specs.Parts.{ExtractsTeams};
 
 use crate::found::{ClosedFile, Found, OpenedStore};
 use crate::looks::Looks;
-use crate::{command_refusal, unmade};
 use commands::refusal::CommandRefusal;
+use file_action::refusal::{command_refusal, unmade};
 use files::files::{StoreFiles, Use};
 use sqlite::Alter;
 use store::refusal::Refusal as Unopened;

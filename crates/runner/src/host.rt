@@ -17,6 +17,7 @@ use commands::order::{copy_at, order_at, stop_at};
 use commands::ping::ping_at;
 use commands::refusal::CommandRefusal;
 use control::Order;
+use file_action::host::ActionHost;
 use files::files::StoreFiles;
 use histories::{Hear, Tell};
 use sqlite::Start;
@@ -29,18 +30,14 @@ use world::shelves::Shelves;
 
 /// The system, as a command sees it whose stores are `S`. A closed store leaves a `C`, and an older store is opened as
 /// one.
-pub trait Host<S, C>: Looks {
+pub trait Host<S, C>: ActionHost<S> + Looks {
     ghost use Rattle.std.specs.Prelude.{map as each};
     ghost use Rattle.sqlite.specs.State.{State};
     ghost use Rattle.commands.specs.Order.{CopiesThere, OrdersThere, StopsThere};
     ghost use Rattle.commands.specs.Ping.{PingsThere};
-    ghost use Rattle.runner.specs.Command.{Deeds};
     ghost use Rattle.runner.specs.Extract.{ExtractsFile};
     ghost use Rattle.runner.specs.Migrate.{MigratesFile};
     ghost use Rattle.world.specs.Store.{Shown};
-
-    /// What doing an action does.
-    ghost acts: { Deeds S };
 
     /// What a store shows.
     ghost shown: { S → Shown };
@@ -50,21 +47,6 @@ pub trait Host<S, C>: Looks {
 
     /// Returns the memory that is allocated from.
     fn alloc(&self) -> Global;
-
-    /// Does an action on the open store of the file of this name, and returns whether it was accepted. Fails as
-    /// [`act_on`] does.
-    fn act<I: Hear, O: Tell>(
-        &mut self,
-        name: &str,
-        shelves: &mut S,
-        action: &Action,
-        input: &mut I,
-        output: &mut O,
-    ) -> Result<bool, CommandRefusal>
-        ensures { acts
-            (record { store = shelves.old; came = I.account input.old; written = O.contents output.old })
-            (record { store = shelves.new; came = I.account input.new; written = O.contents output.new })
-            result action.now };
 
     /// Puts some teams' part of the store of one file into the store of another, each opened by these files. Fails with
     /// the refusals of the store, and with `NotEmpty` if both names lead to one file.
@@ -119,10 +101,6 @@ pub struct SystemHost<'a> {
 }
 
 impl<'a> Looks for SystemHost<'a> {
-    fn holds_bytes(&self, name: &str) -> bool {
-        holds_bytes(self.rt, name)
-    }
-
     fn is_empty(&self, name: &str) -> bool {
         is_empty_file(self.rt, name)
     }
@@ -140,11 +118,10 @@ impl<'a> Looks for SystemHost<'a> {
     }
 }
 
-impl<'a> Host<OpenedStore, ClosedFile> for SystemHost<'a> {
-    ghost use Rattle.sqlite.specs.Held.{state};
+impl<'a> ActionHost<OpenedStore> for SystemHost<'a> {
     ghost use Rattle.sqlite_wal.specs.Files.{image_at};
     ghost use Rattle.commands.specs.Action.{Acts};
-    ghost use Rattle.runner.specs.Command.{within};
+    ghost use Rattle.file_action.specs.OnFile.{within};
     ghost use Rattle.runner.specs.Copies.{CopiesFile, CountsIn};
     ghost use Rattle.runner.specs.Opened.{HasBegun};
     ghost use Rattle.runner.specs.declared.found.OpenedStore.{OpenedStore};
@@ -154,12 +131,8 @@ impl<'a> Host<OpenedStore, ClosedFile> for SystemHost<'a> {
         (λ s. HasBegun ⟦<Found as Shelves>⟧.shown (image_at ⟦<AsFound as Start>⟧) s.shelves))
         (CountsIn ⟦<Found as Shelves>⟧.shown)) };
 
-    ghost shown = { λ s. ⟦<Found as Shelves>⟧.shown s.shelves };
-
-    ghost state_of = { λ c. state ⟦<FoundTables as Store>⟧ c.connection };
-
-    fn alloc(&self) -> Global {
-        self.rt.alloc()
+    fn holds_bytes(&self, name: &str) -> bool {
+        holds_bytes(self.rt, name)
     }
 
     fn act<I: Hear, O: Tell>(
@@ -171,6 +144,18 @@ impl<'a> Host<OpenedStore, ClosedFile> for SystemHost<'a> {
         output: &mut O,
     ) -> Result<bool, CommandRefusal> {
         act_in::<AsFound, I, O>(self.rt, name, &mut store.shelves, action, input, output)
+    }
+}
+
+impl<'a> Host<OpenedStore, ClosedFile> for SystemHost<'a> {
+    ghost use Rattle.sqlite.specs.Held.{state};
+
+    ghost shown = { λ s. ⟦<Found as Shelves>⟧.shown s.shelves };
+
+    ghost state_of = { λ c. state ⟦<FoundTables as Store>⟧ c.connection };
+
+    fn alloc(&self) -> Global {
+        self.rt.alloc()
     }
 
     fn extract<F, G>(

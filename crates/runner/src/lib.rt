@@ -18,9 +18,7 @@
 //! state in which they closed it. `host` and `system` have one. Nothing here reads the words of a command line.
 #![tactic(auto)]
 
-ghost use Rattle.std.specs.Prelude.{◌≡◌};
-ghost use Rattle.runner.specs.Opened as spec;
-ghost use Rattle.runner.specs.Command.{Runs, Inits, ActsOnFile};
+ghost use Rattle.runner.specs.Command.{Runs};
 
 mod beside;
 mod copies;
@@ -42,7 +40,8 @@ use commands::action::{Action, acceptance};
 use commands::memory::answer_in_memory;
 use commands::refusal::CommandRefusal;
 use control::Order;
-use files::files::{StoreFiles, Use};
+use file_action::{init, on_file};
+use files::files::StoreFiles;
 use histories::{Hear, Tell};
 use store::refusal::Refusal as Unopened;
 
@@ -141,98 +140,4 @@ where
         Command::Ping { control } => host.ping(control, output),
         Command::Stop { control } => acceptance(host.stop(control)),
     }
-}
-
-/// Makes a store with the shelf `common` alone, and returns true. Fails with `NotEmpty` if the file has bytes, and
-/// otherwise as `on_file` does. It reads one byte. If the file can't be read, opening the store says what is wrong.
-fn init<S, C, H, F, I, W>(
-    host: &mut H,
-    files: &mut F,
-    name: &str,
-    input: &mut I,
-    output: &mut W,
-) -> Result<bool, CommandRefusal>
-where
-    H: Host<S, C>,
-    F: StoreFiles<S, C, Unopened>,
-    I: Hear,
-    W: Tell,
-    ensures { Inits H.acts
-        (record { begins = F.begins; left = F.left; before = F.history files.old; after = F.history files.new })
-        name.now (I.account input.old) (I.account input.new) (W.contents output.old) (W.contents output.new)
-        result }
-{
-    if host.holds_bytes(name) {
-        return Err(CommandRefusal::NotEmpty);
-    }
-    match on_file(host, files, name, &Action::Open, input, output) {
-        Ok(done) => Ok(done),
-        Err(refusal) => Err(unmade(refusal)),
-    }
-}
-
-/// Returns the refusal of a file that a new store is made in: `NotEmpty` in place of `BadSchema`, because other tables
-/// are bytes too.
-fn unmade(refusal: CommandRefusal) -> CommandRefusal
-    ensures { result ≡ spec.unmade refusal }
-{
-    match refusal {
-        CommandRefusal::BadSchema => CommandRefusal::NotEmpty,
-        other => other,
-    }
-}
-
-/// Returns the refusal of a command, by that of the store.
-fn command_refusal(unopened: Unopened) -> CommandRefusal
-    ensures { result ≡ spec.unopened unopened }
-{
-    match unopened {
-        Unopened::Device => CommandRefusal::Device,
-        Unopened::Memory => CommandRefusal::Memory,
-        Unopened::BadSchema => CommandRefusal::BadSchema,
-        Unopened::NotEmpty => CommandRefusal::NotEmpty,
-        Unopened::NoTeam => CommandRefusal::NoTeam,
-    }
-}
-
-/// What an action opens its store for. Those that only read leave a store that has no key as it is.
-fn use_of(action: &Action) -> Use {
-    match action {
-        Action::Inventory { .. }
-        | Action::Requires { .. }
-        | Action::KeyList
-        | Action::ShelfList
-        | Action::Answer => Use::Reading,
-        _ => Use::Writing,
-    }
-}
-
-/// Opens the store of a file, does an action on it, closes it in the state that the action left it in, and returns
-/// whether the action was accepted. If there is no file and the action only reads, none is left. If the store can't be
-/// opened, it fails with that refusal and reads and writes nothing; otherwise it fails as the action does.
-fn on_file<S, C, H, F, I, W>(
-    host: &mut H,
-    files: &mut F,
-    name: &str,
-    action: &Action,
-    input: &mut I,
-    output: &mut W,
-) -> Result<bool, CommandRefusal>
-where
-    H: Host<S, C>,
-    F: StoreFiles<S, C, Unopened>,
-    I: Hear,
-    W: Tell,
-    ensures { ActsOnFile H.acts
-        (record { begins = F.begins; left = F.left; before = F.history files.old; after = F.history files.new })
-        name.now (I.account input.old) (I.account input.new) (W.contents output.old) (W.contents output.new)
-        action.now result }
-{
-    let mut file = match files.open(name, use_of(action)) {
-        Ok(file) => file,
-        Err(unopened) => return Err(command_refusal(unopened)),
-    };
-    let told = host.act(name, &mut file.store, action, input, output);
-    files.close(file);
-    told
 }

@@ -3,9 +3,6 @@ use store::refusal::Refusal;
 
 /// Looks at files. They change none, so no history has them.
 pub trait Looks {
-    /// Whether there is such a file, it can be read, and it has bytes.
-    fn holds_bytes(&self, name: &str) -> bool;
-
     /// Whether there is a file with this name that has no bytes. Folders and devices do not count.
     fn is_empty(&self, name: &str) -> bool;
 

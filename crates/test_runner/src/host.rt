@@ -4,6 +4,7 @@ use commands::refusal::CommandRefusal;
 use commands::registry::register;
 use commands::report::print_inventory;
 use control::Order;
+use file_action::host::ActionHost;
 use files::files::StoreFiles;
 use histories::{Hear, Tell};
 use runner::host::Host;
@@ -23,10 +24,6 @@ pub struct MemoryHost<'a> {
 }
 
 impl<'a> Looks for MemoryHost<'a> {
-    fn holds_bytes(&self, name: &str) -> bool {
-        name == "bytes.db"
-    }
-
     fn is_empty(&self, _name: &str) -> bool {
         false
     }
@@ -44,18 +41,12 @@ impl<'a> Looks for MemoryHost<'a> {
     }
 }
 
-impl<'a> Host<MapShelves, MapShelves> for MemoryHost<'a> {
-    ghost use Rattle.test_runner.specs.Tables.{no_tables};
-
+impl<'a> ActionHost<MapShelves> for MemoryHost<'a> {
     // the tests look at results alone
     ghost acts = { λ _ _ _ _. Unit {0} };
 
-    ghost shown = { ⟦<MapShelves as Shelves>⟧.shown };
-
-    ghost state_of = { λ _. no_tables };
-
-    fn alloc(&self) -> Global {
-        self.rt.alloc()
+    fn holds_bytes(&self, name: &str) -> bool {
+        name == "bytes.db"
     }
 
     fn act<I: Hear, O: Tell>(
@@ -71,6 +62,18 @@ impl<'a> Host<MapShelves, MapShelves> for MemoryHost<'a> {
             Action::Inventory { key } => print_inventory(self.rt.alloc(), shelves, key, output),
             _ => Ok(true),
         }
+    }
+}
+
+impl<'a> Host<MapShelves, MapShelves> for MemoryHost<'a> {
+    ghost use Rattle.test_runner.specs.Tables.{no_tables};
+
+    ghost shown = { ⟦<MapShelves as Shelves>⟧.shown };
+
+    ghost state_of = { λ _. no_tables };
+
+    fn alloc(&self) -> Global {
+        self.rt.alloc()
     }
 
     fn extract<F, G>(

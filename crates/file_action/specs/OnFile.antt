@@ -1,0 +1,59 @@
+-- What an action on the store of a file does.
+use Rattle.std.specs.Prelude.{ℕ, List, ◌≡◌, ◌⊎◌, Bool, Option, Result, Ok, Err}
+use Rattle.files.specs.History.{Span, IsIdle, Refuses, Opens}
+use Rattle.histories.specs.Account.{Account}
+use Rattle.setup.specs.declared.refusal.Refusal.{Refusal as Unopened}
+use Rattle.commands.specs.Action.{Moment}
+use Rattle.commands.specs.declared.refusal.CommandRefusal.{CommandRefusal}
+use Rattle.commands.specs.declared.refusal.CommandRefusal.TheVariants.{NotEmpty}
+use Rattle.commands.specs.declared.action.Action.{Action}
+use Rattle.commands.specs.declared.action.Action.TheVariants.{Open}
+use Rattle.file_action.specs.Refusal.{unopened, unmade}
+
+-- the result of `init`, by that of the action on its store
+abbrev pub made : Result Bool CommandRefusal → Result Bool CommandRefusal
+made (Ok accepted) = Ok accepted
+made (Err refusal) = Err (unmade refusal)
+
+module _ (came came_new : Account) (written written_new : Option (List ℕ)) (result : Result Bool CommandRefusal) where
+  -- this is the result, and nothing was read or written
+  pub record TellsAlone (told : Result Bool CommandRefusal) : Type 0 where
+    pub tells : result ≡ told
+    pub input : came_new ≡ came
+    pub output : written_new ≡ written
+
+-- what an action does, by the store and the streams before it and after it, the result, and the action
+abbrev pub Deeds : Type 0 → Type 1
+Deeds S = Moment S → Moment S → Result Bool CommandRefusal → Action → Type 0
+
+-- what an action does that is done on a part of a store
+abbrev pub within : {S T : Type 0} → (S → T) → Deeds T → Deeds S
+within part acts before after result action = acts
+    (record { store = part before.store; came = before.came; written = before.written })
+    (record { store = part after.store; came = after.came; written = after.written }) result action
+
+module _ {S C : Type 0} (acts : Deeds S) (files : Span S C) (name : List ℕ)
+    (came came_new : Account) (written written_new : Option (List ℕ)) where
+  -- the store of this file was to be opened, and was not, the result says why, and nothing was read or written
+  pub record ActsOnNone (result : Result Bool CommandRefusal) : Type 0 where
+    pub why : Unopened
+    pub tells : TellsAlone came came_new written written_new result (Err (unopened why))
+    pub done : Refuses files name
+
+  -- the store of this file was opened and the action was done on it, or it was not opened
+  abbrev pub ActsOnFile : Action → Result Bool CommandRefusal → Type 0
+  ActsOnFile action result =
+      Opens files name (λ begun ended. acts
+      (record { store = begun; came = came; written = written })
+      (record { store = ended; came = came_new; written = written_new }) result action)
+      ⊎ ActsOnNone result
+
+  -- the file has bytes, the result says so, and no store was opened
+  pub record FindsBytes (result : Result Bool CommandRefusal) : Type 0 where
+    pub tells : TellsAlone came came_new written written_new result (Err NotEmpty)
+    pub idle : IsIdle files
+
+  -- the file has bytes; or its store was opened or not, and nothing else was done
+  abbrev pub Inits : Result Bool CommandRefusal → Type 0
+  Inits result =
+      FindsBytes result ⊎ ((opened : Result Bool CommandRefusal) × ActsOnFile Open opened × (result ≡ made opened))

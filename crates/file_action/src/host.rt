@@ -1,0 +1,30 @@
+//! What an action on the store of a file asks of the system.
+use commands::action::Action;
+use commands::refusal::CommandRefusal;
+use histories::{Hear, Tell};
+
+/// The system, as an action sees it on the store of a file. Its stores are `S`.
+pub trait ActionHost<S> {
+    ghost use Rattle.file_action.specs.OnFile.{Deeds};
+
+    /// What doing an action does.
+    ghost acts: { Deeds S };
+
+    /// Whether there is such a file, it can be read, and it has bytes. It changes no file, so no history has the look.
+    fn holds_bytes(&self, name: &str) -> bool;
+
+    /// Does an action on the open store of the file of this name, and returns whether it was accepted. Fails as the
+    /// action does.
+    fn act<I: Hear, O: Tell>(
+        &mut self,
+        name: &str,
+        shelves: &mut S,
+        action: &Action,
+        input: &mut I,
+        output: &mut O,
+    ) -> Result<bool, CommandRefusal>
+        ensures { acts
+            (record { store = shelves.old; came = I.account input.old; written = O.contents output.old })
+            (record { store = shelves.new; came = I.account input.new; written = O.contents output.new })
+            result action.now };
+}

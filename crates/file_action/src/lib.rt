@@ -1,0 +1,88 @@
+//! An action on the store of a file: the store is opened, acted on, and closed as the action left it.
+//!
+//! This is code over [`files::files::StoreFiles`] and [`host::ActionHost`], and has no handle of the system. So the
+//! history of the files has all that it did to them.
+#![tactic(auto)]
+
+ghost use Rattle.file_action.specs.OnFile.{Inits, ActsOnFile};
+
+pub mod host;
+pub mod refusal;
+
+use crate::host::ActionHost;
+use crate::refusal::{command_refusal, unmade};
+use commands::action::Action;
+use commands::refusal::CommandRefusal;
+use files::files::{StoreFiles, Use};
+use histories::{Hear, Tell};
+use setup::refusal::Refusal as Unopened;
+
+/// Makes a store with the shelf `common` alone, and returns true. Fails with `NotEmpty` if the file has bytes, and
+/// otherwise as `on_file` does. It reads one byte. If the file can't be read, opening the store says what is wrong.
+pub fn init<S, C, H, F, I, W>(
+    host: &mut H,
+    files: &mut F,
+    name: &str,
+    input: &mut I,
+    output: &mut W,
+) -> Result<bool, CommandRefusal>
+where
+    H: ActionHost<S>,
+    F: StoreFiles<S, C, Unopened>,
+    I: Hear,
+    W: Tell,
+    ensures { Inits H.acts
+        (record { begins = F.begins; left = F.left; before = F.history files.old; after = F.history files.new })
+        name.now (I.account input.old) (I.account input.new) (W.contents output.old) (W.contents output.new)
+        result }
+{
+    if host.holds_bytes(name) {
+        return Err(CommandRefusal::NotEmpty);
+    }
+    match on_file(host, files, name, &Action::Open, input, output) {
+        Ok(done) => Ok(done),
+        Err(refusal) => Err(unmade(refusal)),
+    }
+}
+
+/// What an action opens its store for. Those that only read leave a store that has no key as it is.
+fn use_of(action: &Action) -> Use {
+    match action {
+        Action::Inventory { .. }
+        | Action::Requires { .. }
+        | Action::KeyList
+        | Action::ShelfList
+        | Action::Answer => Use::Reading,
+        _ => Use::Writing,
+    }
+}
+
+/// Opens the store of a file, does an action on it, closes it in the state that the action left it in, and returns
+/// whether the action was accepted. If there is no file and the action only reads, none is left. If the store can't be
+/// opened, it fails with that refusal and reads and writes nothing; otherwise it fails as the action does.
+pub fn on_file<S, C, H, F, I, W>(
+    host: &mut H,
+    files: &mut F,
+    name: &str,
+    action: &Action,
+    input: &mut I,
+    output: &mut W,
+) -> Result<bool, CommandRefusal>
+where
+    H: ActionHost<S>,
+    F: StoreFiles<S, C, Unopened>,
+    I: Hear,
+    W: Tell,
+    ensures { ActsOnFile H.acts
+        (record { begins = F.begins; left = F.left; before = F.history files.old; after = F.history files.new })
+        name.now (I.account input.old) (I.account input.new) (W.contents output.old) (W.contents output.new)
+        action.now result }
+{
+    let mut file = match files.open(name, use_of(action)) {
+        Ok(file) => file,
+        Err(unopened) => return Err(command_refusal(unopened)),
+    };
+    let told = host.act(name, &mut file.store, action, input, output);
+    files.close(file);
+    told
+}

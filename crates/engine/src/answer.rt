@@ -60,12 +60,14 @@ pub fn answer_all<R: Hear, W: Tell, S: Shelves>(
 }
 
 /// Answers the first message of a stream and returns the status that it wrote, or None exactly for an empty input. It
-/// reads at most 4,096 bytes after the first message, or after the point at which the stream can't go on.
+/// reads at most 4,096 bytes after the first message, or after the point at which the stream can't go on. The caller
+/// lends the router, so that it makes one for many streams.
 ///
 /// `Io::Read`: a read failed, nothing was done, and nothing is written. `Io::Write`: a write or the flush failed; a
 /// beginning of the text is written or all of it, and the shelves are as after the message.
 pub fn answer_one<R: Hear, W: Tell, S: Shelves>(
     alloc: Global,
+    routes: &mut RouteTable,
     reader: &mut R,
     writer: &mut W,
     shelves: &mut S,
@@ -91,8 +93,7 @@ pub fn answer_one<R: Hear, W: Tell, S: Shelves>(
     ensures isolated { AnswersByItsShelf (S.shown shelves.old) (S.shown shelves.new)
         (R.remaining reader.old) (W.contents writer.old) (W.contents writer.new) result }
 {
-    let mut routes = RouteTable::new(alloc);
     let mut session = Session::new(alloc);
-    let turned = session.turn(&mut routes, reader, writer, shelves);
+    let turned = session.turn(routes, reader, writer, shelves);
     end_turn(writer, turned)
 }

@@ -44,9 +44,9 @@
 //! An interrupted read or write is tried at most 1,000 times. If the reader or the writer fails, the call fails with
 //! [`Io`]: what was done before stays, and the contracts of [`answer_all`] and [`answer_one`] say what was written.
 //!
-//! A stream is a [`Session`], and each message one turn of it: [`answer_all`] takes all turns of its stream, and
-//! [`answer_one`] the first. A router reads the targets. Both functions make one for their stream; a caller with many
-//! streams lends one to each turn.
+//! A stream is a `Session`, and each message one turn of it: [`answer_all`] takes all turns of its stream, and
+//! [`answer_one`] the first. A router reads the targets. [`answer_all`] makes one for its stream; a caller of
+//! [`answer_one`] with many streams lends one to all.
 #![tactic(auto)]
 
 mod answer;
@@ -62,4 +62,3 @@ pub mod write;
 
 pub use answer::{answer_all, answer_one};
 pub use fault::Io;
-pub use session::{Session, Turn, end_turn};

@@ -22,7 +22,7 @@ use world::shelves::Shelves;
 
 /// What a turn did.
 #[derive(Clone, Copy, Drop)]
-pub enum Turn {
+pub(crate) enum Turn {
     /// It answered a message, with this status.
     Answered(u16),
     /// It closed the stream: by this reply, or by nothing at a good end.
@@ -66,7 +66,7 @@ fn close_by<W: Tell>(writer: &mut W, closing: Option<Fixed>) -> Result<Turn, Io>
 
 /// Flushes what a turn wrote and returns its status, or None if it wrote nothing. `Io::Write` if the flush fails. If
 /// the turn failed, it returns the turn's error and does not flush.
-pub fn end_turn<W: Tell>(writer: &mut W, turned: Result<Turn, Io>) -> Result<Option<u16>, Io>
+pub(crate) fn end_turn<W: Tell>(writer: &mut W, turned: Result<Turn, Io>) -> Result<Option<u16>, Io>
     ensures bytes { Keeps (W.contents writer.old) (W.contents writer.new) }
     ensures ends { EndsBy turned result }
     // What was written is flushed.
@@ -81,7 +81,7 @@ pub fn end_turn<W: Tell>(writer: &mut W, turned: Result<Turn, Io>) -> Result<Opt
 
 /// A stream of requests that is being answered. It holds the bytes that were read after the answered messages.
 #[derive(Drop)]
-pub struct Session {
+pub(crate) struct Session {
     pub(crate) alloc: Global,
     pub(crate) framer: Framer,
     /// How many reads are left. A stream that needs more than `u64::MAX` reads fails with `Io::Read`.
@@ -90,7 +90,7 @@ pub struct Session {
 
 impl Session {
     /// Returns a session at the beginning of a stream, with all its reads left.
-    pub fn new(alloc: Global) -> Session
+    pub(crate) fn new(alloc: Global) -> Session
         ensures framer { result.framer ≡ record { held = []; failure = None } }
         ensures reads { result.reads ≡ 2 ^ 64 - 1 }
     {
@@ -107,7 +107,7 @@ impl Session {
     ///
     /// `Io::Read`: a read failed, nothing was done, and nothing is written. `Io::Write`: a write failed; a beginning of
     /// the text is written, and the shelves are as after the message.
-    pub fn turn<R: Hear, W: Tell, S: Shelves>(
+    pub(crate) fn turn<R: Hear, W: Tell, S: Shelves>(
         &mut self,
         routes: &mut RouteTable,
         reader: &mut R,

@@ -7,6 +7,7 @@ use std::alloc::{AllocError, Global};
 use std::cell::Cell;
 use std::test::Fail;
 use test_support::doubles::{Sink, Source};
+use wire::RouteTable;
 
 /// Answers a stream from shelves that have no entry.
 fn serve(alloc: Global, reader: Source, writer: &mut Sink) -> Result<(), Io> {
@@ -28,6 +29,7 @@ fn serve_one(alloc: Global, reader: Source, writer: &mut Sink) -> Result<Option<
     };
     answer_one(
         alloc,
+        &mut RouteTable::new(alloc),
         &mut Hearing::new(reader),
         &mut Telling::new(writer),
         &mut shelves,

@@ -1,5 +1,5 @@
 #!/usr/bin/env python3
-"""docs/PROOFS.md names only what the sources promise, each promise has a doc comment, and no clause is void by `None`.
+"""docs/PROOFS.md names only promises of the sources, and these have a comment, say something and are of code that runs.
 
 usage: python3 tests/proofs_page.py
 """
@@ -42,15 +42,78 @@ def check_refusals(suite, proofs):
         suite.holds(f"it refuses {what}", f"docs/PROOFS.md: {wanted}" in found, found)
 
 
+# a program that reaches some functions of a crate, by the ways that there are
+MAIN = """
+use leaf::{Basket, Holds, inner, named as renamed};
+use leaf::sub::twice;
+
+/// Calls `leaf::only_named()`.
+fn main() {
+    renamed(1);
+    let basket = Basket::made();
+    basket.counted();
+    let text = "leaf::in_a_text()";
+    inner::deep::far(basket.into_iter().map(twice));
+}
+"""
+LEAF = """
+pub mod inner;
+pub use crate::sub::again;
+
+const SIZE: usize = sized();
+
+pub const fn sized() -> usize { 3 }
+pub fn named(n: [u8; 4]) -> u8
+    ensures clause { result ≡ only_in_a_clause n }
+{
+    beside(n)
+}
+pub fn beside(n: [u8; 4]) -> u8 { let c = '{'; n[0] }
+pub fn only_in_a_clause(n: u8) -> u8 { n }
+pub fn only_named() {}
+pub fn in_a_text() {}
+pub fn by_itself() { by_itself() }
+impl<T: Holds<u8>> Basket<T> {
+    pub fn made() -> Basket<T> { Self::filled() }
+    pub fn filled() -> Basket<T> { Basket }
+    pub fn counted(&self) -> usize { SIZE }
+    pub fn never(&self) {}
+}
+impl<T> Holds<T> for Basket<T> {
+    fn holds(&self) { again::<T>() }
+}
+"""
+SUB = "pub fn twice(n: u8) {}\npub fn again() {}\npub fn another() {}\n"
+LAWS = "pub fn law() ensures { ⊤ } {}\n"
+DEEP = "pub fn far(n: u8) {}\npub fn twice(n: u8) {}\n"
+
+
+def check_unreached(suite, unreached):
+    """The functions that nothing reaches are found, and no others."""
+    sources = {("goshelf",): MAIN, ("leaf",): LEAF, ("leaf", "sub"): SUB, ("leaf", "laws"): LAWS}
+    sources |= {("leaf", "inner"): "pub mod deep;", ("leaf", "inner", "deep"): DEEP}
+    program = unreached.Program(sources.items())
+    alone = ["Basket::never", "by_itself", "in_a_text", "inner::deep::twice", "only_in_a_clause", "only_named"]
+    wanted = [f"leaf::{it}" for it in (*alone, "sub::another")]
+    suite.equal("it lists what nothing reaches", program.unreached(), wanted)
+    suite.equal("but for what may stand", program.unreached(wanted[1:]), wanted[:1])
+
+
 def main():
     suite = Suite()
     for what, *words in (
         ("the sources promise what docs/PROOFS.md names", "proofs", "--check"),
         ("no ghost member is None but the system's own", "unknown"),
+        ("the program reaches each public function", "unreached"),
     ):
         ran = subprocess.run([os.path.join(ROOT, "tools", words[0]), *words[1:]], capture_output=True, text=True)
         suite.equal(what, (ran.returncode, ran.stdout), (0, ""))
     check_refusals(suite, tool("proofs"))
+    check_unreached(suite, tool("unreached"))
+    for words, status in ((["--help"], 0), (["-h"], 0), (["--nosuch"], 2), (["goshelf"], 2), ([""], 2)):
+        ran = subprocess.run([os.path.join(ROOT, "tools", "unreached"), *words], capture_output=True, text=True)
+        told = ran.stdout if status == 0 else ran.stderr
+        suite.holds(f"tools/unreached {words}", ran.returncode == status and "\nusage, in the rep" in told, ran)
     lines = ["pub enum Area {", "    Shelf,", "    At(Text),", "}"]
     words = tool("theorems").Definition(("wire", "", "Area"), "wire/src/area.rt", 1, lines).words()
     suite.equal("a sheet does not take the name of a variant for a type", words, ["pub", "enum", "Area", "Text"])

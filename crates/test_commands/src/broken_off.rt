@@ -38,7 +38,8 @@ fn newlines(bytes: &[u8], first: usize) -> usize {
 
 /// Three rows, the lines that are printed for them, and what the shelf sees afterwards.
 const LIST: &[u8] =
-    b"path,version,time,mod,zip\nexample.com/i,v1.0.0,,i.mod,empty\nexample.com/i,v1.1.0,,i.mod,empty\nexample.com/i,v1.2.0,,i.mod,empty\n";
+    b"path,version,time,mod,zip\nexample.com/i,v1.0.0,,i.mod,empty\nexample.com/i,v1.1.0,,i.mod,empty\n\
+      example.com/i,v1.2.0,,i.mod,empty\n";
 
 const LINES: &str = "1 201 published\n2 201 published\n3 201 published\n";
 
@@ -113,7 +114,8 @@ fn rows_before_a_failed_read_stay(rt: HostRuntime) -> Result<(), Fail> {
 
 /// Two rows and a bad one, and the lines that are printed for them.
 const BAD: &[u8] =
-    b"path,version,time,mod,zip\nexample.com/i,v1.0.0,,i.mod,empty\nexample.com/i,v1.1.0,,i.mod,empty\nexample.com/i,v1.2.0\n";
+    b"path,version,time,mod,zip\nexample.com/i,v1.0.0,,i.mod,empty\nexample.com/i,v1.1.0,,i.mod,empty\n\
+      example.com/i,v1.2.0\n";
 
 const BAD_LINES: &str = "1 201 published\n2 201 published\n3 bad row\n";
 

@@ -8,7 +8,8 @@ use world::shelves::Shelves;
 
 /// The reply if the store fails.
 const UNAVAILABLE: &[u8] =
-    b"HTTP/1.1 503 Service Unavailable\r\nContent-Type: text/plain; charset=utf-8\r\nContent-Length: 12\r\nConnection: close\r\n\r\nunavailable\n";
+    b"HTTP/1.1 503 Service Unavailable\r\nContent-Type: text/plain; charset=utf-8\r\nContent-Length: 12\r\n\
+      Connection: close\r\n\r\nunavailable\n";
 
 /// Does the steps of `SETUP` on shelves and has them answer the rows. Returns the first row that is answered
 /// otherwise, or the empty text. Then drops the shelves.

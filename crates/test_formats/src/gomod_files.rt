@@ -7,7 +7,8 @@ use std::test::Fail;
 
 /// The beginning of a file with many intervals.
 const MANY: &str = "\
-example.com/many||v1.0.0 v1.0.5 v1.7.3 v1.149.0 v1.150.5 v1.298.0 v1.299.1-rc.1 v1.299.5|v1.0.0-rc.1 v1.0.6 v1.7.6 v1.8.0-rc.1 v1.149.6 v1.298.7 v1.299.6 v1.300.0
+example.com/many||v1.0.0 v1.0.5 v1.7.3 v1.149.0 v1.150.5 v1.298.0 v1.299.1-rc.1 v1.299.5|\
+    v1.0.0-rc.1 v1.0.6 v1.7.6 v1.8.0-rc.1 v1.149.6 v1.298.7 v1.299.6 v1.300.0
 module example.com/many
 retract (
 ";
@@ -19,7 +20,9 @@ example.com/a||v1.0.5 v1.1.0-rc.1 v1.1.0|v1.0.5-rc.1 v1.1.1
 module example.com/a
 retract [v1.0.5, v1.1.0]
 ====
-example.com/stretches||v1.1.0 v1.1.5 v1.2.1 v1.3.0 v1.4.0 v1.5.5 v1.6.5 v1.7.0 v1.7.5 v1.8.0-rc.1 v1.8.0-rc.2 v1.8.0 v1.8.1-alpha v1.8.1-beta.2 v1.9.0|v1.0.9 v1.1.0-rc.1 v1.3.1-0 v1.3.1 v1.4.0-rc.1 v1.7.6-rc.1 v1.7.6 v1.8.0-beta v1.8.1-0 v1.8.1-beta.3 v1.8.1 v1.9.0-rc.1 v1.9.1
+example.com/stretches||v1.1.0 v1.1.5 v1.2.1 v1.3.0 v1.4.0 v1.5.5 v1.6.5 v1.7.0 v1.7.5 v1.8.0-rc.1 v1.8.0-rc.2 v1.8.0 \
+    v1.8.1-alpha v1.8.1-beta.2 v1.9.0|v1.0.9 v1.1.0-rc.1 v1.3.1-0 v1.3.1 v1.4.0-rc.1 v1.7.6-rc.1 v1.7.6 v1.8.0-beta \
+    v1.8.1-0 v1.8.1-beta.3 v1.8.1 v1.9.0-rc.1 v1.9.1
 module example.com/stretches
 
 retract (
@@ -45,7 +48,8 @@ module github.com/gorilla/mux
 
 go 1.20
 ====
-golang.org/x/tools|github.com/google/go-cmp v0.6.0 github.com/yuin/goldmark v1.4.13 golang.org/x/mod v0.22.0 golang.org/x/telemetry v0.0.0-20240521205824-bda55230c457 ||v0.1.0
+golang.org/x/tools|github.com/google/go-cmp v0.6.0 github.com/yuin/goldmark v1.4.13 golang.org/x/mod v0.22.0 \
+    golang.org/x/telemetry v0.0.0-20240521205824-bda55230c457 ||v0.1.0
 // Tools.
 module golang.org/x/tools
 
@@ -67,7 +71,8 @@ require (
 \t\"gopkg.in/check.v1\" v0.0.0-20161208181325-20d25e280405
 )
 ====
-github.com/spf13/cobra|github.com/cpuguy83/go-md2man/v2 v2.0.6 github.com/inconshreveable/mousetrap v1.1.0 gopkg.in/yaml.v3 v3.0.1 ||
+github.com/spf13/cobra|github.com/cpuguy83/go-md2man/v2 v2.0.6 github.com/inconshreveable/mousetrap v1.1.0 \
+    gopkg.in/yaml.v3 v3.0.1 ||
 module github.com/spf13/cobra
 
 go 1.15
@@ -78,7 +83,8 @@ require (
 \tgopkg.in/yaml.v3 v3.0.1
 )
 ====
-github.com/docker/cli|github.com/Azure/go-autorest v14.2.0+incompatible github.com/docker/docker v28.0.0-rc.1+incompatible github.com/docker/libtrust v0.0.0-20160708172513-aabc10ec26b7 ||
+github.com/docker/cli|github.com/Azure/go-autorest v14.2.0+incompatible github.com/docker/docker \
+    v28.0.0-rc.1+incompatible github.com/docker/libtrust v0.0.0-20160708172513-aabc10ec26b7 ||
 module github.com/docker/cli
 
 // 'vendor.mod' is this file's other name (see the notes).
@@ -131,7 +137,8 @@ exclude (
 
 require go.etcd.io/etcd/api/v3 v3.6.0-alpha.0
 ====
-github.com/redis/go-redis/v9|github.com/bsm/ginkgo/v2 v2.12.0 github.com/dgryski/go-rendezvous v0.0.0-20200823014737-9f7001d12a5f |v9.7.2 v9.5.4|v9.7.1 v9.6.0
+github.com/redis/go-redis/v9|github.com/bsm/ginkgo/v2 v2.12.0 github.com/dgryski/go-rendezvous \
+    v0.0.0-20200823014737-9f7001d12a5f |v9.7.2 v9.5.4|v9.7.1 v9.6.0
 module github.com/redis/go-redis/v9
 
 go 1.18
@@ -146,7 +153,8 @@ retract (
 \tv9.5.4 // Released by accident. Please use v9.6.0.
 )
 ====
-github.com/foo/bar/v3||v3.0.0-alpha v3.0.0-alpha.1 v3.0.0 v3.1.3 v3.1.5 v3.9.0-rc.1|v3.0.1 v3.1.6-0.20240101000000-aaaaaaaaaaaa v3.9.0
+github.com/foo/bar/v3||v3.0.0-alpha v3.0.0-alpha.1 v3.0.0 v3.1.3 v3.1.5 v3.9.0-rc.1|\
+    v3.0.1 v3.1.6-0.20240101000000-aaaaaaaaaaaa v3.9.0
 module github.com/foo/bar/v3
 
 // Published before the interface was settled,

@@ -55,11 +55,21 @@ stream|GET / HTTP/1.1\r;Content-Length: 1\r; 2\r;\r;a|400
 stream|GET / HTTP/1.1\r;Transfer-Encoding:\r;\r;|400
 stream|GET /\u{0} HTTP/1.1\r;\r;|400
 stream|GET /ÿ HTTP/1.1\r;\r;|400
-stream|PUT /k/alphakey00000001/example.com/lib/@v/v1.0.0 HTTP/1.1\r;Mod-Length: 23\r;Content-Length: 23\r;\r;module example.com/lib;GET /k/alphakey00000001/example.com/lib/@v/v1.0.0.mod HTTP/1.1\r;\r;GET /k/alphakey00000001/example.com/lib/@v/v1.0.0.zip HTTP/1.1\r;\r;GET /k/nosuchkey0000001/example.com/lib/@v/v1.0.0.mod HTTP/1.1\r;\r;|PUT /k/alphakey00000001/example.com/lib/@v/v1.0.0 mod-length 23 + module example.com/lib; GET /k/alphakey00000001/example.com/lib/@v/v1.0.0.mod +  GET /k/alphakey00000001/example.com/lib/@v/v1.0.0.zip +  GET /k/nosuchkey0000001/example.com/lib/@v/v1.0.0.mod +  empty
-stream|PUT / HTTP/1.1\r;mod-length: 1\r;Version-Time: \t2024-02-29T23:59:59Z \r;MOD-LENGTH:2\r;Version-Times: x\r;\r;|PUT / mod-length 1 mod-length 2 version-time 2024-02-29T23:59:59Z +  empty
+stream|PUT /k/alphakey00000001/example.com/lib/@v/v1.0.0 HTTP/1.1\r;Mod-Length: 23\r;Content-Length: 23\r;\r;\
+    module example.com/lib;GET /k/alphakey00000001/example.com/lib/@v/v1.0.0.mod HTTP/1.1\r;\r;\
+    GET /k/alphakey00000001/example.com/lib/@v/v1.0.0.zip HTTP/1.1\r;\r;\
+    GET /k/nosuchkey0000001/example.com/lib/@v/v1.0.0.mod HTTP/1.1\r;\r;|\
+    PUT /k/alphakey00000001/example.com/lib/@v/v1.0.0 mod-length 23 + module example.com/lib; \
+    GET /k/alphakey00000001/example.com/lib/@v/v1.0.0.mod +  GET /k/alphakey00000001/example.com/lib/@v/v1.0.0.zip +  \
+    GET /k/nosuchkey0000001/example.com/lib/@v/v1.0.0.mod +  empty
+stream|PUT / HTTP/1.1\r;mod-length: 1\r;Version-Time: \t2024-02-29T23:59:59Z \r;MOD-LENGTH:2\r;Version-Times: x\r;\r;|\
+    PUT / mod-length 1 mod-length 2 version-time 2024-02-29T23:59:59Z +  empty
 stream|GET / HTTP/1.1\r;\r;\r;|GET / +  more 0
-stream|GET / HTTP/1.1\r;Content-Length: 9999999999\r;\r;PUT /k/alphakey00000001/example.com/lib/@v/v1.0.0 HTTP/1.1\r;Mod-Length: 23\r;Content-Length: 23\r;\r;module example.com/lib;|413
-last|PUT /k/alphakey00000001/example.com/lib/@v/v1.0.0 HTTP/1.1\r;Mod-Length: 23\r;Content-Length: 23\r;\r;module example.com/lib;|more 1 then PUT /k/alphakey00000001/example.com/lib/@v/v1.0.0 mod-length 23 + module example.com/lib; empty
+stream|GET / HTTP/1.1\r;Content-Length: 9999999999\r;\r;PUT /k/alphakey00000001/example.com/lib/@v/v1.0.0 HTTP/1.1\r;\
+    Mod-Length: 23\r;Content-Length: 23\r;\r;module example.com/lib;|413
+last|PUT /k/alphakey00000001/example.com/lib/@v/v1.0.0 HTTP/1.1\r;Mod-Length: 23\r;Content-Length: 23\r;\r;\
+    module example.com/lib;|more 1 then PUT /k/alphakey00000001/example.com/lib/@v/v1.0.0 mod-length 23 + module \
+    example.com/lib; empty
 last|G(|more 0 then 400
 last|\rG|more 0 then 400
 last|;\ra|more 0 then 400
@@ -85,7 +95,8 @@ last|\r;GET / HTTP/1.1\r;Content-Length: 9999999999\r;A: |c|16332|\r;\r|more 0 t
 last|\r;GET / HTTP/1.1\r;A: |c|16363|more 0 then 400
 last||;|16384|more 0 then 400
 last|PUT /a HTTP/1.1\r;Content-Length: 5000\r;\r;|more 0 then more 5000
-last|PUT /a HTTP/1.1\r;Content-Length: 5000\r;\r;|x|5000|GET /b HTTP/1.1\r;\r;|PUT /a + * more 0 then PUT /a + * GET /b +  empty
+last|PUT /a HTTP/1.1\r;Content-Length: 5000\r;\r;|x|5000|GET /b HTTP/1.1\r;\r;|\
+    PUT /a + * more 0 then PUT /a + * GET /b +  empty
 ";
 
 /// Appends the words to the text, each with a space after it.

@@ -11,23 +11,40 @@ use wire::{Fixed, Kind, encode_head, fixed, fixed_line, info_body};
 ///
 /// `;` is a newline, except in `text/plain; charset=utf-8`.
 pub const ROWS: &str = "\
-fixed|AlreadyPublished|HTTP/1.1 200 OK\r;Content-Type: text/plain; charset=utf-8\r;Content-Length: 18\r;Connection: close\r;\r;already published;
-fixed|Published|HTTP/1.1 201 Created\r;Content-Type: text/plain; charset=utf-8\r;Content-Length: 10\r;Connection: close\r;\r;published;
-fixed|BadRequest|HTTP/1.1 400 Bad Request\r;Content-Type: text/plain; charset=utf-8\r;Content-Length: 12\r;Connection: close\r;\r;bad request;
-fixed|BadModLength|HTTP/1.1 400 Bad Request\r;Content-Type: text/plain; charset=utf-8\r;Content-Length: 15\r;Connection: close\r;\r;bad mod-length;
-fixed|Forbidden|HTTP/1.1 403 Forbidden\r;Content-Type: text/plain; charset=utf-8\r;Content-Length: 10\r;Connection: close\r;\r;forbidden;
-fixed|NotFound|HTTP/1.1 404 Not Found\r;Content-Type: text/plain; charset=utf-8\r;Content-Length: 10\r;Connection: close\r;\r;not found;
-fixed|Conflict|HTTP/1.1 409 Conflict\r;Content-Type: text/plain; charset=utf-8\r;Content-Length: 9\r;Connection: close\r;\r;conflict;
-fixed|TooLarge|HTTP/1.1 413 Payload Too Large\r;Content-Type: text/plain; charset=utf-8\r;Content-Length: 10\r;Connection: close\r;\r;too large;
-fixed|MajorMismatch|HTTP/1.1 422 Unprocessable Entity\r;Content-Type: text/plain; charset=utf-8\r;Content-Length: 15\r;Connection: close\r;\r;major-mismatch;
-fixed|BadTime|HTTP/1.1 422 Unprocessable Entity\r;Content-Type: text/plain; charset=utf-8\r;Content-Length: 9\r;Connection: close\r;\r;bad-time;
-fixed|TimeMismatch|HTTP/1.1 422 Unprocessable Entity\r;Content-Type: text/plain; charset=utf-8\r;Content-Length: 14\r;Connection: close\r;\r;time-mismatch;
-fixed|BadGoMod(0)|HTTP/1.1 422 Unprocessable Entity\r;Content-Type: text/plain; charset=utf-8\r;Content-Length: 12\r;Connection: close\r;\r;bad-gomod 0;
-fixed|BadGoMod(18446744073709551615)|HTTP/1.1 422 Unprocessable Entity\r;Content-Type: text/plain; charset=utf-8\r;Content-Length: 31\r;Connection: close\r;\r;bad-gomod 18446744073709551615;
-fixed|ModulePath|HTTP/1.1 422 Unprocessable Entity\r;Content-Type: text/plain; charset=utf-8\r;Content-Length: 12\r;Connection: close\r;\r;module-path;
-fixed|IncompatibleGoMod|HTTP/1.1 422 Unprocessable Entity\r;Content-Type: text/plain; charset=utf-8\r;Content-Length: 19\r;Connection: close\r;\r;incompatible-gomod;
-fixed|Unavailable|HTTP/1.1 503 Service Unavailable\r;Content-Type: text/plain; charset=utf-8\r;Content-Length: 12\r;Connection: close\r;\r;unavailable;
-fixed|Full|HTTP/1.1 507 Insufficient Storage\r;Content-Type: text/plain; charset=utf-8\r;Content-Length: 5\r;Connection: close\r;\r;full;
+fixed|AlreadyPublished|HTTP/1.1 200 OK\r;Content-Type: text/plain; charset=utf-8\r;Content-Length: 18\r;\
+    Connection: close\r;\r;already published;
+fixed|Published|HTTP/1.1 201 Created\r;Content-Type: text/plain; charset=utf-8\r;Content-Length: 10\r;\
+    Connection: close\r;\r;published;
+fixed|BadRequest|HTTP/1.1 400 Bad Request\r;Content-Type: text/plain; charset=utf-8\r;Content-Length: 12\r;\
+    Connection: close\r;\r;bad request;
+fixed|BadModLength|HTTP/1.1 400 Bad Request\r;Content-Type: text/plain; charset=utf-8\r;Content-Length: 15\r;\
+    Connection: close\r;\r;bad mod-length;
+fixed|Forbidden|HTTP/1.1 403 Forbidden\r;Content-Type: text/plain; charset=utf-8\r;Content-Length: 10\r;\
+    Connection: close\r;\r;forbidden;
+fixed|NotFound|HTTP/1.1 404 Not Found\r;Content-Type: text/plain; charset=utf-8\r;Content-Length: 10\r;\
+    Connection: close\r;\r;not found;
+fixed|Conflict|HTTP/1.1 409 Conflict\r;Content-Type: text/plain; charset=utf-8\r;Content-Length: 9\r;\
+    Connection: close\r;\r;conflict;
+fixed|TooLarge|HTTP/1.1 413 Payload Too Large\r;Content-Type: text/plain; charset=utf-8\r;Content-Length: 10\r;\
+    Connection: close\r;\r;too large;
+fixed|MajorMismatch|HTTP/1.1 422 Unprocessable Entity\r;Content-Type: text/plain; charset=utf-8\r;Content-Length: 15\r;\
+    Connection: close\r;\r;major-mismatch;
+fixed|BadTime|HTTP/1.1 422 Unprocessable Entity\r;Content-Type: text/plain; charset=utf-8\r;Content-Length: 9\r;\
+    Connection: close\r;\r;bad-time;
+fixed|TimeMismatch|HTTP/1.1 422 Unprocessable Entity\r;Content-Type: text/plain; charset=utf-8\r;Content-Length: 14\r;\
+    Connection: close\r;\r;time-mismatch;
+fixed|BadGoMod(0)|HTTP/1.1 422 Unprocessable Entity\r;Content-Type: text/plain; charset=utf-8\r;Content-Length: 12\r;\
+    Connection: close\r;\r;bad-gomod 0;
+fixed|BadGoMod(18446744073709551615)|HTTP/1.1 422 Unprocessable Entity\r;Content-Type: text/plain; charset=utf-8\r;\
+    Content-Length: 31\r;Connection: close\r;\r;bad-gomod 18446744073709551615;
+fixed|ModulePath|HTTP/1.1 422 Unprocessable Entity\r;Content-Type: text/plain; charset=utf-8\r;Content-Length: 12\r;\
+    Connection: close\r;\r;module-path;
+fixed|IncompatibleGoMod|HTTP/1.1 422 Unprocessable Entity\r;Content-Type: text/plain; charset=utf-8\r;\
+    Content-Length: 19\r;Connection: close\r;\r;incompatible-gomod;
+fixed|Unavailable|HTTP/1.1 503 Service Unavailable\r;Content-Type: text/plain; charset=utf-8\r;Content-Length: 12\r;\
+    Connection: close\r;\r;unavailable;
+fixed|Full|HTTP/1.1 507 Insufficient Storage\r;Content-Type: text/plain; charset=utf-8\r;Content-Length: 5\r;\
+    Connection: close\r;\r;full;
 line|AlreadyPublished|200 already published
 line|Published|201 published
 line|BadRequest|400 bad request

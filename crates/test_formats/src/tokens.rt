@@ -12,7 +12,9 @@ use std::test::Fail;
 /// - `word`: a text of one token; whether it is a word, a name, the arrow; whether its value is borrowed from the text;
 ///   and the value.
 pub const ROWS: &str = "\
-tokens|go 1.21rc1;a => // x;[\"b\\\"\",`c`];( =>x)|Name 1 0-2 go, Name 1 3-10 1.21rc1, Name 2 11-12 a, Arrow 2 13-15 =>, BracketLeft 3 21-22 [, Quoted 3 22-27 \"b\\\"\", Comma 3 27-28 ,, Raw 3 28-31 `c`, BracketRight 3 31-32 ], ParenLeft 4 33-34 (, Name 4 35-38 =>x, ParenRight 4 38-39 )
+tokens|go 1.21rc1;a => // x;[\"b\\\"\",`c`];( =>x)|Name 1 0-2 go, Name 1 3-10 1.21rc1, Name 2 11-12 a, \
+    Arrow 2 13-15 =>, BracketLeft 3 21-22 [, Quoted 3 22-27 \"b\\\"\", Comma 3 27-28 ,, Raw 3 28-31 `c`, \
+    BracketRight 3 31-32 ], ParenLeft 4 33-34 (, Name 4 35-38 =>x, ParenRight 4 38-39 )
 tokens|a;b {|Lex(2)
 line_tokens|  a//b|Name 7 22-23 a
 line_tokens|a /* b|Lex(7)

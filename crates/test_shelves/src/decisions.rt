@@ -30,16 +30,23 @@ Publishes|v2.0.0|malformed|module example.com/lib;||module example.com/lib;|||0 
 Publishes|v2.0.0+incompatible||module example.com/lib;||module example.com/lib;|||0 = Published
 Publishes|v1.0.0|malformed|module example.com/lib;||module example.com/lib;|||0 = Refused(BadTime)
 Publishes|v0.0.0-20240101000000-aaaaaaaaaaaa||module example.com/lib;||module example.com/lib;|||0 = Published
-Publishes|v0.0.0-20240101000000-aaaaaaaaaaaa|2024-01-01T00:00:00Z|module example.com/lib;||module example.com/lib;|||0 = Published
-Publishes|v0.0.0-20240101000000-aaaaaaaaaaaa|2024-01-01T00:00:01Z|module example.com/lib;||module example.com/lib;|||0 = Refused(TimeMismatch)
-Publishes|v0.0.0-20240101000000-aaaaaaaaaaaa|malformed|module example.com/lib;||module example.com/lib;|||0 = Refused(BadTime)
-Publishes|v1.0.0||module example.com/lib;;require (;example.com/x 1.0.0;);||module example.com/lib;;require (;example.com/x 1.0.0;);|||0 = Refused(BadGoMod(4))
+Publishes|v0.0.0-20240101000000-aaaaaaaaaaaa|2024-01-01T00:00:00Z|module example.com/lib;||module example.com/lib;|||\
+    0 = Published
+Publishes|v0.0.0-20240101000000-aaaaaaaaaaaa|2024-01-01T00:00:01Z|module example.com/lib;||module example.com/lib;|||\
+    0 = Refused(TimeMismatch)
+Publishes|v0.0.0-20240101000000-aaaaaaaaaaaa|malformed|module example.com/lib;||module example.com/lib;|||\
+    0 = Refused(BadTime)
+Publishes|v1.0.0||module example.com/lib;;require (;example.com/x 1.0.0;);||module example.com/lib;;require (;\
+    example.com/x 1.0.0;);|||0 = Refused(BadGoMod(4))
 Publishes|v1.0.0||module example.com/lib;frobnicate a;||module example.com/lib;frobnicate a;|||0 = Refused(BadGoMod(2))
 Publishes|v1.0.0||module example.com/lib;toolchain go1.21.0;||module example.com/lib;toolchain go1.21.0;|||0 = Published
-Publishes|v2.1.0+incompatible||module example.com/lib;tool example.com/x;||module example.com/lib;tool example.com/x;|||0 = Refused(IncompatibleGoMod)
+Publishes|v2.1.0+incompatible||module example.com/lib;tool example.com/x;||module example.com/lib;tool example.com/x;||\
+    |0 = Refused(IncompatibleGoMod)
 Publishes|v1.0.0||module example.com/other;||module example.com/other;|||0 = Refused(ModulePath)
-Publishes|v1.0.0||module example.com/lib;require example.com/x v1.0.0;||module example.com/lib;require example.com/x v1.0.0;|||0 = Published
-Publishes|v2.1.0+incompatible||module example.com/lib;require example.com/x v1.0.0;||module example.com/lib;require example.com/x v1.0.0;|||0 = Refused(IncompatibleGoMod)
+Publishes|v1.0.0||module example.com/lib;require example.com/x v1.0.0;||module example.com/lib;\
+    require example.com/x v1.0.0;|||0 = Published
+Publishes|v2.1.0+incompatible||module example.com/lib;require example.com/x v1.0.0;||module example.com/lib;\
+    require example.com/x v1.0.0;|||0 = Refused(IncompatibleGoMod)
 Publishes|v2.1.0+incompatible||module example.com/lib;||module example.com/lib;|||0 = Published
 Publishes|v1.0.0|2024-02-29T23:59:59Z|module example.com/lib;|a|module example.com/lib;|a|2024-02-29T23:59:59Z|1 = Same
 Publishes|v1.0.0||module example.com/lib;|a|module example.com/lib;|a|2024-02-29T23:59:59Z|1 = Conflict

@@ -99,7 +99,8 @@ fn has_written_all_when_the_flush_fails(rt: HostRuntime) {
 fn zip_of(alloc: Global, len: usize) -> Result<String, AllocError> {
     let zip = "z".repeat(alloc, len)?;
     format!(in alloc;
-        "PUT /k/alphakey00000001/example.com/lib/@v/v1.0.0 HTTP/1.1\r\nMod-Length: 23\r\nContent-Length: {}\r\n\r\nmodule example.com/lib\n{}GET /k/alphakey00000001/example.com/lib/@v/v1.0.0.zip HTTP/1.1\r\n\r\n",
+        "PUT /k/alphakey00000001/example.com/lib/@v/v1.0.0 HTTP/1.1\r\nMod-Length: 23\r\nContent-Length: {}\r\n\r\n\
+         module example.com/lib\n{}GET /k/alphakey00000001/example.com/lib/@v/v1.0.0.zip HTTP/1.1\r\n\r\n",
         23 + len,
         zip.as_str(),
     )

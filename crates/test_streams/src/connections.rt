@@ -7,15 +7,18 @@ use std::rt::HostRuntime;
 use std::test::Fail;
 
 pub const PUT: &[u8] =
-    b"PUT /k/alphakey00000001/example.com/lib/@v/v1.0.0 HTTP/1.1\r\nMod-Length: 23\r\nContent-Length: 23\r\n\r\nmodule example.com/lib\n";
+    b"PUT /k/alphakey00000001/example.com/lib/@v/v1.0.0 HTTP/1.1\r\nMod-Length: 23\r\nContent-Length: 23\r\n\r\n\
+      module example.com/lib\n";
 
 pub const GET: &[u8] = b"GET /k/alphakey00000001/example.com/lib/@v/v1.0.0.mod HTTP/1.1\r\n\r\n";
 
 pub const PUBLISHED: &str =
-    "HTTP/1.1 201 Created\r\nContent-Type: text/plain; charset=utf-8\r\nContent-Length: 10\r\nConnection: close\r\n\r\npublished\n";
+    "HTTP/1.1 201 Created\r\nContent-Type: text/plain; charset=utf-8\r\nContent-Length: 10\r\nConnection: close\r\n\r\n\
+     published\n";
 
 pub const SERVED: &str =
-    "HTTP/1.1 200 OK\r\nContent-Type: text/plain; charset=utf-8\r\nContent-Length: 23\r\nConnection: close\r\n\r\nmodule example.com/lib\n";
+    "HTTP/1.1 200 OK\r\nContent-Type: text/plain; charset=utf-8\r\nContent-Length: 23\r\nConnection: close\r\n\r\n\
+     module example.com/lib\n";
 
 /// Returns a listener on a free port, and the port.
 fn listening(rt: &HostRuntime) -> Result<(TcpListener, u16), Fail> {

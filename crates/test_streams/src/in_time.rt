@@ -172,7 +172,8 @@ fn a_write_that_begins_too_late_fails(rt: HostRuntime) -> Result<(), Fail> {
 
 /// The head of a publish whose zip has 1,114,112 bytes, and its go.mod.
 const LARGE: &[u8] =
-    b"PUT /k/alphakey00000001/example.com/lib/@v/v1.0.0 HTTP/1.1\r\nMod-Length: 23\r\nContent-Length: 1114135\r\n\r\nmodule example.com/lib\n";
+    b"PUT /k/alphakey00000001/example.com/lib/@v/v1.0.0 HTTP/1.1\r\nMod-Length: 23\r\nContent-Length: 1114135\r\n\r\n\
+      module example.com/lib\n";
 
 #[test]
 fn bytes_that_are_moved_give_more_time(rt: HostRuntime) -> Result<(), Fail> {

@@ -14,14 +14,27 @@ use world::shelves::Shelves;
 /// A run, one step a line: a message, its reply, and how the reply to `LIST` ends after the step. `^` is CR LF, and `$`
 /// is LF.
 const STEPS: &str = "\
-PUT /k/alphakey00000001/example.com/s/@v/v1.0.0 HTTP/1.1^Mod-Length: 21^Content-Length: 21^^module example.com/s$ | HTTP/1.1 201 Created^Content-Type: text/plain; charset=utf-8^Content-Length: 10^Connection: close^^published$ | ^^v1.0.0$
-PUT /k/alphakey00000001/example.com/s/@v/v1.0.0 HTTP/1.1^Mod-Length: 21^Content-Length: 22^^module example.com/s$Z | HTTP/1.1 409 Conflict^Content-Type: text/plain; charset=utf-8^Content-Length: 9^Connection: close^^conflict$ | ^^v1.0.0$
-PUT /k/alphareader00001/example.com/s/@v/v1.1.0 HTTP/1.1^Mod-Length: 21^Content-Length: 21^^module example.com/s$ | HTTP/1.1 403 Forbidden^Content-Type: text/plain; charset=utf-8^Content-Length: 10^Connection: close^^forbidden$ | ^^v1.0.0$
-PUT /k/commonkey0000001/example.com/s/@v/v1.1.0 HTTP/1.1^Mod-Length: 21^Content-Length: 22^^module example.com/s$c | HTTP/1.1 201 Created^Content-Type: text/plain; charset=utf-8^Content-Length: 10^Connection: close^^published$ | ^^v1.0.0$v1.1.0$
-GET /k/alphakey00000001/example.com/s/@v/v1.1.0.zip HTTP/1.1^^ | HTTP/1.1 200 OK^Content-Type: application/zip^Content-Length: 1^Connection: close^^c | ^^v1.0.0$v1.1.0$
-GET /k/nosuchkey0000001/example.com/s/@v/v1.1.0.zip HTTP/1.1^^ | HTTP/1.1 404 Not Found^Content-Type: text/plain; charset=utf-8^Content-Length: 10^Connection: close^^not found$ | ^^v1.0.0$v1.1.0$
-PUT /k/alphakey00000001/example.com/s/@v/v1.2.0 HTTP/1.1^Mod-Length: 21^Content-Length: 21^^module example.com/s$ | HTTP/1.1 201 Created^Content-Type: text/plain; charset=utf-8^Content-Length: 10^Connection: close^^published$ | ^^v1.0.0$v1.1.0$v1.2.0$
-GET /k/alphakey00000001/example.com/s/@latest HTTP/1.1^^ | HTTP/1.1 200 OK^Content-Type: application/json^Content-Length: 20^Connection: close^^{\"Version\":\"v1.2.0\"} | ^^v1.0.0$v1.1.0$v1.2.0$
+PUT /k/alphakey00000001/example.com/s/@v/v1.0.0 HTTP/1.1^Mod-Length: 21^Content-Length: 21^^module example.com/s$ | \
+    HTTP/1.1 201 Created^Content-Type: text/plain; charset=utf-8^Content-Length: 10^Connection: close^^published$ | \
+    ^^v1.0.0$
+PUT /k/alphakey00000001/example.com/s/@v/v1.0.0 HTTP/1.1^Mod-Length: 21^Content-Length: 22^^module example.com/s$Z | \
+    HTTP/1.1 409 Conflict^Content-Type: text/plain; charset=utf-8^Content-Length: 9^Connection: close^^conflict$ | \
+    ^^v1.0.0$
+PUT /k/alphareader00001/example.com/s/@v/v1.1.0 HTTP/1.1^Mod-Length: 21^Content-Length: 21^^module example.com/s$ | \
+    HTTP/1.1 403 Forbidden^Content-Type: text/plain; charset=utf-8^Content-Length: 10^Connection: close^^forbidden$ | \
+    ^^v1.0.0$
+PUT /k/commonkey0000001/example.com/s/@v/v1.1.0 HTTP/1.1^Mod-Length: 21^Content-Length: 22^^module example.com/s$c | \
+    HTTP/1.1 201 Created^Content-Type: text/plain; charset=utf-8^Content-Length: 10^Connection: close^^published$ | \
+    ^^v1.0.0$v1.1.0$
+GET /k/alphakey00000001/example.com/s/@v/v1.1.0.zip HTTP/1.1^^ | HTTP/1.1 200 OK^Content-Type: application/zip^\
+    Content-Length: 1^Connection: close^^c | ^^v1.0.0$v1.1.0$
+GET /k/nosuchkey0000001/example.com/s/@v/v1.1.0.zip HTTP/1.1^^ | HTTP/1.1 404 Not Found^Content-Type: text/plain; \
+    charset=utf-8^Content-Length: 10^Connection: close^^not found$ | ^^v1.0.0$v1.1.0$
+PUT /k/alphakey00000001/example.com/s/@v/v1.2.0 HTTP/1.1^Mod-Length: 21^Content-Length: 21^^module example.com/s$ | \
+    HTTP/1.1 201 Created^Content-Type: text/plain; charset=utf-8^Content-Length: 10^Connection: close^^published$ | \
+    ^^v1.0.0$v1.1.0$v1.2.0$
+GET /k/alphakey00000001/example.com/s/@latest HTTP/1.1^^ | HTTP/1.1 200 OK^Content-Type: application/json^\
+    Content-Length: 20^Connection: close^^{\"Version\":\"v1.2.0\"} | ^^v1.0.0$v1.1.0$v1.2.0$
 ";
 
 /// The request that shows what the shelves have.

@@ -56,7 +56,8 @@ GET A example.com/lib%2/@v/v1.0.0.mod | 404 Not Found | plain | not found;
 major-versions
 PUT A example.com/lib/@v/v2.0.0 | 422 Unprocessable Entity | plain | major-mismatch; | module example.com/lib; |
 PUT A example.com/lib/@v/v2.0.0+incompatible | 201 Created | plain | published; | module example.com/lib; |
-PUT A example.com/lib/@v/v2.1.0+incompatible | 422 Unprocessable Entity | plain | incompatible-gomod; | module example.com/lib;require example.com/x v1.0.0; |
+PUT A example.com/lib/@v/v2.1.0+incompatible | 422 Unprocessable Entity | plain | incompatible-gomod; | \
+    module example.com/lib;require example.com/x v1.0.0; |
 GET A example.com/lib/@v/v2.0.0%2Bincompatible.mod | 200 OK | plain | module example.com/lib;
 prerelease-order
 PUT A example.com/rc/@v/v1.0.0-rc.10 | 201 Created | plain | published; | module example.com/rc; |
@@ -65,9 +66,11 @@ PUT A example.com/rc/@v/v1.0.0-rc.2 | 201 Created | plain | published; | module 
 GET A example.com/rc/@v/list | 200 OK | plain | v1.0.0-rc.2;v1.0.0-rc.10;v1.0.0;
 pseudo-only
 PUT A example.com/ps/@v/v0.0.0-20240101000000-aaaaaaaaaaaa | 201 Created | plain | published; | module example.com/ps; |
-PUT A example.com/ps/@v/v0.0.1-0.20230101000000-bbbbbbbbbbbb | 201 Created | plain | published; | module example.com/ps; |
+PUT A example.com/ps/@v/v0.0.1-0.20230101000000-bbbbbbbbbbbb | 201 Created | plain | published; | \
+    module example.com/ps; |
 GET A example.com/ps/@v/list | 200 OK | plain |
-GET A example.com/ps/@latest | 200 OK | json | {\"Time\":\"2024-01-01T00:00:00Z\",\"Version\":\"v0.0.0-20240101000000-aaaaaaaaaaaa\"}
+GET A example.com/ps/@latest | 200 OK | json | {\"Time\":\"2024-01-01T00:00:00Z\",\
+    \"Version\":\"v0.0.0-20240101000000-aaaaaaaaaaaa\"}
 retracted-interval
 PUT A example.com/ra/@v/v1.0.0 | 201 Created | plain | published; | module example.com/ra; |
 PUT A example.com/ra/@v/v1.1.0 | 201 Created | plain | published; | module example.com/ra;retract [v1.0.5, v1.1.0]; |
@@ -83,37 +86,47 @@ PUT A example.com/rd/@v/v1.0.0 | 201 Created | plain | published; | module examp
 GET A example.com/rd/@latest | 404 Not Found | plain | not found;
 GET A example.com/rd/@v/list | 200 OK | plain | v1.0.0;
 refused-publishes
-PUT A example.com/q/@v/v1.0.0 | 422 Unprocessable Entity | plain | bad-time; | module example.com/q; | | Version-Time: 2024-02-30T00:00:00Z;
+PUT A example.com/q/@v/v1.0.0 | 422 Unprocessable Entity | plain | bad-time; | module example.com/q; | | \
+    Version-Time: 2024-02-30T00:00:00Z;
 PUT R example.com/q/@v/v1.0.0 | 403 Forbidden | plain | forbidden; | module example.com/q; |
 bad-gomod-line
-PUT A example.com/bad/@v/v1.0.0 | 422 Unprocessable Entity | plain | bad-gomod 4; | module example.com/bad;;require (;example.com/x 1.0.0;); |
+PUT A example.com/bad/@v/v1.0.0 | 422 Unprocessable Entity | plain | bad-gomod 4; | module example.com/bad;;require (;\
+    example.com/x 1.0.0;); |
 go-alone
 PUT A example.com/bad/@v/v1.0.0 | 422 Unprocessable Entity | plain | bad-gomod 0; | go 1.21rc1; |
 another path in the go.mod
 PUT A example.com/bad/@v/v1.0.0 | 422 Unprocessable Entity | plain | module-path; | module example.com/lib; |
 modules-of-a-team
 GET B -/modules | 200 OK | plain | example.com/x;example.com/y;
-GET A -/modules | 200 OK | plain | example.com/Lib;example.com/lib;example.com/ps;example.com/ra;example.com/rb;example.com/rc;example.com/rd;example.com/x;example.com/y;
+GET A -/modules | 200 OK | plain | example.com/Lib;example.com/lib;example.com/ps;example.com/ra;example.com/rb;\
+    example.com/rc;example.com/rd;example.com/x;example.com/y;
 unreadable: an empty element, and a version that is not canonical
 PUT A example.com//q/@v/v1.0.0 | 404 Not Found | plain | not found; | module example.com/q; |
 PUT A example.com/q/@v/1.0.0 | 404 Not Found | plain | not found; | module example.com/q; |
 near-pseudo
-PUT A example.com/near/@v/v0.0.0-20240230000000-aaaaaaaaaaaa | 201 Created | plain | published; | module example.com/near; |
-PUT A example.com/near/@v/v1.0.0-0.20230101000000-bbbbbbbbbbbb | 201 Created | plain | published; | module example.com/near; |
-GET A example.com/near/@v/list | 200 OK | plain | v0.0.0-20240230000000-aaaaaaaaaaaa;v1.0.0-0.20230101000000-bbbbbbbbbbbb;
+PUT A example.com/near/@v/v0.0.0-20240230000000-aaaaaaaaaaaa | 201 Created | plain | published; | \
+    module example.com/near; |
+PUT A example.com/near/@v/v1.0.0-0.20230101000000-bbbbbbbbbbbb | 201 Created | plain | published; | \
+    module example.com/near; |
+GET A example.com/near/@v/list | 200 OK | plain | v0.0.0-20240230000000-aaaaaaaaaaaa;\
+    v1.0.0-0.20230101000000-bbbbbbbbbbbb;
 GET A example.com/near/@latest | 200 OK | json | {\"Version\":\"v1.0.0-0.20230101000000-bbbbbbbbbbbb\"}
 publish-with-time
-PUT A example.com/t/@v/v1.0.0 | 201 Created | plain | published; | module example.com/t; | | Version-Time: 2024-02-29T23:59:59Z;
+PUT A example.com/t/@v/v1.0.0 | 201 Created | plain | published; | module example.com/t; | | \
+    Version-Time: 2024-02-29T23:59:59Z;
 GET A example.com/t/@v/v1.0.0.info | 200 OK | json | {\"Time\":\"2024-02-29T23:59:59Z\",\"Version\":\"v1.0.0\"}
 same-without-time
 PUT A example.com/t/@v/v1.0.0 | 409 Conflict | plain | conflict; | module example.com/t; |
 time-against-stamp
-PUT A example.com/t/@v/v0.0.0-20240101000000-aaaaaaaaaaaa | 422 Unprocessable Entity | plain | time-mismatch; | module example.com/t; | | Version-Time: 2024-01-01T00:00:01Z;
+PUT A example.com/t/@v/v0.0.0-20240101000000-aaaaaaaaaaaa | 422 Unprocessable Entity | plain | time-mismatch; | \
+    module example.com/t; | | Version-Time: 2024-01-01T00:00:01Z;
 two times, and an empty one
-PUT A example.com/t/@v/v1.1.0 | 422 Unprocessable Entity | plain | bad-time; | module example.com/t; | | Version-Time: 2024-01-01T00:00:00Z;version-time: 2024-01-01T00:00:00Z;
+PUT A example.com/t/@v/v1.1.0 | 422 Unprocessable Entity | plain | bad-time; | module example.com/t; | | \
+    Version-Time: 2024-01-01T00:00:00Z;version-time: 2024-01-01T00:00:00Z;
 PUT A example.com/t/@v/v1.1.0 | 422 Unprocessable Entity | plain | bad-time; | module example.com/t; | | Version-Time:;
 a PUT whose body ends one byte early
-PUT /k/alphakey00000001/example.com/q/@v/v1.0.0 HTTP/1.1;Mod-Length: 21;Content-Length: 21;;module example.com/q | 400 Bad Request | plain | bad request;
+PUT /k/alphakey00000001/example.com/q/@v/v1.0.0 HTTP/1.1;Mod-Length: 21;Content-Length: 21;;module example.com/q | \
+    400 Bad Request | plain | bad request;
 ====
 team-add|alpha = Done
 team-add|beta = Done
@@ -122,17 +135,25 @@ reader-add|alpha|alphareader00001 = Done
 key-add|beta|betakey000000001 = Done
 key-add|common|commonkey0000001 = Done
 bad-fronts, each with a message behind it
-GET / HTTP/1.1;a:b;a:b;a:b;a:b;a:b;a:b;a:b;a:b;a:b;a:b;a:b;a:b;a:b;a:b;a:b;a:b;a:b;a:b;a:b;a:b;a:b;a:b;a:b;a:b;a:b;a:b;a:b;a:b;a:b;a:b;a:b;a:b;a:b;a:b;a:b;a:b;a:b;a:b;a:b;a:b;a:b;a:b;a:b;a:b;a:b;a:b;a:b;a:b;a:b;a:b;a:b;a:b;a:b;a:b;a:b;a:b;a:b;a:b;a:b;a:b;a:b;a:b;a:b;a:b;a:b;;GET / HTTP/1.1;; | 400 Bad Request | plain | bad request;
+GET / HTTP/1.1;a:b;a:b;a:b;a:b;a:b;a:b;a:b;a:b;a:b;a:b;a:b;a:b;a:b;a:b;a:b;a:b;a:b;a:b;a:b;a:b;a:b;a:b;a:b;a:b;a:b;a:b;\
+    a:b;a:b;a:b;a:b;a:b;a:b;a:b;a:b;a:b;a:b;a:b;a:b;a:b;a:b;a:b;a:b;a:b;a:b;a:b;a:b;a:b;a:b;a:b;a:b;a:b;a:b;a:b;a:b;\
+    a:b;a:b;a:b;a:b;a:b;a:b;a:b;a:b;a:b;a:b;a:b;;GET / HTTP/1.1;; | 400 Bad Request | plain | bad request;
 GET / HTTP/1.1;Content-Length: 17825793;;GET / HTTP/1.1;; | 413 Payload Too Large | plain | too large;
 GET / HTTP/1.1;Content-Length: 1;Content-Length: 1;;GET / HTTP/1.1;; | 400 Bad Request | plain | bad request;
 refused-publishes: a body that ends one byte early
-PUT /k/alphakey00000001/example.com/q/@v/v1.0.0 HTTP/1.1;Mod-Length: 23;Content-Length: 23;;module example.com/q; | 400 Bad Request | plain | bad request;
+PUT /k/alphakey00000001/example.com/q/@v/v1.0.0 HTTP/1.1;Mod-Length: 23;Content-Length: 23;;module example.com/q; | \
+    400 Bad Request | plain | bad request;
 GET /k/alphakey00000001/example.com/q/@v/v1.0.0.mod HTTP/1.1;; | 404 Not Found | plain | not found;
 bad-mod-lengths: absent, doubled, with a leading zero, above the body; each with a message behind it
-PUT /k/alphakey00000001/example.com/q/@v/v1.0.0 HTTP/1.1;Content-Length: 22;;module example.com/q;GET / HTTP/1.1;; | 400 Bad Request | plain | bad mod-length; & | 404 Not Found | plain | not found;
-PUT /k/alphakey00000001/example.com/q/@v/v1.0.0 HTTP/1.1;Mod-Length: 22;Mod-Length: 22;Content-Length: 22;;module example.com/q;GET / HTTP/1.1;; | 400 Bad Request | plain | bad mod-length; & | 404 Not Found | plain | not found;
-PUT /k/alphakey00000001/example.com/q/@v/v1.0.0 HTTP/1.1;Mod-Length: 022;Content-Length: 22;;module example.com/q;GET / HTTP/1.1;; | 400 Bad Request | plain | bad mod-length; & | 404 Not Found | plain | not found;
-PUT /k/alphakey00000001/example.com/q/@v/v1.0.0 HTTP/1.1;Mod-Length: 23;Content-Length: 22;;module example.com/q;GET / HTTP/1.1;; | 400 Bad Request | plain | bad mod-length; & | 404 Not Found | plain | not found;
+PUT /k/alphakey00000001/example.com/q/@v/v1.0.0 HTTP/1.1;Content-Length: 22;;module example.com/q;GET / HTTP/1.1;; | \
+    400 Bad Request | plain | bad mod-length; & | 404 Not Found | plain | not found;
+PUT /k/alphakey00000001/example.com/q/@v/v1.0.0 HTTP/1.1;Mod-Length: 22;Mod-Length: 22;Content-Length: 22;;\
+    module example.com/q;GET / HTTP/1.1;; | 400 Bad Request | plain | bad mod-length; & | 404 Not Found | plain | \
+    not found;
+PUT /k/alphakey00000001/example.com/q/@v/v1.0.0 HTTP/1.1;Mod-Length: 022;Content-Length: 22;;module example.com/q;\
+    GET / HTTP/1.1;; | 400 Bad Request | plain | bad mod-length; & | 404 Not Found | plain | not found;
+PUT /k/alphakey00000001/example.com/q/@v/v1.0.0 HTTP/1.1;Mod-Length: 23;Content-Length: 22;;module example.com/q;\
+    GET / HTTP/1.1;; | 400 Bad Request | plain | bad mod-length; & | 404 Not Found | plain | not found;
 an empty line behind a message
 GET / HTTP/1.1;;; | 404 Not Found | plain | not found; & | 400 Bad Request | plain | bad request;
 ====
@@ -143,10 +164,13 @@ reader-add|alpha|alphareader00001 = Done
 key-add|beta|betakey000000001 = Done
 key-add|common|commonkey0000001 = Done
 PUT A example.com/lib/@v/v1.0.0 | 201 Created | plain | published; | module example.com/lib; |
-GET A -/gosum/example.com/lib/@v/v1.0.0 | 200 OK | plain | example.com/lib v1.0.0/go.mod h1:4OAnUP7RpKJ0hg7ydNi+A/luktLxx7xSrw0c+FeAtlc=;
-GET R -/gosum/example.com/lib/@v/v1.0.0 | 200 OK | plain | example.com/lib v1.0.0/go.mod h1:4OAnUP7RpKJ0hg7ydNi+A/luktLxx7xSrw0c+FeAtlc=;
+GET A -/gosum/example.com/lib/@v/v1.0.0 | 200 OK | plain | example.com/lib v1.0.0/go.mod \
+    h1:4OAnUP7RpKJ0hg7ydNi+A/luktLxx7xSrw0c+FeAtlc=;
+GET R -/gosum/example.com/lib/@v/v1.0.0 | 200 OK | plain | example.com/lib v1.0.0/go.mod \
+    h1:4OAnUP7RpKJ0hg7ydNi+A/luktLxx7xSrw0c+FeAtlc=;
 GET A example.com/lib/@v/v1.0.0.mod | 200 OK | plain | module example.com/lib;
-GET A -/go%73um/example.com%2Flib/%40v/v1.0.0 | 200 OK | plain | example.com/lib v1.0.0/go.mod h1:4OAnUP7RpKJ0hg7ydNi+A/luktLxx7xSrw0c+FeAtlc=;
+GET A -/go%73um/example.com%2Flib/%40v/v1.0.0 | 200 OK | plain | example.com/lib v1.0.0/go.mod \
+    h1:4OAnUP7RpKJ0hg7ydNi+A/luktLxx7xSrw0c+FeAtlc=;
 GET B -/gosum/example.com/lib/@v/v1.0.0 | 404 Not Found | plain | not found;
 GET N -/gosum/example.com/lib/@v/v1.0.0 | 404 Not Found | plain | not found;
 GET A -/gosum/example.com/lib/@v/v9.0.0 | 404 Not Found | plain | not found;
@@ -155,9 +179,11 @@ GET A %2D/gosum/example.com/lib/@v/v1.0.0 | 404 Not Found | plain | not found;
 GET A -/gosum/example.com/lib/@latest | 404 Not Found | plain | not found;
 PUT A -/gosum/example.com/lib/@v/v1.0.0 | 404 Not Found | plain | not found; | module example.com/lib; |
 PUT C example.com/x/@v/v1.0.0 | 201 Created | plain | published; | module example.com/x; |
-GET B -/gosum/example.com/x/@v/v1.0.0 | 200 OK | plain | example.com/x v1.0.0/go.mod h1:cq1Wlc5Q/3TKMd9Nt+I/D/H5kAJrHbzSCzH20/f7O0w=;
+GET B -/gosum/example.com/x/@v/v1.0.0 | 200 OK | plain | example.com/x v1.0.0/go.mod \
+    h1:cq1Wlc5Q/3TKMd9Nt+I/D/H5kAJrHbzSCzH20/f7O0w=;
 PUT A example.com/!lib/@v/v1.0.0-a.mod | 201 Created | plain | published; | module example.com/Lib; |
-GET A -/gosum/example.com/!lib/@v/v1.0.0-a.mod | 200 OK | plain | example.com/Lib v1.0.0-a.mod/go.mod h1:QCLwax7NYDdQrhhEO5lFRKWPJgpb1/PsD0HlPYhcfdU=;
+GET A -/gosum/example.com/!lib/@v/v1.0.0-a.mod | 200 OK | plain | \
+    example.com/Lib v1.0.0-a.mod/go.mod h1:QCLwax7NYDdQrhhEO5lFRKWPJgpb1/PsD0HlPYhcfdU=;
 GET A -/gosum/example.com/Lib/@v/v1.0.0-a.mod | 404 Not Found | plain | not found;
 ====
 team-add|alpha = Done
@@ -211,7 +237,8 @@ GET M -/modules | 200 OK | plain | example.com/g;example.com/h;
 GET D -/modules | 200 OK | plain | example.com/g;example.com/h;example.com/own;
 GET P -/modules | 200 OK | plain | example.com/g;example.com/h;
 GET A -/modules | 200 OK | plain | example.com/h;
-GET M -/gosum/example.com/g/@v/v1.0.0 | 200 OK | plain | example.com/g v1.0.0/go.mod h1:OJ1klDEevVKLkxk3UnEX/d9Uk3DpmjQKYxb0X6M2RS0=;
+GET M -/gosum/example.com/g/@v/v1.0.0 | 200 OK | plain | example.com/g v1.0.0/go.mod \
+    h1:OJ1klDEevVKLkxk3UnEX/d9Uk3DpmjQKYxb0X6M2RS0=;
 GET A -/gosum/example.com/g/@v/v1.0.0 | 404 Not Found | plain | not found;
 ";
 

@@ -7,8 +7,6 @@ mod both;
 #[cfg(test)]
 mod copier;
 #[cfg(test)]
-mod memory;
-#[cfg(test)]
 mod orders;
 #[cfg(test)]
 mod queue;

@@ -1,28 +1,31 @@
 //! Peers and operators in memory, whose bytes are known.
 use crate::copier::Copier;
-use crate::memory::{InMemory, sending};
 use control::{Caller, Callers, serve_both};
 use modver::read_time;
 use std::collections::LinkedList;
 use std::io::{self, ErrorKind};
 use std::rt::HostRuntime;
 use std::test::Fail;
+use test_support::in_memory::{InMemory, sending};
 use world::map_shelves::MapShelves;
 use world::registry::StoreFault;
 use world::shelves::Shelves;
 
 const PUT: &[u8] =
-    b"PUT /k/alphakey00000001/example.com/lib/@v/v1.0.0 HTTP/1.1\r\nMod-Length: 23\r\nContent-Length: 23\r\n\r\nmodule example.com/lib\n";
+    b"PUT /k/alphakey00000001/example.com/lib/@v/v1.0.0 HTTP/1.1\r\nMod-Length: 23\r\nContent-Length: 23\r\n\r\n\
+      module example.com/lib\n";
 
 const KEY_ADD: &[u8] = b"key-add alpha alphakey00000001\n";
 
 const GET: &[u8] = b"GET /k/alphakey00000001/example.com/lib/@v/v1.0.0.mod HTTP/1.1\r\n\r\n";
 
 const PUBLISHED: &str =
-    "HTTP/1.1 201 Created\r\nContent-Type: text/plain; charset=utf-8\r\nContent-Length: 10\r\nConnection: close\r\n\r\npublished\n";
+    "HTTP/1.1 201 Created\r\nContent-Type: text/plain; charset=utf-8\r\nContent-Length: 10\r\nConnection: close\r\n\r\n\
+     published\n";
 
 const NOT_FOUND: &str =
-    "HTTP/1.1 404 Not Found\r\nContent-Type: text/plain; charset=utf-8\r\nContent-Length: 10\r\nConnection: close\r\n\r\nnot found\n";
+    "HTTP/1.1 404 Not Found\r\nContent-Type: text/plain; charset=utf-8\r\nContent-Length: 10\r\nConnection: close\r\n\
+     \r\nnot found\n";
 
 /// Callers who connect one after another, and then nobody.
 #[derive(Drop)]

@@ -1,66 +1,11 @@
-//! Connections in memory, whose bytes are known.
+//! Peers in memory, whose bytes are known.
 use crate::connections::{GET, PUBLISHED, PUT, SERVED};
 use crate::shelves::shelves;
-use histories::{BoundRead, BoundWrite, Connection};
 use socket::{Listener, serve_on};
 use std::collections::LinkedList;
-use std::io::{self, ErrorKind, Read, Write};
+use std::io::{self, ErrorKind};
 use std::test::Fail;
-use std::time::Duration;
-
-/// A side of a connection in memory. It never waits.
-#[derive(Drop)]
-struct Side<T> {
-    inner: T,
-}
-
-impl<T: Read> Read for Side<T> {
-    ghost remaining = { λ s. T.remaining s.inner };
-
-    fn read(&mut self, buf: &mut [u8]) -> io::Result<usize> {
-        self.inner.read(buf)
-    }
-}
-
-impl<T: Read> BoundRead for Side<T> {
-    fn bound_reads(&self, _longest: Duration) -> io::Result<()> {
-        Ok(())
-    }
-
-    fn stop_waiting(&self) -> io::Result<()> {
-        Ok(())
-    }
-}
-
-impl<T: Write> Write for Side<T> {
-    ghost contents = { λ s. T.contents s.inner };
-
-    fn write(&mut self, buf: &[u8]) -> io::Result<usize> {
-        self.inner.write(buf)
-    }
-
-    fn flush(&mut self) -> io::Result<()> {
-        self.inner.flush()
-    }
-}
-
-impl<T: Write> BoundWrite for Side<T> {
-    fn bound_writes(&self, _longest: Duration) -> io::Result<()> {
-        Ok(())
-    }
-
-    fn shut(&self) -> io::Result<()> {
-        Ok(())
-    }
-}
-
-/// A peer that sends these bytes, and whose reply is put into a vector.
-type InMemory<'a> = Connection<Side<&'a [u8]>, Side<&'a mut Vec<u8>>>;
-
-/// Returns the connection of such a peer.
-fn sending<'a>(bytes: &'a [u8], reply: &'a mut Vec<u8>) -> InMemory<'a> {
-    Connection::new(Side { inner: bytes }, Side { inner: reply })
-}
+use test_support::in_memory::sending;
 
 /// Peers that connect one after another, and then nobody.
 #[derive(Drop)]

@@ -5,7 +5,7 @@ use std::time::Duration;
 
 /// A side of a connection in memory. It never waits.
 #[derive(Drop)]
-pub(crate) struct Side<T> {
+pub struct Side<T> {
     inner: T,
 }
 
@@ -50,9 +50,9 @@ impl<T: Write> BoundWrite for Side<T> {
 }
 
 /// A connection to somebody who sends bytes, and whose replies are put into a vector.
-pub(crate) type InMemory<'a> = Connection<Side<&'a [u8]>, Side<&'a mut Vec<u8>>>;
+pub type InMemory<'a> = Connection<Side<&'a [u8]>, Side<&'a mut Vec<u8>>>;
 
 /// Returns a connection over which these bytes come.
-pub(crate) fn sending<'a>(bytes: &'a [u8], replies: &'a mut Vec<u8>) -> InMemory<'a> {
+pub fn sending<'a>(bytes: &'a [u8], replies: &'a mut Vec<u8>) -> InMemory<'a> {
     Connection::new(Side { inner: bytes }, Side { inner: replies })
 }

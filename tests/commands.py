@@ -60,6 +60,8 @@ inventory --db none.db
 requires --db none.db --key A --module example.com/lib
 key-list
 key-list --db none.db --key A
+key-list --db none.db --control none
+shelf-list --control none --db none.db
 shelf-list
 shelf-list --db none.db --team alpha
 extract --db none.db --team alpha
@@ -118,6 +120,10 @@ goshelf key-add --control <S> --shelf <S> --key <K> [--read-only]
 goshelf key-revoke --db <F> --key <K>
 goshelf key-revoke --db <F> --fingerprint <X>
 goshelf key-revoke --control <S> --key <K>
+goshelf key-list --db <F>
+goshelf key-list --control <S>
+goshelf shelf-list --db <F>
+goshelf shelf-list --control <S>
 goshelf serve --db <F> --port <N> [--connections <M>] [--control <S>]
 goshelf serve --db <F> --stdin [--connections <M>] [--control <S>]
 """
@@ -133,8 +139,8 @@ publish --db --key --module --version --mod --zip --time
 import --db --key --list
 inventory --db --key
 requires --db --key --module --version
-key-list --db
-shelf-list --db
+key-list --db --control
+shelf-list --db --control
 extract --db --team --to
 migrate --from --to
 answer --db --mem --team --key

@@ -82,6 +82,7 @@ LINES = [
     (b"team-add eta\0\n", b"name\n"), (b"key-add alpha alphakey0000009\n", b"name\n"), (b"key-add alpha\n", b"bad\n"),
     (b"key-revoke alphakey0000000", b"bad\n"), (b"key-revoke alphakey00000001 \n", b"bad\n"),
     (b"reader-add nosuch nosuchkey0000001\n", b"no-team\n"),
+    (b"key-list", b"bad\n"), (b"key-list \n", b"bad\n"), (b"shelf-list a\n", b"bad\n"), (b"key-list\n\n", b"bad\n"),
     (b"stop", b"bad\n"), (b"stop \n", b"bad\n"), (b"stop now\n", b"bad\n"), (b"Stop\n", b"bad\n"),
     (b"stop\nstop\n", b"bad\n"),
     (b"team-add " + b"a" * 118 + b"\n", b"name\n"),
@@ -105,6 +106,10 @@ def orders(suite):
     for words, word in UNSAYABLE:
         for way in (["--control", CONTROL], ["--db", "other.db"]):
             suite.equal(f"{words}, by {way[0]}", run([words[0], *way, *words[1:]]), (1, b"", f"goshelf: {word}\n"))
+    for words in (["key-list"], ["shelf-list"]):
+        served, other = run([*words, "--control", CONTROL]), run([*words, "--db", "other.db"])
+        suite.equal(f"{words[0]}, by --control", served, other)
+        suite.holds(f"{words[0]} has the lines", served[1].count(b"\n") >= 4, served)
     told = [server.told(get(LIST, KEYS[it])) for it in "ARMPCN"]
     suite.equal("the keys answer", {*told}, {reply(404, b"not found\n")})
     suite.equal("a key that was added publishes", server.status(put("example.com/lib", "v1.0.0", GOMOD)), 201)
@@ -258,6 +263,17 @@ def untold(suite):
     suite.equal(
         "one that tells done", by_false_server(words, b"done\n"), ((0, b"", ""), f"key-revoke {KEY}\n".encode())
     )
+    listed = b"alpha publish ccaaf6d99f2c8ac7\n"
+    cut = (b"", listed, listed[:-1], b"a team undone\n", listed + b"done", listed + b"bad\n", b"bad\n", b"stopping\n")
+    for told, ended in (
+        *((it, (1, b"", "goshelf: io\n")) for it in cut),
+        (b"device\n", (1, b"", "goshelf: device\n")),
+        (b"memory\n", (1, b"", "goshelf: memory\n")),
+        (b"done\n", (0, b"", "")),
+        (listed + b"done\n", (0, listed, "")),
+    ):
+        told_so = by_false_server(["key-list", "--control"], told)
+        suite.equal(f"key-list of a server that tells {told!r}", told_so, (ended, b"key-list\n"))
     new_store("served.db", ("alpha", KEY))
     if can_be_nobody():
         os.chmod(".", 0o755)

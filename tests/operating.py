@@ -197,7 +197,7 @@ def backups(suite, machine):
 
 
 def queries(suite, machine):
-    """What sqlite3 and goshelf print of a copy."""
+    """What goshelf prints of the store, and sqlite3 of a copy."""
     copy = f"{machine.folder}/root/copy/shelves.db"
     for first, words in (
         (
@@ -226,8 +226,8 @@ def queries(suite, machine):
     keys_of = [*((shelf, "publish", key) for shelf, key in publishers.items()), ("alpha", "read", READER)]
     wanted = sorted(f"{shelf} {right} {hashlib.sha256(key.encode()).hexdigest()[:16]}" for shelf, right, key in keys_of)
     wanted += ["alpha team", "beta team", "common common", "gamma team platform", "omega team", "platform group"]
-    printed = machine.does(block("sh", "goshelf key-list").replace("COPY", copy))
-    suite.equal("who has keys, and which shelves there are", printed.splitlines(), wanted)
+    printed = machine.does(block("sh", "goshelf key-list")).splitlines()
+    suite.equal("who has keys, and which shelves there are", [it for it in printed if it in wanted], wanted)
     printed = machine.does(block("sh", "/versions | head"))
     suite.holds("the first backup that has a version", printed.endswith("/2020-01-09T031500Z/versions\n"), printed)
     printed = machine.does(block("sh", "/versions | sort -u"))

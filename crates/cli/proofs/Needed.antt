@@ -9,6 +9,7 @@ use Rattle.commands.specs.declared.action.Action.{Action}
 use Rattle.commands.specs.declared.action.Action.TheVariants as action
 use Rattle.commands.specs.declared.serve.Entrance.{Entrance}
 use Rattle.commands.specs.declared.serve.Entrance.TheVariants.{Input, Port}
+use Rattle.control.specs.declared.listing.Listing.TheVariants.{Keys, Shelves}
 use Rattle.control.specs.declared.order.Order.{Order}
 use Rattle.runner.specs.declared.Command.{Command}
 use Rattle.runner.specs.declared.Command.TheVariants as command
@@ -103,17 +104,18 @@ no_serve rows none (action.Publish words files) asks = cc
 no_serve rows none (action.Import key list) asks = cc
 no_serve rows none (action.Inventory key) asks = cc
 no_serve rows none (action.Requires version) asks = cc
-no_serve rows none action.KeyList asks = cc
-no_serve rows none action.ShelfList asks = cc
+no_serve rows none action.KeyList asks = asks
+no_serve rows none action.ShelfList asks = asks
 no_serve rows none (action.Serve entrance connections control) asks = none connections asks.2
 
 -- a word asks for no command that is none of these, and asks for no order and no action of one form
 pub no_command : (rows : List Row) (word : Text) → (word ≡ codes "init" → ⊥) → (word ≡ codes "answer" → ⊥)
     → (word ≡ codes "extract" → ⊥)
-    → (word ≡ codes "migrate" → ⊥) → (word ≡ codes "copy" → ⊥) → (word ≡ codes "ping" → ⊥) → (word ≡ codes "stop" → ⊥)
+    → (word ≡ codes "migrate" → ⊥) → (word ≡ codes "copy" → ⊥) → (word ≡ codes "ping" → ⊥)
+    → (word ≡ codes "key-list" → ⊥) → (word ≡ codes "shelf-list" → ⊥) → (word ≡ codes "stop" → ⊥)
     → ((o : Order) → AsksOrder rows word o → ⊥) → ((a : Action) → AsksAction rows word a → ⊥)
     → (asked : Command) → AsksCommand rows word asked → ⊥
-no_command rows word init answer extract migrate copy ping stop order acts = go
+no_command rows word init answer extract migrate copy ping keys shelves stop order acts = go
   where
     on_store : (db : _) (a : Action) → AsksCommand rows word (command.OnStore db a) → ⊥
     on_store db action.Open asks = asks.1
@@ -125,8 +127,8 @@ no_command rows word init answer extract migrate copy ping stop order acts = go
     on_store db (action.Import key list) asks = acts (action.Import key list) asks.1
     on_store db (action.Inventory key) asks = acts (action.Inventory key) asks.1
     on_store db (action.Requires version) asks = acts (action.Requires version) asks.1
-    on_store db action.KeyList asks = acts action.KeyList asks.1
-    on_store db action.ShelfList asks = acts action.ShelfList asks.1
+    on_store db action.KeyList asks = keys asks.0
+    on_store db action.ShelfList asks = shelves asks.0
     on_store db (action.Serve entrance connections control) asks =
         acts (action.Serve entrance connections control) asks.1
 
@@ -139,4 +141,6 @@ no_command rows word init answer extract migrate copy ping stop order acts = go
     go (command.Order control o) asks = order o asks.2
     go (command.Copy control to) asks = copy asks.0
     go (command.Ping control) asks = ping asks.0
+    go (command.List control Keys) asks = keys asks.0
+    go (command.List control Shelves) asks = shelves asks.0
     go (command.Stop control) asks = stop asks.0

@@ -13,6 +13,8 @@ use Rattle.commands.specs.declared.action.Action.{Action}
 use Rattle.commands.specs.declared.action.Action.TheVariants as action
 use Rattle.commands.specs.declared.serve.Entrance.{Entrance}
 use Rattle.commands.specs.declared.serve.Entrance.TheVariants.{Input, Port}
+use Rattle.control.specs.declared.listing.Listing.{Listing}
+use Rattle.control.specs.declared.listing.Listing.TheVariants.{Keys, Shelves}
 use Rattle.control.specs.declared.order.Order.{Order}
 use Rattle.control.specs.declared.order.Order.TheVariants.{GroupAdd, KeyAdd, KeyRevoke, TeamAdd}
 use Rattle.runner.specs.declared.Command.{Command}
@@ -90,6 +92,8 @@ module _ (rows : List Row) where
   abbrev pub AsksAction : Text → Action → Type 0
   AsksAction word action.Open = ⊥
   AsksAction word (action.Register order) = ⊥
+  AsksAction word action.KeyList = ⊥
+  AsksAction word action.ShelfList = ⊥
   AsksAction word action.Answer = ⊥
   AsksAction word (action.AddNew shelf right) = (word ≡ codes "key-add")
       × Is (codes "shelf") shelf.now × (is_flagged (codes "new") ≡ true) × Lacks (codes "key") × Lacks (codes "control")
@@ -103,10 +107,12 @@ module _ (rows : List Row) where
   AsksAction word (action.Inventory key) = (word ≡ codes "inventory") × Is (codes "key") key.now
   AsksAction word (action.Requires version) = (word ≡ codes "requires")
       × Is (codes "key") version.key.now × Is (codes "module") version.path.now × Is (codes "version") version.version.now
-  AsksAction word action.KeyList = word ≡ codes "key-list"
-  AsksAction word action.ShelfList = word ≡ codes "shelf-list"
   AsksAction word (action.Serve entrance connections control) = (word ≡ codes "serve")
       × AsksEntrance entrance × AsksConnections connections × MayBe (codes "control") control
+
+  abbrev pub AsksListing : Text → Listing → Type 0
+  AsksListing word Keys = word ≡ codes "key-list"
+  AsksListing word Shelves = word ≡ codes "shelf-list"
 
   abbrev pub AsksCommand : Text → Command → Type 0
   AsksCommand word (command.Init db) = (word ≡ codes "init") × Is (codes "db") db.now
@@ -116,6 +122,10 @@ module _ (rows : List Row) where
       × AsksOrder word order
   AsksCommand word (command.OnStore db action.Answer) = (word ≡ codes "answer")
       × Is (codes "db") db.now × (is_flagged (codes "mem") ≡ false) × Lacks (codes "team") × Lacks (codes "key")
+  AsksCommand word (command.OnStore db action.KeyList) = AsksListing word Keys
+      × Is (codes "db") db.now × Lacks (codes "control")
+  AsksCommand word (command.OnStore db action.ShelfList) = AsksListing word Shelves
+      × Is (codes "db") db.now × Lacks (codes "control")
   AsksCommand word (command.OnStore db action) = Is (codes "db") db.now × AsksAction word action
   AsksCommand word (command.Extract db teams to) = (word ≡ codes "extract")
       × Is (codes "db") db.now × Are (codes "team") teams.now × Is (codes "to") to.now
@@ -123,6 +133,8 @@ module _ (rows : List Row) where
   AsksCommand word (command.Order control order) = Is (codes "control") control.now × Lacks (codes "db") × AsksOrder word order
   AsksCommand word (command.Copy control to) = (word ≡ codes "copy") × Is (codes "control") control.now × Is (codes "to") to.now
   AsksCommand word (command.Ping control) = (word ≡ codes "ping") × Is (codes "control") control.now
+  AsksCommand word (command.List control listing) = AsksListing word listing
+      × Is (codes "control") control.now × Lacks (codes "db")
   AsksCommand word (command.Stop control) = (word ≡ codes "stop") × Is (codes "control") control.now
 
 -- the name of a command and its options ask for it

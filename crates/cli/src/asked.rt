@@ -11,7 +11,7 @@ use commands::action::Action;
 use commands::publish::{Files, Words};
 use commands::report::Named;
 use commands::serve::Entrance;
-use control::Order;
+use control::{Listing, Order};
 use runner::Command;
 use world::entry::Right;
 
@@ -49,6 +49,8 @@ fn command_of_word<'m, 'a>(word: &str, options: &'m ArgMatches<'a>) -> Option<Co
         "ping" => Some(Command::Ping {
             control: text(options, "control")?,
         }),
+        "key-list" => key_list_of(options),
+        "shelf-list" => shelf_list_of(options),
         "stop" => Some(Command::Stop {
             control: text(options, "control")?,
         }),
@@ -78,6 +80,42 @@ fn answer_of<'a>(options: &ArgMatches<'a>) -> Option<Command<'a>>
             action: Action::Answer,
         }),
         (None, true, Some(team), Some(key)) => Some(Command::AnswerInMemory { team, key }),
+        _ => None,
+    }
+}
+
+/// Returns the command `key-list`: of the running server whose socket the words name, or of the store of a file. None
+/// if they name both or neither.
+fn key_list_of<'a>(options: &ArgMatches<'a>) -> Option<Command<'a>>
+    ensures { Finds result (AsksCommand (rows_of (found_of options.now)) (codes "key-list")) }
+{
+    match (text(options, "db"), text(options, "control")) {
+        (Some(db), None) => Some(Command::OnStore {
+            db,
+            action: Action::KeyList,
+        }),
+        (None, Some(control)) => Some(Command::List {
+            control,
+            listing: Listing::Keys,
+        }),
+        _ => None,
+    }
+}
+
+/// Returns the command `shelf-list`: of the running server whose socket the words name, or of the store of a file. None
+/// if they name both or neither.
+fn shelf_list_of<'a>(options: &ArgMatches<'a>) -> Option<Command<'a>>
+    ensures { Finds result (AsksCommand (rows_of (found_of options.now)) (codes "shelf-list")) }
+{
+    match (text(options, "db"), text(options, "control")) {
+        (Some(db), None) => Some(Command::OnStore {
+            db,
+            action: Action::ShelfList,
+        }),
+        (None, Some(control)) => Some(Command::List {
+            control,
+            listing: Listing::Shelves,
+        }),
         _ => None,
     }
 }
@@ -171,8 +209,6 @@ fn action_of<'a>(word: &str, options: &ArgMatches<'a>) -> Option<Action<'a>>
             key: text(options, "key")?,
         }),
         "requires" => requires_of(options),
-        "key-list" => Some(Action::KeyList),
-        "shelf-list" => Some(Action::ShelfList),
         "serve" => serve_of(options),
         _ => None,
     }

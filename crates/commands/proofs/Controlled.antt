@@ -14,7 +14,8 @@ use Rattle.shelf.specs.declared.reply.Reply.{Reply}
 use Rattle.shelf.specs.declared.reply.Reply.TheVariants.{Registry}
 use Rattle.control.specs.Asking.{Asks}
 use Rattle.control.specs.Copying.{GoesThroughSteps}
-use Rattle.control.specs.Hearing.{Heard, Carried, Copied, Pinged, Stop, NoOrder, NoMemory, IsHeardIn, steps_heard}
+use Rattle.control.specs.Hearing.{Heard, Carried, Copied, Listed, Pinged, Stop, NoOrder, NoMemory}
+use Rattle.control.specs.Hearing.{IsHeardIn, steps_heard}
 use Rattle.control.specs.Hearing.{told_heard}
 use Rattle.control.specs.Line.{IsSent, IsCopyTo, copy_words}
 use Rattle.control.specs.Order.{Orders, said_in, event_of, outcome_in}
@@ -26,6 +27,7 @@ use Rattle.control.specs.declared.outcome.Outcome.{Outcome}
 use Rattle.control.specs.declared.outcome.Outcome.TheVariants as outcome
 use Rattle.control.specs.declared.told.Told.{Told}
 use Rattle.control.specs.declared.told.Told.TheVariants as spoken
+use Rattle.control.specs.declared.listing.Listing.TheVariants.{Keys, Shelves}
 use Rattle.control.specs.declared.order.Order.{Order}
 use Rattle.control.specs.declared.order.Order.TheVariants.{TeamAdd, GroupAdd, KeyAdd, KeyRevoke}
 use Rattle.control.proofs.LineLemmas.{one_line}
@@ -86,6 +88,7 @@ replied w (KeyRevoke key) = refl
 abbrev outcome_in_told : Told → Outcome
 outcome_in_told (spoken.Outcome outcome) = outcome
 outcome_in_told (spoken.Health line) = outcome.Bad
+outcome_in_told (spoken.List lines) = outcome.Bad
 
 module _ (old new : Shown) (sent : List ℕ) (order asked : Order) (result : Result (Unit {0}) CommandRefusal) (w : World)
   where
@@ -116,6 +119,10 @@ module _ (old new : Shown) (sent : List ℕ) (order asked : Order) (result : Res
         absurd (no_copy sent path asked asks from)
     heard_so honest stands is same asks (Pinged told) from outcome tells ends through =
         absurd (no_word (codes "ping") refl asked (subst (λ got. IsSent got asked) from asks))
+    heard_so honest stands is same asks (Listed Keys told) from outcome tells ends through =
+        absurd (no_word (codes "key-list") refl asked (subst (λ got. IsSent got asked) from asks))
+    heard_so honest stands is same asks (Listed Shelves told) from outcome tells ends through =
+        absurd (no_word (codes "shelf-list") refl asked (subst (λ got. IsSent got asked) from asks))
     heard_so honest stands is same asks Stop from outcome tells ends through =
         absurd (no_word (codes "stop") refl asked (subst (λ got. IsSent got asked) from asks))
     heard_so honest stands is same asks NoOrder from outcome tells ends through = absurd (from.0 asked asks)

@@ -9,3 +9,4 @@ mod Written
 mod Rows
 mod Sayable
 mod Controlled
+mod NewKeys

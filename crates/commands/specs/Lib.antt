@@ -9,6 +9,7 @@ pub mod ImportList
 pub mod Inventory
 pub mod Rows
 pub mod Lines
+pub mod Listing
 pub mod NewKey
 pub mod Opening
 pub mod Order

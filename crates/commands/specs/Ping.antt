@@ -13,7 +13,7 @@ use Rattle.commands.specs.Report.{Prints}
 use Rattle.commands.specs.declared.refusal.CommandRefusal.{CommandRefusal}
 use Rattle.commands.specs.declared.refusal.CommandRefusal.TheVariants.{Device, Memory, Io}
 
--- why an outcome came in the place of a health
+-- why an outcome came in the place of a health or a list
 abbrev pub refusal_of : Outcome → CommandRefusal
 refusal_of (outcome.Failed fault.Device) = Device
 refusal_of (outcome.Failed fault.Memory) = Memory
@@ -26,6 +26,7 @@ refusal_of outcome.Bad = Io
 abbrev pub health_ending : Result Told Untold → Result (List ℕ) CommandRefusal
 health_ending (Ok (spoken.Health line)) = Ok line
 health_ending (Ok (spoken.Outcome outcome)) = Err (refusal_of outcome)
+health_ending (Ok (spoken.List lines)) = Err Io
 health_ending (Err why) = Err Io
 
 -- the line that asks for the health was written, a line was read, and that of a health was printed

@@ -12,6 +12,7 @@
 //! | `answer` | answers the requests of a reader from a store, or from shelves in memory | [`answer`], [`memory`] |
 //! | `serve` | prints its port, answers one request on each of some connections, and carries out orders between them | [`serve`] |
 //! | the registry commands with `--control`, `copy`, `stop` | send an order to a running `serve`, and end by its outcome | [`order`] |
+//! | `key-list`, `shelf-list` with `--control` | asks a running `serve` for the list, and prints it | [`listing`] |
 //! | `ping` | asks a running `serve` for its health, and prints the line | [`ping`] |
 //!
 //! If the output of a command fails, because a call to write or to flush failed, a beginning of its text is printed, or
@@ -33,6 +34,7 @@ pub mod import_list;
 pub mod inventory;
 mod inventory_text;
 pub mod laws;
+pub mod listing;
 pub mod memory;
 mod moment;
 pub mod new_key;

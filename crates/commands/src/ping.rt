@@ -62,12 +62,13 @@ fn health_ending(told: Result<Told, Untold>) -> Result<Text, CommandRefusal>
     match told {
         Ok(Told::Health(line)) => Ok(line),
         Ok(Told::Outcome(outcome)) => Err(refusal_of(outcome)),
-        Err(_) => Err(CommandRefusal::Io),
+        Ok(Told::List(_)) | Err(_) => Err(CommandRefusal::Io),
     }
 }
 
-/// Why an outcome came in the place of a health: the store of the server met a fault, or the server knows no ping.
-fn refusal_of(outcome: Outcome) -> CommandRefusal
+/// Why an outcome came in the place of a health or a list: the store of the server met a fault, or the server does not
+/// know what was asked.
+pub(crate) fn refusal_of(outcome: Outcome) -> CommandRefusal
     ensures { result ≡ spec.refusal_of outcome }
 {
     match outcome {

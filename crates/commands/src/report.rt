@@ -138,7 +138,7 @@ fn list_ending(told: Result<Bytes, StoreFault>) -> Result<Bytes, CommandRefusal>
 }
 
 /// Prints a text and returns true, or fails with the refusal if there is none. `Io` if the output fails.
-fn print<O: Tell>(
+pub(crate) fn print<O: Tell>(
     told: Result<Bytes, CommandRefusal>,
     output: &mut O,
 ) -> Result<bool, CommandRefusal>

@@ -12,6 +12,7 @@ use engine::Io;
 use engine::write::write_bytes;
 use histories::Tell;
 use itoa::Buffer;
+use keyring::Keyring;
 use mio::unix::SourceFd;
 use mio::{Events, Interest, Poll, Token};
 use socket::serve_on;
@@ -21,7 +22,6 @@ use std::os::fd::{AsFd, AsRawFd, OwnedFd};
 use std::os::unix::net::UnixListener;
 use std::rt::HostRuntime;
 use std::time::Duration;
-use world::shelves::Shelves;
 
 /// Where the connections of peers come in.
 #[derive(Clone, Copy, Debug, Drop, PartialEq, Eq)]
@@ -38,7 +38,7 @@ pub enum Entrance {
 /// `Io` if the entrance or the socket can't be opened, the clock can't be read for the start time, the output fails, or
 /// memory runs out before it serves: then nothing of the line is printed, a beginning or all of it, and the store stays
 /// as it was. A connection that fails only counts.
-pub fn serve<S: Shelves, K: Copies<S>, O: Tell>(
+pub fn serve<S: Keyring, K: Copies<S>, O: Tell>(
     rt: &HostRuntime,
     shelves: &mut S,
     copies: &mut K,
@@ -65,7 +65,7 @@ pub fn serve<S: Shelves, K: Copies<S>, O: Tell>(
 }
 
 /// Serves the connections of peers, and the operators of a socket, which is made first and taken away at the end.
-fn serve_operators<S: Shelves, K: Copies<S>, O: Tell>(
+fn serve_operators<S: Keyring, K: Copies<S>, O: Tell>(
     rt: &HostRuntime,
     shelves: &mut S,
     copies: &mut K,

@@ -9,7 +9,7 @@ use Rattle.engine.specs.declared.fault.Io.TheVariants as io
 use Rattle.control.specs.Copying.{GoesThroughSteps}
 use Rattle.control.specs.Hearing.{Heard, NoMemory, IsHeard, IsHeardIn, Heeds, Hears, Obeys, TellsLine}
 use Rattle.control.specs.Line.{ReadsLine}
-use Rattle.control.specs.Told.{line_told}
+use Rattle.control.specs.Told.{bytes_told}
 use Rattle.control.specs.declared.copies.CopyRefusal.{CopyRefusal}
 use Rattle.control.specs.declared.health.Health.{Health}
 use Rattle.control.specs.declared.told.Told.{Told}
@@ -35,11 +35,12 @@ module _ (copied : List ℕ → Result (Unit {0}) CopyRefusal → Type 0) (pinge
     tells = heeds.tells;
     through = heeds.through;
     came = heeds.came;
+    lists = heeds.lists;
   }
 
   module _ (w w' : Option (List ℕ)) where
     pub obeys_told : (told : Told) (result : Result (Unit {0}) Io) → Hears copied pinged old new u u' told
-        → TellsLine w w' (line_told told) result
+        → TellsLine w w' (bytes_told told) result
         → Obeys copied pinged old new u u' w w' (told_unless told result)
     obeys_told told (Ok done) hears writes = (hears, writes)
     obeys_told told (Err io.Write) hears writes = (told, hears, writes.1)

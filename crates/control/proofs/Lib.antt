@@ -8,6 +8,7 @@ pub mod TurnLemmas
 pub mod HearingLemmas
 pub mod AskingLemmas
 pub mod PingLemmas
+pub mod ListingLemmas
 pub mod StepLemmas
 pub mod TallyLemmas
 pub mod ServeLemmas

@@ -18,8 +18,8 @@ use Rattle.engine.specs.declared.fault.Io.TheVariants as io
 use Rattle.socket.specs.Connections.{Come, exchanges_of}
 use Rattle.control.specs.Copying.{Turned, turns_in, has_read, AllRead, GoesOnRead, GoesThroughSteps}
 use Rattle.control.specs.Health.{Answered, AreBelow, tally_of, with_one}
-use Rattle.control.specs.Hearing.{Heard, Carried, Copied, Pinged, Stop, NoOrder, NoMemory, Obeys, WritesSome}
-use Rattle.control.specs.Told.{line_told}
+use Rattle.control.specs.Hearing.{Heard, Carried, Copied, Listed, Pinged, Stop, NoOrder, NoMemory, Obeys, WritesSome}
+use Rattle.control.specs.Told.{bytes_told}
 use Rattle.control.specs.Turns.{Asked, messages, GoesOn}
 use Rattle.control.specs.Visits.{Call, OfPeer, OfOperator, Untaken, answered_with, callers_of, connections_of, steps_if}
 use Rattle.control.specs.Visits.{steps_of}
@@ -56,6 +56,7 @@ no_message None = refl
 no_message (Some (Carried order told)) = refl
 no_message (Some (Copied path told)) = refl
 no_message (Some (Pinged told)) = refl
+no_message (Some (Listed listing told)) = refl
 no_message (Some Stop) = refl
 no_message (Some NoOrder) = refl
 no_message (Some NoMemory) = refl
@@ -74,11 +75,12 @@ module _ {O : Type 0} (heeded : O → Account) (told : O → Option (List ℕ))
     there = (
       obeys.0.tells,
       obeys.0.from,
-      subst (λ (o : Told). Appends (told operator) (told after) (line_told o)) obeys.0.tells obeys.1,
+      subst (λ (o : Told). Appends (told operator) (told after) (bytes_told o)) obeys.0.tells obeys.1,
     );
     stopped = stopped;
     through = obeys.0.through;
     came = obeys.0.came;
+    lists = obeys.0.lists;
   }
   obeyed_one operator after stops (Err io.Read) obeys stopped = record {
     audience = record { before = operator; after = after; heard = None; told = Err io.Read };
@@ -87,6 +89,7 @@ module _ {O : Type 0} (heeded : O → Account) (told : O → Option (List ℕ))
     stopped = stopped;
     through = obeys.0;
     came = tt;
+    lists = tt;
   }
   obeyed_one operator after stops (Err io.Write) obeys stopped = record {
     audience = record { before = operator; after = after; heard = Some obeys.1.heard; told = Err io.Write };
@@ -94,11 +97,12 @@ module _ {O : Type 0} (heeded : O → Account) (told : O → Option (List ℕ))
     there = (
       refl,
       obeys.1.from,
-      subst (λ (o : Told). WritesSome (told operator) (told after) (line_told o)) obeys.1.tells obeys.2,
+      subst (λ (o : Told). WritesSome (told operator) (told after) (bytes_told o)) obeys.1.tells obeys.2,
     );
     stopped = stopped;
     through = obeys.1.through;
     came = obeys.1.came;
+    lists = obeys.1.lists;
   }
 
 -- a peer was answered
@@ -318,7 +322,8 @@ module _ {P O : Type 0} where
             (subst (λ o. Come left rest (Operator o ∷ [])) (sym next.begins) comes)
             (one_new (Operator next.audience.before) (subst (λ o. is_new (Operator o)) (sym next.begins) fresh))
             next.there next.through
-            (λ h w stands. read_heard shown copied counted tally mid new h w stands next.audience.heard next.came)
+            (λ h w stands. read_heard shown copied counted tally mid new h w stands next.audience.heard next.came
+            next.lists)
             (subst (λ t. TellsTally t next.audience.heard) first.is
             (tells_tally (copied mid new) tally (shown mid).failures (shown new).failures (counted mid new)
             next.audience.heard next.came))

@@ -5,15 +5,16 @@ use Rattle.std.proofs.Common.{Result, Ok, Err, append_assoc, append-nil}
 use Rattle.world.specs.World.{World}
 use Rattle.world.specs.Store.{Shown}
 use Rattle.engine.specs.Exchange.{Exchange}
-use Rattle.control.specs.Copying.{Step, Turned, Copied, Counted, turns_in, has_read, AllRead, GoesThroughSteps}
+use Rattle.control.specs.Copying.{Step, Turned, Copied, Counted, Listed, turns_in, has_read, AllRead, GoesThroughSteps}
 use Rattle.control.specs.Health.{IsPinged}
 use Rattle.control.specs.Hearing.{Heard, Carried, Pinged, Stop, NoOrder, NoMemory}
 use Rattle.control.specs.Hearing as hearing
 use Rattle.control.specs.Turns.{Asked, messages, world_at}
-use Rattle.control.specs.Visits.{Call, CameIf, steps_if, steps_of, steps_with}
+use Rattle.control.specs.Visits.{Call, CameIf, ListsIf, steps_if, steps_of, steps_with}
 use Rattle.control.specs.declared.copies.CopyRefusal.{CopyRefusal}
 use Rattle.control.specs.declared.tally.Tally.{Tally}
 use Rattle.control.proofs.CrashLemmas.{world_step}
+use Rattle.control.proofs.ListingLemmas.{list_is}
 use Rattle.control.proofs.TurnLemmas.{messages_append, turns_more}
 
 -- ---- some steps, and then others
@@ -23,12 +24,14 @@ turns_append [] ys = refl
 turns_append (Turned t ∷ xs) ys = ap (λ ts. t ∷ ts) (turns_append xs ys)
 turns_append (Copied path told ∷ xs) ys = turns_append xs ys
 turns_append (Counted told ∷ xs) ys = turns_append xs ys
+turns_append (Listed listing told ∷ xs) ys = turns_append xs ys
 
 read_append : (xs ys : List Step) → has_read (xs ++ ys) ≡ (has_read xs || has_read ys)
 read_append [] ys = refl
 read_append (Turned t ∷ xs) ys = read_append xs ys
 read_append (Copied path told ∷ xs) ys = refl
 read_append (Counted told ∷ xs) ys = refl
+read_append (Listed listing told ∷ xs) ys = refl
 
 -- a store that goes through some steps and then through more goes through all of them
 pub steps_more : (old mid new : Shown) (xs ys : List Step) → GoesThroughSteps old mid xs → GoesThroughSteps mid new ys
@@ -65,6 +68,8 @@ module _ {S : Type 0} (shown : S → Shown) (copied : S → S → List ℕ → R
   read_then w (Copied path told ∷ xs) ys all more = (all.0, read_then w xs ys all.1 more)
   read_then w (Counted (Ok health) ∷ xs) ys all more = (all.0, read_then w xs ys all.1 more)
   read_then w (Counted (Err fault) ∷ xs) ys all more = read_then w xs ys all more
+  read_then w (Listed listing (Ok text) ∷ xs) ys all more = (all.0, read_then w xs ys all.1 more)
+  read_then w (Listed listing (Err fault) ∷ xs) ys all more = read_then w xs ys all more
 
   -- messages are none
   pub no_reads : (w : World) (xs : List Exchange) → AllRead shown copied counted w (map (λ x. Turned (Asked x)) xs)
@@ -75,14 +80,18 @@ module _ {S : Type 0} (shown : S → Shown) (copied : S → S → List ℕ → R
   pub read_heard : (tally : Tally) (old new : S) → (shown new).is_honest → (w : World) → (shown old).stands w
       → (heard : Option Heard)
       → CameIf (copied old new) (IsPinged tally (shown old).failures (shown new).failures (counted old new)) heard
+      → ListsIf (shown old) (shown new) heard
       → AllRead shown copied counted w (steps_if heard)
-  read_heard tally old new h w stands None came = tt
-  read_heard tally old new h w stands (Some (Carried order told)) came = tt
-  read_heard tally old new h w stands (Some (hearing.Copied path told)) came =
+  read_heard tally old new h w stands None came lists = tt
+  read_heard tally old new h w stands (Some (Carried order told)) came lists = tt
+  read_heard tally old new h w stands (Some (hearing.Copied path told)) came lists =
       (record { source = old; source_new = new; honest = h; stands = stands; came = came }, tt)
-  read_heard tally old new h w stands (Some (Pinged (Ok health))) came =
+  read_heard tally old new h w stands (Some (Pinged (Ok health))) came lists =
       (record { source = old; source_new = new; honest = h; stands = stands; failures_now = came.1; came = came.2 }, tt)
-  read_heard tally old new h w stands (Some (Pinged (Err fault))) came = tt
-  read_heard tally old new h w stands (Some Stop) came = tt
-  read_heard tally old new h w stands (Some NoOrder) came = tt
-  read_heard tally old new h w stands (Some NoMemory) came = tt
+  read_heard tally old new h w stands (Some (Pinged (Err fault))) came lists = tt
+  read_heard tally old new h w stands (Some (hearing.Listed listing (Ok text))) came lists =
+      (list_is (shown old) (shown new) w listing text lists h stands, tt)
+  read_heard tally old new h w stands (Some (hearing.Listed listing (Err fault))) came lists = tt
+  read_heard tally old new h w stands (Some Stop) came lists = tt
+  read_heard tally old new h w stands (Some NoOrder) came lists = tt
+  read_heard tally old new h w stands (Some NoMemory) came lists = tt

@@ -5,7 +5,7 @@ use Rattle.std.specs.Prelude.{Bool, cond, count_by}
 use Rattle.std.proofs.lemmas.List.{length-append}
 use Rattle.std.proofs.lemmas.List.Sums.{sum_by_push, count_by-le-length}
 use Rattle.control.specs.Health.{Answered, AreBelow, IsPinged, is_of_class, is_unanswered, one_if, tally_of, with_one}
-use Rattle.control.specs.Hearing.{Heard, Carried, Copied, Pinged, Stop, NoOrder, NoMemory}
+use Rattle.control.specs.Hearing.{Heard, Carried, Copied, Listed, Pinged, Stop, NoOrder, NoMemory}
 use Rattle.control.specs.Visits.{Call, OfPeer, OfOperator, Untaken, AllTallied, CameIf, IsTallied, TellsTally}
 use Rattle.control.specs.Visits.{answered_with, peers}
 use Rattle.control.specs.declared.copies.CopyRefusal.{CopyRefusal}
@@ -81,6 +81,7 @@ tells_tally copied tally before now counted (Some (Carried order told)) came = t
 tells_tally copied tally before now counted (Some (Copied path told)) came = tt
 tells_tally copied tally before now counted (Some (Pinged (Ok health))) came = came.0
 tells_tally copied tally before now counted (Some (Pinged (Err fault))) came = tt
+tells_tally copied tally before now counted (Some (Listed listing told)) came = tt
 tells_tally copied tally before now counted (Some Stop) came = tt
 tells_tally copied tally before now counted (Some NoOrder) came = tt
 tells_tally copied tally before now counted (Some NoMemory) came = tt

@@ -3,12 +3,14 @@ use Rattle.std.specs.Prelude.{ℕ, ◌≡◌, ◌⊎◌, List, Option, Result, O
 use Rattle.std.specs.Io.KnownBytes.{Consumes, Appends, Keeps}
 use Rattle.engine.specs.Written.{WritesBeginning}
 use Rattle.control.specs.Health.{IsHealthLine}
+use Rattle.control.specs.Listing.{IsReplyOf, line_for}
 use Rattle.control.specs.Line.{IsSaid, IsSent, IsCopyTo, longest, ping_line, stop_line}
 use Rattle.control.specs.Order.{said_in}
 use Rattle.control.specs.Outcome.{line_of}
-use Rattle.control.specs.Told.{line_told}
+use Rattle.control.specs.Told.{bytes_told}
 use Rattle.control.specs.Words.{Said}
 use Rattle.control.specs.declared.client.Untold.{Untold}
+use Rattle.control.specs.declared.listing.Listing.{Listing}
 use Rattle.control.specs.declared.client.Untold.TheVariants.{Words, Memory, Io}
 use Rattle.control.specs.declared.order.Order.{Order}
 use Rattle.control.specs.declared.outcome.Outcome.{Outcome}
@@ -74,10 +76,11 @@ AsksToStop unread unread_new written written_new told = Sends unread unread_new 
 abbrev pub IsTold : Told → Type 0
 IsTold (spoken.Outcome outcome) = Unit {0}
 IsTold (spoken.Health line) = IsHealthLine line
+IsTold (spoken.List lines) = ⊥
 
 -- the line of a health was read, or that of an outcome
 abbrev pub TellsHealth : Option (List ℕ) → Option (List ℕ) → Result Told Untold → Type 0
-TellsHealth unread unread_new (Ok told) = IsTold told × Consumes unread unread_new (line_told told)
+TellsHealth unread unread_new (Ok told) = IsTold told × Consumes unread unread_new (bytes_told told)
 TellsHealth unread unread_new (Err e) = e ≡ Io
 
 -- The line that asks for the health was sent, and a line came as `TellsHealth` says. Or it was sent, or a beginning of
@@ -85,6 +88,26 @@ TellsHealth unread unread_new (Err e) = e ≡ Io
 abbrev pub AsksForHealth :
     Option (List ℕ) → Option (List ℕ) → Option (List ℕ) → Option (List ℕ) → Result Told Untold → Type 0
 AsksForHealth unread unread_new written written_new (Ok told) =
-    IsTold told × Appends written written_new ping_line × Consumes unread unread_new (line_told told)
+    IsTold told × Appends written written_new ping_line × Consumes unread unread_new (bytes_told told)
 AsksForHealth unread unread_new written written_new (Err why) =
     (why ≡ Io) × (WritesBeginning written written_new ping_line ⊎ Appends written written_new ping_line)
+
+-- the bytes are a list with its last line, or the line of an outcome
+abbrev pub TellsBytes : Result (List ℕ) Outcome → List ℕ → Type 0
+TellsBytes (Ok text) got = IsReplyOf got text
+TellsBytes (Err outcome) got = got ≡ line_of outcome
+
+-- a whole list was read, or the line of an outcome
+abbrev pub TellsList : Option (List ℕ) → Option (List ℕ) → Result (Result (List ℕ) Outcome) Untold → Type 0
+TellsList unread unread_new (Ok told) = (got : List ℕ) × TellsBytes told got × Consumes unread unread_new got
+TellsList unread unread_new (Err e) = e ≡ Io
+
+-- The line that asks for a list was sent, and bytes came as `TellsList` says. Or it was sent, or a beginning of it, and
+-- none came.
+abbrev pub AsksForList : Option (List ℕ) → Option (List ℕ) → Option (List ℕ) → Option (List ℕ) → Listing
+    → Result (Result (List ℕ) Outcome) Untold → Type 0
+AsksForList unread unread_new written written_new listing (Ok told) =
+    TellsList unread unread_new (Ok told) × Appends written written_new (line_for listing)
+AsksForList unread unread_new written written_new listing (Err why) =
+    (why ≡ Io)
+    × (WritesBeginning written written_new (line_for listing) ⊎ Appends written written_new (line_for listing))

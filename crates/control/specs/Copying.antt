@@ -1,11 +1,13 @@
--- What is read of a store that is served: copies, and counts of its versions.
+-- What is read of a store that is served: copies, counts of its versions, and lists.
 use Rattle.std.specs.Prelude.{ℕ, ◌≡◌, ◌≤◌, Bool, true, false, List, [], ◌∷◌, Result, Ok, Err}
 use Rattle.world.specs.World.{World}
 use Rattle.world.specs.Store.{Shown}
 use Rattle.world.specs.declared.registry.StoreFault.{StoreFault}
+use Rattle.control.specs.Listing.{IsList}
 use Rattle.control.specs.Turns.{Turn, GoesThroughTurns, messages, world_at}
 use Rattle.control.specs.declared.copies.CopyRefusal.{CopyRefusal}
 use Rattle.control.specs.declared.health.Health.{Health}
+use Rattle.control.specs.declared.listing.Listing.{Listing}
 
 -- A store was only read: it stands for the worlds that it stood for, and a crash leaves nothing that it did not leave
 -- before.
@@ -15,11 +17,12 @@ pub record IsOnlyRead (old new : Shown) : Type 0 where
   pub left : new.is_honest → (w x y : World) → old.stands w → old.leaves x y → new.leaves x y
   pub no_fewer : old.failures ≤ new.failures
 
--- what happened to a store that is served: a turn of the machine; or a copy to a path, or a ping, which is none
+-- what happened to a store that is served: a turn of the machine; or a copy to a path, a ping or a list, which is none
 pub data Step : Type 0 where
   Turned : Turn → Step
   Copied : List ℕ → Result (Unit {0}) CopyRefusal → Step
   Counted : Result Health StoreFault → Step
+  Listed : Listing → Result (List ℕ) StoreFault → Step
 
 -- the turns among them
 abbrev pub turns_in : List Step → List Turn
@@ -27,6 +30,7 @@ turns_in [] = []
 turns_in (Turned t ∷ steps) = t ∷ turns_in steps
 turns_in (Copied path told ∷ steps) = turns_in steps
 turns_in (Counted told ∷ steps) = turns_in steps
+turns_in (Listed listing told ∷ steps) = turns_in steps
 
 -- whether the store was read in one of them
 abbrev pub has_read : List Step → Bool
@@ -34,6 +38,7 @@ has_read [] = false
 has_read (Turned t ∷ steps) = has_read steps
 has_read (Copied path told ∷ steps) = true
 has_read (Counted told ∷ steps) = true
+has_read (Listed listing told ∷ steps) = true
 
 -- from old to new the store went through the turns among the steps, and was read if one of them reads it
 abbrev pub GoesThroughSteps : Shown → Shown → List Step → Type 0
@@ -58,13 +63,15 @@ module _ {S : Type 0} (shown : S → Shown) (copied : S → S → List ℕ → R
     pub failures_now : health.store_failures ≡ (shown source_new).failures
     pub came : counted source source_new health.versions
 
-  -- so it is of each copy and each ping, with the machine's world at its moment
+  -- so it is of each copy, each ping and each list, with the machine's world at its moment
   abbrev pub AllRead : World → List Step → Type 0
   AllRead w [] = Unit {0}
   AllRead w (Turned t ∷ steps) = AllRead (world_at w (t ∷ [])) steps
   AllRead w (Copied path told ∷ steps) = IsCopied w path told × AllRead w steps
   AllRead w (Counted (Ok health) ∷ steps) = IsCounted w health × AllRead w steps
   AllRead w (Counted (Err fault) ∷ steps) = AllRead w steps
+  AllRead w (Listed listing (Ok text) ∷ steps) = IsList listing w text × AllRead w steps
+  AllRead w (Listed listing (Err fault) ∷ steps) = AllRead w steps
 
   -- The store went through these steps, with so many messages at most.
   pub record GoesOnRead (old new : S) (most : ℕ) : Type 0 where

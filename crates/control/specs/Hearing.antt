@@ -13,11 +13,13 @@ use Rattle.control.specs.Copying.{Step, Turned, Counted, GoesThroughSteps}
 use Rattle.control.specs.Copying as copying
 use Rattle.control.specs.Health.{IsPinged, line_of}
 use Rattle.control.specs.Line.{ReadsLine, IsSent, IsNoOrder, IsCopyTo, IsNoCopy, ping_line, stop_line}
+use Rattle.control.specs.Listing.{AsksForNone, ReadsList, line_for, told_of_list}
 use Rattle.control.specs.Outcome.{outcome_of, outcome_of_copy}
-use Rattle.control.specs.Told.{line_told}
+use Rattle.control.specs.Told.{bytes_told}
 use Rattle.control.specs.Turns.{Ordered}
 use Rattle.control.specs.declared.copies.CopyRefusal.{CopyRefusal}
 use Rattle.control.specs.declared.health.Health.{Health}
+use Rattle.control.specs.declared.listing.Listing.{Listing}
 use Rattle.control.specs.declared.order.Order.{Order}
 use Rattle.control.specs.declared.outcome.Outcome.TheVariants.{Failed, Stopping, Bad}
 use Rattle.control.specs.declared.tally.Tally.{Tally}
@@ -32,6 +34,8 @@ pub data Heard : Type 0 where
   Copied : List ℕ → Result (Unit {0}) CopyRefusal → Heard
   -- the health of the server was asked for, and this was told
   Pinged : Result Health StoreFault → Heard
+  -- a list was asked for, and this was told
+  Listed : Listing → Result (List ℕ) StoreFault → Heard
   -- the server was to end
   Stop : Heard
   -- it was no order
@@ -48,15 +52,17 @@ abbrev pub told_heard : Heard → Told
 told_heard (Carried order told) = spoken.Outcome (outcome_of told)
 told_heard (Copied path told) = spoken.Outcome (outcome_of_copy told)
 told_heard (Pinged told) = told_of_ping told
+told_heard (Listed listing told) = told_of_list told
 told_heard Stop = spoken.Outcome Stopping
 told_heard NoOrder = spoken.Outcome Bad
 told_heard NoMemory = spoken.Outcome (Failed Memory)
 
--- the steps of it: one for an order, a copy or a ping, and otherwise none
+-- the steps of it: one for an order, a copy, a ping or a list, and otherwise none
 abbrev pub steps_heard : Heard → List Step
 steps_heard (Carried order told) = Turned (Ordered order told) ∷ []
 steps_heard (Copied path told) = copying.Copied path told ∷ []
 steps_heard (Pinged told) = Counted told ∷ []
+steps_heard (Listed listing told) = copying.Listed listing told ∷ []
 steps_heard Stop = []
 steps_heard NoOrder = []
 steps_heard NoMemory = []
@@ -66,8 +72,9 @@ abbrev pub IsHeardIn : List ℕ → Heard → Type 0
 IsHeardIn got (Carried order told) = IsSent got order
 IsHeardIn got (Copied path told) = IsCopyTo got path
 IsHeardIn got (Pinged told) = got ≡ ping_line
+IsHeardIn got (Listed listing told) = got ≡ line_for listing
 IsHeardIn got Stop = got ≡ stop_line
-IsHeardIn got NoOrder = IsNoOrder got × (got ≢ stop_line) × (got ≢ ping_line) × IsNoCopy got
+IsHeardIn got NoOrder = IsNoOrder got × (got ≢ stop_line) × (got ≢ ping_line) × IsNoCopy got × AsksForNone got
 IsHeardIn got NoMemory = ⊥
 
 -- the bytes that ordered it were read, unless memory ran out before
@@ -84,12 +91,18 @@ abbrev pub TellsLine : Option (List ℕ) → Option (List ℕ) → List ℕ → 
 TellsLine written written_new line (Ok u) = Appends written written_new line
 TellsLine written written_new line (Err e) = (e ≡ io.Write) × WritesSome written written_new line
 
+-- where an operator asked for a list, it was read
+abbrev pub ListsBy : Shown → Shown → Heard → Type 0
+ListsBy old new (Listed listing told) = ReadsList old new listing told
+ListsBy old new other = Unit {0}
+
 module _ (copied : List ℕ → Result (Unit {0}) CopyRefusal → Type 0) (pinged : Result Health StoreFault → Type 0) where
   -- where an operator ordered a copy or asked for the health, this came of it
   abbrev pub CameOf : Heard → Type 0
   CameOf (Carried order told) = Unit {0}
   CameOf (Copied path told) = copied path told
   CameOf (Pinged told) = pinged told
+  CameOf (Listed listing told) = Unit {0}
   CameOf Stop = Unit {0}
   CameOf NoOrder = Unit {0}
   CameOf NoMemory = Unit {0}
@@ -101,6 +114,7 @@ module _ (copied : List ℕ → Result (Unit {0}) CopyRefusal → Type 0) (pinge
     pub tells : told ≡ told_heard heard
     pub through : GoesThroughSteps old new (steps_heard heard)
     pub came : CameOf heard
+    pub lists : ListsBy old new heard
 
   -- what the bytes order was done, and this came of it
   abbrev pub Heeds : Shown → Shown → List ℕ → Told → Type 0
@@ -120,11 +134,11 @@ module _ (copied : List ℕ → Result (Unit {0}) CopyRefusal → Type 0) (pinge
   abbrev pub Obeys :
       Shown → Shown → Account → Account → Option (List ℕ) → Option (List ℕ) → Result Told Io → Type 0
   Obeys old new came came_new written written_new (Ok told) =
-      Hears old new came came_new told × Appends written written_new (line_told told)
+      Hears old new came came_new told × Appends written written_new (bytes_told told)
   Obeys old new came came_new written written_new (Err io.Read) =
       GoesThroughSteps old new [] × Keeps written written_new
   Obeys old new came came_new written written_new (Err io.Write) =
-      (told : Told) × Hears old new came came_new told × WritesSome written written_new (line_told told)
+      (told : Told) × Hears old new came came_new told × WritesSome written written_new (bytes_told told)
 
 -- So it was between two stores, by what is known of copies and counts, with the tally of the moment.
 module _ {S : Type 0} (shown : S → Shown) (copied : S → S → List ℕ → Result (Unit {0}) CopyRefusal → Type 0)

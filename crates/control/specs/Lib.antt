@@ -5,6 +5,7 @@ pub mod Hearing
 pub mod Isolated
 pub mod Laws
 pub mod Line
+pub mod Listing
 pub mod Order
 pub mod Outcome
 pub mod Pace

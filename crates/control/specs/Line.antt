@@ -80,6 +80,12 @@ pub record ReadsOn (most : ℕ) (came came_new : Account) (got got_new : List �
   pub behind : got_new ≡ got ++ bytes
   pub enough : IsTrue done → IsEnough most got_new came_new
 
+-- these bytes were read, behind others
+pub record ReadsMore (came came_new : Account) (got got_new : List ℕ) : Type 0 where
+  pub bytes : List ℕ
+  pub gives : Gives came came_new bytes
+  pub behind : got_new ≡ got ++ bytes
+
 -- These bytes were read, and no more has to be for a line of so many bytes at most.
 pub record ReadsTo (most : ℕ) (came came_new : Account) (got : List ℕ) : Type 0 where
   pub gives : Gives came came_new got

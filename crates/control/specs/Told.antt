@@ -4,6 +4,7 @@ use Rattle.control.specs.Outcome.{line_of}
 use Rattle.control.specs.declared.told.Told.{Told}
 use Rattle.control.specs.declared.told.Told.TheVariants as told
 
-abbrev pub line_told : Told → List ℕ
-line_told (told.Outcome outcome) = line_of outcome
-line_told (told.Health line) = line
+abbrev pub bytes_told : Told → List ℕ
+bytes_told (told.Outcome outcome) = line_of outcome
+bytes_told (told.Health line) = line
+bytes_told (told.List lines) = lines

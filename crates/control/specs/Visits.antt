@@ -13,8 +13,8 @@ use Rattle.socket.specs.Connections.{Visit, Come, exchanges_of}
 use Rattle.socket.specs.Connections as socket
 use Rattle.control.specs.Copying.{Step, Turned, AllRead, GoesThroughSteps}
 use Rattle.control.specs.Health.{Answered, IsPinged, tally_of}
-use Rattle.control.specs.Hearing.{Heard, Pinged, CameOf, IsHeard, WritesSome, steps_heard, told_heard}
-use Rattle.control.specs.Told.{line_told}
+use Rattle.control.specs.Hearing.{Heard, Pinged, CameOf, IsHeard, ListsBy, WritesSome, steps_heard, told_heard}
+use Rattle.control.specs.Told.{bytes_told}
 use Rattle.control.specs.Turns.{Asked}
 use Rattle.control.specs.declared.callers.Caller.{Caller}
 use Rattle.control.specs.declared.copies.CopyRefusal.{CopyRefusal}
@@ -52,7 +52,7 @@ module _ {P O : Type 0} (came : P → Account) (written : P → Option (List ℕ
   IsUnheard (Peer peer) = IsUnused (came peer) (written peer)
   IsUnheard (Operator operator) = IsUnused (heeded operator) (told operator)
 
--- the steps of what an operator ordered: one for an order, a copy or a ping, and otherwise none
+-- the steps of what an operator ordered: one for an order, a copy, a ping or a list, and otherwise none
 abbrev pub steps_if : Option Heard → List Step
 steps_if None = []
 steps_if (Some heard) = steps_heard heard
@@ -63,7 +63,7 @@ steps_of (OfPeer visit answered) = map (λ x. Turned (Asked x)) (exchanges_of vi
 steps_of (OfOperator audience) = steps_if audience.heard
 steps_of Untaken = []
 
--- the messages, the orders, the copies and the pings, as they came
+-- the messages, the orders, the copies, the pings and the lists, as they came
 abbrev pub steps_with : {P O : Type 0} → List (Call P O) → List Step
 steps_with [] = []
 steps_with (call ∷ calls) = steps_of call ++ steps_with calls
@@ -111,6 +111,11 @@ abbrev pub CameIf : (List ℕ → Result (Unit {0}) CopyRefusal → Type 0) → 
 CameIf copied pinged None = Unit {0}
 CameIf copied pinged (Some heard) = CameOf copied pinged heard
 
+-- where an operator asked for a list, it was read
+abbrev pub ListsIf : Shown → Shown → Option Heard → Type 0
+ListsIf old new None = Unit {0}
+ListsIf old new (Some heard) = ListsBy old new heard
+
 -- The connection counts as what became of it: by the status that was written for what came first, or as one that
 -- failed.
 abbrev pub CountsAs : Option First → Answered → Type 0
@@ -148,10 +153,10 @@ module _ {O : Type 0} (heeded : O → Account) (told : O → Option (List ℕ)) 
   IsToldThere before after None result = (result ≡ Err io.Read) × Keeps (told before) (told after)
   IsToldThere before after (Some heard) (Ok said) =
       (said ≡ told_heard heard) × IsHeard (heeded before) (heeded after) heard
-      × Appends (told before) (told after) (line_told (told_heard heard))
+      × Appends (told before) (told after) (bytes_told (told_heard heard))
   IsToldThere before after (Some heard) (Err e) =
       (e ≡ io.Write) × IsHeard (heeded before) (heeded after) heard
-      × WritesSome (told before) (told after) (line_told (told_heard heard))
+      × WritesSome (told before) (told after) (bytes_told (told_heard heard))
 
   -- This operator was obeyed, and the store went through its order. The flag says whether it was told that the server
   -- ends.
@@ -163,6 +168,7 @@ module _ {O : Type 0} (heeded : O → Account) (told : O → Option (List ℕ)) 
     pub stopped : IsTrue stops ↔ (audience.told ≡ Ok (spoken.Outcome Stopping))
     pub through : GoesThroughSteps old new (steps_if audience.heard)
     pub came : CameIf copied pinged audience.heard
+    pub lists : ListsIf old new audience.heard
 
   -- so it was between two stores, by what is known of copies and counts, with the tally of the moment
   abbrev pub ObeysOneBy : {S : Type 0} (shown : S → Shown)
@@ -190,8 +196,8 @@ module _ {O : Type 0} (heeded : O → Account) (told : O → Option (List ℕ)) 
       pub there : All IsCallThere calls
       pub through : GoesThroughSteps old new (steps_with calls)
 
-    -- So it was. Each copy that was ordered was made of the machine's world at its moment, and each ping was told what
-    -- was counted in it, and how the connections before it were answered.
+    -- So it was. Each copy that was ordered was made of the machine's world at its moment, each list is one of that
+    -- world, and each ping was told what was counted in it, and how the connections before it were answered.
     pub record ReadsEach
         {S : Type 0} (shown : S → Shown) (copied : S → S → List ℕ → Result (Unit {0}) CopyRefusal → Type 0)
         (counted : S → S → ℕ → Type 0) (is_new : Caller P O → Type 0)

@@ -15,6 +15,7 @@ use histories::{
     BoundRead, BoundWrite, Connection, HasCalls, Hear, Hearing, HearingInTime, Start, Tell,
     Telling, TellingInTime, over_tcp, over_unix,
 };
+use keyring::Keyring;
 use mio::unix::SourceFd;
 use mio::{Events, Interest, Poll, Token};
 use socket::Peer;
@@ -26,7 +27,6 @@ use std::os::fd::AsRawFd;
 use std::os::unix::net::{UnixListener, UnixStream};
 use std::rt::HostRuntime;
 use std::time::{Clock, Duration};
-use world::shelves::Shelves;
 
 /// A caller who has connected.
 #[derive(Drop)]
@@ -70,7 +70,7 @@ pub trait Operator {
     ghost write_calls: { Self → List Call };
 
     /// Carries out its order, as `obey` does. A ping gets this tally.
-    fn obeyed<C: Clock, S: Shelves, K: Copies<S>>(
+    fn obeyed<C: Clock, S: Keyring, K: Copies<S>>(
         self,
         alloc: Global,
         clock: &C,
@@ -101,7 +101,7 @@ impl<R: BoundRead + Drop, W: BoundWrite + Drop> Operator for Connection<R, W> {
     ghost write_calls = { λ o. ⟦<Telling<W> as HasCalls>⟧.calls o.writer };
 
     /// All reads of the line together have 2 seconds, and so have all writes of the outcome.
-    fn obeyed<C: Clock, S: Shelves, K: Copies<S>>(
+    fn obeyed<C: Clock, S: Keyring, K: Copies<S>>(
         self,
         alloc: Global,
         clock: &C,
@@ -121,7 +121,7 @@ fn obey_since<
     J: Start,
     R: BoundRead + Drop,
     W: BoundWrite + Drop,
-    S: Shelves,
+    S: Keyring,
     K: Copies<S>,
 >(
     alloc: Global,

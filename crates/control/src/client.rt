@@ -1,17 +1,20 @@
 //! The operator's side.
 ghost use Rattle.std.specs.Prelude.{◌≡◌, ◌++◌, ◌∷◌, [], IfOk, IfErr, IfSome, OnOk, option_copied};
-ghost use Rattle.control.specs.Asking.{Asks, AsksForHealth, AsksToCopy, AsksToStop};
-ghost use Rattle.control.specs.Asking.{IsUnwritten, Sends, TellsOutcome, TellsHealth, IsTold};
+ghost use Rattle.control.specs.Asking.{Asks, AsksForHealth, AsksForList, AsksToCopy, AsksToStop};
+ghost use Rattle.control.specs.Asking.{IsUnwritten, Sends, TellsOutcome, TellsHealth, TellsList, IsTold, TellsBytes};
 ghost use Rattle.control.specs.Line.{IsCopyTo, IsSaid, IsSent, copy_words, longest, longest_copy};
 ghost use Rattle.control.specs.Order as spec;
 ghost use Rattle.control.specs.Order.{said_in};
 ghost use Rattle.control.specs.Outcome.{line_of};
-ghost use Rattle.control.specs.Told.{line_told};
+ghost use Rattle.control.specs.Told.{bytes_told};
 ghost use Rattle.control.specs.Words.{said, text_of, behind, line_end};
 
 use crate::copy_line::words_to_copy;
 use crate::health::health_line_in;
-use crate::line::{LONGEST, LONGEST_COPY, PING_LINE, STOP_LINE, line_in, read_line, read_to};
+use crate::line::{
+    LONGEST, LONGEST_COPY, PING_LINE, STOP_LINE, line_in, read_all, read_line, read_to,
+};
+use crate::listing::{Listing, list_in};
 use crate::order::Order;
 use crate::outcome::Outcome;
 use crate::told::Told;
@@ -19,6 +22,7 @@ use crate::words::{Words, are_words};
 use engine::write::write_bytes;
 use histories::{Hear, Tell};
 use std::alloc::{AllocError, Global};
+use world::bytes::Bytes;
 use world::entry::Right;
 
 /// The most bytes of a health line without its end. The longest has at most 232, where each count has all its digits.
@@ -106,6 +110,23 @@ pub fn ask_for_health<R: Hear, W: Tell>(
 {
     match write_bytes(writer, PING_LINE) {
         Ok(()) => hear_health(alloc, reader),
+        Err(_) => Err(Untold::Io),
+    }
+}
+
+/// Asks for a list, and returns it without its last line, or the outcome that the server sends in its place. Fails only
+/// with `Untold::Io`: the line was not sent whole, memory ran out, or neither a whole list nor an outcome was read.
+pub fn ask_for_list<R: Hear, W: Tell>(
+    alloc: Global,
+    reader: &mut R,
+    writer: &mut W,
+    listing: Listing,
+) -> Result<Result<Bytes, Outcome>, Untold>
+    ensures { AsksForList (R.remaining reader.old) (R.remaining reader.new)
+        (W.contents writer.old) (W.contents writer.new) listing result }
+{
+    match write_bytes(writer, listing.line()) {
+        Ok(()) => hear_list(alloc, reader),
         Err(_) => Err(Untold::Io),
     }
 }
@@ -247,9 +268,35 @@ fn hear_health<R: Hear>(alloc: Global, reader: &mut R) -> Result<Told, Untold>
     }
 }
 
+/// Reads a list to its end, or the line of an outcome.
+fn hear_list<R: Hear>(alloc: Global, reader: &mut R) -> Result<Result<Bytes, Outcome>, Untold>
+    ensures { TellsList (R.remaining reader.old) (R.remaining reader.new) result }
+{
+    let Ok(got) = read_all(alloc, reader) else {
+        return Err(Untold::Io);
+    };
+    match listed_in(alloc, &got) {
+        Some(listed) => Ok(listed),
+        None => Err(Untold::Io),
+    }
+}
+
+/// What the bytes tell, if they are a whole list or the line of an outcome. None also if memory runs out.
+fn listed_in(alloc: Global, got: &[u8]) -> Option<Result<Bytes, Outcome>>
+    ensures { IfSome result (λ told. TellsBytes told got.now) }
+{
+    let Some(text) = list_in(got) else {
+        return Some(Err(outcome_in(got)?));
+    };
+    match Bytes::copy_of(alloc, text) {
+        Ok(text) => Some(Ok(text)),
+        Err(_) => None,
+    }
+}
+
 /// What the bytes tell, if they are the line of an outcome or of a health.
 fn told_in(alloc: Global, got: &[u8]) -> Option<Told>
-    ensures line { IfSome result (λ told. got.now ≡ line_told told) }
+    ensures line { IfSome result (λ told. got.now ≡ bytes_told told) }
     ensures told { IfSome result IsTold }
 {
     if let Some(outcome) = outcome_in(got) {

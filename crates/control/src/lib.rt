@@ -6,11 +6,13 @@
 //! | the orders, and the line of each | [`Order`], [`order_of`] |
 //! | the order to copy the store, and what carries it out | [`copy_path_of`], [`Copies`] |
 //! | what a ping is told: how connections were answered, and more that an operator watches | [`Tally`], [`Health`] |
+//! | the lists of keys and of shelves | [`Listing`] |
 //! | what came of an order, and the line that tells it | [`Outcome`], [`Told`] |
 //! | taking an operator's line, and carrying its order out | [`obey`], [`carry_out`] |
 //! | peers of a port and operators of a socket, one after another | [`serve_both`], [`Callers`], [`Doors`] |
 //! | the socket | [`operators_at`], [`remove_socket`] |
-//! | the operator's side | [`server_at`], [`ask`], [`ask_to_copy`], [`ask_for_health`], [`ask_to_stop`] |
+//! | the operator's side | [`server_at`], [`ask`], [`ask_to_copy`], [`ask_to_stop`] |
+//! | what it asks to be told | [`ask_for_health`], [`ask_for_list`] |
 #![tactic(auto)]
 
 mod callers;
@@ -21,6 +23,7 @@ mod copy_line;
 mod health;
 pub mod laws;
 mod line;
+mod listing;
 mod obeying;
 mod order;
 mod outcome;
@@ -34,10 +37,11 @@ mod words;
 
 pub use callers::{Caller, Callers, Doors, Obeyed, Operator, SystemCaller};
 pub use carry::carry_out;
-pub use client::{Untold, ask, ask_for_health, ask_to_copy, ask_to_stop};
+pub use client::{Untold, ask, ask_for_health, ask_for_list, ask_to_copy, ask_to_stop};
 pub use copies::{Copies, CopyRefusal};
 pub use copy_line::copy_path_of;
 pub use health::Health;
+pub use listing::Listing;
 pub use obeying::obey;
 pub use order::{Order, order_of};
 pub use outcome::Outcome;

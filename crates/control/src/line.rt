@@ -1,5 +1,6 @@
 //! Reading lines, and telling what they order.
 ghost use Rattle.std.specs.Prelude.{◌≡◌, ◌↔◌, MatchOption, IfOk, IsTrue};
+ghost use Rattle.histories.specs.Account.{Gives};
 ghost use Rattle.control.specs.Line as spec;
 
 use crate::order::{Order, order_of};
@@ -21,6 +22,9 @@ pub(crate) const PING_LINE: &[u8] = b"ping\n";
 
 /// The most reads of one line, interrupted ones included.
 const TRIES: u32 = 1_000;
+
+/// The most reads of a list. Each takes up to `LONGEST_COPY + 1` bytes.
+const TRIES_OF_ALL: u32 = 1_000_000;
 
 /// Why no line was read.
 #[derive(Clone, Copy, Debug, Drop, PartialEq, Eq)]
@@ -76,6 +80,37 @@ fn read_on<R: Hear>(reader: &mut R, got: &mut Vec<u8>, most: usize) -> Result<bo
         Ok(n) => {
             got.extend_from_slice(&chunk[..n])?;
             Ok(is_enough(got, most))
+        }
+        Err(e) if e.kind() == ErrorKind::Interrupted => Ok(false),
+        Err(_) => Err(Unread::Io),
+    }
+}
+
+/// Reads to the end of the stream, and returns the bytes. Fails with `Io` if a read fails or `TRIES_OF_ALL` reads are
+/// not enough, and with `Memory` if memory runs out.
+pub(crate) fn read_all<R: Hear>(alloc: Global, reader: &mut R) -> Result<Vec<u8>, Unread>
+    ensures { IfOk result (λ got. Gives (R.account reader.old) (R.account reader.new) got.items) }
+{
+    let mut got = Vec::new(alloc);
+    for _ in 0..TRIES_OF_ALL {
+        if read_more(reader, &mut got)? {
+            return Ok(got);
+        }
+    }
+    Err(Unread::Io)
+}
+
+/// Reads once, after what was read, and returns whether the stream has ended. A read that is interrupted reads nothing.
+fn read_more<R: Hear>(reader: &mut R, got: &mut Vec<u8>) -> Result<bool, Unread>
+    ensures { IfOk result (λ _.
+        spec.ReadsMore (R.account reader.old) (R.account reader.new) got.old.items got.new.items) }
+{
+    let mut chunk = [0; LONGEST_COPY + 1];
+    match reader.hear(&mut chunk) {
+        Ok(0) => Ok(true),
+        Ok(n) => {
+            got.extend_from_slice(&chunk[..n])?;
+            Ok(false)
         }
         Err(e) if e.kind() == ErrorKind::Interrupted => Ok(false),
         Err(_) => Err(Unread::Io),

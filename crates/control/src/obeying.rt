@@ -6,6 +6,7 @@ use crate::carry::carry_out;
 use crate::copies::Copies;
 use crate::copy_line::copy_in;
 use crate::line::{Unread, is_ping, is_stop, order_in, read_line};
+use crate::listing::{list, listing_in};
 use crate::outcome::{Outcome, outcome_of, outcome_of_copy};
 use crate::pinging::ping;
 use crate::tally::Tally;
@@ -13,20 +14,20 @@ use crate::told::Told;
 use engine::Io;
 use engine::write::write_bytes;
 use histories::{Hear, Tell};
+use keyring::Keyring;
 use std::alloc::Global;
 use world::registry::StoreFault;
-use world::shelves::Shelves;
 
 /// Reads an operator's line, does what it orders, writes what came of it, flushes that, and returns it; `copies` makes
 /// copies.
 ///
 /// `Outcome::Stopping`: the server is to end. `Told::Health`: the line is a ping, which gets the tally, the failures of
-/// the store and the versions that `copies` counts. `Outcome::Failed(StoreFault::Memory)` also means that memory ran
-/// out for the line, and that nothing was done.
+/// the store and the versions that `copies` counts. `Told::List`: the line asks for a list. `Outcome::Failed` with
+/// `StoreFault::Memory` also means that memory ran out for the line, and that nothing was done.
 ///
 /// `Io::Read`: nothing was done, and nothing written. `Io::Write`: a write or the flush failed; a beginning of the line
 /// was written or all of it, and the shelves are as after the order.
-pub fn obey<R: Hear, W: Tell, S: Shelves, K: Copies<S>>(
+pub fn obey<R: Hear, W: Tell, S: Keyring, K: Copies<S>>(
     alloc: Global,
     reader: &mut R,
     writer: &mut W,
@@ -40,7 +41,7 @@ pub fn obey<R: Hear, W: Tell, S: Shelves, K: Copies<S>>(
     ensures flushed { IfOk result (λ _. (W.writes writer.new).unflushed ≡ []) }
 {
     match hear(alloc, reader, tally, shelves, copies) {
-        Ok(told) => match tell_line(writer, told.line().as_bytes()) {
+        Ok(told) => match tell_line(writer, told.bytes()) {
             Ok(()) => Ok(told),
             Err(why) => Err(why),
         },
@@ -63,7 +64,7 @@ fn tell_line<W: Tell>(writer: &mut W, line: &[u8]) -> Result<(), Io>
 
 /// Reads a line, does what it orders, and returns what the operator gets. Fails with `Io::Read` if the line can't be
 /// read, and then nothing was done.
-fn hear<R: Hear, S: Shelves, K: Copies<S>>(
+fn hear<R: Hear, S: Keyring, K: Copies<S>>(
     alloc: Global,
     reader: &mut R,
     tally: &Tally,
@@ -81,7 +82,7 @@ fn hear<R: Hear, S: Shelves, K: Copies<S>>(
 }
 
 /// Does what a line orders, and returns what the operator gets: `Outcome::Bad` if the line is no order.
-fn heed<S: Shelves, K: Copies<S>>(
+fn heed<S: Keyring, K: Copies<S>>(
     alloc: Global,
     got: &[u8],
     tally: &Tally,
@@ -98,6 +99,9 @@ fn heed<S: Shelves, K: Copies<S>>(
     }
     if let Some(path) = copy_in(got) {
         return Told::Outcome(outcome_of_copy(copies.copy(shelves, path)));
+    }
+    if let Some(listing) = listing_in(got) {
+        return list(alloc, shelves, listing);
     }
     match order_in(got) {
         Some(order) => Told::Outcome(outcome_of(carry_out(shelves, &order))),

@@ -9,6 +9,7 @@ use crate::outcome::Outcome;
 use crate::tally::Tally;
 use crate::told::Told;
 use engine::Io;
+use keyring::Keyring;
 use modver::TimeText;
 use socket::{After, Peer};
 use std::alloc::Global;
@@ -28,7 +29,7 @@ pub fn serve_both<
     P: Peer + Drop,
     O: Operator + Drop,
     L: Callers<P, O>,
-    S: Shelves,
+    S: Keyring,
     K: Copies<S>,
 >(
     alloc: Global,
@@ -93,7 +94,7 @@ fn answer_on<C: Clock, P: Peer + Drop, S: Shelves>(
 }
 
 /// Carries out one order of an operator, and returns whether the server is to end. Ignores failures of the connection.
-fn obey_on<C: Clock, O: Operator + Drop, S: Shelves, K: Copies<S>>(
+fn obey_on<C: Clock, O: Operator + Drop, S: Keyring, K: Copies<S>>(
     alloc: Global,
     clock: &C,
     operator: O,

@@ -1,9 +1,10 @@
 //! What is written to an operator.
 ghost use Rattle.std.specs.Prelude.{◌≡◌};
-ghost use Rattle.control.specs.Told.{line_told};
+ghost use Rattle.control.specs.Told.{bytes_told};
 
 use crate::outcome::Outcome;
 use text::Text;
+use world::bytes::Bytes;
 
 /// What is written to an operator.
 #[derive(Drop)]
@@ -12,16 +13,19 @@ pub enum Told {
     Outcome(Outcome),
     /// The line of the health that a ping asks for, with its end.
     Health(Text),
+    /// A list that was asked for, with its last line.
+    List(Bytes),
 }
 
 impl Told {
-    /// The line, with its end.
-    pub fn line(&self) -> &str
-        ensures { result.now ≡ line_told self.now }
+    /// The line, with its end, or the lines.
+    pub fn bytes(&self) -> &[u8]
+        ensures { result.now ≡ bytes_told self.now }
     {
         match self {
-            Told::Outcome(outcome) => outcome.line(),
-            Told::Health(line) => line.as_str(),
+            Told::Outcome(outcome) => outcome.line().as_bytes(),
+            Told::Health(line) => line.as_str().as_bytes(),
+            Told::List(lines) => lines.as_slice(),
         }
     }
 }

@@ -6,9 +6,11 @@ use Rattle.histories.specs.Account.{Account}
 use Rattle.world.specs.Store.{Shown}
 use Rattle.commands.specs.Opening.{AnsweredFor}
 use Rattle.commands.specs.Order.{CopiesThere, OrdersThere, StopsThere}
+use Rattle.commands.specs.Listing.{ListsThere}
 use Rattle.commands.specs.Ping.{PingsThere}
 use Rattle.commands.specs.Action.{acceptance}
 use Rattle.commands.specs.declared.refusal.CommandRefusal.{CommandRefusal}
+use Rattle.control.specs.declared.listing.Listing.{Listing}
 use Rattle.file_action.specs.OnFile.{Deeds, TellsAlone, ActsOnFile, Inits}
 use Rattle.runner.specs.Extract.{ExtractsFile}
 use Rattle.runner.specs.Migrate.{MigratesFile}
@@ -33,6 +35,11 @@ module _ (came came_new : Account) (written written_new : Option (List ℕ)) (re
     pub pings : PingsThere written written_new result
     pub input : came_new ≡ came
 
+  -- a running `serve` was asked for a list, which was printed, no store was opened, and nothing was read
+  pub record ListsAlone (listing : Listing) : Type 0 where
+    pub lists : ListsThere listing written written_new result
+    pub input : came_new ≡ came
+
 module _ {S C : Type 0} (acts : Deeds S) (state_of : C → State) (shown : S → Shown)
     (files targets : Span S C) (older : Span C C)
     (came came_new : Account) (written written_new : Option (List ℕ)) (result : Result Bool CommandRefusal) where
@@ -49,7 +56,7 @@ module _ {S C : Type 0} (acts : Deeds S) (state_of : C → State) (shown : S →
   IsOnNone = IsIdle files × IsIdle targets × IsIdle older
 
   -- What each kind of command does, and to which files of stores: those of the command, the new one, and the older one.
-  -- The last four open no store: they send a line to a running `serve`, or can't.
+  -- The last five open no store: they send a line to a running `serve`, or can't.
   abbrev pub Runs : Command → Type 0
   Runs (command.Init db) = Inits acts files db.now came came_new written written_new result × IsOnFiles
   Runs (command.AnswerInMemory team key) =
@@ -62,4 +69,5 @@ module _ {S C : Type 0} (acts : Deeds S) (state_of : C → State) (shown : S →
   Runs (command.Order control order) = Alone (OrdersThere order) × IsOnNone
   Runs (command.Copy control to) = Alone (CopiesThere to.now) × IsOnNone
   Runs (command.Ping control) = PingsAlone came came_new written written_new result × IsOnNone
+  Runs (command.List control listing) = ListsAlone came came_new written written_new result listing × IsOnNone
   Runs (command.Stop control) = Alone StopsThere × IsOnNone

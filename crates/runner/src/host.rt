@@ -13,10 +13,11 @@ use crate::migrate::migrate_file;
 use crate::older_files::OlderFiles;
 use commands::action::{Action, act_on};
 use commands::files::{holds_bytes, is_empty_file, is_missing_or_empty, is_same_file};
+use commands::listing::list_at;
 use commands::order::{copy_at, order_at, stop_at};
 use commands::ping::ping_at;
 use commands::refusal::CommandRefusal;
-use control::Order;
+use control::{Listing, Order};
 use file_action::host::ActionHost;
 use files::files::StoreFiles;
 use histories::{Hear, Tell};
@@ -34,6 +35,7 @@ pub trait Host<S, C>: ActionHost<S> + Looks {
     ghost use Rattle.std.specs.Prelude.{map as each};
     ghost use Rattle.sqlite.specs.State.{State};
     ghost use Rattle.commands.specs.Order.{CopiesThere, OrdersThere, StopsThere};
+    ghost use Rattle.commands.specs.Listing.{ListsThere};
     ghost use Rattle.commands.specs.Ping.{PingsThere};
     ghost use Rattle.runner.specs.Extract.{ExtractsFile};
     ghost use Rattle.runner.specs.Migrate.{MigratesFile};
@@ -88,6 +90,15 @@ pub trait Host<S, C>: ActionHost<S> + Looks {
     /// Asks a running `serve` for its health, and prints it. Fails as [`ping_at`] does.
     fn ping<O: Tell>(&mut self, control: &str, output: &mut O) -> Result<bool, CommandRefusal>
         ensures { PingsThere (O.contents output.old) (O.contents output.new) result };
+
+    /// Asks a running `serve` for a list, and prints it. Fails as [`list_at`] does.
+    fn list<O: Tell>(
+        &mut self,
+        control: &str,
+        listing: Listing,
+        output: &mut O,
+    ) -> Result<bool, CommandRefusal>
+        ensures { ListsThere listing (O.contents output.old) (O.contents output.new) result };
 
     /// Has a running `serve` end. Fails as [`stop_at`] does.
     fn stop(&mut self, control: &str) -> Result<(), CommandRefusal>
@@ -197,6 +208,15 @@ impl<'a> Host<OpenedStore, ClosedFile> for SystemHost<'a> {
 
     fn ping<O: Tell>(&mut self, control: &str, output: &mut O) -> Result<bool, CommandRefusal> {
         ping_at(self.rt, control, output)
+    }
+
+    fn list<O: Tell>(
+        &mut self,
+        control: &str,
+        listing: Listing,
+        output: &mut O,
+    ) -> Result<bool, CommandRefusal> {
+        list_at(self.rt, control, listing, output)
     }
 
     fn stop(&mut self, control: &str) -> Result<(), CommandRefusal> {

@@ -10,6 +10,7 @@
 //! | [`Command::Order`] | opens no store, and sends an order to the `serve` that has one open |
 //! | [`Command::Copy`] | opens no store, and has the `serve` that has one open copy it into another file |
 //! | [`Command::Ping`] | opens no store, asks the `serve` that has one open for its health, and prints it |
+//! | [`Command::List`] | opens no store, asks the `serve` that has one open for a list, and prints it |
 //! | [`Command::Stop`] | opens no store, and has the `serve` end that has one open |
 //!
 //! One function opens each store and closes it before it returns: `on_file` for an action, `extract_file` for the store
@@ -39,7 +40,7 @@ use crate::older_files::OlderFiles;
 use commands::action::{Action, acceptance};
 use commands::memory::answer_in_memory;
 use commands::refusal::CommandRefusal;
-use control::Order;
+use control::{Listing, Order};
 use file_action::{init, on_file};
 use files::files::StoreFiles;
 use histories::{Hear, Tell};
@@ -87,6 +88,12 @@ pub enum Command<'a> {
     /// `ping --control S`: asks the `serve` that listens at the socket S for its health, and prints the line.
     Ping {
         control: &'a str,
+    },
+    /// `key-list --control S` or `shelf-list --control S`: asks the `serve` that listens at the socket S for the list,
+    /// and prints it.
+    List {
+        control: &'a str,
+        listing: Listing,
     },
     /// `stop --control S`: has the `serve` that listens at the socket S end.
     Stop {
@@ -138,6 +145,7 @@ where
         Command::Order { control, order } => acceptance(host.order(control, order)),
         Command::Copy { control, to } => acceptance(host.copy(control, to)),
         Command::Ping { control } => host.ping(control, output),
+        Command::List { control, listing } => host.list(control, *listing, output),
         Command::Stop { control } => acceptance(host.stop(control)),
     }
 }

@@ -3,7 +3,7 @@ use commands::action::{Action, acceptance};
 use commands::refusal::CommandRefusal;
 use commands::registry::register;
 use commands::report::print_inventory;
-use control::Order;
+use control::{Listing, Order};
 use file_action::host::ActionHost;
 use files::files::StoreFiles;
 use histories::{Hear, Tell};
@@ -110,6 +110,15 @@ impl<'a> Host<MapShelves, MapShelves> for MemoryHost<'a> {
     }
 
     fn copy(&mut self, _control: &str, _to: &str) -> Result<(), CommandRefusal> {
+        Err(CommandRefusal::Device)
+    }
+
+    fn list<O: Tell>(
+        &mut self,
+        _control: &str,
+        _listing: Listing,
+        _output: &mut O,
+    ) -> Result<bool, CommandRefusal> {
         Err(CommandRefusal::Device)
     }
 

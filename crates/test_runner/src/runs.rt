@@ -3,7 +3,7 @@ use crate::host::MemoryHost;
 use crate::no_older::NoOlderFiles;
 use commands::action::Action;
 use commands::refusal::CommandRefusal;
-use control::Order;
+use control::{Listing, Order};
 use files::files::StoreFiles;
 use files::memory::MemoryStoreFiles;
 use files::record::Record;
@@ -38,6 +38,7 @@ migrate | shelves.db | | | not-empty
 order | shelves.db | alpha | | device
 copy | shelves.db | | | device
 ping | shelves.db | | | device
+list | shelves.db | | | device
 stop | shelves.db | | | device
 inventory | shelves.db | | alphakey00000001 | done
 ";
@@ -63,6 +64,10 @@ fn command_of<'a>(row: &'a str, teams: &'a [&'a str]) -> Command<'a> {
             to: "new.db",
         },
         "ping" => return Command::Ping { control: db },
+        "list" => return Command::List {
+            control: db,
+            listing: Listing::Keys,
+        },
         "stop" => return Command::Stop { control: db },
         "team-add" => Action::Register { order },
         "key-add" => Action::Register {

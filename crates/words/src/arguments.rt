@@ -64,14 +64,14 @@ static STORE_COMMANDS: [CommandRow; 11] = [
         name: "key-list",
         about: "Prints a line for each key: its shelf, what it may do, and its fingerprint",
         options: &KEY_LIST,
-        forms: None,
+        forms: Some(KEY_LIST_FORMS),
         example: "",
     },
     CommandRow {
         name: "shelf-list",
         about: "Prints a line for each shelf: its name, what kind it is, and a team's group",
         options: &SHELF_LIST,
-        forms: None,
+        forms: Some(SHELF_LIST_FORMS),
         example: "",
     },
     CommandRow {
@@ -178,6 +178,11 @@ const KEY_REVOKE_FORMS: &str = "\
 goshelf key-revoke --db <F> --key <K>
        goshelf key-revoke --db <F> --fingerprint <X>
        goshelf key-revoke --control <S> --key <K>";
+
+const KEY_LIST_FORMS: &str = "goshelf key-list --db <F>\n       goshelf key-list --control <S>";
+
+const SHELF_LIST_FORMS: &str =
+    "goshelf shelf-list --db <F>\n       goshelf shelf-list --control <S>";
 
 const SERVE_FORMS: &str = "\
 goshelf serve --db <F> --port <N> [--connections <M>] [--control <S>]

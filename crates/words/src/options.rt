@@ -132,9 +132,9 @@ pub(crate) const KEY_REVOKE: [OptionRow; 4] = [
     },
 ];
 
-pub(crate) const KEY_LIST: [OptionRow; 1] = [DB];
+pub(crate) const KEY_LIST: [OptionRow; 2] = [DB_OR_CONTROL, CONTROL];
 
-pub(crate) const SHELF_LIST: [OptionRow; 1] = [DB];
+pub(crate) const SHELF_LIST: [OptionRow; 2] = [DB_OR_CONTROL, CONTROL];
 
 /// The path of a module.
 const MODULE: OptionRow = OptionRow {

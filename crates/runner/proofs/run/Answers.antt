@@ -31,6 +31,10 @@ pub returns-in-Ping : goal.returns-in-Ping
 returns-in-Ping g c = ran _ _ _ _ _ _ _ _ _ _ _ _ _ c.in-Ping.is
     (record { pings = c.ping.ensures; input = refl }, (refl, refl, refl))
 
+pub returns-in-List : goal.returns-in-List
+returns-in-List g c = ran _ _ _ _ _ _ _ _ _ _ _ _ _ c.in-List.is
+    (record { lists = c.list.ensures; input = refl }, (refl, refl, refl))
+
 pub returns-in_ok-answer_in_memory-in-AnswerInMemory : goal.returns-in_ok-answer_in_memory-in-AnswerInMemory
 returns-in_ok-answer_in_memory-in-AnswerInMemory g c = ran _ _ _ _ _ _ _ _ _ _ _ _ _ c.in-AnswerInMemory.is (
   record {

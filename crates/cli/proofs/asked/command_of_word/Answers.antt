@@ -13,6 +13,6 @@ returns-in_err-action_of-in-None c =
     rw c.from_residual-in_err-action_of-in-None.ensures
     (no_command (rows_of (found_of c.args.options.now)) c.args.word.now none.not-init none.not-answer
     none.not-extract none.not-migrate none.not-copy
-    none.not-ping none.not-stop
+    none.not-ping none.not-key-list none.not-shelf-list none.not-stop
     (not_found c.order_of.result _ (search rules) c.order_of.ensures)
     (not_found c.action_of.result _ (search rules) c.action_of.ensures))

@@ -11,4 +11,5 @@ pub returns-in-Err-Io : goal.returns-in-Err-Io
 returns-in-Err-Io g c = (refl, turns_none _)
 
 pub returns-in-Err-Memory : goal.returns-in-Err-Memory
-returns-in-Err-Memory g c = record { heard = NoMemory; from = tt; tells = refl; through = turns_none _; came = tt }
+returns-in-Err-Memory g c =
+    record { heard = NoMemory; from = tt; tells = refl; through = turns_none _; came = tt; lists = tt }

@@ -1,7 +1,8 @@
 use Rattle.std.proofs.Common.{refl, sym, ap, ◌∙◌}
 use Rattle.std.proofs.lemmas.Bool.{false≢true}
-use Rattle.control.specs.Hearing.{Carried, Copied, Pinged, Stop, NoOrder}
+use Rattle.control.specs.Hearing.{Carried, Copied, Listed, Pinged, Stop, NoOrder}
 use Rattle.control.specs.declared.told.Told.TheVariants as spoken
+use Rattle.control.proofs.ListingLemmas.{list_only_reads}
 use Rattle.control.proofs.TurnLemmas.{turns_none, turns_read, turns_ordered}
 use Rattle.control.proofs.obeying.heed.Goals as goal
 
@@ -12,6 +13,7 @@ returns-then-is_stop g c = record {
   tells = refl;
   through = turns_none _;
   came = tt;
+  lists = tt;
 }
 
 pub returns-then-is_ping : goal.returns-then-is_ping
@@ -21,6 +23,7 @@ returns-then-is_ping g c = record {
   tells = c.ping.ensures.tells;
   through = turns_read _ _ c.ping.ensures.reads;
   came = c.ping.ensures.came;
+  lists = tt;
 }
 
 pub returns-in-Some : goal.returns-in-Some
@@ -30,6 +33,17 @@ returns-in-Some g c = record {
   tells = ap spoken.Outcome c.outcome_of_copy.ensures;
   through = turns_read _ _ c.copy.ensures.reads;
   came = c.copy.ensures.came;
+  lists = tt;
+}
+
+pub returns-in-Some-listing_in : goal.returns-in-Some-listing_in
+returns-in-Some-listing_in g c = record {
+  heard = Listed c.in-Some-listing_in.listing c.list.ensures.heard;
+  from = c.in-Some-listing_in.ensures;
+  tells = c.list.ensures.tells;
+  through = turns_read _ _ (list_only_reads _ _ _ _ c.list.ensures.reads);
+  came = tt;
+  lists = c.list.ensures.reads;
 }
 
 pub returns-in-Some-order_in : goal.returns-in-Some-order_in
@@ -39,6 +53,7 @@ returns-in-Some-order_in g c = record {
   tells = ap spoken.Outcome c.outcome_of.ensures;
   through = turns_ordered _ _ _ _ c.carry_out.ensures.does;
   came = tt;
+  lists = tt;
 }
 
 pub returns-in-None : goal.returns-in-None
@@ -53,4 +68,5 @@ returns-in-None g c = record {
   tells = refl;
   through = turns_none _;
   came = tt;
+  lists = tt;
 }

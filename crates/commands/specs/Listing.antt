@@ -1,0 +1,30 @@
+-- A list of a running `serve`, printed.
+use Rattle.std.specs.Prelude.{ℕ, ◌≡◌, ◌⊎◌, Bool, List, Option, Result, Ok, Err}
+use Rattle.control.specs.Asking.{AsksForList}
+use Rattle.control.specs.declared.client.Untold.{Untold}
+use Rattle.control.specs.declared.listing.Listing.{Listing}
+use Rattle.control.specs.declared.outcome.Outcome.{Outcome}
+use Rattle.commands.specs.Ping.{refusal_of}
+use Rattle.commands.specs.Report.{Prints}
+use Rattle.commands.specs.declared.refusal.CommandRefusal.{CommandRefusal}
+use Rattle.commands.specs.declared.refusal.CommandRefusal.TheVariants.{Device, Io}
+
+-- the list that was told, or why there is none
+abbrev pub list_ending : Result (Result (List ℕ) Outcome) Untold → Result (List ℕ) CommandRefusal
+list_ending (Ok (Ok text)) = Ok text
+list_ending (Ok (Err outcome)) = Err (refusal_of outcome)
+list_ending (Err why) = Err Io
+
+-- the line that asks for the list was written, a whole list was read, and printed
+pub record ListsOver (unread unread_new written written_new : Option (List ℕ)) (listing : Listing)
+    (printed printed_new : Option (List ℕ)) (result : Result Bool CommandRefusal) : Type 0 where
+  pub told : Result (Result (List ℕ) Outcome) Untold
+  pub asks : AsksForList unread unread_new written written_new listing told
+  pub prints : Prints printed printed_new result (list_ending told)
+
+-- so it was over a connection, or there was none
+abbrev pub ListsThere : Listing → Option (List ℕ) → Option (List ℕ) → Result Bool CommandRefusal → Type 0
+ListsThere listing printed printed_new result =
+    ((unread unread_new written written_new : Option (List ℕ))
+    × ListsOver unread unread_new written written_new listing printed printed_new result)
+    ⊎ ((result ≡ Err Device) × (printed_new ≡ printed))

@@ -1,0 +1,61 @@
+-- The lists that an operator gets: of keys, and of shelves.
+use Rattle.std.specs.Prelude.{ℕ, ◌≡◌, ◌≢◌, ◌⊎◌, ◌++◌, List, [], ◌∷◌, codes, Result, Ok, Err}
+use Rattle.keyring.specs.KeyList.{IsInOrder, ListsKeys, key_lines}
+use Rattle.keyring.specs.ShelfList.{shelf_text}
+use Rattle.world.specs.Store.{Shown, Reads}
+use Rattle.world.specs.World.{World}
+use Rattle.world.specs.declared.registry.StoreFault.{StoreFault}
+use Rattle.world.specs.declared.registry.StoreFault.TheVariants.{Memory}
+use Rattle.control.specs.Words.{line_end}
+use Rattle.control.specs.declared.listing.Listing.{Listing}
+use Rattle.control.specs.declared.listing.Listing.TheVariants.{Keys, Shelves}
+use Rattle.control.specs.declared.outcome.Outcome.TheVariants.{Failed}
+use Rattle.control.specs.declared.told.Told.{Told}
+use Rattle.control.specs.declared.told.Told.TheVariants as spoken
+
+-- the line that asks for a list
+abbrev pub line_for : Listing → List ℕ
+line_for Keys = codes "key-list" ++ line_end ∷ []
+line_for Shelves = codes "shelf-list" ++ line_end ∷ []
+
+-- the bytes ask for no list
+abbrev pub AsksForNone : List ℕ → Type 0
+AsksForNone got = (listing : Listing) → got ≢ line_for listing
+
+-- a list, and the line that ends it
+abbrev pub whole : List ℕ → List ℕ
+whole text = text ++ codes "done\n"
+
+-- the bytes are no line, or lines, of which the last has its end
+abbrev pub AreLines : List ℕ → Type 0
+AreLines text = (text ≡ []) ⊎ ((front : List ℕ) × (text ≡ front ++ line_end ∷ []))
+
+-- the reply is this list, whose last line has its end, and the line that ends it
+pub record IsReplyOf (reply text : List ℕ) : Type 0 where
+  pub is : reply ≡ whole text
+  pub lines : AreLines text
+
+-- from old to new a list was read, in each world that the store stood for, or a fault was met; nothing was changed
+abbrev pub ReadsList : Shown → Shown → Listing → Result (List ℕ) StoreFault → Type 0
+ReadsList old new Keys result = ListsKeys old new result
+ReadsList old new Shelves result = Reads old new result shelf_text
+
+-- the text is this list of a world
+abbrev pub IsList : Listing → World → List ℕ → Type 0
+IsList Keys w text = IsInOrder (key_lines w) text
+IsList Shelves w text = text ≡ shelf_text w
+
+-- what is told of a list
+abbrev pub told_of_list : Result (List ℕ) StoreFault → Told
+told_of_list (Ok text) = spoken.List (whole text)
+told_of_list (Err fault) = spoken.Outcome (Failed fault)
+
+-- this list is told, or that there was no memory for it
+abbrev pub IsReplyFor : List ℕ → Told → Type 0
+IsReplyFor text told = (told ≡ told_of_list (Ok text)) ⊎ (told ≡ told_of_list (Err Memory))
+
+-- A list was read, and this was told.
+pub record Lists (old new : Shown) (listing : Listing) (told : Told) : Type 0 where
+  pub heard : Result (List ℕ) StoreFault
+  pub reads : ReadsList old new listing heard
+  pub tells : told ≡ told_of_list heard

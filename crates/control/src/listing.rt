@@ -1,0 +1,118 @@
+//! The lists that an operator gets: of keys, and of shelves.
+ghost use Rattle.std.specs.Prelude.{◌≡◌, MatchOption, IfOk, IfSome, IsTrue};
+ghost use Rattle.control.specs.Listing as spec;
+
+use crate::outcome::Outcome;
+use crate::told::Told;
+use keyring::Keyring;
+use keyring::key_list::list_keys;
+use keyring::shelf_list::list_shelves;
+use std::alloc::{AllocError, Global};
+use world::bytes::Bytes;
+use world::registry::StoreFault;
+
+/// The line that ends a list. Each line of a list has a space, so none is this one.
+pub(crate) const LAST_LINE: &[u8] = b"done\n";
+
+/// The line that asks for the list of keys.
+const KEYS_LINE: &[u8] = b"key-list\n";
+
+/// The line that asks for the list of shelves.
+const SHELVES_LINE: &[u8] = b"shelf-list\n";
+
+/// Which list an operator asks for.
+#[derive(Clone, Copy, Debug, Drop, PartialEq, Eq)]
+pub enum Listing {
+    /// `key-list`: a line for each key, which does not show the key.
+    Keys,
+    /// `shelf-list`: a line for each shelf.
+    Shelves,
+}
+
+impl Listing {
+    /// The line that asks for the list, with its end.
+    pub(crate) fn line(self) -> &'static [u8]
+        ensures { result.now ≡ spec.line_for self }
+    {
+        match self {
+            Listing::Keys => KEYS_LINE,
+            Listing::Shelves => SHELVES_LINE,
+        }
+    }
+}
+
+/// Returns which list the bytes ask for, or None if they ask for none.
+pub(crate) fn listing_in(got: &[u8]) -> Option<Listing>
+    ensures { MatchOption result (spec.AsksForNone got.now) (λ listing. got.now ≡ spec.line_for listing) }
+{
+    if got == KEYS_LINE {
+        Some(Listing::Keys)
+    } else if got == SHELVES_LINE {
+        Some(Listing::Shelves)
+    } else {
+        None
+    }
+}
+
+/// Reads a list of the store, and returns what the operator gets: the list and its last line. Returns `Outcome::Failed`
+/// if the store meets a fault or memory runs out.
+pub(crate) fn list<S: Keyring>(alloc: Global, shelves: &mut S, listing: Listing) -> Told
+    ensures { spec.Lists (S.shown shelves.old) (S.shown shelves.new) listing result }
+{
+    match read_list(alloc, shelves, listing) {
+        Ok(text) => tell(alloc, text.as_slice()),
+        Err(fault) => Told::Outcome(Outcome::Failed(fault)),
+    }
+}
+
+/// Returns a list of the store. Fails if the store meets a fault or memory runs out.
+fn read_list<S: Keyring>(
+    alloc: Global,
+    shelves: &mut S,
+    listing: Listing,
+) -> Result<Bytes, StoreFault>
+    ensures { spec.ReadsList (S.shown shelves.old) (S.shown shelves.new) listing result }
+{
+    match listing {
+        Listing::Keys => list_keys(alloc, shelves),
+        Listing::Shelves => list_shelves(alloc, shelves),
+    }
+}
+
+/// Returns a list with its last line, or `Outcome::Failed(StoreFault::Memory)` if memory runs out for it.
+fn tell(alloc: Global, text: &[u8]) -> Told
+    ensures { spec.IsReplyFor text.now result }
+{
+    match whole(alloc, text) {
+        Ok(reply) => Told::List(reply),
+        Err(_) => Told::Outcome(Outcome::Failed(StoreFault::Memory)),
+    }
+}
+
+/// Returns a list with its last line. Fails only if memory runs out.
+fn whole(alloc: Global, text: &[u8]) -> Result<Bytes, AllocError>
+    ensures { IfOk result (λ reply. reply ≡ spec.whole text.now) }
+{
+    let mut reply = Vec::from_slice(alloc, text)?;
+    reply.extend_from_slice(LAST_LINE)?;
+    Ok(Bytes::new(reply))
+}
+
+/// Returns the list that a reply has before its last line, or None if the reply is no whole list. That of a server that
+/// was cut off is none.
+pub(crate) fn list_in(got: &[u8]) -> Option<&[u8]>
+    ensures { IfSome result (λ text. spec.IsReplyOf got.now text.now) }
+{
+    let text = got.strip_suffix(LAST_LINE)?;
+    if are_lines(text) { Some(text) } else { None }
+}
+
+/// Whether the bytes are lines, each with its end.
+fn are_lines(text: &[u8]) -> bool
+    ensures { IsTrue result → spec.AreLines text.now }
+{
+    match text.strip_suffix(b"\n") {
+        Some(_) => true,
+        None => text.is_empty(),
+    }
+}

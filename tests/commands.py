@@ -117,6 +117,7 @@ goshelf group-add --control <S> --group <G>
 goshelf key-add --db <F> --shelf <S> --key <K> [--read-only]
 goshelf key-add --db <F> --shelf <S> --new [--read-only]
 goshelf key-add --control <S> --shelf <S> --key <K> [--read-only]
+goshelf key-add --control <S> --shelf <S> --new [--read-only]
 goshelf key-revoke --db <F> --key <K>
 goshelf key-revoke --db <F> --fingerprint <X>
 goshelf key-revoke --control <S> --key <K>

@@ -7,6 +7,7 @@ systemd holds is made under load. `control_kills` has the kills.
 
 import contextlib
 import os
+import re
 import socket
 import stat
 import statistics
@@ -106,6 +107,16 @@ def orders(suite):
     for words, word in UNSAYABLE:
         for way in (["--control", CONTROL], ["--db", "other.db"]):
             suite.equal(f"{words}, by {way[0]}", run([words[0], *way, *words[1:]]), (1, b"", f"goshelf: {word}\n"))
+    status, output, told = run(["key-add", "--control", CONTROL, "--shelf", "alpha", "--new"])
+    suite.equal("a key that is made, by --control", (status, told), (0, ""))
+    made = output.decode().strip()
+    suite.holds("it has 26 of a-z0-9", re.fullmatch("[a-z0-9]{26}", made), output)
+    suite.equal("it reads", server.told(get(LIST, made)), reply(404, b"not found\n"))
+    suite.equal("the same key, by --db", run(["key-add", "--db", "other.db", "--shelf", "alpha", "--key", made])[0], 0)
+    with open("/dev/full", "wb") as full:
+        words = [PROGRAM, "key-add", "--control", CONTROL, "--shelf", "alpha", "--new"]
+        ran = subprocess.run(words, stdout=full, stderr=subprocess.PIPE, timeout=120)
+    suite.equal("a made key that cannot be printed", (ran.returncode, ran.stderr), (1, b"goshelf: io\n"))
     for words in (["key-list"], ["shelf-list"]):
         served, other = run([*words, "--control", CONTROL]), run([*words, "--db", "other.db"])
         suite.equal(f"{words[0]}, by --control", served, other)

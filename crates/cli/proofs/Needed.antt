@@ -13,7 +13,8 @@ use Rattle.control.specs.declared.listing.Listing.TheVariants.{Keys, Shelves}
 use Rattle.control.specs.declared.order.Order.{Order}
 use Rattle.runner.specs.declared.Command.{Command}
 use Rattle.runner.specs.declared.Command.TheVariants as command
-use Rattle.cli.specs.Asks.{AsksAction, AsksCommand, AsksConnections, AsksEntrance, AsksOrder, Finds, ReadsNumber}
+use Rattle.cli.specs.Asks.{AsksAction, AsksCommand, AsksConnections, AsksEntrance, AsksOrder, AsksUnordered}
+use Rattle.cli.specs.Asks.{Finds, Is, ReadsNumber}
 use Rattle.std.specs.Str.{bytes_eq}
 use Rattle.clap.specs.Words.{Row, Text, matched_of, rows_of}
 use Rattle.clap.specs.Facts.{Entry}
@@ -108,12 +109,28 @@ no_serve rows none action.KeyList asks = asks
 no_serve rows none action.ShelfList asks = asks
 no_serve rows none (action.Serve entrance connections control) asks = none connections asks.2
 
--- a word asks for no command that is none of these, and asks for no order and no action of one form
+-- where a file is named, only an action is asked for
+pub no_unordered : (rows : List Row) (word db : Text) → Is rows (codes "db") db
+    → ((a : Action) → AsksAction rows word a → ⊥) → (asked : Command) → AsksUnordered rows word asked → ⊥
+no_unordered rows word db is acts (command.OnStore name a) asks = acts a asks.1
+no_unordered rows word db is acts (command.OrderNew control shelf right) asks =
+    let bad : None ≡ Some db = sym asks.1 ∙ is in cc
+no_unordered rows word db is acts (command.Init name) asks = asks
+no_unordered rows word db is acts (command.AnswerInMemory team key) asks = asks
+no_unordered rows word db is acts (command.Extract name teams to) asks = asks
+no_unordered rows word db is acts (command.Migrate from to) asks = asks
+no_unordered rows word db is acts (command.Order control o) asks = asks
+no_unordered rows word db is acts (command.Copy control to) asks = asks
+no_unordered rows word db is acts (command.Ping control) asks = asks
+no_unordered rows word db is acts (command.List control listing) asks = asks
+no_unordered rows word db is acts (command.Stop control) asks = asks
+
+-- a word asks for no command that is none of these, and asks for no order, and for nothing that is none
 pub no_command : (rows : List Row) (word : Text) → (word ≡ codes "init" → ⊥) → (word ≡ codes "answer" → ⊥)
     → (word ≡ codes "extract" → ⊥)
     → (word ≡ codes "migrate" → ⊥) → (word ≡ codes "copy" → ⊥) → (word ≡ codes "ping" → ⊥)
     → (word ≡ codes "key-list" → ⊥) → (word ≡ codes "shelf-list" → ⊥) → (word ≡ codes "stop" → ⊥)
-    → ((o : Order) → AsksOrder rows word o → ⊥) → ((a : Action) → AsksAction rows word a → ⊥)
+    → ((o : Order) → AsksOrder rows word o → ⊥) → ((c : Command) → AsksUnordered rows word c → ⊥)
     → (asked : Command) → AsksCommand rows word asked → ⊥
 no_command rows word init answer extract migrate copy ping keys shelves stop order acts = go
   where
@@ -121,16 +138,16 @@ no_command rows word init answer extract migrate copy ping keys shelves stop ord
     on_store db action.Open asks = asks.1
     on_store db (action.Register o) asks = order o asks.2
     on_store db action.Answer asks = answer asks.0
-    on_store db (action.AddNew shelf right) asks = acts (action.AddNew shelf right) asks.1
-    on_store db (action.RevokeNamed fingerprint) asks = acts (action.RevokeNamed fingerprint) asks.1
-    on_store db (action.Publish words files) asks = acts (action.Publish words files) asks.1
-    on_store db (action.Import key list) asks = acts (action.Import key list) asks.1
-    on_store db (action.Inventory key) asks = acts (action.Inventory key) asks.1
-    on_store db (action.Requires version) asks = acts (action.Requires version) asks.1
+    on_store db (action.AddNew shelf right) asks = acts (command.OnStore db (action.AddNew shelf right)) asks
+    on_store db (action.RevokeNamed fingerprint) asks = acts (command.OnStore db (action.RevokeNamed fingerprint)) asks
+    on_store db (action.Publish words files) asks = acts (command.OnStore db (action.Publish words files)) asks
+    on_store db (action.Import key list) asks = acts (command.OnStore db (action.Import key list)) asks
+    on_store db (action.Inventory key) asks = acts (command.OnStore db (action.Inventory key)) asks
+    on_store db (action.Requires version) asks = acts (command.OnStore db (action.Requires version)) asks
     on_store db action.KeyList asks = keys asks.0
     on_store db action.ShelfList asks = shelves asks.0
     on_store db (action.Serve entrance connections control) asks =
-        acts (action.Serve entrance connections control) asks.1
+        acts (command.OnStore db (action.Serve entrance connections control)) asks
 
     go : (asked : Command) → AsksCommand rows word asked → ⊥
     go (command.Init db) asks = init asks.0
@@ -139,8 +156,41 @@ no_command rows word init answer extract migrate copy ping keys shelves stop ord
     go (command.Extract db teams to) asks = extract asks.0
     go (command.Migrate from to) asks = migrate asks.0
     go (command.Order control o) asks = order o asks.2
+    go (command.OrderNew control shelf right) asks = acts (command.OrderNew control shelf right) asks
     go (command.Copy control to) asks = copy asks.0
     go (command.Ping control) asks = ping asks.0
     go (command.List control Keys) asks = keys asks.0
     go (command.List control Shelves) asks = shelves asks.0
     go (command.Stop control) asks = stop asks.0
+
+-- a command that names no order is a command
+is_command : (rows : List Row) (word : Text) (c : Command) → AsksUnordered rows word c → AsksCommand rows word c
+is_command rows word (command.OnStore db action.Open) asks = absurd asks.1
+is_command rows word (command.OnStore db (action.Register o)) asks = absurd asks.1
+is_command rows word (command.OnStore db action.Answer) asks = absurd asks.1
+is_command rows word (command.OnStore db action.KeyList) asks = absurd asks.1
+is_command rows word (command.OnStore db action.ShelfList) asks = absurd asks.1
+is_command rows word (command.OnStore db (action.AddNew shelf right)) asks = asks
+is_command rows word (command.OnStore db (action.RevokeNamed fingerprint)) asks = asks
+is_command rows word (command.OnStore db (action.Publish words files)) asks = asks
+is_command rows word (command.OnStore db (action.Import key list)) asks = asks
+is_command rows word (command.OnStore db (action.Inventory key)) asks = asks
+is_command rows word (command.OnStore db (action.Requires version)) asks = asks
+is_command rows word (command.OnStore db (action.Serve entrance connections control)) asks = asks
+is_command rows word (command.OrderNew control shelf right) asks = asks
+is_command rows word (command.Init db) asks = absurd asks
+is_command rows word (command.AnswerInMemory team key) asks = absurd asks
+is_command rows word (command.Extract db teams to) asks = absurd asks
+is_command rows word (command.Migrate from to) asks = absurd asks
+is_command rows word (command.Order control o) asks = absurd asks
+is_command rows word (command.Copy control to) asks = absurd asks
+is_command rows word (command.Ping control) asks = absurd asks
+is_command rows word (command.List control listing) asks = absurd asks
+is_command rows word (command.Stop control) asks = absurd asks
+
+-- where a word asks for nothing else, what is found among the commands that name no order is asked for
+pub unordered : (rows : List Row) (word : Text) (o : Option Command)
+    → (((c : Command) → AsksUnordered rows word c → ⊥) → (c : Command) → AsksCommand rows word c → ⊥)
+    → Finds o (AsksUnordered rows word) → Finds o (AsksCommand rows word)
+unordered rows word None others none = others none
+unordered rows word (Some c) others asks = is_command rows word c asks

@@ -110,6 +110,14 @@ module _ (rows : List Row) where
   AsksAction word (action.Serve entrance connections control) = (word ≡ codes "serve")
       × AsksEntrance entrance × AsksConnections connections × MayBe (codes "control") control
 
+  -- a command that names no order: an action on the store of a file, or a key that is made for a running server
+  abbrev pub AsksUnordered : Text → Command → Type 0
+  AsksUnordered word (command.OnStore db action) = Is (codes "db") db.now × AsksAction word action
+  AsksUnordered word (command.OrderNew control shelf right) = (word ≡ codes "key-add") × Lacks (codes "db")
+      × Is (codes "control") control.now × Is (codes "shelf") shelf.now × (is_flagged (codes "new") ≡ true)
+      × Lacks (codes "key") × (right ≡ (if is_flagged (codes "read-only") then Reads else Publishes))
+  AsksUnordered word other = ⊥
+
   abbrev pub AsksListing : Text → Listing → Type 0
   AsksListing word Keys = word ≡ codes "key-list"
   AsksListing word Shelves = word ≡ codes "shelf-list"
@@ -126,7 +134,8 @@ module _ (rows : List Row) where
       × Is (codes "db") db.now × Lacks (codes "control")
   AsksCommand word (command.OnStore db action.ShelfList) = AsksListing word Shelves
       × Is (codes "db") db.now × Lacks (codes "control")
-  AsksCommand word (command.OnStore db action) = Is (codes "db") db.now × AsksAction word action
+  AsksCommand word (command.OnStore db action) = AsksUnordered word (command.OnStore db action)
+  AsksCommand word (command.OrderNew control shelf right) = AsksUnordered word (command.OrderNew control shelf right)
   AsksCommand word (command.Extract db teams to) = (word ≡ codes "extract")
       × Is (codes "db") db.now × Are (codes "team") teams.now × Is (codes "to") to.now
   AsksCommand word (command.Migrate from to) = (word ≡ codes "migrate") × Is (codes "from") from.now × Is (codes "to") to.now

@@ -2,7 +2,8 @@
 ghost use Rattle.std.specs.Prelude.{◌≡◌, ℕ, List, codes, if◌then◌else◌, option_map, map};
 ghost use Rattle.clap.specs.Words.{all_of, found_of, first_of, rows_of, subcommand_rows_of};
 ghost use Rattle.control.specs.declared.order.Order.{Order};
-ghost use Rattle.cli.specs.Asks.{AsksAction, AsksCommand, AsksConnections, AsksEntrance, AsksOrder, Finds};
+ghost use Rattle.cli.specs.Asks.{AsksAction, AsksCommand, AsksConnections, AsksEntrance, AsksOrder, AsksUnordered};
+ghost use Rattle.cli.specs.Asks.{Finds, Lacks};
 ghost use Rattle.cli.specs.Asks.{GivenAsks, ReadsNumber, is_by_words, is_flagged};
 
 use clap::ArgMatches;
@@ -56,11 +57,46 @@ fn command_of_word<'m, 'a>(word: &str, options: &'m ArgMatches<'a>) -> Option<Co
         }),
         _ => match order_of(word, options) {
             Some(order) => registry_command(order, options),
-            None => Some(Command::OnStore {
-                db: text(options, "db")?,
-                action: action_of(word, options)?,
-            }),
+            None => unordered_command(word, options),
         },
+    }
+}
+
+/// Returns the command of a word and options that name no order: an action on the store of a file, or a key that is made
+/// and sent to a running server.
+fn unordered_command<'a>(word: &str, options: &ArgMatches<'a>) -> Option<Command<'a>>
+    ensures { Finds result (AsksUnordered (rows_of (found_of options.now)) word.now) }
+{
+    match text(options, "db") {
+        Some(db) => Some(Command::OnStore {
+            db,
+            action: action_of(word, options)?,
+        }),
+        None => new_order_of(word, options),
+    }
+}
+
+/// Returns the command `key-add --control S --new`, or None if the words are another command's.
+fn new_order_of<'a>(word: &str, options: &ArgMatches<'a>) -> Option<Command<'a>>
+    requires { Lacks (rows_of (found_of options.now)) (codes "db") }
+    ensures { Finds result (AsksUnordered (rows_of (found_of options.now)) word.now) }
+{
+    match (
+        word == "key-add",
+        text(options, "control"),
+        text(options, "shelf"),
+        is_flagged(options, "new"),
+        text(options, "key"),
+    ) {
+        (true, Some(control), Some(shelf), true, None) => {
+            let right = right_of(is_flagged(options, "read-only"));
+            Some(Command::OrderNew {
+                control,
+                shelf,
+                right,
+            })
+        }
+        _ => None,
     }
 }
 

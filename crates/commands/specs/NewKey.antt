@@ -10,6 +10,7 @@ use Rattle.world.specs.declared.registry.StoreFault.{StoreFault}
 use Rattle.world.specs.declared.registry.StoreFault.TheVariants as fault
 use Rattle.control.specs.declared.order.Order.TheVariants.{KeyAdd}
 use Rattle.commands.specs.Ending.{Registers}
+use Rattle.commands.specs.Order.{OrdersThere}
 use Rattle.commands.specs.Printed.{PrintsFront}
 use Rattle.commands.specs.declared.refusal.CommandRefusal.{CommandRefusal}
 use Rattle.commands.specs.declared.refusal.CommandRefusal.TheVariants.{NoTeam, Device, Memory, Io}
@@ -71,3 +72,32 @@ abbrev pub AddsNew : {S : Type 0} → (S → Shown) → S → S → Bor (List �
 AddsNew shown old new shelf right written written_new result =
     ((bytes : List ℕ) × AddsMade (shown old) (shown new) shelf right bytes written written_new result)
     ⊎ ((result ≡ Err Io) × (new ≡ old) × (written_new ≡ written))
+
+-- the key that the bytes make was printed, and then an order was sent that adds it
+pub record OrdersIt (shelf : Bor (List ℕ)) (right : Right) (bytes : List ℕ) (written written_new : Option (List ℕ))
+    (result : Result (Unit {0}) CommandRefusal) : Type 0 where
+  pub key : Bor (List ℕ)
+  pub is : key_of bytes ≡ Some key.now
+  pub prints : Appends written written_new (line_of key.now)
+  pub orders : OrdersThere (KeyAdd shelf key right) result
+
+-- no order was sent: no key was made, and nothing was printed; or the output failed, and a beginning of the key's line
+-- was printed
+pub record OrdersNone (bytes : List ℕ) (written written_new : Option (List ℕ)) (refusal : CommandRefusal) : Type 0 where
+  pub made : Result (List ℕ) CommandRefusal
+  pub makes : MakesKey bytes made
+  pub prints : PrintsNone written written_new made refusal
+
+-- the key that the bytes make was printed and ordered, or none was ordered
+abbrev pub OrdersMade : Bor (List ℕ) → Right → List ℕ → Option (List ℕ) → Option (List ℕ)
+    → Result (Unit {0}) CommandRefusal → Type 0
+OrdersMade shelf right bytes written written_new result =
+    OrdersIt shelf right bytes written written_new result
+    ⊎ ((refusal : CommandRefusal) × (result ≡ Err refusal) × OrdersNone bytes written written_new refusal)
+
+-- so it is with bytes that the system gave; or it gave none, and nothing was printed
+abbrev pub OrdersNew : Bor (List ℕ) → Right → Option (List ℕ) → Option (List ℕ) → Result (Unit {0}) CommandRefusal
+    → Type 0
+OrdersNew shelf right written written_new result =
+    ((bytes : List ℕ) × OrdersMade shelf right bytes written written_new result)
+    ⊎ ((result ≡ Err Io) × (written_new ≡ written))

@@ -1,6 +1,7 @@
 //! A key that is made, printed and added.
 ghost use Rattle.commands.specs.NewKey as spec;
 
+use crate::order::order_at;
 use crate::printing::print_both;
 use crate::refusal::CommandRefusal;
 use crate::registry::register;
@@ -34,6 +35,50 @@ pub fn add_new<S: Keyring, O: Tell>(
     let mut bytes = [0; RANDOM_BYTES];
     match rt.fill_bytes(&mut bytes) {
         Ok(()) => add_made(rt.alloc(), shelves, shelf, right, &bytes, output),
+        Err(_) => Err(CommandRefusal::Io),
+    }
+}
+
+/// Makes a key of the system's randomness, prints it on a line, and orders the `serve` that listens at a socket to add
+/// it to a shelf. Fails as `order_at` does, and then the key that was printed is not added, or with `Io` perhaps. If it
+/// is not printed, because the system gives no random bytes, memory runs out or the output fails, nothing is ordered.
+pub fn order_new_at<O: Tell>(
+    rt: &HostRuntime,
+    path: &str,
+    shelf: &str,
+    right: Right,
+    output: &mut O,
+) -> Result<(), CommandRefusal>
+    ensures { spec.OrdersNew shelf.entry right (O.contents output.old) (O.contents output.new) result }
+{
+    let mut bytes = [0; RANDOM_BYTES];
+    match rt.fill_bytes(&mut bytes) {
+        Ok(()) => order_made(rt, path, shelf, right, &bytes, output),
+        Err(_) => Err(CommandRefusal::Io),
+    }
+}
+
+/// Prints the key that these bytes make, and orders the server at a socket to add it. Fails as `order_new_at` does, and
+/// with `Io` if the bytes make no key.
+fn order_made<O: Tell>(
+    rt: &HostRuntime,
+    path: &str,
+    shelf: &str,
+    right: Right,
+    bytes: &[u8],
+    output: &mut O,
+) -> Result<(), CommandRefusal>
+    ensures { spec.OrdersMade shelf.entry right bytes.now (O.contents output.old) (O.contents output.new) result }
+{
+    let key = match made_key(rt.alloc(), bytes) {
+        Ok(key) => key,
+        Err(refusal) => return Err(refusal),
+    };
+    match print_both(key.as_str().as_bytes(), b"\n", output) {
+        Ok(()) => {
+            let key = key.as_str();
+            order_at(rt, path, &Order::KeyAdd { shelf, key, right })
+        }
         Err(_) => Err(CommandRefusal::Io),
     }
 }

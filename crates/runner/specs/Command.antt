@@ -1,12 +1,15 @@
 -- What running a command does.
 use Rattle.std.specs.Prelude.{ℕ, map as each, List, ◌≡◌, Bool, Option, Result}
+use Rattle.std.specs.Borrow.{Bor}
 use Rattle.files.specs.History.{Span, IsIdle}
 use Rattle.sqlite.specs.State.{State}
 use Rattle.histories.specs.Account.{Account}
 use Rattle.world.specs.Store.{Shown}
+use Rattle.world.specs.declared.entry.Right.{Right}
 use Rattle.commands.specs.Opening.{AnsweredFor}
 use Rattle.commands.specs.Order.{CopiesThere, OrdersThere, StopsThere}
 use Rattle.commands.specs.Listing.{ListsThere}
+use Rattle.commands.specs.NewKey.{OrdersNew}
 use Rattle.commands.specs.Ping.{PingsThere}
 use Rattle.commands.specs.Action.{acceptance}
 use Rattle.commands.specs.declared.refusal.CommandRefusal.{CommandRefusal}
@@ -29,6 +32,13 @@ module _ (came came_new : Account) (written written_new : Option (List ℕ)) (re
     pub ended : Result (Unit {0}) CommandRefusal
     pub does : done ended
     pub tells : TellsAlone came came_new written written_new result (acceptance ended)
+
+  -- a key was made and printed, a running `serve` was ordered to add it, no store was opened, and nothing was read
+  pub record OrdersNewAlone (shelf : Bor (List ℕ)) (right : Right) : Type 0 where
+    pub ended : Result (Unit {0}) CommandRefusal
+    pub orders : OrdersNew shelf right written written_new ended
+    pub tells : result ≡ acceptance ended
+    pub input : came_new ≡ came
 
   -- a running `serve` was asked for its health, which was printed, no store was opened, and nothing was read
   pub record PingsAlone : Type 0 where
@@ -56,7 +66,7 @@ module _ {S C : Type 0} (acts : Deeds S) (state_of : C → State) (shown : S →
   IsOnNone = IsIdle files × IsIdle targets × IsIdle older
 
   -- What each kind of command does, and to which files of stores: those of the command, the new one, and the older one.
-  -- The last five open no store: they send a line to a running `serve`, or can't.
+  -- The last six open no store: they send a line to a running `serve`, or can't.
   abbrev pub Runs : Command → Type 0
   Runs (command.Init db) = Inits acts files db.now came came_new written written_new result × IsOnFiles
   Runs (command.AnswerInMemory team key) =
@@ -67,6 +77,8 @@ module _ {S C : Type 0} (acts : Deeds S) (state_of : C → State) (shown : S →
       Alone (ExtractsFile shown shown files targets db.now (each (λ team. team.now) teams.now) to.now) × IsIdle older
   Runs (command.Migrate from to) = Alone (MigratesFile state_of shown older targets from.now to.now) × IsIdle files
   Runs (command.Order control order) = Alone (OrdersThere order) × IsOnNone
+  Runs (command.OrderNew control shelf right) =
+      OrdersNewAlone came came_new written written_new result shelf right × IsOnNone
   Runs (command.Copy control to) = Alone (CopiesThere to.now) × IsOnNone
   Runs (command.Ping control) = PingsAlone came came_new written written_new result × IsOnNone
   Runs (command.List control listing) = ListsAlone came came_new written written_new result listing × IsOnNone

@@ -14,6 +14,7 @@ use crate::older_files::OlderFiles;
 use commands::action::{Action, act_on};
 use commands::files::{holds_bytes, is_empty_file, is_missing_or_empty, is_same_file};
 use commands::listing::list_at;
+use commands::new_key::order_new_at;
 use commands::order::{copy_at, order_at, stop_at};
 use commands::ping::ping_at;
 use commands::refusal::CommandRefusal;
@@ -27,6 +28,7 @@ use std::alloc::Global;
 use std::rt::HostRuntime;
 use store::open::FileShelves;
 use store::refusal::Refusal;
+use world::entry::Right;
 use world::shelves::Shelves;
 
 /// The system, as a command sees it whose stores are `S`. A closed store leaves a `C`, and an older store is opened as
@@ -36,6 +38,7 @@ pub trait Host<S, C>: ActionHost<S> + Looks {
     ghost use Rattle.sqlite.specs.State.{State};
     ghost use Rattle.commands.specs.Order.{CopiesThere, OrdersThere, StopsThere};
     ghost use Rattle.commands.specs.Listing.{ListsThere};
+    ghost use Rattle.commands.specs.NewKey.{OrdersNew};
     ghost use Rattle.commands.specs.Ping.{PingsThere};
     ghost use Rattle.runner.specs.Extract.{ExtractsFile};
     ghost use Rattle.runner.specs.Migrate.{MigratesFile};
@@ -82,6 +85,16 @@ pub trait Host<S, C>: ActionHost<S> + Looks {
     /// Sends an order to a running `serve`. Fails as [`order_at`] does.
     fn order(&mut self, control: &str, order: &Order) -> Result<(), CommandRefusal>
         ensures { OrdersThere order.now result };
+
+    /// Makes a key, prints it, and sends an order to add it to a running `serve`. Fails as [`order_new_at`] does.
+    fn order_new<O: Tell>(
+        &mut self,
+        control: &str,
+        shelf: &str,
+        right: Right,
+        output: &mut O,
+    ) -> Result<(), CommandRefusal>
+        ensures { OrdersNew shelf.entry right (O.contents output.old) (O.contents output.new) result };
 
     /// Has a running `serve` copy its store into a file. Fails as [`copy_at`] does.
     fn copy(&mut self, control: &str, to: &str) -> Result<(), CommandRefusal>
@@ -200,6 +213,16 @@ impl<'a> Host<OpenedStore, ClosedFile> for SystemHost<'a> {
 
     fn order(&mut self, control: &str, order: &Order) -> Result<(), CommandRefusal> {
         order_at(self.rt, control, order)
+    }
+
+    fn order_new<O: Tell>(
+        &mut self,
+        control: &str,
+        shelf: &str,
+        right: Right,
+        output: &mut O,
+    ) -> Result<(), CommandRefusal> {
+        order_new_at(self.rt, control, shelf, right, output)
     }
 
     fn copy(&mut self, control: &str, to: &str) -> Result<(), CommandRefusal> {

@@ -8,6 +8,7 @@
 //! | [`Command::Extract`] | opens the stores of two files and puts some teams' part of the first into the second |
 //! | [`Command::Migrate`] | opens a file of an older schema and the store of another file, and puts what the first has into the second |
 //! | [`Command::Order`] | opens no store, and sends an order to the `serve` that has one open |
+//! | [`Command::OrderNew`] | opens no store, makes a key, prints it, and sends an order to add it |
 //! | [`Command::Copy`] | opens no store, and has the `serve` that has one open copy it into another file |
 //! | [`Command::Ping`] | opens no store, asks the `serve` that has one open for its health, and prints it |
 //! | [`Command::List`] | opens no store, asks the `serve` that has one open for a list, and prints it |
@@ -45,6 +46,7 @@ use file_action::{init, on_file};
 use files::files::StoreFiles;
 use histories::{Hear, Tell};
 use store::refusal::Refusal as Unopened;
+use world::entry::Right;
 
 /// What the words after the name of the program ask for, with the files of its stores.
 #[derive(Clone, Copy, Drop)]
@@ -78,6 +80,13 @@ pub enum Command<'a> {
     Order {
         control: &'a str,
         order: Order<'a>,
+    },
+    /// `key-add --control S --new`: makes a key, prints it, and orders the `serve` that listens at the socket S to add
+    /// it.
+    OrderNew {
+        control: &'a str,
+        shelf: &'a str,
+        right: Right,
     },
     /// `copy --control S --to G`: orders the `serve` that listens at the socket S to make the store of G, as that
     /// server sees the file, a copy of its own.
@@ -143,6 +152,11 @@ where
         }
         Command::Migrate { from, to } => acceptance(host.migrate(older, targets, from, to)),
         Command::Order { control, order } => acceptance(host.order(control, order)),
+        Command::OrderNew {
+            control,
+            shelf,
+            right,
+        } => acceptance(host.order_new(control, shelf, *right, output)),
         Command::Copy { control, to } => acceptance(host.copy(control, to)),
         Command::Ping { control } => host.ping(control, output),
         Command::List { control, listing } => host.list(control, *listing, output),

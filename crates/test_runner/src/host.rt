@@ -113,6 +113,16 @@ impl<'a> Host<MapShelves, MapShelves> for MemoryHost<'a> {
         Err(CommandRefusal::Device)
     }
 
+    fn order_new<O: Tell>(
+        &mut self,
+        _control: &str,
+        _shelf: &str,
+        _right: Right,
+        _output: &mut O,
+    ) -> Result<(), CommandRefusal> {
+        Err(CommandRefusal::Device)
+    }
+
     fn list<O: Tell>(
         &mut self,
         _control: &str,

@@ -172,7 +172,8 @@ const GROUP_ADD_FORMS: &str =
 const KEY_ADD_FORMS: &str = "\
 goshelf key-add --db <F> --shelf <S> --key <K> [--read-only]
        goshelf key-add --db <F> --shelf <S> --new [--read-only]
-       goshelf key-add --control <S> --shelf <S> --key <K> [--read-only]";
+       goshelf key-add --control <S> --shelf <S> --key <K> [--read-only]
+       goshelf key-add --control <S> --shelf <S> --new [--read-only]";
 
 const KEY_REVOKE_FORMS: &str = "\
 goshelf key-revoke --db <F> --key <K>

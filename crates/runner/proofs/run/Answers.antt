@@ -31,6 +31,17 @@ pub returns-in-Ping : goal.returns-in-Ping
 returns-in-Ping g c = ran _ _ _ _ _ _ _ _ _ _ _ _ _ c.in-Ping.is
     (record { pings = c.ping.ensures; input = refl }, (refl, refl, refl))
 
+pub returns-in-OrderNew : goal.returns-in-OrderNew
+returns-in-OrderNew g c = ran _ _ _ _ _ _ _ _ _ _ _ _ _ c.in-OrderNew.is (
+  record {
+    ended = c.order_new.result;
+    orders = c.order_new.ensures;
+    tells = c.acceptance-in-OrderNew.ensures;
+    input = refl;
+  },
+  (refl, refl, refl),
+)
+
 pub returns-in-List : goal.returns-in-List
 returns-in-List g c = ran _ _ _ _ _ _ _ _ _ _ _ _ _ c.in-List.is
     (record { lists = c.list.ensures; input = refl }, (refl, refl, refl))

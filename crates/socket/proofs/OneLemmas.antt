@@ -1,10 +1,12 @@
 -- What a store goes through on one more connection.
 use Rattle.std.proofs.Common.{ℕ, ◌+◌, ◌≤◌, ◌≡◌, refl, sym, ap, ◌∙◌, subst, List, [], ◌∷◌, ◌++◌, length, map, All}
-use Rattle.std.proofs.Common.{Option, Some, None, Result, Ok, Err, inr, arith, append_assoc, append-nil}
+use Rattle.std.proofs.Common.{Option, Some, None, Result, Ok, Err, IfErr, inl, inr, arith, append_assoc, append-nil}
 use Rattle.std.proofs.lemmas.List.{length-append, map-append}
 use Rattle.std.proofs.lemmas.List.Elements.{All-nil, All-push}
 use Rattle.histories.specs.Account.{Account}
+use Rattle.histories.specs.Calls.{Reads, Writes}
 use Rattle.world.specs.Store.{Shown}
+use Rattle.engine.specs.Causes.{IsCaused}
 use Rattle.engine.specs.First.{First, Answers as Message, Closes, ServesHeard}
 use Rattle.engine.specs.Store.{GoesThrough}
 use Rattle.engine.specs.declared.fault.Io.{Io}
@@ -55,27 +57,34 @@ same_come : {P : Type 0} (waiting left rest : Option (List P)) (first : List P) 
 same_come waiting left rest first one two =
     subst (Come waiting rest) (append-nil first) (then_come waiting left rest first [] one two)
 
-module _ {P : Type 0} (heard : P → Account) (written : P → Option (List ℕ)) where
-  -- a peer whose first message was served as `ServesHeard` says was answered
+module _ {P : Type 0} (heard : P → Account × Reads) (written : P → Option (List ℕ) × Writes) where
+  -- a peer whose first message was served as `ServesHeard` says was answered, where a failure has its cause
   pub answered : (old new : Shown) (peer after : P) (status : Result (Option ℕ) Io)
-      → ServesHeard old new (heard peer) (heard after) (written peer) (written after) status
+      → ServesHeard old new (heard peer).0 (heard after).0 (written peer).0 (written after).0 status
+      → IfErr status (IsCaused (heard peer).1 (heard after).1 (written peer).1 (written after).1)
       → Answers heard written peer old new
-  answered old new peer after (Ok status) (first, takes, through, is, ended) = record {
+  answered old new peer after (Ok status) (first, takes, through, is, ended) cause = record {
     visit = record { before = peer; after = after; first = Some first };
     begins = refl;
     there = (takes, inr ended);
     through = through;
   }
-  answered old new peer after (Err io.Read) (got, consumed, unfinished, through, same) = record {
+  answered old new peer after (Err io.Read) (got, consumed, unfinished, through, same) cause = record {
     visit = record { before = peer; after = after; first = None };
     begins = refl;
-    there = same;
+    there = (same, cause);
     through = through;
   }
-  answered old new peer after (Err io.Write) (first, takes, through, ended) = record {
+  answered old new peer after (Err io.Write) (first, takes, through, inl begun) cause = record {
     visit = record { before = peer; after = after; first = Some first };
     begins = refl;
-    there = (takes, ended);
+    there = (takes, inl (begun, cause));
+    through = through;
+  }
+  answered old new peer after (Err io.Write) (first, takes, through, inr ended) cause = record {
+    visit = record { before = peer; after = after; first = Some first };
+    begins = refl;
+    there = (takes, inr ended);
     through = through;
   }
 

@@ -1,8 +1,10 @@
 -- What a store goes through while connections are served.
-use Rattle.std.specs.Prelude.{ℕ, ◌≡◌, ◌≤◌, ◌⊎◌, List, [], ◌∷◌, ◌++◌, length, map, All, Option, Some, None, Result, Ok, Err}
+use Rattle.std.specs.Prelude.{ℕ, ◌≡◌, ◌<◌, ◌≤◌, ◌⊎◌, List, [], ◌∷◌, ◌++◌, length, map, All, Option, Some, None, Result, Ok, Err}
 use Rattle.std.specs.Io.KnownBytes.{Appends, Keeps}
 use Rattle.histories.specs.Account.{Account}
+use Rattle.histories.specs.Calls.{Reads, Writes}
 use Rattle.world.specs.Store.{Shown}
+use Rattle.engine.specs.Causes.{IsUnreadable, most_reads}
 use Rattle.engine.specs.Exchange.{Exchange}
 use Rattle.engine.specs.First.{First, HearsFirst, first_bytes, first_exchanges}
 use Rattle.engine.specs.Store.{GoesThrough}
@@ -45,15 +47,21 @@ abbrev pub exchanges_with : {P : Type 0} → List (Visit P) → List Exchange
 exchanges_with [] = []
 exchanges_with (visit ∷ visits) = exchanges_of visit.first ++ exchanges_with visits
 
-module _ {P : Type 0} (heard : P → Account) (written : P → Option (List ℕ)) where
-  -- What came first came from this peer, and its reply went to this peer: all of it, or a beginning if a write failed.
-  -- If nothing came whole, nothing was written.
+-- both accounts of a caller: the bytes that passed one way, and the calls that moved them
+abbrev pub both : {P Bytes Calls : Type 0} → (P → Bytes) → (P → Calls) → P → Bytes × Calls
+both bytes calls caller = (bytes caller, calls caller)
+
+module _ {P : Type 0} (heard : P → Account × Reads) (written : P → Option (List ℕ) × Writes) where
+  -- What came first came from this peer, and its reply went to this peer: all of it, or a beginning, and a write
+  -- failed. If nothing came whole, nothing was written, and a read failed or none was left.
   abbrev pub IsBetween : P → P → Option First → Type 0
-  IsBetween before after None = Keeps (written before) (written after)
+  IsBetween before after None =
+      Keeps (written before).0 (written after).0 × IsUnreadable most_reads (heard before).1 (heard after).1
   IsBetween before after (Some first) =
-      HearsFirst (heard before) (heard after) first
-      × (WritesBeginning (written before) (written after) (first_bytes first)
-      ⊎ Appends (written before) (written after) (first_bytes first))
+      HearsFirst (heard before).0 (heard after).0 first
+      × ((WritesBeginning (written before).0 (written after).0 (first_bytes first)
+      × ((written before).1.failed < (written after).1.failed))
+      ⊎ Appends (written before).0 (written after).0 (first_bytes first))
 
   -- the visit is one between its peer before and after it
   abbrev pub IsAnsweredThere : Visit P → Type 0

@@ -1,6 +1,6 @@
 //! One connection.
 ghost use Rattle.std.specs.Prelude.{◌≡◌, [], None, IfOk, IfErr};
-ghost use Rattle.engine.specs.Causes.{AsksWhileUnfinished};
+ghost use Rattle.engine.specs.Causes.{AsksWhileUnfinished, IsCaused};
 ghost use Rattle.engine.specs.First.{ServesFirst, ServesHeard};
 ghost use Rattle.engine.specs.Isolated.{AnswersByItsShelf, AnswersHeardByItsShelf};
 ghost use Rattle.histories.specs.Timing.{KeepsTime};
@@ -8,7 +8,7 @@ ghost use Rattle.socket.specs.Pace.{time_for_message};
 
 use crate::pace::ForMessage;
 use crate::rest::drop_rest;
-use engine::{Io, Session, end_turn};
+use engine::{Io, answer_one};
 use histories::{
     BoundRead, BoundWrite, Connection, HasCalls, Hear, Hearing, HearingInTime, Start, Tell,
     Telling, TellingInTime, over_tcp,
@@ -63,6 +63,10 @@ pub fn answer_in_time<C: Clock, R: BoundRead + Drop, W: BoundWrite + Drop, S: Sh
     ensures asks { AsksWhileUnfinished []
         (⟦<Hearing<R> as Hear>⟧.account reader) (⟦<Hearing<R> as Hear>⟧.account result.reader)
         (⟦<Hearing<R> as Hear>⟧.reads reader) (⟦<Hearing<R> as Hear>⟧.reads result.reader) }
+    // It fails only if a call of the reader or of the writer failed or was refused, or if no read is left.
+    ensures cause { IfErr result.status (IsCaused
+        (⟦<Hearing<R> as Hear>⟧.reads reader) (⟦<Hearing<R> as Hear>⟧.reads result.reader)
+        (⟦<Telling<W> as Tell>⟧.writes writer) (⟦<Telling<W> as Tell>⟧.writes result.writer)) }
     // What was written is flushed.
     ensures flushed { IfOk result.status (λ _. (⟦<Telling<W> as Tell>⟧.writes result.writer).unflushed ≡ []) }
     // No read, and no write, began after its time or waited longer than what was left of it.
@@ -108,15 +112,16 @@ fn answer_since<
     ensures asks { AsksWhileUnfinished []
         (⟦<Hearing<R> as Hear>⟧.account reader) (⟦<Hearing<R> as Hear>⟧.account result.reader)
         (⟦<Hearing<R> as Hear>⟧.reads reader) (⟦<Hearing<R> as Hear>⟧.reads result.reader) }
+    ensures cause { IfErr result.status (IsCaused
+        (⟦<Hearing<R> as Hear>⟧.reads reader) (⟦<Hearing<R> as Hear>⟧.reads result.reader)
+        (⟦<Telling<W> as Tell>⟧.writes writer) (⟦<Telling<W> as Tell>⟧.writes result.writer)) }
     ensures flushed { IfOk result.status (λ _. (⟦<Telling<W> as Tell>⟧.writes result.writer).unflushed ≡ []) }
     ensures reads_in_time { KeepsTime time_for_message K.calls (⟦<Hearing<R> as HasCalls>⟧.calls result.reader) }
     ensures writes_in_time { KeepsTime time_for_message J.calls (⟦<Telling<W> as HasCalls>⟧.calls result.writer) }
 {
     let mut request: HearingInTime<'_, C, ForMessage, K, R> = HearingInTime::new(reader, clock);
     let mut reply: TellingInTime<'_, C, ForMessage, J, W> = TellingInTime::new(writer, clock);
-    let mut session = Session::new(alloc);
-    let turned = session.turn(routes, &mut request, &mut reply, shelves);
-    let status = end_turn(&mut reply, turned);
+    let status = answer_one(alloc, routes, &mut request, &mut reply, shelves);
     Answered {
         reader: request.into_inner(),
         writer: reply.into_inner(),
@@ -133,12 +138,12 @@ pub struct After<P> {
 
 /// A connected peer.
 pub trait Peer {
-    ghost use Rattle.std.specs.Prelude.{ℕ, List, [], Option, ◌≡◌, IfOk};
+    ghost use Rattle.std.specs.Prelude.{ℕ, List, [], Option, ◌≡◌, IfOk, IfErr};
     ghost use Rattle.histories.specs.Account.{Account};
     ghost use Rattle.histories.specs.Calls.{Reads, Writes};
     ghost use Rattle.histories.specs.Timing.{KeepsTime};
     ghost use Rattle.histories.specs.declared.call.Call.{Call};
-    ghost use Rattle.engine.specs.Causes.{AsksWhileUnfinished};
+    ghost use Rattle.engine.specs.Causes.{AsksWhileUnfinished, IsCaused};
     ghost use Rattle.engine.specs.First.{ServesHeard};
     ghost use Rattle.socket.specs.Pace.{time_for_message, time_for_rest};
 
@@ -174,6 +179,9 @@ pub trait Peer {
             (came self) (came result.peer) (written self) (written result.peer) result.status }
         // No read began once the bytes that came say what is to be answered.
         ensures asks { AsksWhileUnfinished [] (came self) (came result.peer) (reads self) (reads result.peer) }
+        // It fails only if a call to read or to write failed or was refused, or if no read is left.
+        ensures cause { IfErr result.status (IsCaused
+            (reads self) (reads result.peer) (writes self) (writes result.peer)) }
         // What was written is flushed.
         ensures flushed { IfOk result.status (λ _. (writes result.peer).unflushed ≡ []) }
         // No read, and no write, began after its time or waited longer than what was left of it.

@@ -1,5 +1,5 @@
 //! Serving one connection after another.
-ghost use Rattle.socket.specs.Connections.{Answers, AnswersEach, GoesThroughMost};
+ghost use Rattle.socket.specs.Connections.{Answers, AnswersEach, GoesThroughMost, both};
 
 use crate::connection::{Listener, Peer};
 use std::alloc::Global;
@@ -22,9 +22,10 @@ pub fn serve_on<C: Clock, P: Peer + Drop, L: Listener<P>, S: Shelves>(
     connections: u32,
 )
     ensures most { GoesThroughMost (S.shown shelves.old) (S.shown shelves.new) connections }
-    // Each message is answered on the connection that it came over, and at most one on each.
-    ensures each { AnswersEach P.came P.written L.is_new (L.waiting listener.old) (L.waiting listener.new)
-        (S.shown shelves.old) (S.shown shelves.new) connections }
+    // Each message is answered on the connection that it came over, and at most one on each. If none is, or its reply
+    // is not written whole, a call of that connection failed.
+    ensures each { AnswersEach (both P.came P.reads) (both P.written P.writes) L.is_new
+        (L.waiting listener.old) (L.waiting listener.new) (S.shown shelves.old) (S.shown shelves.new) connections }
 {
     let mut routes = RouteTable::new(alloc);
     for _ in 0..connections {
@@ -43,7 +44,7 @@ fn answer_on<C: Clock, P: Peer + Drop, S: Shelves>(
     peer: P,
     shelves: &mut S,
 )
-    ensures { Answers P.came P.written peer (S.shown shelves.old) (S.shown shelves.new) }
+    ensures { Answers (both P.came P.reads) (both P.written P.writes) peer (S.shown shelves.old) (S.shown shelves.new) }
 {
     let after = peer.answer(alloc, clock, routes, shelves);
     if let Ok(Some(status)) = after.status {

@@ -5,7 +5,7 @@
 //! | `paths` | a path a line | checks each | how many are module paths |
 //! | `versions` | a version a line | sorts them by rank | comparisons |
 //! | `gomod` | a go.mod | reads it | its requirements, none where it does not read |
-//! | `latest` | a go.mod, a line `===`, a version a line | reads it, chooses among the versions | the index of the latest |
+//! | `latest` | a go.mod, a line `===`, a version a line | reads it, chooses among the versions | the latest's index |
 //!
 //! With 0 rounds it only prepares its input, and prints 0. It fails with `InvalidInput` if a word is missing,
 //! WHAT is unknown, ROUNDS is not a number, or the input of `latest` has no line `===`.

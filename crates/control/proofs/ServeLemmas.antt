@@ -1,16 +1,18 @@
 -- What a store goes through on one connection, and on those before it.
 use Rattle.std.specs.Prelude.{◌^◌, ◌⊎◌, ◌↔◌, IsTrue}
 use Rattle.std.proofs.Common.{Bool, true, false, length, ℕ, ◌+◌, ◌-◌, ◌<◌, ◌≤◌, ◌≡◌, refl, sym, ap, ◌∙◌, subst, List}
-use Rattle.std.proofs.Common.{[], ◌∷◌, ◌++◌, map, All, Option, Some, None, Result, Ok, Err, inl, inr, arith}
+use Rattle.std.proofs.Common.{[], ◌∷◌, ◌++◌, map, All, Option, Some, None, Result, Ok, Err, IfErr, inl, inr, arith}
 use Rattle.std.proofs.Common.{append_assoc, append-nil}
 use Rattle.std.proofs.lemmas.Bool.{false≢true}
 use Rattle.std.proofs.lemmas.List.{length-append}
 use Rattle.std.proofs.lemmas.List.Elements.{All-append, All-cons, All-nil, All-push}
 use Rattle.std.specs.Io.KnownBytes.{Appends}
 use Rattle.histories.specs.Account.{Account}
+use Rattle.histories.specs.Calls.{Reads, Writes}
 use Rattle.world.specs.Store.{Shown}
 use Rattle.world.specs.World.{World}
 use Rattle.world.specs.declared.registry.StoreFault.{StoreFault}
+use Rattle.engine.specs.Causes.{IsCaused, IsCausedIn}
 use Rattle.engine.specs.First.{First, Answers as Message, Closes, ServesHeard}
 use Rattle.engine.specs.Store.{GoesThrough}
 use Rattle.engine.specs.declared.fault.Io.{Io}
@@ -19,6 +21,7 @@ use Rattle.socket.specs.Connections.{Come, exchanges_of}
 use Rattle.control.specs.Copying.{Turned, turns_in, has_read, AllRead, GoesOnRead, GoesThroughSteps}
 use Rattle.control.specs.Health.{Answered, AreBelow, tally_of, with_one}
 use Rattle.control.specs.Hearing.{Heard, Carried, Copied, Listed, Pinged, Stop, NoOrder, NoMemory, Obeys, WritesSome}
+use Rattle.control.specs.Line.{most_tries}
 use Rattle.control.specs.Told.{bytes_told}
 use Rattle.control.specs.Turns.{Asked, messages, GoesOn}
 use Rattle.control.specs.Visits.{Call, OfPeer, OfOperator, Untaken, answered_with, callers_of, connections_of, steps_if}
@@ -61,43 +64,45 @@ no_message (Some Stop) = refl
 no_message (Some NoOrder) = refl
 no_message (Some NoMemory) = refl
 
-module _ {O : Type 0} (heeded : O → Account) (told : O → Option (List ℕ))
+module _ {O : Type 0} (heeded : O → Account × Reads) (told : O → Option (List ℕ) × Writes)
     (copied : List ℕ → Result (Unit {0}) CopyRefusal → Type 0)
     (pinged : Result Health StoreFault → Type 0) (old new : Shown) where
-  -- an operator was obeyed
+  -- an operator was obeyed, where a failure has its cause
   pub obeyed_one : (operator after : O) (stops : Bool) (result : Result Told Io)
-      → Obeys copied pinged old new (heeded operator) (heeded after) (told operator) (told after) result
+      → Obeys copied pinged old new (heeded operator).0 (heeded after).0 (told operator).0 (told after).0 result
+      → IfErr result (IsCausedIn most_tries (heeded operator).1 (heeded after).1 (told operator).1 (told after).1)
       → (IsTrue stops ↔ (result ≡ Ok (spoken.Outcome Stopping)))
       → ObeysOne heeded told copied pinged operator stops old new
-  obeyed_one operator after stops (Ok outcome) obeys stopped = record {
+  obeyed_one operator after stops (Ok outcome) obeys cause stopped = record {
     audience = record { before = operator; after = after; heard = Some obeys.0.heard; told = Ok outcome };
     begins = refl;
     there = (
       obeys.0.tells,
       obeys.0.from,
-      subst (λ (o : Told). Appends (told operator) (told after) (bytes_told o)) obeys.0.tells obeys.1,
+      subst (λ (o : Told). Appends (told operator).0 (told after).0 (bytes_told o)) obeys.0.tells obeys.1,
     );
     stopped = stopped;
     through = obeys.0.through;
     came = obeys.0.came;
     lists = obeys.0.lists;
   }
-  obeyed_one operator after stops (Err io.Read) obeys stopped = record {
+  obeyed_one operator after stops (Err io.Read) obeys cause stopped = record {
     audience = record { before = operator; after = after; heard = None; told = Err io.Read };
     begins = refl;
-    there = (refl, obeys.1);
+    there = (refl, obeys.1, cause);
     stopped = stopped;
     through = obeys.0;
     came = tt;
     lists = tt;
   }
-  obeyed_one operator after stops (Err io.Write) obeys stopped = record {
+  obeyed_one operator after stops (Err io.Write) obeys cause stopped = record {
     audience = record { before = operator; after = after; heard = Some obeys.1.heard; told = Err io.Write };
     begins = refl;
     there = (
       refl,
       obeys.1.from,
-      subst (λ (o : Told). WritesSome (told operator) (told after) (bytes_told o)) obeys.1.tells obeys.2,
+      subst (λ (o : Told). WritesSome (told operator).0 (told after).0 (bytes_told o)) obeys.1.tells obeys.2,
+      cause,
     );
     stopped = stopped;
     through = obeys.1.through;
@@ -105,12 +110,13 @@ module _ {O : Type 0} (heeded : O → Account) (told : O → Option (List ℕ))
     lists = obeys.1.lists;
   }
 
--- a peer was answered
-pub answered_one : {P : Type 0} (heard : P → Account) (written : P → Option (List ℕ)) (old new : Shown) (peer after : P)
-    (told : Answered)
-    → ServesHeard old new (heard peer) (heard after) (written peer) (written after) told
+-- a peer was answered, where a failure has its cause
+pub answered_one : {P : Type 0} (heard : P → Account × Reads) (written : P → Option (List ℕ) × Writes) (old new : Shown)
+    (peer after : P) (told : Answered)
+    → ServesHeard old new (heard peer).0 (heard after).0 (written peer).0 (written after).0 told
+    → IfErr told (IsCaused (heard peer).1 (heard after).1 (written peer).1 (written after).1)
     → AnswersOne heard written peer old new told
-answered_one heard written old new peer after (Ok status) (first, takes, through, is, ended) = record {
+answered_one heard written old new peer after (Ok status) (first, takes, through, is, ended) cause = record {
   answers = record {
     visit = record { before = peer; after = after; first = Some first };
     begins = refl;
@@ -119,20 +125,29 @@ answered_one heard written old new peer after (Ok status) (first, takes, through
   };
   counts = is;
 }
-answered_one heard written old new peer after (Err io.Read) (got, consumed, unfinished, through, same) = record {
+answered_one heard written old new peer after (Err io.Read) (got, consumed, unfinished, through, same) cause = record {
   answers = record {
     visit = record { before = peer; after = after; first = None };
     begins = refl;
-    there = same;
+    there = (same, cause);
     through = through;
   };
   counts = refl;
 }
-answered_one heard written old new peer after (Err io.Write) (first, takes, through, ended) = record {
+answered_one heard written old new peer after (Err io.Write) (first, takes, through, inl begun) cause = record {
   answers = record {
     visit = record { before = peer; after = after; first = Some first };
     begins = refl;
-    there = (takes, ended);
+    there = (takes, inl (begun, cause));
+    through = through;
+  };
+  counts = refl;
+}
+answered_one heard written old new peer after (Err io.Write) (first, takes, through, inr ended) cause = record {
+  answers = record {
+    visit = record { before = peer; after = after; first = Some first };
+    begins = refl;
+    there = (takes, inr ended);
     through = through;
   };
   counts = refl;
@@ -196,7 +211,8 @@ module _ {P O : Type 0} where
   )
   one_each (Untaken ∷ calls) = one_each calls
 
-  module _ (heeded : O → Account) (told : O → Option (List ℕ)) (heard : P → Account) (written : P → Option (List ℕ))
+  module _ (heeded : O → Account × Reads) (told : O → Option (List ℕ) × Writes)
+      (heard : P → Account × Reads) (written : P → Option (List ℕ) × Writes)
       (is_new : Caller P O → Type 0) where
     one_new : (caller : Caller P O) → is_new caller → All is_new (caller ∷ [])
     one_new caller fresh = All-cons is_new caller [] fresh (All-nil is_new)

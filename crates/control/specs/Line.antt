@@ -2,6 +2,8 @@
 use Rattle.std.specs.Prelude.{ℕ, ◌≡◌, ◌≢◌, ◌<◌, ◌≤◌, ◌⊎◌, ◌++◌, ◌∷◌, Bool, IsTrue, List, [], length, codes, Contains}
 use Rattle.std.specs.Str.{IsUtf8}
 use Rattle.histories.specs.Account.{Account, Gives}
+use Rattle.histories.specs.Calls.{Reads}
+use Rattle.engine.specs.Causes.{IsUnreadable}
 use Rattle.control.specs.Order.{said_in, two}
 use Rattle.control.specs.Words.{Said, IsTextOf, line_end}
 use Rattle.control.specs.declared.order.Order.{Order}
@@ -85,6 +87,14 @@ pub record ReadsMore (came came_new : Account) (got got_new : List ℕ) : Type 0
   pub bytes : List ℕ
   pub gives : Gives came came_new bytes
   pub behind : got_new ≡ got ++ bytes
+
+-- the most reads of one line, failed ones included
+abbrev pub most_tries : ℕ
+most_tries = 1000
+
+-- A read failed, or this many began; the count of those that failed did not fall.
+abbrev pub HasTried : ℕ → Reads → Reads → Type 0
+HasTried tries reads reads_new = IsUnreadable tries reads reads_new × (reads.failed ≤ reads_new.failed)
 
 -- These bytes were read, and no more has to be for a line of so many bytes at most.
 pub record ReadsTo (most : ℕ) (came came_new : Account) (got : List ℕ) : Type 0 where

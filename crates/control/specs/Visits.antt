@@ -1,11 +1,13 @@
 -- Peers and operators, one after another.
-use Rattle.std.specs.Prelude.{ℕ, ◌≡◌, ◌≤◌, ◌+◌, ◌-◌, ◌^◌, ◌⊎◌, ◌↔◌, Bool, IsTrue}
+use Rattle.std.specs.Prelude.{ℕ, ◌≡◌, ◌<◌, ◌≤◌, ◌+◌, ◌-◌, ◌^◌, ◌⊎◌, ◌↔◌, Bool, IsTrue}
 use Rattle.std.specs.Prelude.{List, [], ◌∷◌, ◌++◌, length, map, All, Option, Some, None, Result, Ok, Err}
 use Rattle.std.specs.Io.KnownBytes.{Appends, Keeps}
 use Rattle.histories.specs.Account.{Account, IsUnused}
+use Rattle.histories.specs.Calls.{Reads, Writes}
 use Rattle.world.specs.Store.{Shown}
 use Rattle.world.specs.World.{World}
 use Rattle.world.specs.declared.registry.StoreFault.{StoreFault}
+use Rattle.engine.specs.Causes.{IsUnreadable}
 use Rattle.engine.specs.First.{First, first_status}
 use Rattle.engine.specs.declared.fault.Io.{Io}
 use Rattle.engine.specs.declared.fault.Io.TheVariants as io
@@ -14,6 +16,7 @@ use Rattle.socket.specs.Connections as socket
 use Rattle.control.specs.Copying.{Step, Turned, AllRead, GoesThroughSteps}
 use Rattle.control.specs.Health.{Answered, IsPinged, tally_of}
 use Rattle.control.specs.Hearing.{Heard, Pinged, CameOf, IsHeard, ListsBy, WritesSome, steps_heard, told_heard}
+use Rattle.control.specs.Line.{most_tries}
 use Rattle.control.specs.Told.{bytes_told}
 use Rattle.control.specs.Turns.{Asked}
 use Rattle.control.specs.declared.callers.Caller.{Caller}
@@ -141,22 +144,25 @@ AllTallied since before [] = Unit {0}
 AllTallied since before (call ∷ calls) = IsTallied since before call × AllTallied since (before ++ call ∷ []) calls
 
 -- A peer was answered, and its connection counts as what became of it.
-pub record AnswersOne {P : Type 0} (heard : P → Account) (written : P → Option (List ℕ)) (peer : P) (old new : Shown)
-    (answered : Answered) : Type 0 where
+pub record AnswersOne {P : Type 0} (heard : P → Account × Reads) (written : P → Option (List ℕ) × Writes) (peer : P)
+    (old new : Shown) (answered : Answered) : Type 0 where
   pub answers : socket.Answers heard written peer old new
   pub counts : CountsAs answers.visit.first answered
 
-module _ {O : Type 0} (heeded : O → Account) (told : O → Option (List ℕ)) where
+module _ {O : Type 0} (heeded : O → Account × Reads) (told : O → Option (List ℕ) × Writes) where
   -- What was read came from this operator, and what came of it went to this operator: the whole line, or where a write
-  -- or the flush failed a beginning of it or all. Where a read failed, nothing was written.
+  -- or the flush failed a beginning of it or all. Where a read failed, or none was left, nothing was written.
   abbrev pub IsToldThere : O → O → Option Heard → Result Told Io → Type 0
-  IsToldThere before after None result = (result ≡ Err io.Read) × Keeps (told before) (told after)
+  IsToldThere before after None result =
+      (result ≡ Err io.Read) × Keeps (told before).0 (told after).0
+      × IsUnreadable most_tries (heeded before).1 (heeded after).1
   IsToldThere before after (Some heard) (Ok said) =
-      (said ≡ told_heard heard) × IsHeard (heeded before) (heeded after) heard
-      × Appends (told before) (told after) (bytes_told (told_heard heard))
+      (said ≡ told_heard heard) × IsHeard (heeded before).0 (heeded after).0 heard
+      × Appends (told before).0 (told after).0 (bytes_told (told_heard heard))
   IsToldThere before after (Some heard) (Err e) =
-      (e ≡ io.Write) × IsHeard (heeded before) (heeded after) heard
-      × WritesSome (told before) (told after) (bytes_told (told_heard heard))
+      (e ≡ io.Write) × IsHeard (heeded before).0 (heeded after).0 heard
+      × WritesSome (told before).0 (told after).0 (bytes_told (told_heard heard))
+      × ((told before).1.failed < (told after).1.failed)
 
   -- This operator was obeyed, and the store went through its order. The flag says whether it was told that the server
   -- ends.
@@ -178,7 +184,7 @@ module _ {O : Type 0} (heeded : O → Account) (told : O → Option (List ℕ)) 
       ObeysOne (copied old new)
       (IsPinged tally (shown old).failures (shown new).failures (counted old new)) operator stops (shown old) (shown new)
 
-  module _ {P : Type 0} (heard : P → Account) (written : P → Option (List ℕ)) where
+  module _ {P : Type 0} (heard : P → Account × Reads) (written : P → Option (List ℕ) × Writes) where
     abbrev pub IsCallThere : Call P O → Type 0
     IsCallThere (OfPeer visit answered) = socket.IsAnsweredThere heard written visit × CountsAs visit.first answered
     IsCallThere (OfOperator audience) = IsToldThere audience.before audience.after audience.heard audience.told

@@ -1,7 +1,9 @@
 //! Callers: peers, who send requests, and operators, who send orders.
-ghost use Rattle.std.specs.Prelude.{◌≡◌, [], IfOk, IfSome};
+ghost use Rattle.std.specs.Prelude.{◌≡◌, [], IfOk, IfErr, IfSome};
+ghost use Rattle.engine.specs.Causes.{IsCausedIn};
 ghost use Rattle.histories.specs.Timing.{KeepsTime};
 ghost use Rattle.control.specs.Hearing.{ObeysBy};
+ghost use Rattle.control.specs.Line.{most_tries};
 ghost use Rattle.control.specs.Pace.{time_for_order};
 ghost use Rattle.control.specs.Visits.{IsUnheard};
 
@@ -46,12 +48,14 @@ pub struct Obeyed<O> {
 
 /// An operator who has connected.
 pub trait Operator {
-    ghost use Rattle.std.specs.Prelude.{ℕ, ◌≡◌, List, [], Option, IfOk};
+    ghost use Rattle.std.specs.Prelude.{ℕ, ◌≡◌, List, [], Option, IfOk, IfErr};
     ghost use Rattle.histories.specs.Account.{Account};
-    ghost use Rattle.histories.specs.Calls.{Writes};
+    ghost use Rattle.histories.specs.Calls.{Reads, Writes};
     ghost use Rattle.histories.specs.Timing.{KeepsTime};
     ghost use Rattle.histories.specs.declared.call.Call.{Call};
+    ghost use Rattle.engine.specs.Causes.{IsCausedIn};
     ghost use Rattle.control.specs.Hearing.{ObeysBy};
+    ghost use Rattle.control.specs.Line.{most_tries};
     ghost use Rattle.control.specs.Pace.{time_for_order};
 
     /// The bytes that came from it so far.
@@ -59,6 +63,9 @@ pub trait Operator {
 
     /// The bytes that were sent to it, if they are known.
     ghost written: { Self → Option (List ℕ) };
+
+    /// The calls to read from it so far.
+    ghost reads: { Self → Reads };
 
     /// The calls to write to it and to flush it so far.
     ghost writes: { Self → Writes };
@@ -82,6 +89,9 @@ pub trait Operator {
         Self: Sized,
         ensures obeys { ObeysBy S.shown K.copied K.counted tally.now shelves.old shelves.new
             (came self) (came result.operator) (written self) (written result.operator) result.told }
+        // It fails only if a call to read or to write failed or was refused, or if no read is left.
+        ensures cause { IfErr result.told (IsCausedIn most_tries
+            (reads self) (reads result.operator) (writes self) (writes result.operator)) }
         // What was written is flushed.
         ensures flushed { IfOk result.told (λ _. (writes result.operator).unflushed ≡ []) }
         // No read, and no write, began after its time or waited longer than what was left of it.
@@ -93,6 +103,8 @@ impl<R: BoundRead + Drop, W: BoundWrite + Drop> Operator for Connection<R, W> {
     ghost came = { λ o. ⟦<Hearing<R> as Hear>⟧.account o.reader };
 
     ghost written = { λ o. ⟦<Telling<W> as Write>⟧.contents o.writer };
+
+    ghost reads = { λ o. ⟦<Hearing<R> as Hear>⟧.reads o.reader };
 
     ghost writes = { λ o. ⟦<Telling<W> as Tell>⟧.writes o.writer };
 
@@ -137,6 +149,9 @@ fn obey_since<
         (⟦<Hearing<R> as Hear>⟧.account operator.reader) (⟦<Hearing<R> as Hear>⟧.account result.operator.reader)
         (⟦<Telling<W> as Write>⟧.contents operator.writer) (⟦<Telling<W> as Write>⟧.contents result.operator.writer)
         result.told }
+    ensures cause { IfErr result.told (IsCausedIn most_tries
+        (⟦<Hearing<R> as Hear>⟧.reads operator.reader) (⟦<Hearing<R> as Hear>⟧.reads result.operator.reader)
+        (⟦<Telling<W> as Tell>⟧.writes operator.writer) (⟦<Telling<W> as Tell>⟧.writes result.operator.writer)) }
     ensures flushed { IfOk result.told (λ _. (⟦<Telling<W> as Tell>⟧.writes result.operator.writer).unflushed ≡ []) }
     ensures reads_in_time { KeepsTime time_for_order I.calls
         (⟦<Hearing<R> as HasCalls>⟧.calls result.operator.reader) }

@@ -1,6 +1,7 @@
 //! Reading lines, and telling what they order.
-ghost use Rattle.std.specs.Prelude.{◌≡◌, ◌↔◌, MatchOption, IfOk, IsTrue};
+ghost use Rattle.std.specs.Prelude.{◌≡◌, ◌<◌, ◌↔◌, MatchOption, IfOk, IfErr, IsTrue};
 ghost use Rattle.histories.specs.Account.{Gives};
+ghost use Rattle.engine.specs.Causes.{IsUnreadable};
 ghost use Rattle.control.specs.Line as spec;
 
 use crate::order::{Order, order_of};
@@ -36,6 +37,10 @@ pub(crate) enum Unread {
 }
 
 impl From<AllocError> for Unread {
+    ghost use Rattle.control.specs.declared.line.Unread.TheVariants.{Memory};
+
+    ghost from_gives = { λ _ unread. unread ≡ Memory };
+
     fn from(_error: AllocError) -> Unread {
         Unread::Memory
     }
@@ -45,7 +50,9 @@ impl From<AllocError> for Unread {
 /// They may have no end of a line if the stream ends, or if the line is longer. Fails with `Io` if a read fails or
 /// `TRIES` reads do not end the line, and with `Memory` if memory runs out.
 pub(crate) fn read_line<R: Hear>(alloc: Global, reader: &mut R) -> Result<Vec<u8>, Unread>
-    ensures { IfOk result (λ got. spec.ReadsLine (R.account reader.old) (R.account reader.new) got.items) }
+    ensures reads { IfOk result (λ got. spec.ReadsLine (R.account reader.old) (R.account reader.new) got.items) }
+    ensures cause { IfErr result (λ why. why ≡ Unread.Io
+        → IsUnreadable spec.most_tries (R.reads reader.old) (R.reads reader.new)) }
 {
     read_to(alloc, reader, LONGEST_COPY)
 }
@@ -57,7 +64,10 @@ pub(crate) fn read_to<R: Hear>(
     reader: &mut R,
     most: usize,
 ) -> Result<Vec<u8>, Unread>
-    ensures { IfOk result (λ got. spec.ReadsTo most (R.account reader.old) (R.account reader.new) got.items) }
+    ensures reads { IfOk result (λ got. spec.ReadsTo most (R.account reader.old) (R.account reader.new) got.items) }
+    // Where memory did not run out, a read failed, or all that there are began.
+    ensures cause { IfErr result (λ why. why ≡ Unread.Io
+        → IsUnreadable spec.most_tries (R.reads reader.old) (R.reads reader.new)) }
 {
     let mut got = Vec::with_capacity(alloc, most.saturating_add(1))?;
     for _ in 0..TRIES {
@@ -71,8 +81,10 @@ pub(crate) fn read_to<R: Hear>(
 /// Reads once, after what was read, and returns whether no more has to be read. A read that is interrupted reads
 /// nothing.
 fn read_on<R: Hear>(reader: &mut R, got: &mut Vec<u8>, most: usize) -> Result<bool, Unread>
-    ensures { IfOk result (λ done.
+    ensures on { IfOk result (λ done.
         spec.ReadsOn most (R.account reader.old) (R.account reader.new) got.old.items got.new.items done) }
+    ensures tried { IfOk result (λ _. spec.HasTried 1 (R.reads reader.old) (R.reads reader.new)) }
+    ensures fails { IfErr result (λ why. why ≡ Unread.Io → (R.reads reader.old).failed < (R.reads reader.new).failed) }
 {
     let mut chunk = [0; LONGEST_COPY + 1];
     match reader.hear(&mut chunk) {

@@ -1,6 +1,8 @@
 //! One order.
-ghost use Rattle.std.specs.Prelude.{◌≡◌, [], IfOk, OnOk};
+ghost use Rattle.std.specs.Prelude.{◌≡◌, [], IfOk, IfErr, OnOk};
+ghost use Rattle.engine.specs.Causes.{FailsWith, IsCausedIn, IsUnreadable};
 ghost use Rattle.control.specs.Hearing.{HeedsBy, HearsBy, ObeysBy, TellsLine};
+ghost use Rattle.control.specs.Line.{most_tries};
 
 use crate::carry::carry_out;
 use crate::copies::Copies;
@@ -37,6 +39,9 @@ pub fn obey<R: Hear, W: Tell, S: Keyring, K: Copies<S>>(
 ) -> Result<Told, Io>
     ensures obeys { ObeysBy S.shown K.copied K.counted tally.now shelves.old shelves.new
         (R.account reader.old) (R.account reader.new) (W.contents writer.old) (W.contents writer.new) result }
+    // It fails only if a call of the reader or of the writer failed, or if no read is left.
+    ensures cause { IfErr result (IsCausedIn most_tries (R.reads reader.old) (R.reads reader.new)
+        (W.writes writer.old) (W.writes writer.new)) }
     // What was written is flushed.
     ensures flushed { IfOk result (λ _. (W.writes writer.new).unflushed ≡ []) }
 {
@@ -53,6 +58,7 @@ pub fn obey<R: Hear, W: Tell, S: Keyring, K: Copies<S>>(
 /// or all of it.
 fn tell_line<W: Tell>(writer: &mut W, line: &[u8]) -> Result<(), Io>
     ensures tells { TellsLine (W.contents writer.old) (W.contents writer.new) line.now result }
+    ensures fails { FailsWith (W.writes writer.old).failed (W.writes writer.new).failed result }
     ensures flushed { OnOk result ((W.writes writer.new).unflushed ≡ []) }
 {
     write_bytes(writer, line)?;
@@ -71,8 +77,9 @@ fn hear<R: Hear, S: Keyring, K: Copies<S>>(
     shelves: &mut S,
     copies: &mut K,
 ) -> Result<Told, Io>
-    ensures { HearsBy S.shown K.copied K.counted tally.now shelves.old shelves.new
+    ensures hears { HearsBy S.shown K.copied K.counted tally.now shelves.old shelves.new
         (R.account reader.old) (R.account reader.new) result }
+    ensures cause { IfErr result (λ _. IsUnreadable most_tries (R.reads reader.old) (R.reads reader.new)) }
 {
     match read_line(alloc, reader) {
         Ok(got) => Ok(heed(alloc, &got, tally, shelves, copies)),

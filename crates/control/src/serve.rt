@@ -1,5 +1,6 @@
 //! One caller after another.
 ghost use Rattle.std.specs.Prelude.{◌≡◌, ◌↔◌, IsTrue, Ok};
+ghost use Rattle.socket.specs.Connections.{both};
 ghost use Rattle.control.specs.Turns.{GoesOn};
 ghost use Rattle.control.specs.Visits.{AnswersOne, EndsEach, ObeysOneBy, ReadsEach, ServesEach};
 
@@ -43,15 +44,19 @@ pub fn serve_both<
     // One run of the machine: its events are the messages, at most one on each connection, and the orders.
     ensures goes { GoesOn (S.shown shelves.old) (S.shown shelves.new) connections }
     // Each message is answered on the connection that it came over, and the outcome of each order is told on its own.
-    ensures each { ServesEach O.came O.written P.came P.written L.is_new (L.waiting callers.old) (L.waiting callers.new)
+    // If none is, or it is not written whole, a call of that connection failed.
+    ensures each { ServesEach (both O.came O.reads) (both O.written O.writes)
+        (both P.came P.reads) (both P.written P.writes) L.is_new (L.waiting callers.old) (L.waiting callers.new)
         (S.shown shelves.old) (S.shown shelves.new) connections }
     // Each copy is made of the machine's world at its moment, between two of its events. Each ping is told the versions
     // that were counted so, and the counts of the connections that were taken before it.
-    ensures reads { ReadsEach O.came O.written P.came P.written S.shown K.copied K.counted L.is_new
-        (L.waiting callers.old) (L.waiting callers.new) shelves.old shelves.new since connections }
+    ensures reads { ReadsEach (both O.came O.reads) (both O.written O.writes)
+        (both P.came P.reads) (both P.written P.writes) S.shown K.copied K.counted L.is_new (L.waiting callers.old)
+        (L.waiting callers.new) shelves.old shelves.new since connections }
     // It ends once an operator was told so, and not before, unless its connections are used up.
-    ensures ends { EndsEach O.came O.written P.came P.written S.shown K.copied K.counted L.is_new
-        (L.waiting callers.old) (L.waiting callers.new) shelves.old shelves.new since connections }
+    ensures ends { EndsEach (both O.came O.reads) (both O.written O.writes)
+        (both P.came P.reads) (both P.written P.writes) S.shown K.copied K.counted L.is_new (L.waiting callers.old)
+        (L.waiting callers.new) shelves.old shelves.new since connections }
 {
     let mut routes = RouteTable::new(alloc);
     let mut tally = Tally::new(since);
@@ -84,7 +89,7 @@ fn answer_on<C: Clock, P: Peer + Drop, S: Shelves>(
     peer: P,
     shelves: &mut S,
 ) -> Result<Option<u16>, Io>
-    ensures { AnswersOne P.came P.written peer (S.shown shelves.old) (S.shown shelves.new) result }
+    ensures { AnswersOne (both P.came P.reads) (both P.written P.writes) peer (S.shown shelves.old) (S.shown shelves.new) result }
 {
     let After { peer, status } = peer.answer(alloc, clock, routes, shelves);
     if let Ok(Some(number)) = status {
@@ -102,7 +107,8 @@ fn obey_on<C: Clock, O: Operator + Drop, S: Keyring, K: Copies<S>>(
     shelves: &mut S,
     copies: &mut K,
 ) -> bool
-    ensures { ObeysOneBy O.came O.written S.shown K.copied K.counted tally.now operator result shelves.old shelves.new }
+    ensures { ObeysOneBy (both O.came O.reads) (both O.written O.writes) S.shown K.copied K.counted tally.now operator
+        result shelves.old shelves.new }
 {
     let after = operator.obeyed(alloc, clock, tally, shelves, copies);
     is_stopping(after.told)

@@ -5,4 +5,4 @@ pub returns-in-Some : goal.returns-in-Some
 returns-in-Some g c =
     let laws = g.met.R.Hear in
     line_consumed _ _ _ _ _ _ (laws.left_is c.args.reader.now) (laws.left_is c.read_line.new.reader)
-    c.in-Ok.ensures.gives (rw c.deref.ensures.value at c.in-Some.ensures)
+    c.in-Ok.ensures.reads.gives (rw c.deref.ensures.value at c.in-Some.ensures)

@@ -1,4 +1,5 @@
 use Rattle.std.proofs.Common.{◌≤◌, ◌-◌}
+use Rattle.socket.specs.Connections.{both}
 use Rattle.control.proofs.ServeLemmas.{UpTo}
 use Rattle.control.proofs.serve.serve_both.Given as goal
 
@@ -6,11 +7,13 @@ use Rattle.control.proofs.serve.serve_both.Given as goal
 abbrev pub invariant-loop : goal.invariant-loop
 invariant-loop g l =
     let s = g.S.Shelves in
+    let o = g.O.Operator in
+    let p = g.P.Peer in
     let waiting = g.L.Callers.waiting in
     record {
       some : l.left ≤ l.fn.connections;
-      all : UpTo g.O.Operator.came g.O.Operator.written g.P.Peer.came g.P.Peer.written g.L.Callers.is_new s.shown
-          g.K.Copies.copied g.K.Copies.counted l.fn.since
+      all : UpTo (both o.came o.reads) (both o.written o.writes) (both p.came p.reads) (both p.written p.writes)
+          g.L.Callers.is_new s.shown g.K.Copies.copied g.K.Copies.counted l.fn.since
           (waiting l.fn.callers) (waiting l.callers) l.fn.shelves l.shelves (l.fn.connections - l.left) l.counter
           l.tally;
     }

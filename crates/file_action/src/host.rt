@@ -3,7 +3,7 @@ use commands::action::Action;
 use commands::refusal::CommandRefusal;
 use histories::{Hear, Tell};
 
-/// The system, as an action sees it on the store of a file. Its stores are `S`.
+/// The system, as far as an action on a file needs it. The stores of its files are `S`.
 pub trait ActionHost<S> {
     ghost use Rattle.file_action.specs.OnFile.{Deeds};
 

@@ -54,6 +54,12 @@ key-add --shelf alpha --new
 key-revoke --db none.db
 key-revoke --db none.db --key A --fingerprint ccaaf6d99f2c8ac7
 key-revoke --fingerprint ccaaf6d99f2c8ac7
+key-revoke --db none.db --shelf alpha
+key-revoke --db none.db --all
+key-revoke --db none.db --shelf alpha --all --key A
+key-revoke --db none.db --shelf alpha --all --fingerprint ccaaf6d99f2c8ac7
+key-revoke --db none.db --key A --all
+key-revoke --db none.db --key A --shelf alpha
 publish --db none.db
 import --db none.db --key A
 inventory --db none.db
@@ -120,6 +126,7 @@ goshelf key-add --control <S> --shelf <S> --key <K> [--read-only]
 goshelf key-add --control <S> --shelf <S> --new [--read-only]
 goshelf key-revoke --db <F> --key <K>
 goshelf key-revoke --db <F> --fingerprint <X>
+goshelf key-revoke --db <F> --shelf <S> --all
 goshelf key-revoke --control <S> --key <K>
 goshelf key-list --db <F>
 goshelf key-list --control <S>
@@ -135,7 +142,7 @@ init --db
 team-add --db --control --team --group
 group-add --db --control --group
 key-add --db --control --shelf --key --new --read-only
-key-revoke --db --control --key --fingerprint
+key-revoke --db --control --key --fingerprint --shelf --all
 publish --db --key --module --version --mod --zip --time
 import --db --key --list
 inventory --db --key
@@ -343,6 +350,18 @@ key-list --db store.db | 0
     gamma publish 3e9e696676741f95
     platform publish 59349fdf37ea2a6b
 inventory --db store.db --key R | 1 no-key
+key-revoke --db store.db --shelf nosuch --all | 1 no-team
+key-revoke --db store.db --shelf beta --all | 1 no-team
+key-revoke --db store.db --shelf alpha-b --all | 0
+key-revoke --db store.db --shelf alpha --all | 0
+key-revoke --db store.db --shelf alpha --all | 0
+key-list --db store.db | 0
+    common read 4ae6c4eb38bf8b54
+    gamma publish 3e9e696676741f95
+    platform publish 59349fdf37ea2a6b
+key-add --db store.db --shelf alpha --key A | 0
+inventory --db store.db --key A | 0
+    path,version,shelf,class,time,mod_bytes,zip_bytes
 """
 # what `serve` says of a file that is missing or empty
 NEW_STORE = "new store: the file of --db is missing or empty; without a key, each request gets a 404\n"
@@ -354,6 +373,7 @@ group-add --db {} --group platform | 0
 key-add --db {} --shelf common --key C | 0
 key-revoke --db {} --key C | 1 no-key
 key-revoke --db {} --fingerprint 4ae6c4eb38bf8b54 | 1 no-key
+key-revoke --db {} --shelf alpha --all | 1 no-team
 key-add --db {} --shelf alpha --new | 1 no-team
 publish --db {} --key C --module example.com/lib --version v1.0.0 --mod go.mod --zip empty | 1
     404 not found

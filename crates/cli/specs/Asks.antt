@@ -78,6 +78,7 @@ module _ (rows : List Row) where
   AsksOrder word (KeyAdd shelf key right) = (word ≡ codes "key-add") × Is (codes "shelf") shelf.now × Is (codes "key") key.now
       × (is_flagged (codes "new") ≡ false) × (right ≡ (if is_flagged (codes "read-only") then Reads else Publishes))
   AsksOrder word (KeyRevoke key) = (word ≡ codes "key-revoke") × Is (codes "key") key.now × Lacks (codes "fingerprint")
+      × Lacks (codes "shelf") × (is_flagged (codes "all") ≡ false)
 
   -- where the connections of `serve` come in: at the port, or at standard input in its place
   abbrev pub AsksEntrance : Entrance → Type 0
@@ -99,7 +100,11 @@ module _ (rows : List Row) where
       × Is (codes "shelf") shelf.now × (is_flagged (codes "new") ≡ true) × Lacks (codes "key") × Lacks (codes "control")
       × (right ≡ (if is_flagged (codes "read-only") then Reads else Publishes))
   AsksAction word (action.RevokeNamed fingerprint) = (word ≡ codes "key-revoke")
-      × Is (codes "fingerprint") fingerprint.now × Lacks (codes "key") × Lacks (codes "control")
+      × Is (codes "fingerprint") fingerprint.now × Lacks (codes "shelf") × (is_flagged (codes "all") ≡ false)
+      × Lacks (codes "key") × Lacks (codes "control")
+  AsksAction word (action.RevokeAll shelf) = (word ≡ codes "key-revoke")
+      × Is (codes "shelf") shelf.now × (is_flagged (codes "all") ≡ true) × Lacks (codes "fingerprint")
+      × Lacks (codes "key") × Lacks (codes "control")
   AsksAction word (action.Publish words files) = (word ≡ codes "publish")
       × Is (codes "key") words.key.now × Is (codes "module") words.path.now × Is (codes "version") words.version.now
       × MayBe (codes "time") words.time × Is (codes "mod") files.gomod.now × Is (codes "zip") files.zip.now

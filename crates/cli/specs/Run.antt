@@ -7,7 +7,8 @@ use Rattle.commands.specs.declared.refusal.CommandRefusal.{CommandRefusal}
 use Rattle.commands.specs.declared.refusal.CommandRefusal.TheVariants.{Io, Memory}
 use Rattle.commands.specs.Exit.{exit_of, status_of, IsSilent, Says}
 use Rattle.commands.specs.ImportLine.{PrintsFront}
-use Rattle.commands.specs.declared.action.Action.TheVariants.{AddNew, Import, Publish, Register, RevokeNamed, Serve}
+use Rattle.commands.specs.declared.action.Action.TheVariants.{AddNew, Import, Publish, Register, RevokeAll}
+use Rattle.commands.specs.declared.action.Action.TheVariants.{RevokeNamed, Serve}
 use Rattle.commands.specs.declared.exit.Exit.{Exit}
 use Rattle.commands.specs.declared.exit.Exit.TheVariants.{Done, Refused, BadUsage}
 use Rattle.runner.specs.declared.Command.{Command}
@@ -52,6 +53,7 @@ Tells errors errors_new (OnStore db (Serve entrance connections control)) = MayP
 Tells errors errors_new (OnStore db (Register order)) = MayPrint errors errors_new new_file_line
 Tells errors errors_new (OnStore db (AddNew shelf right)) = MayPrint errors errors_new new_file_line
 Tells errors errors_new (OnStore db (RevokeNamed fingerprint)) = MayPrint errors errors_new new_file_line
+Tells errors errors_new (OnStore db (RevokeAll shelf)) = MayPrint errors errors_new new_file_line
 Tells errors errors_new (OnStore db (Publish words files)) = MayPrint errors errors_new new_file_line
 Tells errors errors_new (OnStore db (Import key list)) = MayPrint errors errors_new new_file_line
 Tells errors errors_new other = errors_new ≡ errors

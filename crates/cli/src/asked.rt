@@ -208,12 +208,17 @@ fn key_add_of<'a>(options: &ArgMatches<'a>) -> Option<Order<'a>>
     }
 }
 
-/// Returns the order of `key-revoke` with a key, or None if the key is named by its fingerprint or not at all.
+/// Returns the order of `key-revoke` with a key, or None if a fingerprint or a shelf is named in its place, or nothing.
 fn key_revoke_of<'a>(options: &ArgMatches<'a>) -> Option<Order<'a>>
     ensures { Finds result (AsksOrder (rows_of (found_of options.now)) (codes "key-revoke")) }
 {
-    match (text(options, "key"), text(options, "fingerprint")) {
-        (Some(key), None) => Some(Order::KeyRevoke { key }),
+    match (
+        text(options, "key"),
+        text(options, "fingerprint"),
+        text(options, "shelf"),
+        is_flagged(options, "all"),
+    ) {
+        (Some(key), None, None, false) => Some(Order::KeyRevoke { key }),
         _ => None,
     }
 }
@@ -235,7 +240,7 @@ fn action_of<'a>(word: &str, options: &ArgMatches<'a>) -> Option<Action<'a>>
 {
     match word {
         "key-add" => add_new_of(options),
-        "key-revoke" => revoke_named_of(options),
+        "key-revoke" => revoke_of(options),
         "publish" => publish_of(options),
         "import" => Some(Action::Import {
             key: text(options, "key")?,
@@ -268,16 +273,20 @@ fn add_new_of<'a>(options: &ArgMatches<'a>) -> Option<Action<'a>>
     }
 }
 
-/// Returns the action of `key-revoke` with a fingerprint, or None if the options are those of another form.
-fn revoke_named_of<'a>(options: &ArgMatches<'a>) -> Option<Action<'a>>
+/// Returns the action of `key-revoke` with a fingerprint, or with a shelf, or None if the options are those of another
+/// form.
+fn revoke_of<'a>(options: &ArgMatches<'a>) -> Option<Action<'a>>
     ensures { Finds result (AsksAction (rows_of (found_of options.now)) (codes "key-revoke")) }
 {
     match (
         text(options, "fingerprint"),
+        text(options, "shelf"),
+        is_flagged(options, "all"),
         text(options, "key"),
         text(options, "control"),
     ) {
-        (Some(fingerprint), None, None) => Some(Action::RevokeNamed { fingerprint }),
+        (Some(fingerprint), None, false, None, None) => Some(Action::RevokeNamed { fingerprint }),
+        (None, Some(shelf), true, None, None) => Some(Action::RevokeAll { shelf }),
         _ => None,
     }
 }

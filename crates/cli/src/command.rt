@@ -94,6 +94,7 @@ fn tell_new_store<P: Runner, E: Tell>(runner: &P, command: &Command, errors: &mu
             action: Action::Register { .. }
             | Action::AddNew { .. }
             | Action::RevokeNamed { .. }
+            | Action::RevokeAll { .. }
             | Action::Publish { .. }
             | Action::Import { .. },
         } if runner.is_watched() && runner.is_new(db) => write_new_file(errors),

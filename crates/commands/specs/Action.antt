@@ -5,7 +5,7 @@ use Rattle.histories.specs.Account.{Account}
 use Rattle.world.specs.Store.{Shown}
 use Rattle.world.specs.declared.entry.Right.{Right}
 use Rattle.control.specs.declared.order.Order.{Order}
-use Rattle.commands.specs.Ending.{Registers, RevokesNamed}
+use Rattle.commands.specs.Ending.{Registers, RevokesNamed, RevokesShelf}
 use Rattle.commands.specs.ImportFile.{ImportsFile}
 use Rattle.commands.specs.NewKey.{AddsNew}
 use Rattle.commands.specs.Opening.{AnswersAll}
@@ -55,6 +55,13 @@ module _ {S : Type 0} (shown : S → Shown) (copied : Copied S) (counted : Count
     pub told : result ≡ acceptance ended
     pub streams : KeepsStreams old new
 
+  -- all keys of this shelf were revoked, and nothing was read or written
+  pub record RevokesShelfAlone (shelf : List ℕ) (result : Result Bool CommandRefusal) : Type 0 where
+    pub ended : Result (Unit {0}) CommandRefusal
+    pub revokes : RevokesShelf (shown old.store) (shown new.store) shelf ended
+    pub told : result ≡ acceptance ended
+    pub streams : KeepsStreams old new
+
   -- the requests of the input were answered from the store
   pub record AnswersFrom (result : Result Bool CommandRefusal) : Type 0 where
     pub ended : Result (Unit {0}) CommandRefusal
@@ -69,15 +76,16 @@ module _ {S : Type 0} (shown : S → Shown) (copied : Copied S) (counted : Count
     pub told : result ≡ acceptance ended
     pub came : new.came ≡ old.came
 
-  -- What is done by the kind of action: nothing, one command of the registry, a key that is made is added, that of a
-  -- fingerprint is revoked, one publish, those of a list, an inventory, the requirements of a version, or a list of the
-  -- keys or of the shelves is printed, all requests of the input are answered, or no more requests than there are
-  -- connections, and orders, copies and pings between them.
+  -- What is done by the kind of action: nothing, one command of the registry, a key that is made is added, the key of a
+  -- fingerprint is revoked, or all of a shelf, one publish, those of a list, an inventory, the requirements of a
+  -- version, or a list of the keys or of the shelves is printed, all requests of the input are answered, or no more
+  -- requests than there are connections, and orders, copies and pings between them.
   abbrev pub Acts : Result Bool CommandRefusal → Action → Type 0
   Acts result action.Open = (new ≡ old) × (result ≡ Ok true)
   Acts result (action.Register order) = RegistersAlone order result
   Acts result (action.AddNew shelf right) = AddsNewAlone shelf right result
   Acts result (action.RevokeNamed fingerprint) = RevokesNamedAlone fingerprint.now result
+  Acts result (action.RevokeAll shelf) = RevokesShelfAlone shelf.now result
   Acts result (action.Publish words files) =
       PublishesFiles shown old.store new.store (asked_by words) old.written new.written result × (new.came ≡ old.came)
   Acts result (action.Import key list) =

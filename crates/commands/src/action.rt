@@ -7,7 +7,7 @@ use crate::import_file::import_file;
 use crate::new_key::add_new;
 use crate::publish::{Files, Words, publish};
 use crate::refusal::CommandRefusal;
-use crate::registry::{register, revoke_named};
+use crate::registry::{register, revoke_named, revoke_shelf};
 use crate::report::{Named, print_inventory, print_keys, print_requirements, print_shelves};
 use crate::serve::{Entrance, serve};
 use control::{Copies, Order};
@@ -34,6 +34,10 @@ pub enum Action<'a> {
     /// `key-revoke --fingerprint X`: revokes the key that has a fingerprint.
     RevokeNamed {
         fingerprint: &'a str,
+    },
+    /// `key-revoke --shelf T --all`: revokes all keys of a shelf.
+    RevokeAll {
+        shelf: &'a str,
     },
     /// `publish`: publishes a version from files.
     Publish {
@@ -91,6 +95,7 @@ pub fn act_on<S: Outlines + Keyring, K: Copies<S>, I: Hear, O: Tell>(
         Action::RevokeNamed { fingerprint } => {
             acceptance(revoke_named(rt.alloc(), shelves, fingerprint))
         }
+        Action::RevokeAll { shelf } => acceptance(revoke_shelf(rt.alloc(), shelves, shelf)),
         Action::Publish { words, files } => publish(rt, shelves, words, files, output),
         Action::Import { key, list } => import_file(rt, shelves, key, list, output),
         Action::Inventory { key } => print_inventory(rt.alloc(), shelves, key, output),

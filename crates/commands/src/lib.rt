@@ -4,6 +4,7 @@
 //! |---|---|---|
 //! | `team-add`, `group-add`, `key-add`, `key-revoke` | does one registry command, as the machine does | [`registry`] |
 //! | `key-add --new` | makes a key, prints it, and adds it | [`new_key`] |
+//! | `key-revoke --shelf --all` | revokes all keys of a shelf | [`registry`] |
 //! | `key-revoke --fingerprint` | revokes the key that has a fingerprint | [`registry`] |
 //! | `publish` | asks the machine to publish two files, and prints the line of its outcome | [`publish`] |
 //! | `import` | asks the machine to publish each row of a list, and prints a line for each | [`import`], [`import_file`] |

@@ -1,10 +1,11 @@
 //! The registry commands: teams, groups and keys.
-ghost use Rattle.commands.specs.Ending.{Registers, RevokesNamed};
+ghost use Rattle.commands.specs.Ending.{Registers, RevokesNamed, RevokesShelf};
 
 use crate::refusal::{CommandRefusal, ending};
 use control::{Order, carry_out};
 use keyring::Keyring;
 use keyring::revoke::revoke_with;
+use revocation::revoke_all;
 use std::alloc::Global;
 use world::shelves::Shelves;
 
@@ -28,5 +29,18 @@ pub fn revoke_named<S: Keyring>(
     ensures { RevokesNamed (S.shown shelves.old) (S.shown shelves.new) fingerprint.now result }
 {
     let told = revoke_with(alloc, shelves, fingerprint);
+    ending(told)
+}
+
+/// Revokes all keys of a shelf, one after another. Fails with `NoTeam` if no shelf has this name, and then changes
+/// nothing; and with a fault of the store, and then has revoked some of them, or none.
+pub fn revoke_shelf<S: Keyring>(
+    alloc: Global,
+    shelves: &mut S,
+    shelf: &str,
+) -> Result<(), CommandRefusal>
+    ensures { RevokesShelf (S.shown shelves.old) (S.shown shelves.new) shelf.now result }
+{
+    let told = revoke_all(alloc, shelves, shelf);
     ending(told)
 }

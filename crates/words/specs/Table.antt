@@ -55,7 +55,7 @@ store_lines =
     ∷ formed (codes "key-add") (may (codes "db") ∷ may (codes "control") ∷ needs (codes "shelf") ∷ may (codes "key")
     ∷ flag (codes "new") ∷ flag (codes "read-only") ∷ [])
     ∷ formed (codes "key-revoke") (may (codes "db") ∷ may (codes "control") ∷ may (codes "key")
-    ∷ may (codes "fingerprint") ∷ [])
+    ∷ may (codes "fingerprint") ∷ may (codes "shelf") ∷ flag (codes "all") ∷ [])
     ∷ formed (codes "key-list") (may (codes "db") ∷ may (codes "control") ∷ [])
     ∷ formed (codes "shelf-list") (may (codes "db") ∷ may (codes "control") ∷ [])
     ∷ plain (codes "publish") (needs (codes "db") ∷ needs (codes "key") ∷ needs (codes "module") ∷ needs (codes "version")

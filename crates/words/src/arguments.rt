@@ -178,6 +178,7 @@ goshelf key-add --db <F> --shelf <S> --key <K> [--read-only]
 const KEY_REVOKE_FORMS: &str = "\
 goshelf key-revoke --db <F> --key <K>
        goshelf key-revoke --db <F> --fingerprint <X>
+       goshelf key-revoke --db <F> --shelf <S> --all
        goshelf key-revoke --control <S> --key <K>";
 
 const KEY_LIST_FORMS: &str = "goshelf key-list --db <F>\n       goshelf key-list --control <S>";

@@ -116,7 +116,7 @@ pub(crate) const KEY_ADD: [OptionRow; 6] = [
     },
 ];
 
-pub(crate) const KEY_REVOKE: [OptionRow; 4] = [
+pub(crate) const KEY_REVOKE: [OptionRow; 6] = [
     DB_OR_CONTROL,
     CONTROL,
     OptionRow {
@@ -129,6 +129,18 @@ pub(crate) const KEY_REVOKE: [OptionRow; 4] = [
         value: Value::Text("X"),
         is_required: false,
         help: "In place of --key, the fingerprint of the key, as key-list prints it",
+    },
+    OptionRow {
+        name: "shelf",
+        value: Value::Text("S"),
+        is_required: false,
+        help: "In place of --key, with --all, the shelf whose keys are revoked",
+    },
+    OptionRow {
+        name: "all",
+        value: Value::Flag,
+        is_required: false,
+        help: "With --shelf, revoke all keys of the shelf",
     },
 ];
 

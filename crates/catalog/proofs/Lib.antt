@@ -1,0 +1,4 @@
+mod GoVersions
+mod Pushed
+mod Adding
+mod Ruled

@@ -1,0 +1,3 @@
+pub mod GoVersion
+pub mod Line
+pub mod Catalog

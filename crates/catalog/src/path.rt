@@ -1,0 +1,199 @@
+//! The lines of a path, read from a store. A call fails if the store meets a fault or memory runs out.
+ghost use Rattle.std.specs.Prelude.{◌≡◌, ◌++◌, List, Option, Some, IfOk, OnOk, map, option_copied, slice_get};
+ghost use Rattle.gomod.specs.Module.{GoModule};
+ghost use Rattle.modver.specs.SemanticVersion.{SemanticVersion};
+ghost use Rattle.keyring.specs.Reading.{Adds};
+ghost use Rattle.world.specs.Store.{Reads};
+ghost use Rattle.catalog.specs.Catalog as spec;
+ghost use Rattle.catalog.specs.Line.{rest};
+
+use crate::line::{Marks, home, push_gomod, push_marks, push_names, push_sums, push_time};
+use gomod::GoMod;
+use modpath::ModulePath;
+use modver::Version;
+use outline::outlines::{Outline, Outlines};
+use std::alloc::{AllocError, Global};
+use world::entry::Heading;
+use world::forms::path_of;
+use world::reading::gomod_in;
+use world::registry::StoreFault;
+use world::versions::highest;
+
+/// What a path says of its versions.
+#[derive(Drop)]
+struct Rules {
+    /// For each version, whether the go.mod by which `@latest` goes retracts it.
+    retracted: Vec<bool>,
+    /// The version that `@latest` answers with, if there is one.
+    latest: Option<Version>,
+}
+
+/// Adds the lines of the path that a text is, one for each version that the shelf sees, by precedence; no line if the
+/// text is no path. (SemVer 2.0.0, section 11.)
+pub(crate) fn add_text<S: Outlines>(
+    alloc: Global,
+    shelves: &mut S,
+    shelf: &str,
+    text: &str,
+    lines: &mut Vec<u8>,
+) -> Result<(), StoreFault>
+    ensures { Adds (S.shown shelves.old) (S.shown shelves.new) lines.old.items lines.new.items result
+        (λ w. spec.lines_of_text w shelf.now text.now) }
+{
+    let Some(path) = path_of(alloc, text)? else {
+        return Ok(());
+    };
+    add_path(alloc, shelves, shelf, &path, lines)
+}
+
+/// Adds the lines of a path.
+fn add_path<S: Outlines>(
+    alloc: Global,
+    shelves: &mut S,
+    shelf: &str,
+    path: &ModulePath,
+    lines: &mut Vec<u8>,
+) -> Result<(), StoreFault>
+    ensures { Adds (S.shown shelves.old) (S.shown shelves.new) lines.old.items lines.new.items result
+        (λ w. spec.lines_of_path w shelf.now path.now) }
+{
+    let latest = shelves.latest(shelf, path)?;
+    let versions = shelves.versions(shelf, path)?;
+    let top = highest(versions.as_slice());
+    let ruling = ruling(alloc, shelves, shelf, path, top)?;
+    let retracted = retracted(alloc, ruling, versions.as_slice())?;
+    let rules = Rules { retracted, latest };
+    add_versions(
+        alloc,
+        shelves,
+        shelf,
+        path,
+        versions.as_slice(),
+        &rules,
+        lines,
+    )
+}
+
+/// Returns what the go.mod of the highest version of a path says, or None if there is no version.
+fn ruling<S: Outlines>(
+    alloc: Global,
+    shelves: &mut S,
+    shelf: &str,
+    path: &ModulePath,
+    top: Option<&Version>,
+) -> Result<Option<GoMod>, StoreFault>
+    ensures { Reads (S.shown shelves.old) (S.shown shelves.new) result
+        (λ w. spec.ruling_at w shelf.now path.now (option_copied top.entry)) }
+{
+    let Some(top) = top else {
+        return Ok(None);
+    };
+    let heading = shelves.heading(shelf, path, top)?;
+    Ok(gomod_in(alloc, heading)?)
+}
+
+/// Returns for each version whether a go.mod retracts it. Fails only if memory runs out.
+fn retracted(
+    alloc: Global,
+    ruling: Option<GoMod>,
+    versions: &[Version],
+) -> Result<Vec<bool>, AllocError>
+    ensures { IfOk result (λ flags. flags.items ≡ map (spec.is_retracted_by ruling) versions.now) }
+{
+    match ruling {
+        Some(gomod) => gomod.retracted(alloc, versions),
+        None => versions.iter().map(|_| false).collect(alloc),
+    }
+}
+
+/// Adds the lines of versions.
+fn add_versions<S: Outlines>(
+    alloc: Global,
+    shelves: &mut S,
+    shelf: &str,
+    path: &ModulePath,
+    versions: &[Version],
+    rules: &Rules,
+    lines: &mut Vec<u8>,
+) -> Result<(), StoreFault>
+    ensures { (m : Option GoModule) → rules.now.retracted.items ≡ map (spec.is_retracted_by m) versions.now
+        → Adds (S.shown shelves.old) (S.shown shelves.new) lines.old.items lines.new.items result
+        (λ w. spec.lines_by w shelf.now path.now m rules.now.latest versions.now) }
+{
+    let mut index = 0;
+    for version in versions {
+        let marks = marks(rules, index, version);
+        add_version(alloc, shelves, shelf, path, version, marks, lines)?;
+        index += 1;
+    }
+    Ok(())
+}
+
+/// Returns what the rules say of the version at an index.
+fn marks(rules: &Rules, index: usize, version: &Version) -> Marks
+    ensures { (m : Option GoModule) (vs : List SemanticVersion)
+        → rules.now.retracted.items ≡ map (spec.is_retracted_by m) vs → slice_get vs index ≡ Some version.now
+        → result ≡ spec.marks_of m rules.now.latest version.now }
+{
+    Marks {
+        is_retracted: rules.retracted.get(index) == Some(&true),
+        is_latest: is_that(&rules.latest, version),
+    }
+}
+
+/// Whether a version is the latest.
+fn is_that(latest: &Option<Version>, version: &Version) -> bool
+    ensures { result ≡ spec.is_that latest.now version.now }
+{
+    match latest {
+        Some(latest) => latest.as_str() == version.as_str(),
+        None => false,
+    }
+}
+
+/// Adds the line of a version, if the shelf sees it.
+fn add_version<S: Outlines>(
+    alloc: Global,
+    shelves: &mut S,
+    shelf: &str,
+    path: &ModulePath,
+    version: &Version,
+    marks: Marks,
+    lines: &mut Vec<u8>,
+) -> Result<(), StoreFault>
+    ensures { Adds (S.shown shelves.old) (S.shown shelves.new) lines.old.items lines.new.items result
+        (λ w. spec.line_at w shelf.now path.now version.now marks) }
+{
+    let Some(heading) = shelves.heading(shelf, path, version)? else {
+        return Ok(());
+    };
+    let Some(outline) = shelves.outline(shelf, path, version)? else {
+        return Ok(());
+    };
+    push_names(lines, path, version)?;
+    Ok(push_rest(alloc, lines, shelf, marks, &heading, &outline)?)
+}
+
+/// Appends what follows the path and the version in a line. Fails only if memory runs out.
+fn push_rest(
+    alloc: Global,
+    line: &mut Vec<u8>,
+    shelf: &str,
+    marks: Marks,
+    heading: &Heading,
+    outline: &Outline,
+) -> Result<(), AllocError>
+    ensures { OnOk result (line.new.items ≡ line.old.items ++ rest shelf.now marks heading.now outline.now) }
+{
+    let gomod = heading.gomod.as_slice();
+    push_time(line, &heading.time)?;
+    push_marks(line, marks)?;
+    push_gomod(alloc, line, gomod)?;
+    push_sums(
+        alloc,
+        line,
+        home(shelf, outline.shelf.as_str()),
+        gomod,
+        outline.zip_bytes,
+    )
+}

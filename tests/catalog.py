@@ -18,11 +18,12 @@ import time
 from lib import catalog_lines
 from lib.catalog_pages import Page, pages_in
 from lib.catalog_store import SHELF_KEYS, line_of, make, make_store, rows_of, tool, write_lines
-from lib.keys import KEYS
-from lib.messages import get
+from lib.keys import KEYS, SHELVES
+from lib.messages import get, put
 from lib.modules import escaped
-from lib.program import answered, done, run
+from lib.program import PROGRAM, answered, done, run
 from lib.scratch import in_new_folders, read, write
+from lib.stores import add_platform, new_store
 from lib.suite import Suite, shown
 
 # a page, and the id of a heading; indented below it, the rows of the table of that heading
@@ -127,6 +128,16 @@ HIDDEN = {
 }  # fmt: skip
 # attributes that tidy 5.6 does not know: a newer one, and those of links in an SVG
 UNKNOWN = tuple(f'<a> proprietary attribute "{it}"' for it in ("aria-current", "href", "tabindex"))
+# what stands behind `module` in go.mods that have `go` in odd places, or none
+ODD = (
+    "require (\ngo v1.0.0\n)\n",
+    "require (\n)\ngo 1.21 // go 1.22\n",
+    'go "1.20"\n',
+    "go\t1.21rc1\r\n",
+    "exclude go v1.1.0\nrequire go v1.2.0\nrequire (\ngo v1.3.0\n)\n",
+    "replace (\ngo => ./x\n) // go 1.20\ngo `1.18`",
+    "// go 1.17\nretract (\n[v1.0.0, v1.2.0]\nv1.4.0\n)\n",
+)
 LOADED = ["parts/catalog.css", "parts/catalog.js", "parts/icon.svg"]
 # what would load something, or make HTML of a text
 LOADS = re.compile(r"url\(|@import|https?:|fetch|XMLHttp|import\(|eval|innerHTML|document\.write")
@@ -147,6 +158,32 @@ def reference_agrees(suite):
         sums = [it.split()[-1] for it in asked(letter, targets)]
         suite.equal(f"{shelf}: sums", sums, [it["GoModSum"] for it in rows])
         latest_agrees(suite, shelf, letter, rows)
+
+
+def command_agrees(suite):
+    """`goshelf catalog` prints these lines of each shelf, also of odd go.mods, and of a full output it fails."""
+    make_odd(suite, "odd.db")
+    for name in ("store.db", "odd.db"):
+        for shelf, letter in SHELF_KEYS.items():
+            told = run(["catalog", "--db", name, "--key", KEYS[letter]])
+            wanted = catalog_lines.lines(name, shelf).encode()
+            suite.equal(f"{name}, {shelf}: catalog", told, (0, wanted, ""))
+    words = ["catalog", "--db", "odd.db", "--key", KEYS["A"]]
+    with open("/dev/full", "wb") as full:
+        ran = subprocess.run([PROGRAM, *words], stdout=full, stderr=subprocess.PIPE, timeout=120)
+    suite.equal("a full output", (ran.returncode, ran.stderr), (1, b"goshelf: io\n"))
+    suite.equal("no such key", run(["catalog", "--db", "odd.db", "--key", "z" * 16]), (1, b"", "goshelf: no-key\n"))
+
+
+def make_odd(suite, name):
+    """Makes a store of one path with the go.mods of ODD, the last of which is the highest."""
+    new_store(name, *SHELVES)
+    add_platform(name)
+    asked = [
+        put("example.com/odd", f"v1.{at}.0", f"module example.com/odd\n{lines}".encode(), b"", KEYS["A"])
+        for at, lines in enumerate(ODD)
+    ]
+    suite.equal("the odd store is made", answered(["--db", name], asked), [(201, b"published\n")] * len(asked))
 
 
 def requires_of(letter, row):
@@ -317,7 +354,7 @@ def large(suite):
 
 def played(suite):
     make_store(suite, "store.db")
-    parts = [reference_agrees, go_agrees, make_all, rows_and_texts, isolation, every_page, graphs]
+    parts = [reference_agrees, command_agrees, go_agrees, make_all, rows_and_texts, isolation, every_page, graphs]
     for part in (*parts, large) if "--long" in sys.argv[1:] else parts:
         part(suite)
 

@@ -63,6 +63,9 @@ key-revoke --db none.db --key A --shelf alpha
 publish --db none.db
 import --db none.db --key A
 inventory --db none.db
+catalog --db none.db
+catalog --key A
+catalog --control none.sock --key A
 requires --db none.db --key A --module example.com/lib
 key-list
 key-list --db none.db --key A
@@ -146,6 +149,7 @@ key-revoke --db --control --key --fingerprint --shelf --all
 publish --db --key --module --version --mod --zip --time
 import --db --key --list
 inventory --db --key
+catalog --db --key
 requires --db --key --module --version
 key-list --db --control
 shelf-list --db --control
@@ -303,6 +307,7 @@ requires --db store.db --key D --module example.com/g --version v1.0.0 | 0
 requires --db store.db --key A --module example.com/g --version v1.0.0 | 1 not-found
 key-revoke --db store.db --key P | 0
 inventory --db store.db --key P | 1 no-key
+catalog --db store.db --key P | 1 no-key
 group-add --db new.db --group platform | 0
 team-add --db new.db --team alpha --group platform | 0
 """
@@ -383,6 +388,7 @@ import --db {} --key C --list list.csv | 1
 # commands that only read, on a file that is missing
 READS = """
 inventory --db none.db --key A | 1 no-key
+catalog --db none.db --key A | 1 no-key
 requires --db none.db --key A --module example.com/lib --version v1.0.0 | 1 not-found
 key-list --db none.db | 0
 shelf-list --db none.db | 0

@@ -105,6 +105,7 @@ no_serve rows none (action.RevokeAll shelf) asks = cc
 no_serve rows none (action.Publish words files) asks = cc
 no_serve rows none (action.Import key list) asks = cc
 no_serve rows none (action.Inventory key) asks = cc
+no_serve rows none (action.Catalog key) asks = cc
 no_serve rows none (action.Requires version) asks = cc
 no_serve rows none action.KeyList asks = asks
 no_serve rows none action.ShelfList asks = asks
@@ -145,6 +146,7 @@ no_command rows word init answer extract migrate copy ping keys shelves stop ord
     on_store db (action.Publish words files) asks = acts (command.OnStore db (action.Publish words files)) asks
     on_store db (action.Import key list) asks = acts (command.OnStore db (action.Import key list)) asks
     on_store db (action.Inventory key) asks = acts (command.OnStore db (action.Inventory key)) asks
+    on_store db (action.Catalog key) asks = acts (command.OnStore db (action.Catalog key)) asks
     on_store db (action.Requires version) asks = acts (command.OnStore db (action.Requires version)) asks
     on_store db action.KeyList asks = keys asks.0
     on_store db action.ShelfList asks = shelves asks.0

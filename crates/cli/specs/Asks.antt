@@ -110,6 +110,7 @@ module _ (rows : List Row) where
       × MayBe (codes "time") words.time × Is (codes "mod") files.gomod.now × Is (codes "zip") files.zip.now
   AsksAction word (action.Import key list) = (word ≡ codes "import") × Is (codes "key") key.now × Is (codes "list") list.now
   AsksAction word (action.Inventory key) = (word ≡ codes "inventory") × Is (codes "key") key.now
+  AsksAction word (action.Catalog key) = (word ≡ codes "catalog") × Is (codes "key") key.now
   AsksAction word (action.Requires version) = (word ≡ codes "requires")
       × Is (codes "key") version.key.now × Is (codes "module") version.path.now × Is (codes "version") version.version.now
   AsksAction word (action.Serve entrance connections control) = (word ≡ codes "serve")

@@ -249,6 +249,9 @@ fn action_of<'a>(word: &str, options: &ArgMatches<'a>) -> Option<Action<'a>>
         "inventory" => Some(Action::Inventory {
             key: text(options, "key")?,
         }),
+        "catalog" => Some(Action::Catalog {
+            key: text(options, "key")?,
+        }),
         "requires" => requires_of(options),
         "serve" => serve_of(options),
         _ => None,

@@ -10,7 +10,7 @@ use Rattle.commands.specs.ImportFile.{ImportsFile}
 use Rattle.commands.specs.NewKey.{AddsNew}
 use Rattle.commands.specs.Opening.{AnswersAll}
 use Rattle.commands.specs.Publish.{asked_by, PublishesFiles}
-use Rattle.commands.specs.Report.{PrintsInventory, PrintsKeys, PrintsRequirements, PrintsShelves}
+use Rattle.commands.specs.Report.{PrintsCatalog, PrintsInventory, PrintsKeys, PrintsRequirements, PrintsShelves}
 use Rattle.commands.specs.Serve.{Copied, Counted, ListensAs}
 use Rattle.commands.specs.declared.refusal.CommandRefusal.{CommandRefusal}
 use Rattle.commands.specs.declared.serve.Entrance.{Entrance}
@@ -77,9 +77,9 @@ module _ {S : Type 0} (shown : S → Shown) (copied : Copied S) (counted : Count
     pub came : new.came ≡ old.came
 
   -- What is done by the kind of action: nothing, one command of the registry, a key that is made is added, the key of a
-  -- fingerprint is revoked, or all of a shelf, one publish, those of a list, an inventory, the requirements of a
-  -- version, or a list of the keys or of the shelves is printed, all requests of the input are answered, or no more
-  -- requests than there are connections, and orders, copies and pings between them.
+  -- fingerprint is revoked, or all of a shelf, one publish, those of a list, an inventory, a catalog, the requirements
+  -- of a version, or a list of the keys or of the shelves is printed, all requests of the input are answered, or no
+  -- more requests than there are connections, and orders, copies and pings between them.
   abbrev pub Acts : Result Bool CommandRefusal → Action → Type 0
   Acts result action.Open = (new ≡ old) × (result ≡ Ok true)
   Acts result (action.Register order) = RegistersAlone order result
@@ -92,6 +92,8 @@ module _ {S : Type 0} (shown : S → Shown) (copied : Copied S) (counted : Count
       ImportsFile shown old.store new.store key.now old.written new.written result × (new.came ≡ old.came)
   Acts result (action.Inventory key) =
       PrintsInventory (shown old.store) (shown new.store) key.now old.written new.written result × (new.came ≡ old.came)
+  Acts result (action.Catalog key) =
+      PrintsCatalog (shown old.store) (shown new.store) key.now old.written new.written result × (new.came ≡ old.came)
   Acts result (action.Requires version) =
       PrintsRequirements (shown old.store) (shown new.store) version old.written new.written result × (new.came ≡ old.came)
   Acts result action.KeyList = PrintsKeys (shown old.store) (shown new.store) old.written new.written result × (new.came ≡ old.came)

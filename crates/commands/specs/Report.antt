@@ -2,6 +2,7 @@
 use Rattle.std.specs.Prelude.{ℕ, ◌≡◌, List, Bool, true, Option, Some, None, Result, Ok, Err, MatchResult}
 use Rattle.std.specs.FinMap as map
 use Rattle.std.specs.Io.KnownBytes.{Appends}
+use Rattle.catalog.specs.Catalog.{catalog_of}
 use Rattle.keyring.specs.KeyList.{ListsKeys}
 use Rattle.keyring.specs.ShelfList.{shelf_text}
 use Rattle.modver.specs.Reading.{version_of}
@@ -24,6 +25,13 @@ inventory_ending (Ok text) = Ok text
 inventory_ending (Err why.NoKey) = Err NoKey
 inventory_ending (Err why.Device) = Err Device
 inventory_ending (Err why.Memory) = Err Memory
+
+-- the lines of a catalog, or the refusal if there are none
+abbrev pub catalog_ending : Result (Option (List ℕ)) StoreFault → Result (List ℕ) CommandRefusal
+catalog_ending (Ok (Some lines)) = Ok lines
+catalog_ending (Ok None) = Err NoKey
+catalog_ending (Err fault.Device) = Err Device
+catalog_ending (Err fault.Memory) = Err Memory
 
 -- the lines of what a version requires, or the refusal if there are none
 abbrev pub requirements_ending : Result (Option (List ℕ)) StoreFault → Result (List ℕ) CommandRefusal
@@ -53,6 +61,13 @@ pub record PrintsInventory
   pub told : Result (List ℕ) InventoryFault
   pub inventories : Inventories old new key told
   pub prints : Prints written written_new result (inventory_ending told)
+
+-- the catalog of a key was read, which changes nothing, and printed
+pub record PrintsCatalog
+    (old new : Shown) (key : List ℕ) (written written_new : Option (List ℕ)) (result : Result Bool CommandRefusal) : Type 0 where
+  pub told : Result (Option (List ℕ)) StoreFault
+  pub reads : Reads old new told (λ w. catalog_of w (map.get w.keys key))
+  pub prints : Prints written written_new result (catalog_ending told)
 
 -- what a version requires was read, which changes nothing, and printed
 pub record PrintsRequirements

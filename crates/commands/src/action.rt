@@ -8,7 +8,9 @@ use crate::new_key::add_new;
 use crate::publish::{Files, Words, publish};
 use crate::refusal::CommandRefusal;
 use crate::registry::{register, revoke_named, revoke_shelf};
-use crate::report::{Named, print_inventory, print_keys, print_requirements, print_shelves};
+use crate::report::{
+    Named, print_catalog, print_inventory, print_keys, print_requirements, print_shelves,
+};
 use crate::serve::{Entrance, serve};
 use control::{Copies, Order};
 use histories::{Hear, Tell};
@@ -51,6 +53,10 @@ pub enum Action<'a> {
     },
     /// `inventory`: prints what the shelf of a key sees.
     Inventory {
+        key: &'a str,
+    },
+    /// `catalog`: prints what the shelf of a key sees, as lines of JSON.
+    Catalog {
         key: &'a str,
     },
     /// `requires`: prints what the go.mod of a version requires.
@@ -99,6 +105,7 @@ pub fn act_on<S: Outlines + Keyring, K: Copies<S>, I: Hear, O: Tell>(
         Action::Publish { words, files } => publish(rt, shelves, words, files, output),
         Action::Import { key, list } => import_file(rt, shelves, key, list, output),
         Action::Inventory { key } => print_inventory(rt.alloc(), shelves, key, output),
+        Action::Catalog { key } => print_catalog(rt.alloc(), shelves, key, output),
         Action::Requires { version } => print_requirements(rt.alloc(), shelves, version, output),
         Action::KeyList => print_keys(rt.alloc(), shelves, output),
         Action::ShelfList => print_shelves(rt.alloc(), shelves, output),

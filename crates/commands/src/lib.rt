@@ -9,6 +9,7 @@
 //! | `publish` | asks the machine to publish two files, and prints the line of its outcome | [`publish`] |
 //! | `import` | asks the machine to publish each row of a list, and prints a line for each | [`import`], [`import_file`] |
 //! | `inventory`, `requires` | prints what a shelf sees, and what a version requires | [`report`], [`inventory`], [`requirements`] |
+//! | `catalog` | prints what a shelf sees, a line of JSON for each version, as the crate [`catalog`] makes them | [`report`] |
 //! | `key-list`, `shelf-list` | prints a line for each key, or for each shelf | [`report`] |
 //! | `answer` | answers the requests of a reader from a store, or from shelves in memory | [`answer`], [`memory`] |
 //! | `serve` | prints its port, answers one request on each of some connections, and carries out orders between them | [`serve`] |

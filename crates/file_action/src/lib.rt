@@ -49,6 +49,7 @@ where
 fn use_of(action: &Action) -> Use {
     match action {
         Action::Inventory { .. }
+        | Action::Catalog { .. }
         | Action::Requires { .. }
         | Action::KeyList
         | Action::ShelfList

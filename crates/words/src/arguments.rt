@@ -4,8 +4,9 @@ ghost use Rattle.clap.specs.Words.{app_of, rule_of, shape_of};
 ghost use Rattle.words.specs.Table as spec;
 
 use crate::options::{
-    ANSWER, COPY, EXTRACT, GROUP_ADD, IMPORT, INIT, INVENTORY, KEY_ADD, KEY_LIST, KEY_REVOKE,
-    MIGRATE, OptionRow, PING, PUBLISH, REQUIRES, SERVE, SHELF_LIST, STOP, TEAM_ADD, Value,
+    ANSWER, CATALOG, COPY, EXTRACT, GROUP_ADD, IMPORT, INIT, INVENTORY, KEY_ADD, KEY_LIST,
+    KEY_REVOKE, MIGRATE, OptionRow, PING, PUBLISH, REQUIRES, SERVE, SHELF_LIST, STOP, TEAM_ADD,
+    Value,
 };
 use clap::builder::ValueParser;
 use clap::{Arg, ArgAction, Command};
@@ -24,7 +25,7 @@ struct CommandRow {
 }
 
 /// The commands that work on one store, in the order of the help.
-static STORE_COMMANDS: [CommandRow; 11] = [
+static STORE_COMMANDS: [CommandRow; 12] = [
     CommandRow {
         name: "init",
         about: "Makes a store with the shelf common alone, in a file that has no bytes",
@@ -92,6 +93,13 @@ static STORE_COMMANDS: [CommandRow; 11] = [
         name: "inventory",
         about: "Prints each version that the shelf of a key sees, as CSV",
         options: &INVENTORY,
+        forms: None,
+        example: "",
+    },
+    CommandRow {
+        name: "catalog",
+        about: "Prints each version that the shelf of a key sees, as a line of JSON",
+        options: &CATALOG,
         forms: None,
         example: "",
     },

@@ -208,6 +208,8 @@ pub(crate) const INVENTORY: [OptionRow; 2] = [
     },
 ];
 
+pub(crate) const CATALOG: [OptionRow; 2] = INVENTORY;
+
 pub(crate) const REQUIRES: [OptionRow; 4] = [
     DB,
     OptionRow {

@@ -55,20 +55,23 @@ follow_each = (
                   (
                     follows (codes "inventory") refl refl (λ _. refl) (λ _. refl),
                     (
-                      follows (codes "requires") refl refl (λ _. refl) (λ _. refl),
+                      follows (codes "catalog") refl refl (λ _. refl) (λ _. refl),
                       (
-                        follows (codes "extract") refl refl (λ _. refl) (λ _. refl),
+                        follows (codes "requires") refl refl (λ _. refl) (λ _. refl),
                         (
-                          follows (codes "migrate") refl refl (λ _. refl) (λ _. refl),
+                          follows (codes "extract") refl refl (λ _. refl) (λ _. refl),
                           (
-                            follows (codes "answer") refl refl (λ _. refl) (λ _. refl),
+                            follows (codes "migrate") refl refl (λ _. refl) (λ _. refl),
                             (
-                              follows (codes "serve") refl refl (λ _. refl) (λ _. refl),
+                              follows (codes "answer") refl refl (λ _. refl) (λ _. refl),
                               (
-                                follows (codes "copy") refl refl (λ _. refl) (λ _. refl),
+                                follows (codes "serve") refl refl (λ _. refl) (λ _. refl),
                                 (
-                                  follows (codes "ping") refl refl (λ _. refl) (λ _. refl),
-                                  (follows (codes "stop") refl refl (λ _. refl) (λ _. refl), tt),
+                                  follows (codes "copy") refl refl (λ _. refl) (λ _. refl),
+                                  (
+                                    follows (codes "ping") refl refl (λ _. refl) (λ _. refl),
+                                    (follows (codes "stop") refl refl (λ _. refl) (λ _. refl), tt),
+                                  ),
                                 ),
                               ),
                             ),

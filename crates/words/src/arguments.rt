@@ -116,7 +116,8 @@ static STORE_COMMANDS: [CommandRow; 12] = [
 static OTHER_COMMANDS: [CommandRow; 7] = [
     CommandRow {
         name: "extract",
-        about: "Makes a store of the part of one team or more: their shelves, their groups' and common, with their versions and keys",
+        about: "Makes a store of the part of one team or more: their shelves, their groups' and common, with their \
+            versions and keys",
         options: &EXTRACT,
         forms: None,
         example: "",

@@ -284,19 +284,22 @@ pub(crate) const SERVE: [OptionRow; 5] = [
         name: "stdin",
         value: Value::Flag,
         is_required: false,
-        help: "In place of --port, take the connections of the TCP socket that standard input is, which listens already",
+        help: "In place of --port, take the connections of the TCP socket that standard input is, which listens \
+            already",
     },
     OptionRow {
         name: "connections",
         value: Value::Number("M", u32::MAX as u64),
         is_required: false,
-        help: "How many connections to serve, one after another; one that fails counts; 4294967295 at most, and by default",
+        help: "How many connections to serve, one after another; one that fails counts; 4294967295 at most, and by \
+            default",
     },
     OptionRow {
         name: "control",
         value: Value::Text("S"),
         is_required: false,
-        help: "A socket to make, for the commands that take --control; only the user who runs serve, and root, may connect to it",
+        help: "A socket to make, for the commands that take --control; only the user who runs serve, and root, may \
+            connect to it",
     },
 ];
 

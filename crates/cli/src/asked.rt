@@ -62,8 +62,8 @@ fn command_of_word<'m, 'a>(word: &str, options: &'m ArgMatches<'a>) -> Option<Co
     }
 }
 
-/// Returns the command of a word and options that name no order: an action on the store of a file, or a key that is made
-/// and sent to a running server.
+/// Returns the command of a word and options that name no order: an action on the store of a file, or a key that is
+/// made and sent to a running server.
 fn unordered_command<'a>(word: &str, options: &ArgMatches<'a>) -> Option<Command<'a>>
     ensures { Finds result (AsksUnordered (rows_of (found_of options.now)) word.now) }
 {

@@ -107,8 +107,8 @@ module _ (old new : Shown) (sent : List ℕ) (order asked : Order) (result : Res
     carried honest stands is same asks other heard (Err fault) ends through =
         inr (fault, ends, (through.runs.at honest w stands).ends)
 
-    heard_so : new.is_honest → old.stands w → IsWorld w → ComeToTheSame asked order → IsSent sent asked → (heard : Heard)
-        → IsHeardIn sent heard
+    heard_so : new.is_honest → old.stands w → IsWorld w → ComeToTheSame asked order → IsSent sent asked
+        → (heard : Heard) → IsHeardIn sent heard
         → (outcome : Outcome) → spoken.Outcome outcome ≡ told_heard heard → result ≡ told_ending asked (Ok outcome)
         → GoesThroughSteps old new (steps_heard heard)
         → EndsAt new w order result

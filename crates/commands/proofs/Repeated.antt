@@ -78,7 +78,8 @@ front_of_all cfg s s1 s2 xs y1 y2 (r ∷ rs) [] some all end =
     absurd (no_read some.0 (sym more ∙ end))
 front_of_all cfg s s1 s2 xs y1 y2 (r ∷ rs) (q ∷ qs) some all end =
     let same : some.0 ≡ all.0 = ap (read_or some.0) (sym some.1 ∙ all.1) in
-    let there : Reached cfg all.0.1 all.0.2 rs s1 y1 = subst (λ (p : Read). Reached cfg p.1 p.2 rs s1 y1) same some.3 in (
+    let there : Reached cfg all.0.1 all.0.2 rs s1 y1 =
+    subst (λ (p : Read). Reached cfg p.1 p.2 rs s1 y1) same some.3 in (
       some.2 ∙ ap (λ (p : Read). p.0) same
           ∙ sym all.2,
       front_of_all cfg all.0.1 s1 s2 all.0.2 y1 y2 rs qs there all.3 end,

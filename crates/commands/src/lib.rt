@@ -7,13 +7,14 @@
 //! | `key-revoke --shelf --all` | revokes all keys of a shelf | [`registry`] |
 //! | `key-revoke --fingerprint` | revokes the key that has a fingerprint | [`registry`] |
 //! | `publish` | asks the machine to publish two files, and prints the line of its outcome | [`publish`] |
-//! | `import` | asks the machine to publish each row of a list, and prints a line for each | [`import`], [`import_file`] |
-//! | `inventory`, `requires` | prints what a shelf sees, and what a version requires | [`report`], [`inventory`], [`requirements`] |
-//! | `catalog` | prints what a shelf sees, a line of JSON for each version, as the crate [`catalog`] makes them | [`report`] |
+//! | `import` | asks the machine to publish each row of a list, with a line for each | [`import`], [`import_file`] |
+//! | `inventory` | prints what a shelf sees | [`report`], [`inventory`] |
+//! | `catalog` | prints what a shelf sees, each version as a line of JSON | [`report`] |
+//! | `requires` | prints what a version requires | [`report`], [`requirements`] |
 //! | `key-list`, `shelf-list` | prints a line for each key, or for each shelf | [`report`] |
 //! | `answer` | answers the requests of a reader from a store, or from shelves in memory | [`answer`], [`memory`] |
-//! | `serve` | prints its port, answers one request on each of some connections, and carries out orders between them | [`serve`] |
-//! | the registry commands with `--control`, `copy`, `stop` | send an order to a running `serve`, and end by its outcome | [`order`] |
+//! | `serve` | prints its port, answers a request of each connection, and carries out orders between them | [`serve`] |
+//! | with `--control`; `copy`, `stop` | sends an order to a running `serve`, and ends by its outcome | [`order`] |
 //! | `key-list`, `shelf-list` with `--control` | asks a running `serve` for the list, and prints it | [`listing`] |
 //! | `ping` | asks a running `serve` for its health, and prints the line | [`ping`] |
 //!

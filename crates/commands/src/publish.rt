@@ -76,7 +76,8 @@ fn publish_read<S: Shelves, O: Tell>(
 ) -> Result<bool, CommandRefusal>
     ensures ends { spec.EndsBy S.shown shelves.old shelves.new (spec.asked_by words.now)
         (O.contents output.old) (O.contents output.new) result read }
-    ensures cause { IfErr result (λ _. (read ≡ Err FileFault.Io) ⊎ HasFailed (O.writes output.old) (O.writes output.new)) }
+    ensures cause { IfErr result (λ _. (read ≡ Err FileFault.Io)
+        ⊎ HasFailed (O.writes output.old) (O.writes output.new)) }
     ensures flushed { OnOk result ((O.writes output.new).unflushed ≡ []) }
 {
     match read {
@@ -103,8 +104,8 @@ pub fn publish_files<S: Shelves, O: Tell>(
     body: Body,
     output: &mut O,
 ) -> Result<bool, CommandRefusal>
-    ensures publishes { spec.PublishesAndTells (S.shown shelves.old) (S.shown shelves.new) (spec.asked_by words.now body)
-        (O.contents output.old) (O.contents output.new) result }
+    ensures publishes { spec.PublishesAndTells (S.shown shelves.old) (S.shown shelves.new)
+        (spec.asked_by words.now body) (O.contents output.old) (O.contents output.new) result }
     // It fails only if a call of the output failed.
     ensures cause { IfErr result (λ _. HasFailed (O.writes output.old) (O.writes output.new)) }
     // What was printed is flushed.

@@ -97,8 +97,8 @@ pub fn print_keys<S: Keyring, O: Tell>(
     print(list_ending(told), output)
 }
 
-/// Prints a line for each shelf, in byte order, and returns true: its name, what kind of shelf it is, and the group of a
-/// team that has one. Fails as `print_keys` does.
+/// Prints a line for each shelf, in byte order, and returns true: its name, what kind of shelf it is, and the group of
+/// a team that has one. Fails as `print_keys` does.
 pub fn print_shelves<S: Keyring, O: Tell>(
     alloc: Global,
     shelves: &mut S,

@@ -260,8 +260,8 @@ impl Doors {
     fn accept(&mut self) -> io::Result<Option<SystemCaller>>
         ensures { IfOk result (λ found. IfSome found (λ caller. IsUnheard
             ⟦<Connection<TcpStream, TcpStream> as Peer>⟧.came ⟦<Connection<TcpStream, TcpStream> as Peer>⟧.written
-            ⟦<Connection<UnixStream, UnixStream> as Operator>⟧.came ⟦<Connection<UnixStream, UnixStream> as Operator>⟧.written
-            caller)) }
+            ⟦<Connection<UnixStream, UnixStream> as Operator>⟧.came
+            ⟦<Connection<UnixStream, UnixStream> as Operator>⟧.written caller)) }
     {
         if self.operator_waits {
             match self.operators.accept() {
@@ -298,8 +298,8 @@ impl Callers<Connection<TcpStream, TcpStream>, Connection<UnixStream, UnixStream
     /// Nothing has passed over the connection.
     ghost is_new = { λ caller. IsUnheard
         ⟦<Connection<TcpStream, TcpStream> as Peer>⟧.came ⟦<Connection<TcpStream, TcpStream> as Peer>⟧.written
-        ⟦<Connection<UnixStream, UnixStream> as Operator>⟧.came ⟦<Connection<UnixStream, UnixStream> as Operator>⟧.written
-        caller };
+        ⟦<Connection<UnixStream, UnixStream> as Operator>⟧.came
+        ⟦<Connection<UnixStream, UnixStream> as Operator>⟧.written caller };
 
     /// Takes an operator before a peer.
     fn next(&mut self) -> io::Result<SystemCaller> {

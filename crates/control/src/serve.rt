@@ -89,7 +89,8 @@ fn answer_on<C: Clock, P: Peer + Drop, S: Shelves>(
     peer: P,
     shelves: &mut S,
 ) -> Result<Option<u16>, Io>
-    ensures { AnswersOne (both P.came P.reads) (both P.written P.writes) peer (S.shown shelves.old) (S.shown shelves.new) result }
+    ensures { AnswersOne (both P.came P.reads) (both P.written P.writes) peer
+        (S.shown shelves.old) (S.shown shelves.new) result }
 {
     let After { peer, status } = peer.answer(alloc, clock, routes, shelves);
     if let Ok(Some(number)) = status {

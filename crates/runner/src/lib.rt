@@ -6,7 +6,7 @@
 //! | [`Command::AnswerInMemory`] | answers requests from shelves in memory |
 //! | [`Command::OnStore`] | opens the store of a file and does an action of `commands` on it |
 //! | [`Command::Extract`] | opens the stores of two files and puts some teams' part of the first into the second |
-//! | [`Command::Migrate`] | opens a file of an older schema and the store of another file, and puts what the first has into the second |
+//! | [`Command::Migrate`] | opens the store of a file and puts what a file of an older schema has into it |
 //! | [`Command::Order`] | opens no store, and sends an order to the `serve` that has one open |
 //! | [`Command::OrderNew`] | opens no store, makes a key, prints it, and sends an order to add it |
 //! | [`Command::Copy`] | opens no store, and has the `serve` that has one open copy it into another file |

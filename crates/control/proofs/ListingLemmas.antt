@@ -40,17 +40,20 @@ list_is old new w Keys text lists h stands = keys_read old new w lists.told text
 list_is old new w Shelves text reads h stands = (reads.at h w stands).answer
 
 -- a read whose value was lost is one that met a lack of memory
-no_memory_cause : {T U : Type 0} (old new : Shown) (x : T) → HasCause old new (Ok x)
-    → HasCause old new (Err {T = U} Memory)
-no_memory_cause old new x cause = record { no_fewer = cause.no_fewer; device = λ is. cc }
+abbrev out_of_memory : (T : Type 0) → Result T StoreFault
+out_of_memory T = Err Memory
+
+no_memory_cause : {T : Type 0} (U : Type 0) (old new : Shown) (x : T) → HasCause old new (Ok x)
+    → HasCause old new (out_of_memory U)
+no_memory_cause U old new x cause = record { no_fewer = cause.no_fewer; device = λ is. cc }
 
 read_lost : {T : Type 0} (old new : Shown) (x : T) (value : World → T) → Reads old new (Ok x) value
     → Reads old new (Err Memory) value
-read_lost old new x value reads = record {
+read_lost {T} old new x value reads = record {
   honest = reads.honest;
   at = λ h w stands.
       let here = reads.at h w stands in record { answer = tt; stays = here.stays; left = here.left };
-  cause = no_memory_cause old new x reads.cause;
+  cause = no_memory_cause T old new x reads.cause;
 }
 
 keys_lost : (old new : Shown) (text : List ℕ) → ListsKeys old new (Ok text) → ListsKeys old new (Err Memory)

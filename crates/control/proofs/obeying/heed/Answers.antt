@@ -64,6 +64,7 @@ returns-in-None g c = record {
     λ is. false≢true (sym c.if-is_stop.false ∙ c.is_stop.ensures.1 is),
     λ is. false≢true (sym c.if-is_ping.false ∙ c.is_ping.ensures.1 is),
     rw c.in_default.is at c.copy_in.ensures,
+    rw c.in_default-listing_in.is at c.listing_in.ensures,
   );
   tells = refl;
   through = turns_none _;

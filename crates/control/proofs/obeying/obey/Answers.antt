@@ -20,7 +20,10 @@ returns-in-Err-tell_line-clause-obeys g c =
     (rw c.bytes.ensures at c.in-Err-tell_line.ensures.tells)
 
 pub returns-in-Err-clause-cause : goal.returns-in-Err-clause-cause
-returns-in-Err-clause-cause g c = caused_unread most_tries _ _ _ _ _ c.in-Err.ensures.hears.0 c.in-Err.ensures.cause
+returns-in-Err-clause-cause g c = caused_unread most_tries
+    (g.R.Hear.reads c.args.reader.now) (g.R.Hear.reads c.hear.new.reader)
+    (g.W.Tell.writes c.args.writer.now) (g.W.Tell.writes c.args.writer.now) _
+    c.in-Err.ensures.hears.0 c.in-Err.ensures.cause
 
 pub returns-in-Err-tell_line-clause-cause : goal.returns-in-Err-tell_line-clause-cause
 returns-in-Err-tell_line-clause-cause g c = subst

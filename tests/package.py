@@ -40,6 +40,8 @@ WANTED = {
     "deploy/nginx/paths.map",
     "deploy/nginx/elsewhere.conf",
     "deploy/nginx/public.conf",
+    "tools/catalog",
+    "tools/catalog_lib/catalog.css",
 }
 # the commands that the package installs
 DEPLOY = os.path.join(ROOT, "deploy")

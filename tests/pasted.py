@@ -84,7 +84,7 @@ def of_users(suite, machine):
 
 def of_cron(suite, machine):
     """Lines for cron are not doubled."""
-    for name in ("backup", "watch", "metrics"):
+    for name in ("backup", "watch", "metrics", "catalog"):
         script = block("sh", f"root $(command -v goshelf-{name})")
         pasted(machine, script * 2)
         lines = machine.read(f"etc/cron.d/goshelf-{name}").splitlines()

@@ -1,0 +1,334 @@
+#!/usr/bin/env python3
+"""The pages of shelves behind nginx: each user sees those of the user's shelf, and goshelf-catalog makes them.
+
+nginx and goshelf are real, on a machine in a folder (lib/machine.py), set up by the commands of docs/NGINX.md. What
+each user gets is compared with the pages of a store that was extracted for the team.
+"""
+
+import fcntl
+import grp
+import os
+import re
+import subprocess
+import sys
+
+from lib.catalog_front import GOSHELF, MADE, USERS, lines_of, own_goshelf, set_up
+from lib.catalog_store import TODAY, tool
+from lib.front import keys_of, settle
+from lib.keys import KEYS
+from lib.messages import put
+from lib.peers import exchanged
+from lib.program import PROGRAM, done
+from lib.scratch import play, read
+from lib.suite import Suite
+
+AT = "var/lib/goshelf-catalog"
+# the header of each answer with a page, a part of one, or the text that there is no page
+POLICY = (
+    "default-src 'none'; img-src 'self'; script-src 'self'; style-src 'self'; "
+    "base-uri 'none'; form-action 'none'; frame-ancestors 'none'"
+)
+KINDS = {"html": "text/html; charset=utf-8", "css": "text/css", "js": "text/javascript", "svg": "image/svg+xml"}
+# targets by which somebody of alpha might reach the pages of beta, or what is beside those of alpha
+ODD = """
+/../beta/ /../beta/index.html /m/../../beta/index.html /%2e%2e/beta/index.html /m/%2e%2e/%2e%2e/beta/index.html
+/m/..%2f..%2fbeta/index.html /m/%2e%2e%2f%2e%2e%2fbeta/index.html /m//..//..//beta/index.html //beta/index.html
+/beta/ /beta/index.html /m/beta/index.html /m/./../../beta/health/ /m/x/../../../beta/health/ /health/../../beta/
+/m/%252e%252e/%252e%252e/beta/index.html /m/..;/..;/beta/index.html /m/..%5c..%5cbeta%5cindex.html /m/%00/../beta/
+/index.html/../../beta/index.html /index.html?/../../beta/index.html /?shelf=beta /#/../beta/
+/.made /m/../.made /parts/../.made /.alpha.lock /../.alpha.lock /m/../../.alpha.lock /../goshelf.state
+/m/../../goshelf.state /health/.made /health/ /m/ /m /parts/ /parts /parts/../../../goshelf/shelves.db
+""".split()
+
+
+def files_below(folder):
+    """The files of the pages in a folder, by their targets, with their bytes."""
+    found = {}
+    for at, _, names in os.walk(os.path.realpath(folder)):
+        for name in (it for it in names if it != ".made"):
+            whole = os.path.join(at, name)
+            target = "/" + os.path.relpath(whole, os.path.realpath(folder))
+            found[target.removesuffix("index.html") or "/"] = read(whole)
+    return found
+
+
+def pages_of(reader, shelf):
+    return files_below(f"{reader.machine.folder}/{AT}/{shelf}")
+
+
+def extracted(reader, suite, user, shelf, team, letters):
+    """The files of the pages of a shelf, made of the store that was extracted for a team."""
+    folder = f"{reader.machine.folder}/root"
+    copy = f"{folder}/{shelf}.db"
+    done("extract", "--db", f"{folder}/whole.db", "--team", team, "--to", copy)
+    names = {it: f"{folder}/{shelf}-{it}" for it in letters}
+    for it, name in names.items():
+        with open(name, "w", encoding="utf-8") as file:
+            file.write(lines_of(reader.machine, copy, KEYS[it]))
+    own, *above = names.values()
+    words = ["--common", above[-1], "--paths", f"{reader.machine.folder}/etc/nginx/goshelf/paths.map"]
+    group = [f"--group=platform={above[0]}"] if len(above) == 2 else []
+    told = tool("--to", f"{folder}/{shelf}", "--shelf", shelf, "--today", TODAY, *words, *group, own)
+    suite.holds(f"{user}: the pages of a store of {team} alone are made", told[0] == 0, told)
+    return files_below(f"{folder}/{shelf}")
+
+
+def own_catalogs(suite, reader):
+    """Two teams and a group see three catalogs, each that of the store that was extracted for the team."""
+    machine, seen = reader.machine, {}
+    machine.does("goshelf copy --control /run/goshelf/control --to /root/whole.db")
+    for user, team, letters in (("ann", "alpha", "AC"), ("gus", "gamma", "MPC"), ("pam", "gamma", "PC")):
+        shelf = USERS[user]
+        wanted = extracted(reader, suite, user, shelf, team, letters)
+        found = {it: reader.read(it, user) for it in wanted}
+        unlike = [it for it in wanted if (found[it][0], found[it][2]) != (200, wanted[it])]
+        suite.equal(f"{user} gets these {len(wanted)} files", unlike, [])
+        suite.equal(f"{user}: nothing else is in the folder", sorted(pages_of(reader, shelf)), sorted(wanted))
+        seen[user] = found["/"][2]
+    suite.equal("no two of them are the same", len({*seen.values()}), 3)
+
+
+def other_shelves(suite, reader):
+    """Each target of each shelf: a user gets the file of the user's own shelf, and otherwise a 404."""
+    folders = {shelf: pages_of(reader, shelf) for shelf in USERS.values()}
+    targets = sorted({it for files in folders.values() for it in files})
+    for user, shelf in USERS.items():
+        own, told = folders[shelf], {it: reader.read(it, user) for it in targets}
+        wrong = [it for it in own if (told[it][0], told[it][2]) != (200, own[it])]
+        suite.equal(f"{user} gets the {len(own)} files of {shelf}", wrong, [])
+        others = [it for it in targets if it not in own]
+        wrong = [it for it in others if told[it][0] != 404 or not told[it][2].startswith(b"no such page; ")]
+        suite.equal(f"{user} gets a 404 for {len(others)} files of other shelves", wrong, [])
+
+
+def spellings(suite, reader):
+    """No spelling of a target leads out of the folder of the shelf."""
+    own = pages_of(reader, "alpha").values()
+    for target in ODD:
+        status, _, body = reader.read(target)
+        is_right = status in (400, 404) or (status == 200 and body in own)
+        suite.holds(f"{target}: {status}", is_right, (status, body[:200]))
+    status, headers, _ = reader.read("/m/example.com/log")
+    suite.equal("a folder without its slash", (status, headers["Location"]), (301, "/m/example.com/log/"))
+    for method in ("PUT", "POST", "DELETE", "PROPFIND"):
+        suite.holds(f"{method} /: refused", reader.read("/", method=method)[0] in (400, 403, 404, 405))
+    status, headers, body = reader.read("/", method="HEAD")
+    suite.equal("HEAD /", (status, headers["Content-Type"], body), (200, KINDS["html"], b""))
+
+
+def headers(suite, reader):
+    """What a browser is told: what a page may load, and that it may keep no page for the next user."""
+    for target in (
+        "/",
+        "/health/",
+        "/m/example.com/log/",
+        "/parts/catalog.css",
+        "/parts/catalog.js",
+        "/parts/icon.svg",
+    ):
+        status, them, _ = reader.read(target)
+        kind = KINDS[target.rpartition(".")[2] if "." in target.rpartition("/")[2] else "html"]
+        names = ("Content-Type", "Content-Security-Policy", "Cache-Control", "Referrer-Policy")
+        wanted = kind, POLICY, "private, no-cache", "no-referrer"
+        suite.equal(f"{target}: its headers", (status, *map(them.get, names)), (200, *wanted))
+    for target in ("/", "/m/nosuch/", "/example.com/log/@v/list", "/example.com/log/@v/v1.2.0.mod", "/-/nosuch"):
+        them = reader.read(target)[1]
+        found = them["Cross-Origin-Resource-Policy"], them["X-Content-Type-Options"], them["ETag"]
+        suite.equal(f"{target}: pages of other sites do not see it", found, ("same-origin", "nosniff", None))
+    then = reader.read("/")[1]["Last-Modified"]
+    told = reader.read("/", **{"If-Modified-Since": then, "If-None-Match": "*"})[0]
+    suite.equal("what a browser kept is never still good", told, 200)
+
+
+def strangers(suite, reader):
+    """Nobody, and whoever has been removed, gets a 401 and no page. A new shelf has no pages yet."""
+    for target in ("/", "/m/example.com/log/", "/parts/catalog.css", "/nosuch/", "/m/nosuch/"):
+        status, them, body = reader.read(target, None)
+        found = status, them["WWW-Authenticate"], body[:8], them["Content-Security-Policy"]
+        suite.equal(f"{target}, without a login", found, (401, 'Basic realm="goshelf"', b"log in: ", None))
+    machine = reader.machine
+    machine.does("goshelf team-add --control /run/goshelf/control --team omega")
+    for user, shelf in (("eve", "alpha"), ("oda", "omega")):
+        reader.add(user, shelf, "publish")
+        settle(reader, user, 404)
+    suite.equal("a user who publishes", reader.read("/", "eve")[::2], (200, pages_of(reader, "alpha")["/"]))
+    status, _, body = reader.read("/", "oda")
+    suite.holds("a shelf without pages", (status, body[:13]) == (404, b"no such page;"), (status, body))
+    machine.does("goshelf-user remove eve")
+    settle(reader, "eve", 401)
+    suite.equal("a user who was removed", reader.read("/", "eve")[0], 401)
+    told = machine.sh("goshelf-catalog")
+    suite.holds("the new shelf gets pages", told[0] == 0 and "\nomega: 4 pages, 4 new" in told[1], told)
+    suite.equal("and its user sees them", reader.read("/", "oda")[0], 200)
+    machine.does("goshelf-user remove oda")
+
+
+def words(reader):
+    """What goshelf was asked since the last call."""
+    told = reader.machine.read("root/words").splitlines()
+    reader.machine.write("root/words", "")
+    return told
+
+
+def left(reader):
+    """What stands beside the store."""
+    return sorted(os.listdir(f"{reader.machine.folder}/var/lib/goshelf"))
+
+
+def runs(suite, reader):
+    """A run makes what is new, by no key of the store, and leaves nothing beside it."""
+    machine, keys = reader.machine, [*KEYS.values(), *keys_of(reader.machine)]
+    words(reader)
+    told = machine.sh("goshelf-catalog")
+    asked = words(reader)
+    suite.equal("the pages of other users", told, (0, re.sub(" .*", " nothing changed", MADE), ""))
+    names = [it.split()[0] for it in asked]
+    suite.equal("what goshelf is asked", names, ["--version", "copy", *["catalog"] * len(USERS)])
+    suite.equal("no key of the store is in its words", [it for it in asked if any(key in it for key in keys)], [])
+    suite.equal("the same store", machine.sh("goshelf-catalog"), (0, "nothing has changed\n", ""))
+    suite.equal("it is not copied", [it for it in words(reader) if it.startswith(("copy", "catalog"))], [])
+    before = pages_of(reader, "gamma")
+    publish = put("example.com/alpha/new", "v1.0.0", b"module example.com/alpha/new\n", key=KEYS["A"])
+    suite.holds("a publish", exchanged(machine.behind, publish).startswith(b"HTTP/1.1 201 "))
+    status, printed, errors = machine.sh("goshelf-catalog")
+    wanted = [re.sub(" .*", " nothing changed", it) for it in MADE.splitlines()]
+    wanted[0] = "alpha: 5 pages, 2 new or changed"
+    suite.equal("a version more", (status, printed.splitlines(), errors), (0, wanted, ""))
+    suite.equal("its page", reader.read("/m/example.com/alpha/new/")[0], 200)
+    machine.does(f"rm /{AT}/goshelf.state")
+    line = machine.read("etc/cron.d/goshelf-catalog").split(maxsplit=6)[6]
+    ran = subprocess.run(["env", "-i", "PATH=/usr/bin:/bin", "sh", "-c", line], capture_output=True, text=True)
+    suite.equal("by cron it prints nothing", (ran.returncode, ran.stdout, ran.stderr), (0, "", ""))
+    suite.equal("nobody else's", {reader.read("/m/example.com/alpha/new/", it)[0] for it in ("bea", "gus")}, {404})
+    suite.equal("other pages are as they were", pages_of(reader, "gamma"), before)
+    suite.equal("nothing is beside the store", left(reader), ["shelves.db", "shelves.db-wal"])
+    readable(suite, machine, keys)
+
+
+def readable(suite, machine, keys):
+    """nginx's group may read the pages, and nobody else. They hold no key."""
+    top = f"{machine.folder}/{AT}"
+    group, modes, texts = grp.getgrnam("www-data").gr_gid, set(), []
+    for at, folders, names in os.walk(top):
+        told = [os.stat(os.path.join(at, it)) for it in (*folders, *names) if not it.endswith(".lock")]
+        modes |= {(it.st_gid == group, oct(it.st_mode & 0o7)) for it in told}
+        texts += [read(os.path.join(at, it)) for it in names]
+    suite.equal("who may read the pages", modes, {(True, "0o0")})
+    suite.equal("no page has a key", [it for it in texts if any(key.encode() in it for key in keys)], [])
+
+
+def of_backups(suite, reader):
+    """`last` takes the last backup, and goshelf copies nothing."""
+    machine = reader.machine
+    told = machine.sh("goshelf-catalog last")
+    suite.holds("without a backup", told[:2] == (1, "") and "there is no backup in " in told[2], told)
+    machine.does("goshelf-backup")
+    publish = put("example.com/alpha/later", "v1.0.0", b"module example.com/alpha/later\n", key=KEYS["A"])
+    suite.holds("a publish after the backup", exchanged(machine.behind, publish).startswith(b"HTTP/1.1 201 "))
+    words(reader)
+    told = machine.sh("goshelf-catalog last")
+    wanted = re.sub(" .*", " nothing changed", MADE)
+    suite.equal("the pages of the backup", told, (0, wanted, ""))
+    suite.equal("goshelf copies nothing", [it for it in words(reader) if it.startswith("copy")], [])
+    suite.equal("the same backup", machine.sh("goshelf-catalog last"), (0, "nothing has changed\n", ""))
+    suite.equal("the later version is not there", reader.read("/m/example.com/alpha/later/")[0], 404)
+    told = machine.sh("goshelf-catalog")
+    suite.holds("the store has it", told[0] == 0 and told[1].startswith("alpha: 6 pages, 2 new"), told)
+
+
+# words that are bad usage
+WORDS = ("''", "first", "alpha", "last last", "--last", "--control", "last ''")
+# a way to break a run, as a script and the script that mends it, and what is said
+BREAKS = (
+    ("a unit that is no name", "export GOSHELF_UNIT=../goshelf", "", "no unit has the name ../goshelf"),
+    ("a unit without a store", "export GOSHELF_UNIT=other", "", "there is no folder "),
+    ("no folder of pages", "mv @AT@ /root/aside", "mv /root/aside @AT@", "install -d -g www-data -m 2750 "),
+    ("no tools", "mv /root/tools /root/aside", "mv /root/aside /root/tools", "there is no command "),
+    ("no users", "mv @MAPS@/users.map /root/aside", "mv /root/aside @MAPS@/users.map", "the users cannot be read"),
+    (
+        "goshelf is stopped",
+        "systemctl stop goshelf",
+        "systemctl start goshelf",
+        "does not copy its store: goshelf: device",
+    ),
+    ("a folder of the name of the copy", "mkdir @COPY@", "rmdir @COPY@", "Is a directory"),
+)
+
+
+def misused(suite, reader):
+    """Wrong words and whatever is missing: a sentence says so, the pages stay, and nothing is left."""
+    machine = reader.machine
+    before, beside = {it: pages_of(reader, it) for it in USERS.values()}, left(reader)
+    places = {"@AT@": f"/{AT}", "@MAPS@": "/etc/nginx/goshelf", "@COPY@": "/var/lib/goshelf/goshelf-catalog.db"}
+    machine.does(f"rm /{AT}/goshelf.state")
+    for it in WORDS:
+        told = machine.sh(f"goshelf-catalog {it}")
+        suite.holds(f"goshelf-catalog {it}: bad usage", told[:2] == (2, "") and "usage: " in told[2], told)
+    for name, breaks, mends, said in BREAKS:
+        breaks, mends = (re.sub("@[A-Z]+@", lambda it: places[it[0]], script) for script in (breaks, mends))
+        told = machine.sh(f"{breaks}\ngoshelf-catalog")
+        machine.does(mends)
+        suite.holds(f"{name}: refused", told[:2] == (1, "") and said in told[2], told)
+    held = os.open(f"{machine.folder}/var/lib/goshelf", os.O_RDONLY)
+    fcntl.flock(held, fcntl.LOCK_EX)
+    suite.equal("beside another run", machine.sh("goshelf-catalog"), (1, "another goshelf-catalog has not ended\n", ""))
+    os.close(held)
+    suite.equal("the pages are as they were", {it: pages_of(reader, it) for it in before}, before)
+    suite.equal("nothing more is beside the store", left(reader), beside)
+
+
+# a goshelf that does this as soon as it is asked for what beta sees, and one that does it behind a copy
+AT_BETA = """case "$1 $(sqlite3 "${{3-}}" "SELECT shelf FROM access WHERE token = '${{5-}}'" 2> /dev/null)" in
+"catalog beta") {} ;;
+esac
+"""
+AT_COPY = """if [ "$1" = copy ]; then
+    {PROGRAM} "$@"
+    mv "$5" @/root/elsewhere.db
+    ln -s @/root/elsewhere.db "$5"
+    exit
+fi
+"""
+
+
+def broken(suite, reader):
+    """A shelf whose pages cannot be made, a run that is stopped or killed, and a link in the place of the copy."""
+    machine, top = reader.machine, f"{reader.machine.folder}/{AT}"
+    before, beside = {it: pages_of(reader, it) for it in USERS.values()}, left(reader)
+    for name, body, said in (
+        (
+            "a shelf of which goshelf prints nothing",
+            AT_BETA.format("echo 'goshelf: device' >&2; exit 1"),
+            "beta: goshelf ",
+        ),
+        ("a run that is stopped", AT_BETA.format("kill $PPID; exit 1"), ""),
+        ("a link in the place of the copy", AT_COPY.format(PROGRAM=PROGRAM), "goshelf-catalog.db is a link"),
+    ):
+        own_goshelf(machine, f"#!/bin/sh\n{body}{GOSHELF}")
+        told = machine.sh("goshelf-catalog")
+        suite.holds(f"{name}: it fails", told[0] == 1 and said in told[2] and "beta: 1" not in told[1], told)
+        suite.equal(f"{name}: the pages stay", {it: pages_of(reader, it) for it in before}, before)
+        suite.equal(f"{name}: nothing more is beside the store", left(reader), beside)
+    own_goshelf(machine, f"#!/bin/sh\n{AT_BETA.format('kill -9 $PPID; exit 1')}{GOSHELF}")
+    told = machine.sh("goshelf-catalog")
+    suite.holds("a run that is killed leaves its copy", told[0] == 137 and len(left(reader)) == len(beside) + 1, told)
+    own_goshelf(machine, GOSHELF)
+    os.rename(f"{top}/beta", f"{top}/aside")
+    os.mkdir(f"{top}/beta")
+    told = machine.sh("goshelf-catalog")
+    suite.holds("a folder of somebody's own", told[0] == 1 and "beta: " in told[2] and "gamma: " in told[1], told)
+    os.rmdir(f"{top}/beta")
+    os.rename(f"{top}/aside", f"{top}/beta")
+    told = machine.sh("goshelf-catalog")
+    suite.holds("the next run makes the pages", (told[0], told[2]) == (0, "") and "\nbeta: " in told[1], told)
+    suite.equal("what was killed left nothing", left(reader), beside)
+
+
+def main():
+    suite, parts = Suite(), (own_catalogs, other_shelves, spellings, headers, strangers)
+    parts += (runs, of_backups, misused, broken)
+    return play(suite, "nginx", "its users and folders need root", lambda folder: set_up(suite, folder), parts)
+
+
+if __name__ == "__main__":
+    sys.exit(main())

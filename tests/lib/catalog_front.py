@@ -1,0 +1,100 @@
+"""A machine with goshelf behind nginx and the pages of its shelves, by the commands of docs/NGINX.md, and its users."""
+
+import os
+import secrets
+from http.client import HTTPException, HTTPSConnection
+
+from lib.catalog_store import TODAY, make_store
+from lib.front import Client, settle, start
+from lib.machine import Machine
+from lib.pages import block
+from lib.program import PROGRAM, ROOT
+
+# each user, and the user's shelf
+USERS = {"ann": "alpha", "bea": "beta", "gus": "gamma", "dee": "delta", "pam": "platform", "cam": "common"}
+PATHS = f'''"gopkg.in" "beta";\n"example.com" "{' '.join(USERS.values())}"'''
+# goshelf, which notes its words
+GOSHELF = f"""#!/bin/sh
+echo "$*" >> @/root/words
+exec {PROGRAM} "$@"
+"""
+# tools/catalog, to which it is always the same day
+TOOL = f"""#!/bin/sh
+exec {ROOT}/tools/catalog --today {TODAY} "$@"
+"""
+
+
+class Reader(Client):
+    """What users see of a machine with pages, each on one connection."""
+
+    def __init__(self, machine):
+        super().__init__(machine)
+        self.held = {}
+
+    def read(self, target, user="ann", method="GET", **headers):
+        """The answer to a request of a user, or of nobody: its status, its headers and its body."""
+        login = {"Authorization": self.login(user)} if user else {}
+        try:
+            return self.told(user, method, target, {**login, **headers})
+        except (HTTPException, OSError):
+            # (nginx closes the connections of before when it is reloaded)
+            self.held.pop(user).close()
+            return self.told(user, method, target, {**login, **headers})
+
+    def told(self, user, method, target, headers):
+        if user not in self.held:
+            port = self.machine.front
+            self.held[user] = HTTPSConnection("localhost", port, timeout=60, context=self.context)
+        self.held[user].request(method, target, headers=headers)
+        reply = self.held[user].getresponse()
+        return reply.status, reply.headers, reply.read()
+
+    def close(self):
+        for it in self.held.values():
+            it.close()
+        super().close()
+
+
+def lines_of(machine, store, key):
+    """What a key sees of a store, as goshelf prints it."""
+    return machine.does(f"goshelf catalog --db {store} --key {key}")
+
+
+def own_goshelf(machine, text):
+    """Puts a script in the place of the command goshelf, which is a link to the program."""
+    os.remove(f"{machine.folder}/usr/local/bin/goshelf")
+    machine.command("goshelf", text)
+
+
+def set_up(suite, folder):
+    """Users of each shelf of the store of lib/catalog_store.py, and their pages."""
+    machine = Machine(folder)
+    try:
+        make_store(suite, machine.store)
+        own_goshelf(machine, GOSHELF)
+        start(machine, lambda block: block.replace('"example.com" "alpha"', PATHS))
+        os.mkdir(f"{folder}/root/tools")
+        machine.write("root/tools/catalog", TOOL)
+        os.chmod(f"{folder}/root/tools/catalog", 0o755)
+        reader = Reader(machine)
+        reader.passwords = {user: secrets.token_hex(16) for user in USERS}
+        users = (f"{user} {shelf} read {reader.passwords[user]}\n" for user, shelf in USERS.items())
+        machine.write("root/users", "".join(users))
+        machine.does("goshelf-user sync users")
+        settle(reader, "ann", 404)
+        machine.does(block("sh", "/var/lib/goshelf-catalog"))
+        suite.equal("the pages are made", machine.sh("goshelf-catalog"), (0, MADE, ""))
+    except BaseException:
+        machine.close()
+        raise
+    return reader
+
+
+MADE = """\
+alpha: 4 pages, 4 new or changed
+beta: 10 pages, 10 new or changed
+common: 4 pages, 4 new or changed
+delta: 5 pages, 5 new or changed
+gamma: 7 pages, 7 new or changed
+platform: 5 pages, 5 new or changed
+"""

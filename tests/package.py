@@ -42,6 +42,7 @@ WANTED = {
     "deploy/nginx/public.conf",
     "tools/catalog",
     "tools/catalog_lib/catalog.css",
+    "docs/catalog.png",
 }
 # the commands that the package installs
 DEPLOY = os.path.join(ROOT, "deploy")

@@ -37,6 +37,7 @@ SUITES = (
     listed("adopt", "go"),
     listed("behind_nginx", "nginx openssl go git curl"),
     listed("catalog", "go tidy", is_long=True),
+    listed("catalog_browser", "chromium nginx openssl sqlite3 tidy"),
     listed("catalog_front", "flock nginx openssl sqlite3"),
     listed("catalog_misuse"),
     listed("commands"),

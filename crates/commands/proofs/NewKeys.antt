@@ -1,11 +1,15 @@
 -- A key that is added after its shelf was looked up.
-use Rattle.std.proofs.Common.{Result, Ok, Err, inl, inr}
+use Rattle.std.proofs.Common.{◌≡◌, ℕ, List, Some, None, Result, Ok, Err, inl, inr}
+use Rattle.std.specs.FinMap as map
+use Rattle.keyring.specs.Made.{key_of}
 use Rattle.world.proofs.Causes.{in_turn}
 use Rattle.world.specs.World.{World}
 use Rattle.world.specs.Store.{Shown, AddsNothing, AfterCrash, Reads}
 use Rattle.world.specs.declared.registry.StoreFault.{StoreFault}
+use Rattle.world.specs.declared.registry.StoreFault.TheVariants as fault
 use Rattle.control.specs.declared.order.Order.{Order}
 use Rattle.commands.specs.Ending.{Registers}
+use Rattle.commands.specs.NewKey.{Found, Makes}
 use Rattle.commands.specs.declared.refusal.CommandRefusal.{CommandRefusal}
 
 -- what a crash leaves after a change behind what adds nothing
@@ -49,3 +53,20 @@ registers_after old mid new found value order result reads registers = record {
   };
   ends = registers.ends;
 }
+
+-- a key was made only for a shelf that is there, of the bytes
+pub made_is : (found : Found) (bytes key : List ℕ) → Makes found bytes (Ok key) → key_of bytes ≡ Some key
+made_is (Ok (Some parent)) bytes key made = made
+made_is (Ok None) bytes key made = cc
+made_is (Err fault.Device) bytes key made = cc
+made_is (Err fault.Memory) bytes key made = cc
+
+-- an order that is carried out after a key was made
+pub registers_made : (old mid new : Shown) (shelf bytes key : List ℕ) (found : Found) (order : Order)
+    (result : Result (Unit {0}) CommandRefusal)
+    → Makes found bytes (Ok key) → Reads old mid found (λ w. map.get w.shelves shelf)
+    → Registers mid new order result → Registers old new order result
+registers_made old mid new shelf bytes key (Ok parent) order result made reads registers =
+    registers_after old mid new parent (λ w. map.get w.shelves shelf) order result reads registers
+registers_made old mid new shelf bytes key (Err fault.Device) order result made reads registers = cc
+registers_made old mid new shelf bytes key (Err fault.Memory) order result made reads registers = cc

@@ -1,9 +1,9 @@
 #!/usr/bin/env python3
-"""What the lists of a whole shelf cost: `-/modules` and `inventory`.
+"""What the lists of a whole shelf cost: `-/modules`, `inventory` and `catalog`.
 
-The shelves have 1,000, 10,000 and 100,000 paths with a version each. Build the program first (`./goshelf --version`).
-With --program FILE it measures that program, with --zip BYTES each zip has this many (1,024), and with --paths N there
-is one store, of this many paths. Each line tells the bytes of the text, the processor time beside that of opening the
+The shelves have 1,000, 10,000 and 100,000 paths with a version each, or with --versions V as many. Build the program
+first (`./goshelf --version`). With --program FILE it measures that program, with --zip BYTES each zip has this many
+(1,024), and with --paths N there is one store, of this many paths. Each line tells the bytes of the text, the processor time beside that of opening the
 store, and the peak of memory beside the opening's. With --count it also tells instructions by valgrind's count, less
 the opening's, for all but the largest store.
 """
@@ -21,18 +21,16 @@ from store import KEY, PIECE, PROGRAM, gomod, keys, made
 PATHS = (1_000, 10_000, 100_000)
 COUNTED = 10_000
 ROUNDS = 3
-VERSION = "v1.0.0"
 
 
-def filled(file, paths, zip_length):
-    """A store of this many paths, made by sqlite3 in one transaction."""
+def filled(file, paths, versions, zip_length):
+    """A store of this many paths, each with as many versions, made by sqlite3 in one transaction."""
     conn = made(file)
     conn.execute("BEGIN")
-    order, rank = keys(VERSION)
     zip = bytes(zip_length)
-    for n in range(paths):
-        path = f"example.com/team/module{n}"
-        row = ("alpha", path, VERSION, gomod(path), order, rank)
+    for n in range(paths * versions):
+        path, version = f"example.com/team/module{n // versions}", f"v1.{n % versions}.0"
+        row = ("alpha", path, version, gomod(path), *keys(version))
         number = conn.execute(
             "INSERT INTO version (shelf, path, version, mod, order_key, rank_key) VALUES (?, ?, ?, ?, ?, ?)", row
         ).lastrowid
@@ -47,7 +45,8 @@ def questions(file):
     modules = f"GET /k/{KEY}/-/modules HTTP/1.1\r\n\r\n".encode()
     yield "opening", ["answer", "--db", file], b""
     yield "`-/modules`", ["answer", "--db", file], modules
-    yield "`inventory`", ["inventory", "--db", file, "--key", KEY], b""
+    for command in ("inventory", "catalog"):
+        yield f"`{command}`", [command, "--db", file, "--key", KEY], b""
 
 
 def run(program, words, stream):
@@ -84,12 +83,12 @@ def measured(program, file, counts):
 def main():
     words = dict(zip(sys.argv[1:], sys.argv[2:]))
     program = os.path.abspath(words.get("--program", PROGRAM))
-    zip_length = int(words.get("--zip", 1_024))
+    zip_length, versions = int(words.get("--zip", 1_024)), int(words.get("--versions", 1))
     with tempfile.TemporaryDirectory(prefix="goshelf-lists-") as folder:
         for paths in [int(words["--paths"])] if "--paths" in words else PATHS:
             file = os.path.join(folder, f"{paths}.db")
-            filled(file, paths, zip_length)
-            print(f"{paths:,} paths, zips of {zip_length:,} bytes:", flush=True)
+            filled(file, paths, versions, zip_length)
+            print(f"{paths:,} paths, versions of each: {versions}, zips of {zip_length:,} bytes:", flush=True)
             measured(program, file, "--count" in sys.argv and paths <= COUNTED)
             os.remove(file)
 

@@ -2,3 +2,4 @@ mod GoVersions
 mod Pushed
 mod Adding
 mod Ruled
+mod Printed

@@ -1,4 +1,4 @@
--- The catalog of a key: the lines of the versions that its shelf sees.
+-- The lines of the versions that a shelf sees.
 use Rattle.std.specs.Prelude.{ℕ, Bool, false, List, [], ◌∷◌, Option, Some, None, bytes_eq}
 use Rattle.std.specs.List.{flat_map}
 use Rattle.gomod.specs.Module.{GoModule, is_retracted}
@@ -9,7 +9,6 @@ use Rattle.world.specs.Lines.{in_order}
 use Rattle.world.specs.Versions.{versions_of}
 use Rattle.world.specs.Visible.{paths_seen}
 use Rattle.world.specs.World.{World, heading, view}
-use Rattle.world.specs.declared.entry.Holder.{Holder}
 use Rattle.world.specs.declared.entry.Seen.{Seen}
 use Rattle.catalog.specs.Line.{line}
 use Rattle.catalog.specs.declared.line.Marks.{Marks}
@@ -65,8 +64,3 @@ lines_of_text w s t = lines_at w s (path_of t)
 -- the lines of all versions that the shelf sees: the paths by their bytes, the versions of each by precedence
 abbrev pub lines_seen : World → List ℕ → List ℕ
 lines_seen w s = flat_map (lines_of_text w s) (in_order (paths_seen w s))
-
--- the catalog of a key, or none if there is no such key
-abbrev pub catalog_of : World → Option Holder → Option (List ℕ)
-catalog_of w None = None
-catalog_of w (Some h) = Some (lines_seen w h.shelf)

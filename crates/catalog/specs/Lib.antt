@@ -1,3 +1,4 @@
 pub mod GoVersion
 pub mod Line
 pub mod Catalog
+pub mod Printing

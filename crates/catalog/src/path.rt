@@ -13,6 +13,7 @@ use modpath::ModulePath;
 use modver::Version;
 use outline::outlines::{Outline, Outlines};
 use std::alloc::{AllocError, Global};
+use world::bytes::Bytes;
 use world::entry::Heading;
 use world::forms::path_of;
 use world::reading::gomod_in;
@@ -28,9 +29,24 @@ struct Rules {
     latest: Option<Version>,
 }
 
-/// Adds the lines of the path that a text is, one for each version that the shelf sees, by precedence; no line if the
-/// text is no path. (SemVer 2.0.0, section 11.)
-pub(crate) fn add_text<S: Outlines>(
+/// Returns the lines of the path that a text is, one for each version that the shelf sees, by precedence; no line if
+/// the text is no path. (SemVer 2.0.0, section 11.)
+pub(crate) fn lines_of<S: Outlines>(
+    alloc: Global,
+    shelves: &mut S,
+    shelf: &str,
+    text: &str,
+) -> Result<Bytes, StoreFault>
+    ensures { Reads (S.shown shelves.old) (S.shown shelves.new) result
+        (λ w. spec.lines_of_text w shelf.now text.now) }
+{
+    let mut lines = Vec::new(alloc);
+    add_text(alloc, shelves, shelf, text, &mut lines)?;
+    Ok(Bytes::new(lines))
+}
+
+/// Adds the lines of the path that a text is.
+fn add_text<S: Outlines>(
     alloc: Global,
     shelves: &mut S,
     shelf: &str,

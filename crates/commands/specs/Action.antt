@@ -10,7 +10,7 @@ use Rattle.commands.specs.ImportFile.{ImportsFile}
 use Rattle.commands.specs.NewKey.{AddsNew}
 use Rattle.commands.specs.Opening.{AnswersAll}
 use Rattle.commands.specs.Publish.{asked_by, PublishesFiles}
-use Rattle.commands.specs.Report.{PrintsCatalog, PrintsInventory, PrintsKeys, PrintsRequirements, PrintsShelves}
+use Rattle.commands.specs.Report.{PrintsCatalogOf, PrintsInventory, PrintsKeys, PrintsRequirements, PrintsShelves}
 use Rattle.commands.specs.Serve.{Copied, Counted, ListensAs}
 use Rattle.commands.specs.declared.refusal.CommandRefusal.{CommandRefusal}
 use Rattle.commands.specs.declared.serve.Entrance.{Entrance}
@@ -93,7 +93,7 @@ module _ {S : Type 0} (shown : S → Shown) (copied : Copied S) (counted : Count
   Acts result (action.Inventory key) =
       PrintsInventory (shown old.store) (shown new.store) key.now old.written new.written result × (new.came ≡ old.came)
   Acts result (action.Catalog key) =
-      PrintsCatalog (shown old.store) (shown new.store) key.now old.written new.written result × (new.came ≡ old.came)
+      PrintsCatalogOf (shown old.store) (shown new.store) key.now old.written new.written result × (new.came ≡ old.came)
   Acts result (action.Requires version) =
       PrintsRequirements (shown old.store) (shown new.store) version old.written new.written result × (new.came ≡ old.came)
   Acts result action.KeyList = PrintsKeys (shown old.store) (shown new.store) old.written new.written result × (new.came ≡ old.came)

@@ -1,8 +1,10 @@
 -- Printing what a command reads from a store.
-use Rattle.std.specs.Prelude.{ℕ, ◌≡◌, List, Bool, true, Option, Some, None, Result, Ok, Err, MatchResult}
+use Rattle.std.specs.Prelude.{ℕ, ◌≡◌, List, Bool, true, false, Option, Some, None, Result, Ok, Err, MatchResult}
 use Rattle.std.specs.FinMap as map
 use Rattle.std.specs.Io.KnownBytes.{Appends}
-use Rattle.catalog.specs.Catalog.{catalog_of}
+use Rattle.catalog.specs.Printing.{PrintsCatalog}
+use Rattle.catalog.specs.declared.print.Unprinted.{Unprinted}
+use Rattle.catalog.specs.declared.print.Unprinted.TheVariants as unprinted
 use Rattle.keyring.specs.KeyList.{ListsKeys}
 use Rattle.keyring.specs.ShelfList.{shelf_text}
 use Rattle.modver.specs.Reading.{version_of}
@@ -26,12 +28,13 @@ inventory_ending (Err why.NoKey) = Err NoKey
 inventory_ending (Err why.Device) = Err Device
 inventory_ending (Err why.Memory) = Err Memory
 
--- the lines of a catalog, or the refusal if there are none
-abbrev pub catalog_ending : Result (Option (List ℕ)) StoreFault → Result (List ℕ) CommandRefusal
-catalog_ending (Ok (Some lines)) = Ok lines
-catalog_ending (Ok None) = Err NoKey
-catalog_ending (Err fault.Device) = Err Device
-catalog_ending (Err fault.Memory) = Err Memory
+-- how a command ends that printed a catalog, or a beginning of it
+abbrev pub catalog_ending : Result Bool Unprinted → Result Bool CommandRefusal
+catalog_ending (Ok true) = Ok true
+catalog_ending (Ok false) = Err NoKey
+catalog_ending (Err unprinted.Device) = Err Device
+catalog_ending (Err unprinted.Memory) = Err Memory
+catalog_ending (Err unprinted.Output) = Err Io
 
 -- the lines of what a version requires, or the refusal if there are none
 abbrev pub requirements_ending : Result (Option (List ℕ)) StoreFault → Result (List ℕ) CommandRefusal
@@ -62,12 +65,12 @@ pub record PrintsInventory
   pub inventories : Inventories old new key told
   pub prints : Prints written written_new result (inventory_ending told)
 
--- the catalog of a key was read, which changes nothing, and printed
-pub record PrintsCatalog
+-- the catalog of a key was read, which changes nothing, and printed meanwhile
+pub record PrintsCatalogOf
     (old new : Shown) (key : List ℕ) (written written_new : Option (List ℕ)) (result : Result Bool CommandRefusal) : Type 0 where
-  pub told : Result (Option (List ℕ)) StoreFault
-  pub reads : Reads old new told (λ w. catalog_of w (map.get w.keys key))
-  pub prints : Prints written written_new result (catalog_ending told)
+  pub told : Result Bool Unprinted
+  pub prints : PrintsCatalog old new key written written_new told
+  pub ends : result ≡ catalog_ending told
 
 -- what a version requires was read, which changes nothing, and printed
 pub record PrintsRequirements

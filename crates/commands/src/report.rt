@@ -7,7 +7,7 @@ use crate::inventory::{InventoryFault, inventory};
 use crate::printing::print_one;
 use crate::refusal::CommandRefusal;
 use crate::requirements::requirements;
-use catalog::catalog;
+use catalog::Unprinted;
 use histories::Tell;
 use keyring::Keyring;
 use keyring::key_list::list_keys;
@@ -38,24 +38,29 @@ pub fn print_inventory<S: Outlines, O: Tell>(
     print(inventory_ending(told), output)
 }
 
-/// Prints the catalog of a key, and returns true. `NoKey` if there is no such key, `Device` or `Memory` if the store
-/// meets a fault: then nothing is printed. `Io` if the output fails: then a beginning of the lines is printed, or all of
-/// them.
+/// Prints the catalog of a key, path by path, and returns true. `NoKey` if there is no such key: then nothing is
+/// printed. `Device` or `Memory` if the store meets a fault, `Io` if the output fails: then a beginning of the lines is
+/// printed, or all of them.
 pub fn print_catalog<S: Outlines, O: Tell>(
     alloc: Global,
     shelves: &mut S,
     key: &str,
     output: &mut O,
 ) -> Result<bool, CommandRefusal>
-    ensures prints { spec.PrintsCatalog (S.shown shelves.old) (S.shown shelves.new) key.now
+    ensures prints { spec.PrintsCatalogOf (S.shown shelves.old) (S.shown shelves.new) key.now
         (O.contents output.old) (O.contents output.new) result }
     // It ends with `Io` only if a call of the output failed.
     ensures cause { FailsByOutput (O.writes output.old) (O.writes output.new) result }
     // What was printed is flushed.
     ensures flushed { OnOk result ((O.writes output.new).unflushed ≡ []) }
 {
-    let told = catalog(alloc, shelves, key);
-    print(catalog_ending(told), output)
+    match catalog::print_catalog(alloc, shelves, key, output) {
+        Ok(true) => Ok(true),
+        Ok(false) => Err(CommandRefusal::NoKey),
+        Err(Unprinted::Device) => Err(CommandRefusal::Device),
+        Err(Unprinted::Memory) => Err(CommandRefusal::Memory),
+        Err(Unprinted::Output) => Err(CommandRefusal::Io),
+    }
 }
 
 /// Prints what the go.mod of a version requires, and returns true. `NotFound` if the path or the version is invalid,
@@ -132,18 +137,6 @@ fn inventory_ending(told: Result<Bytes, InventoryFault>) -> Result<Bytes, Comman
         Err(InventoryFault::NoKey) => Err(CommandRefusal::NoKey),
         Err(InventoryFault::Device) => Err(CommandRefusal::Device),
         Err(InventoryFault::Memory) => Err(CommandRefusal::Memory),
-    }
-}
-
-/// Returns the lines of a catalog, or the refusal if there are none.
-fn catalog_ending(told: Result<Option<Bytes>, StoreFault>) -> Result<Bytes, CommandRefusal>
-    ensures { result ≡ spec.catalog_ending told }
-{
-    match told {
-        Ok(Some(text)) => Ok(text),
-        Ok(None) => Err(CommandRefusal::NoKey),
-        Err(StoreFault::Device) => Err(CommandRefusal::Device),
-        Err(StoreFault::Memory) => Err(CommandRefusal::Memory),
     }
 }
 

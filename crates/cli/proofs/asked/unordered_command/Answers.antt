@@ -5,5 +5,5 @@ use Rattle.cli.proofs.asked.unordered_command.Goals as goal
 pub returns-in_err-action_of-in-Some : goal.returns-in_err-action_of-in-Some
 returns-in_err-action_of-in-Some c =
     let none : c.from_residual.result ≡ None = search rules in
-    rw none (no_unordered _ _ _ (search rules)
+    rw none (no_unordered _ _ c.in-Some.db.now (search rules)
     (not_found c.action_of.result _ (search rules) c.action_of.ensures))

@@ -1,6 +1,7 @@
 //! An operator and a peer who come at once.
 use crate::copier::Copier;
 use control::{Doors, serve_both};
+use keyring::Keyring;
 use modver::{TimeText, read_time};
 use std::fs;
 use std::io::{self, Write};
@@ -9,12 +10,11 @@ use std::os::unix::net::{UnixListener, UnixStream};
 use std::rt::HostRuntime;
 use std::test::Fail;
 use world::map_shelves::MapShelves;
-use world::shelves::Shelves;
 
 const GET: &[u8] = b"GET /k/alphakey00000001/example.com/lib/@v/list HTTP/1.1\r\n\r\n";
 
 /// Serves one peer, and before it the operators.
-fn serve<S: Shelves + Drop>(rt: &HostRuntime, doors: &mut Doors, mut shelves: S, since: TimeText) {
+fn serve<S: Keyring + Drop>(rt: &HostRuntime, doors: &mut Doors, mut shelves: S, since: TimeText) {
     serve_both(
         rt.alloc(),
         rt,

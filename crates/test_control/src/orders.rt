@@ -5,12 +5,12 @@ use commands::ping::ping_over;
 use commands::refusal::CommandRefusal;
 use control::{Order, Tally, obey};
 use histories::{Hearing, Telling};
+use keyring::Keyring;
 use modver::read_time;
 use std::alloc::Global;
 use std::test::Fail;
 use world::entry::Right;
 use world::map_shelves::MapShelves;
-use world::shelves::Shelves;
 
 /// Lines in their order, and after `|` the outcome of each.
 const ROWS: &str = "\
@@ -146,7 +146,7 @@ fn some_tally() -> Result<Tally, Fail> {
 }
 
 /// Returns the first row whose line has another outcome, or the empty text if each has its own.
-fn wrong_row<S: Shelves + Drop>(
+fn wrong_row<S: Keyring + Drop>(
     alloc: Global,
     tally: &Tally,
     mut shelves: S,

@@ -1,6 +1,7 @@
 //! Peers and operators in memory, whose bytes are known.
 use crate::copier::Copier;
 use control::{Caller, Callers, serve_both};
+use keyring::Keyring;
 use modver::read_time;
 use std::collections::LinkedList;
 use std::io::{self, ErrorKind};
@@ -49,7 +50,7 @@ impl<P, O> Callers<P, O> for Queue<P, O> {
 }
 
 /// Serves up to three connections of a queue, and returns how many callers it still has.
-fn serve<'a, S: Shelves>(
+fn serve<'a, S: Keyring>(
     rt: &HostRuntime,
     callers: LinkedList<Caller<InMemory<'a>, InMemory<'a>>>,
     shelves: &mut S,

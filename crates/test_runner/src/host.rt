@@ -13,6 +13,7 @@ use runner::older_files::OlderFiles;
 use std::alloc::Global;
 use std::rt::HostRuntime;
 use store::refusal::Refusal;
+use world::entry::Right;
 use world::map_shelves::MapShelves;
 use world::shelves::Shelves;
 

@@ -180,6 +180,7 @@ is_command rows word (command.OnStore db (action.RevokeAll shelf)) asks = asks
 is_command rows word (command.OnStore db (action.Publish words files)) asks = asks
 is_command rows word (command.OnStore db (action.Import key list)) asks = asks
 is_command rows word (command.OnStore db (action.Inventory key)) asks = asks
+is_command rows word (command.OnStore db (action.Catalog key)) asks = asks
 is_command rows word (command.OnStore db (action.Requires version)) asks = asks
 is_command rows word (command.OnStore db (action.Serve entrance connections control)) asks = asks
 is_command rows word (command.OrderNew control shelf right) asks = asks

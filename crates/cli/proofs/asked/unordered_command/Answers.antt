@@ -1,9 +1,11 @@
 use Rattle.std.proofs.Common.{rules, ◌≡◌, None}
+use Rattle.clap.specs.Words.{found_of, rows_of}
 use Rattle.cli.proofs.Needed.{no_unordered, not_found}
 use Rattle.cli.proofs.asked.unordered_command.Goals as goal
 
 pub returns-in_err-action_of-in-Some : goal.returns-in_err-action_of-in-Some
 returns-in_err-action_of-in-Some c =
     let none : c.from_residual.result ≡ None = search rules in
-    rw none (no_unordered _ _ c.in-Some.db.now (search rules)
+    let rows = rows_of (found_of c.args.options.now) in
+    rw none (no_unordered rows c.args.word.now c.in-Some.db.now (search rules)
     (not_found c.action_of.result _ (search rules) c.action_of.ensures))

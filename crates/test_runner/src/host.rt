@@ -121,7 +121,7 @@ impl<'a> Host<MapShelves, MapShelves> for MemoryHost<'a> {
         _right: Right,
         _output: &mut O,
     ) -> Result<(), CommandRefusal> {
-        Err(CommandRefusal::Device)
+        Err(CommandRefusal::Io)
     }
 
     fn list<O: Tell>(

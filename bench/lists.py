@@ -3,9 +3,9 @@
 
 The shelves have 1,000, 10,000 and 100,000 paths with a version each, or with --versions V as many. Build the program
 first (`./goshelf --version`). With --program FILE it measures that program, with --zip BYTES each zip has this many
-(1,024), and with --paths N there is one store, of this many paths. Each line tells the bytes of the text, the processor time beside that of opening the
-store, and the peak of memory beside the opening's. With --count it also tells instructions by valgrind's count, less
-the opening's, for all but the largest store.
+(1,024), and with --paths N there is one store, of this many paths. Each line tells the bytes of the text, the processor
+time beside that of opening the store, and the peak of memory beside the opening's. With --count it also tells
+instructions by valgrind's count, less the opening's, for all but the largest store.
 """
 
 import os

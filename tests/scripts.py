@@ -8,6 +8,7 @@ by pyproject.toml. The registry lists each suite, and no suite imports another.
 import ast
 import glob
 import os
+import re
 import shutil
 import subprocess
 import sys
@@ -77,6 +78,13 @@ def suites():
     SUITE.equal("no suite is imported", [it for it in sorted([*above, *within]) if imported(it) & {*names}], [])
 
 
+def settings():
+    """What a user has in ~/.sqliterc changes what sqlite3 prints. So each script in sh that asks it does without."""
+    asking = [it for it in COMMANDS if it not in in_python() and re.search(r"^[^#]*sqlite3 [-\"]", read(it), re.M)]
+    careless = [it for it in asking if 'command sqlite3 -batch -init /dev/null "$@"' not in read(it)]
+    SUITE.equal("scripts that ask sqlite3 read no ~/.sqliterc", (len(asking) > 4, careless), (True, []))
+
+
 def main():
     for script in SCRIPTS:
         # (an installed command is on the path)
@@ -91,6 +99,7 @@ def main():
         with open(os.path.join(ROOT, script), encoding="utf-8") as file:
             if file.readline() == "#!/bin/sh\n":
                 SUITE.equal(f"shellcheck {script}", ran("shellcheck", script), (0, "", ""))
+    settings()
     python(in_python())
     suites()
     return SUITE.end()

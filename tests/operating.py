@@ -48,12 +48,11 @@ def beginning(first):
 
 def keys(suite, machine):
     """A key is made and revoked, and a team is added, while goshelf runs."""
-    made = machine.does(block("sh", "--shelf alpha --new")).strip()
+    made = machine.does(block("sh", "--control /run/goshelf/control --shelf alpha --new")).strip()
     suite.holds("a key is made", re.fullmatch("[a-z0-9]{26}", made), made)
-    more = "0" * 32
-    control = f"--control {machine.folder}/run/goshelf/control"
+    more, control = "0" * 32, f"--control {machine.folder}/run/goshelf/control"
     ask = f"curl -s -o /dev/null -w '%{{http_code}}' http://127.0.0.1:8080/k/{made}/-/modules"
-    suite.equal("a key that was added reads at once", machine.does(ask), "200")
+    suite.equal("it reads at once", machine.does(ask), "200")
     machine.does(block("sh", "key-revoke --control /run/goshelf/control --key KEY").replace("KEY", made))
     suite.equal("one that was revoked reads nothing at once", machine.does(ask), "404")
     machine.does(block("sh", "team-add --control").replace("beta", "omega").replace("KEY", more))

@@ -389,7 +389,7 @@ def installed(suite, copy, package, version):
 def started(suite, copy):
     """The commands of the page make a store and start goshelf."""
     ping = "goshelf ping --control /run/goshelf/control"
-    page = commands("goshelf_VERSION_amd64.deb").partition("\n")[2].replace("KEY", KEY)
+    page = commands("goshelf_VERSION_amd64.deb").partition("\n")[2].replace("--new", f"--key {KEY}")
     status, _, errors = copy.sh(f"{page}{ping}")
     is_right = status == 0 and re.fullmatch(r"(Created symlink .*\n)?", errors)
     suite.holds("the commands of the page end well, and it takes orders at once", is_right, (status, errors))
@@ -693,7 +693,7 @@ def by_hand(suite, copy, tar, version):
     suite.equal("the tar file: its commands are there", there, COMMANDS)
     suite.equal("the tar file: the commands of the page end well", (status, errors), (0, ""))
     suite.equal("the tar file: the unit is right", copy.sh("systemd-analyze verify goshelf.service"), (0, "", ""))
-    copy.sh("\n".join(commands("goshelf_VERSION_amd64.deb").replace("KEY", KEY).splitlines()[1:]))
+    copy.sh("\n".join(commands("goshelf_VERSION_amd64.deb").replace("--new", f"--key {KEY}").splitlines()[1:]))
     suite.equal("the tar file: goshelf answers", ask(copy, "-/modules"), "200")
     before, kept = (
         first_process(copy),

@@ -9,7 +9,7 @@ import sys
 
 from lib import catalog_lines
 from lib.catalog_pages import Page
-from lib.catalog_store import EVIL, TODAY, line_of, make, make_store, tool, write_lines
+from lib.catalog_store import EVIL, TODAY, TOOL, line_of, make, make_store, tool, write_lines
 from lib.program import ROOT
 from lib.scratch import in_new_folders, read
 from lib.suite import Suite, shown
@@ -122,6 +122,9 @@ def misused(suite):
         status, printed, errors = tool(*words.split())
         is_right = (status, printed) == (1, "") and said in errors
         suite.holds(f"tools/catalog {words}: refused", is_right, (status, errors))
+    told = subprocess.run(["sh", "-c", 'exec "$0" --to alpha --shelf alpha <&-', TOOL], capture_output=True, text=True)
+    said = "catalog: standard input is closed\n"
+    suite.equal("no standard input", (told.returncode, told.stdout, told.stderr), (1, "", said))
     suite.equal("the pages are as they were", files_of("alpha"), before)
     left = [it for it in os.listdir(".") if it not in beside and not it.endswith(".lock")]
     suite.equal("and nothing is beside them", left, [])

@@ -169,6 +169,14 @@ def of_loops(suite, machine):
         suite.holds(f"{name}: a serve that ends", any(it.startswith("goshelf serve") for it in asked), asked)
 
 
+def of_pages(suite, machine):
+    """The tutorial makes no empty pages where goshelf prints no line."""
+    commands(machine, goshelf=FAILS, catalog=NOTES)
+    asked = pasted(machine, block("sh run", "catalog --to pages", "TUTORIAL.md"))[0]
+    suite.equal("a goshelf that prints no line", [it.split()[0] for it in asked], ["goshelf", "goshelf"])
+    os.remove(f"{machine.folder}/usr/local/bin/catalog")
+
+
 def main():
     suite = Suite()
     if os.geteuid() != 0:
@@ -178,7 +186,7 @@ def main():
         machine = Machine(folder)
         machine.check_out()
         os.symlink(os.path.join(ROOT, "tools"), f"{folder}/root/tools")
-        for part in (of_nginx, of_users, of_cron, of_warm, of_maps, of_stores, of_files, of_loops):
+        for part in (of_nginx, of_users, of_cron, of_warm, of_maps, of_stores, of_files, of_loops, of_pages):
             part(suite, machine)
     return suite.end()
 

@@ -105,6 +105,14 @@ def of_warm(suite, machine):
     suite.equal("and cron has each line once", [it.split()[-1] for it in lines], ["store", "maps"])
     for it in ("ssh", "flock"):
         os.remove(f"{machine.folder}/usr/local/bin/{it}")
+    script = block("sh", "cat warm.pub", "DEPLOYMENTS.md")
+    pasted(machine, script)
+    found = os.path.exists(f"{machine.folder}/root/.ssh/authorized_keys")
+    machine.write("root/warm.pub", "ssh-ed25519 AAAA root@warm\n")
+    pasted(machine, script)
+    line = f'restrict,command="{machine.folder}/usr/local/bin/goshelf-copy" ssh-ed25519 AAAA root@warm\n'
+    told = found, machine.read("root/.ssh/authorized_keys")
+    suite.equal("without the warm host's key no line lets it in", told, (False, line))
 
 
 def of_maps(suite, machine):

@@ -171,8 +171,9 @@ def words(reader):
 
 
 def left(reader):
-    """What stands beside the store."""
-    return sorted(os.listdir(f"{reader.machine.folder}/var/lib/goshelf"))
+    """What stands beside the store, and copies of it among the pages."""
+    beside, among = (sorted(os.listdir(f"{reader.machine.folder}/{at}")) for at in ("var/lib/goshelf", AT))
+    return [*beside, *(it for it in among if it.startswith(".goshelf-"))]
 
 
 def runs(suite, reader):
@@ -312,6 +313,8 @@ def broken(suite, reader):
     own_goshelf(machine, f"#!/bin/sh\n{AT_BETA.format('kill -9 $PPID; exit 1')}{GOSHELF}")
     told = machine.sh("goshelf-catalog")
     suite.holds("a run that is killed leaves its copy", told[0] == 137 and len(left(reader)) == len(beside) + 1, told)
+    found = [it for it in left(reader) if it not in beside]
+    suite.holds("where goshelf's user cannot put another", os.path.exists(f"{top}/{found[0]}/keys"), found)
     own_goshelf(machine, GOSHELF)
     # (the child that killed the run holds its lock until it ends)
     held = os.open(f"{machine.folder}/var/lib/goshelf", os.O_RDONLY)

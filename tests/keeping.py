@@ -4,9 +4,11 @@
 The commands run on a machine in a folder (lib/machine.py), with the store of lib/operating.py.
 """
 
+import contextlib
 import os
 import re
 import shutil
+import sqlite3
 import sys
 
 from lib.machine import Machine
@@ -203,6 +205,20 @@ def older_one(suite, machine):
     suite.equal("the caches began anew each time", machine.read("root/uncached"), "\n" * 4)
 
 
+def bad_key(suite, machine):
+    """A text that stands in the store as a key is no command to the sqlite3 that gets the keys."""
+    machine.does("systemctl stop goshelf")
+    text = f"x', 'alpha', 0);\n.shell touch {machine.folder}/root/ran\n--"
+    with contextlib.closing(sqlite3.connect(machine.store)) as conn, conn:
+        conn.execute("INSERT INTO access (token, shelf, publish) VALUES (?, 'alpha', 0)", (text,))
+    told = machine.sh("goshelf-restore --yes last")
+    suite.holds("a store with a key that is none", told[0] == 1 and "goshelf refuses " in told[2], told)
+    suite.holds("what stands in its place does not run", not os.path.exists(f"{machine.folder}/root/ran"))
+    with contextlib.closing(sqlite3.connect(machine.store)) as conn, conn:
+        conn.execute("DELETE FROM access WHERE token = ?", (text,))
+    machine.does("systemctl start goshelf")
+
+
 def leaked(suite, machine):
     """A version that is taken out is gone, from the store's bytes too, and nothing else is."""
     at = f"{machine.folder}/var/backups/goshelf"
@@ -249,7 +265,7 @@ def typed(suite, machine):
 
 
 def main():
-    parts = (prepared, typed, at_once, restores, unlucky, older_one, leaked)
+    parts = (prepared, typed, at_once, restores, unlucky, older_one, bad_key, leaked)
     return play(Suite(), "the machine", "an operator's commands need root", Machine, parts)
 
 

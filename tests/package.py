@@ -426,6 +426,10 @@ def late(suite, copy):
     suite.holds("the start of one that ends fails, at once", status == 1 and took < 30, took)
     undo = "rm -r /run/systemd/system/goshelf.service.d; systemctl daemon-reload; systemctl restart goshelf"
     suite.equal("and it is started again", (copy.sh(undo)[0], ask(copy, f"{AT}/list")), (0, "v1.0.0 200"))
+    # (chown fails over it as over a file that goes meanwhile)
+    fixed = "mkdir /var/lib/goshelf/fixed; mount -t tmpfs -o ro tmpfs /var/lib/goshelf/fixed; systemctl restart goshelf"
+    suite.equal("it starts beside a file whose owner stays", copy.sh(fixed)[0], 0)
+    copy.sh("umount /var/lib/goshelf/fixed; rmdir /var/lib/goshelf/fixed")
 
 
 def doctor(suite, copy):

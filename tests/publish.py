@@ -174,10 +174,14 @@ def consumes(room, server, rows):
 
 
 def readme(room, server, greet):
-    """The command of the README, in a clone."""
+    """The command of the README, in a clone, without nginx: with a key in the place of a login."""
     shutil.copy(f"{room.folder}/key", f"{room.folder}/home/goshelf.key")
-    found = blocks("README.md", "sh", "tools/publish")
-    told = shell(room, greet.folder, found[0], {"tools/publish": PUBLISH, "http://127.0.0.1:8080": server.url})
+    found = [it for block in blocks("README.md", "sh", "tools/publish") for it in re.findall("^tools/.*", block, re.M)]
+    replaced = {
+        "tools/publish": PUBLISH,
+        "https://shelf.example.com --netrc": f"{server.url} --key-file ~/goshelf.key",
+    }
+    told = shell(room, greet.folder, found[0], replaced)
     wanted = 0, "already published " + greet.lines("example.com/greet", "v1.0.0", greet.first), ""
     SUITE.equal("the command of the README", (len(found), told), (1, wanted))
 

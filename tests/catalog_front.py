@@ -156,7 +156,9 @@ def strangers(suite, reader):
     suite.holds("a shelf without pages", (status, body[:13]) == (404, b"no such page;"), (status, body))
     machine.does("goshelf-user remove eve")
     settle(reader, "eve", 401)
-    suite.equal("a user who was removed", reader.read("/", "eve")[0], 401)
+    # (nginx may have had enough of a stranger who asks again and again)
+    status = reader.read("/", "eve")[0]
+    suite.holds("a user who was removed", status in (401, 429), status)
     told = machine.sh("goshelf-catalog")
     suite.holds("the new shelf gets pages", told[0] == 0 and "\nomega: 4 pages, 4 new" in told[1], told)
     suite.equal("and its user sees them", reader.read("/", "oda")[0], 200)

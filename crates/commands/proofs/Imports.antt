@@ -11,14 +11,14 @@ use Rattle.engine.specs.Causes.{FailsWith}
 use Rattle.engine.specs.declared.fault.Io.{Io}
 use Rattle.engine.specs.declared.fault.Io.TheVariants as io
 use Rattle.engine.proofs.RunLemmas.{met_either}
-use Rattle.shelf.proofs.Runs.{runs_begun, runs_replied, runs_failed, runs_joined}
-use Rattle.shelf.specs.Machine.{ask_reply, after_ask, MetDevice}
-use Rattle.shelf.specs.Runs.{Runs}
-use Rattle.shelf.specs.declared.ask.Ask.{Ask}
-use Rattle.shelf.specs.declared.ask.Body.{Body}
-use Rattle.shelf.specs.declared.ask.Event.TheVariants.{Asked}
-use Rattle.shelf.specs.declared.reply.Answer.TheVariants.{Replied, Failed}
-use Rattle.shelf.specs.declared.reply.Reply.{Reply}
+use Rattle.machine.proofs.Runs.{runs_begun, runs_replied, runs_failed, runs_joined}
+use Rattle.machine.specs.Machine.{ask_reply, after_ask, MetDevice}
+use Rattle.machine.specs.Runs.{Runs}
+use Rattle.machine.specs.declared.ask.Ask.{Ask}
+use Rattle.machine.specs.declared.ask.Body.{Body}
+use Rattle.machine.specs.declared.ask.Event.TheVariants.{Asked}
+use Rattle.machine.specs.declared.reply.Answer.TheVariants.{Replied, Failed}
+use Rattle.machine.specs.declared.reply.Reply.{Reply}
 use Rattle.wire.specs.declared.reply.Fixed.{Fixed}
 use Rattle.wire.specs.declared.reply.Fixed.TheVariants.{Unavailable}
 use Rattle.world.specs.Store.{Shown, Does}

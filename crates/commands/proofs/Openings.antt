@@ -13,8 +13,8 @@ use Rattle.world.specs.declared.registry.Registered.{Registered}
 use Rattle.world.specs.declared.registry.Registered.TheVariants.{Done}
 use Rattle.world.proofs.MapsDone.{team_done, key_done}
 use Rattle.world.proofs.OnlyCommon.{only_common_stands, has_nothing_else}
-use Rattle.shelf.proofs.Sound.{sound}
-use Rattle.shelf.specs.declared.ask.Event.TheVariants.{TeamAdd}
+use Rattle.machine.proofs.Sound.{sound}
+use Rattle.machine.specs.declared.ask.Event.TheVariants.{TeamAdd}
 use Rattle.world.proofs.Orders.{texts_total, get_put}
 use Rattle.histories.specs.Account.{Account}
 use Rattle.engine.specs.Served.{ServesAllHeard}

@@ -11,24 +11,24 @@ use Rattle.csv.specs.declared.parser.State.{State}
 use Rattle.csv.specs.declared.parser.State.TheVariants as st
 use Rattle.modver.specs.SemanticVersion.{SemanticVersion}
 use Rattle.modver.specs.Reading.{version_of}
-use Rattle.shelf.specs.Immutability.{AllAccepted, AllSameOrFailed, IsAcceptance, IsAccepted, IsFailed, puts}
-use Rattle.shelf.specs.Machine.{Run, after, ask_reply}
-use Rattle.shelf.specs.declared.ask.Ask.{Ask}
-use Rattle.shelf.specs.declared.ask.Ask.TheVariants.{Put}
-use Rattle.shelf.specs.declared.ask.Body.{Body}
-use Rattle.shelf.specs.declared.ask.Event.{Event}
-use Rattle.shelf.specs.declared.ask.Event.TheVariants.{Asked}
-use Rattle.shelf.specs.declared.ask.GivenTime.{GivenTime}
-use Rattle.shelf.specs.declared.ask.Publish.{Publish}
-use Rattle.shelf.specs.declared.reply.Answer.{Answer}
-use Rattle.shelf.specs.declared.reply.Answer.TheVariants.{Replied, Failed}
-use Rattle.shelf.specs.declared.reply.Decision.{Decision}
-use Rattle.shelf.specs.declared.reply.Decision.TheVariants as decision
-use Rattle.shelf.specs.declared.reply.Refusal.{Refusal}
-use Rattle.shelf.specs.declared.reply.Refusal.TheVariants as refusal
-use Rattle.shelf.specs.declared.reply.Reply.{Reply}
-use Rattle.shelf.specs.declared.reply.Reply.TheVariants as reply
-use Rattle.shelf.proofs.Repeated.{repeated_list_changes_nothing}
+use Rattle.machine.specs.Immutability.{AllAccepted, AllSameOrFailed, IsAcceptance, IsAccepted, IsFailed, puts}
+use Rattle.machine.specs.Machine.{Run, after, ask_reply}
+use Rattle.machine.specs.declared.ask.Ask.{Ask}
+use Rattle.machine.specs.declared.ask.Ask.TheVariants.{Put}
+use Rattle.machine.specs.declared.ask.Body.{Body}
+use Rattle.machine.specs.declared.ask.Event.{Event}
+use Rattle.machine.specs.declared.ask.Event.TheVariants.{Asked}
+use Rattle.machine.specs.declared.ask.GivenTime.{GivenTime}
+use Rattle.machine.specs.declared.ask.Publish.{Publish}
+use Rattle.machine.specs.declared.reply.Answer.{Answer}
+use Rattle.machine.specs.declared.reply.Answer.TheVariants.{Replied, Failed}
+use Rattle.machine.specs.declared.reply.Decision.{Decision}
+use Rattle.machine.specs.declared.reply.Decision.TheVariants as decision
+use Rattle.machine.specs.declared.reply.Refusal.{Refusal}
+use Rattle.machine.specs.declared.reply.Refusal.TheVariants as refusal
+use Rattle.machine.specs.declared.reply.Reply.{Reply}
+use Rattle.machine.specs.declared.reply.Reply.TheVariants as reply
+use Rattle.machine.proofs.Repeated.{repeated_list_changes_nothing}
 use Rattle.engine.specs.Reply.{refusal_of}
 use Rattle.wire.specs.Reply.{fixed_status}
 use Rattle.wire.specs.declared.reply.Fixed.TheVariants as fixed

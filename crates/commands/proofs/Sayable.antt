@@ -22,7 +22,7 @@ use Rattle.world.specs.Names.{is_lower, is_digit}
 use Rattle.world.specs.Registry.{is_top, is_group, lacks_group, team_added, after_team_add}
 use Rattle.world.specs.World.{World, IsWorld, common, is_team_name, is_key}
 use Rattle.world.proofs.Orders.{text_self}
-use Rattle.shelf.specs.Machine.{after}
+use Rattle.machine.specs.Machine.{after}
 use Rattle.control.specs.Asking.{IsUnsayable, Asks}
 use Rattle.control.specs.Line.{IsSent}
 use Rattle.control.specs.Order.{add_word, said_in, line_of, event_of, outcome_in}

@@ -3,7 +3,7 @@ use Rattle.std.specs.Prelude.{ℕ, ◌≡◌, ◌⊎◌, List, [], Option, Some,
 use Rattle.world.specs.Store.{Shown}
 use Rattle.world.specs.World.{World}
 use Rattle.world.specs.declared.registry.StoreFault.{StoreFault}
-use Rattle.shelf.specs.Machine.{after}
+use Rattle.machine.specs.Machine.{after}
 use Rattle.control.specs.Hearing.{Heeds}
 use Rattle.control.specs.Order.{event_of, outcome_in}
 use Rattle.control.specs.declared.copies.CopyRefusal.{CopyRefusal}

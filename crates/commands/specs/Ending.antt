@@ -5,7 +5,7 @@ use Rattle.world.specs.declared.registry.Registered.{Registered}
 use Rattle.world.specs.declared.registry.Registered.TheVariants as registered
 use Rattle.world.specs.declared.registry.StoreFault.{StoreFault}
 use Rattle.world.specs.declared.registry.StoreFault.TheVariants as fault
-use Rattle.shelf.specs.Machine.{after}
+use Rattle.machine.specs.Machine.{after}
 use Rattle.control.specs.Order.{event_of, outcome_in}
 use Rattle.control.specs.declared.order.Order.{Order}
 use Rattle.revocation.specs.All.{RevokesAll}

@@ -6,14 +6,14 @@ use Rattle.std.specs.Io.KnownBytes.{Appends}
 use Rattle.csv.specs.declared.reader.Reader.{Reader}
 use Rattle.engine.specs.declared.fault.Io.{Io}
 use Rattle.engine.specs.declared.fault.Io.TheVariants as io
-use Rattle.shelf.specs.Machine.{MetDevice}
-use Rattle.shelf.specs.Runs.{Runs}
-use Rattle.shelf.specs.declared.ask.Ask.{Ask}
-use Rattle.shelf.specs.declared.ask.Body.{Body}
-use Rattle.shelf.specs.declared.ask.Event.{Event}
-use Rattle.shelf.specs.declared.ask.Event.TheVariants.{Asked}
-use Rattle.shelf.specs.declared.reply.Answer.{Answer}
-use Rattle.shelf.specs.declared.reply.Answer.TheVariants.{Replied, Failed}
+use Rattle.machine.specs.Machine.{MetDevice}
+use Rattle.machine.specs.Runs.{Runs}
+use Rattle.machine.specs.declared.ask.Ask.{Ask}
+use Rattle.machine.specs.declared.ask.Body.{Body}
+use Rattle.machine.specs.declared.ask.Event.{Event}
+use Rattle.machine.specs.declared.ask.Event.TheVariants.{Asked}
+use Rattle.machine.specs.declared.reply.Answer.{Answer}
+use Rattle.machine.specs.declared.reply.Answer.TheVariants.{Replied, Failed}
 use Rattle.wire.specs.declared.reply.Fixed.{Fixed}
 use Rattle.wire.specs.declared.reply.Fixed.TheVariants.{Unavailable}
 use Rattle.world.specs.Store.{Shown, GrewOrFull}

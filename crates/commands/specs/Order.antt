@@ -2,7 +2,7 @@
 use Rattle.std.specs.Prelude.{ℕ, ◌≡◌, ◌⊎◌, if◌then◌else◌, Bool, List, Option, Some, None, option_copied, Result, Ok, Err}
 use Rattle.std.specs.Borrow.{Bor}
 use Rattle.world.specs.World.{World, IsWorld, common, is_team_name, is_key}
-use Rattle.shelf.specs.Machine.{after}
+use Rattle.machine.specs.Machine.{after}
 use Rattle.control.specs.Asking.{Asks, AsksToCopy, AsksToStop}
 use Rattle.control.specs.declared.client.Untold.{Untold}
 use Rattle.control.specs.declared.client.Untold.TheVariants as untold

@@ -4,16 +4,16 @@ use Rattle.std.specs.Option.{option_copied}
 use Rattle.std.specs.Io.KnownBytes.{Appends}
 use Rattle.modver.specs.Reading.{version_of}
 use Rattle.modver.specs.SemanticVersion.{SemanticVersion}
-use Rattle.shelf.specs.Machine.{ask_reply, after_ask}
+use Rattle.machine.specs.Machine.{ask_reply, after_ask}
 use Rattle.world.specs.Forms.{path_of}
 use Rattle.world.specs.Store.{Shown, Does}
-use Rattle.shelf.specs.declared.ask.Ask.{Ask}
-use Rattle.shelf.specs.declared.ask.Ask.TheVariants.{Unreadable, Put}
-use Rattle.shelf.specs.declared.ask.Body.{Body}
-use Rattle.shelf.specs.declared.ask.GivenTime.{GivenTime}
-use Rattle.shelf.specs.declared.ask.GivenTime.TheVariants.{Absent}
-use Rattle.shelf.specs.declared.reply.Reply.{Reply}
-use Rattle.shelf.specs.declared.reply.Reply.TheVariants as reply
+use Rattle.machine.specs.declared.ask.Ask.{Ask}
+use Rattle.machine.specs.declared.ask.Ask.TheVariants.{Unreadable, Put}
+use Rattle.machine.specs.declared.ask.Body.{Body}
+use Rattle.machine.specs.declared.ask.GivenTime.{GivenTime}
+use Rattle.machine.specs.declared.ask.GivenTime.TheVariants.{Absent}
+use Rattle.machine.specs.declared.reply.Reply.{Reply}
+use Rattle.machine.specs.declared.reply.Reply.TheVariants as reply
 use Rattle.world.specs.declared.registry.StoreFault.{StoreFault}
 use Rattle.engine.specs.Ask.{time_in}
 use Rattle.engine.specs.Reply.{fixed_of}

@@ -2,10 +2,10 @@
 use Rattle.std.specs.Prelude.{ℕ, ◌≡◌, ◌⊎◌, List, [], ◌∷◌, Option, Some, None}
 use Rattle.std.specs.List.{list_all}
 use Rattle.std.specs.FinMap as map
-use Rattle.shelf.specs.Isolation.{belongs}
-use Rattle.shelf.specs.Machine.{Run}
-use Rattle.shelf.specs.declared.ask.Event.{Event}
-use Rattle.shelf.specs.declared.reply.Answer.{Answer}
+use Rattle.machine.specs.Isolation.{belongs}
+use Rattle.machine.specs.Machine.{Run}
+use Rattle.machine.specs.declared.ask.Event.{Event}
+use Rattle.machine.specs.declared.reply.Answer.{Answer}
 use Rattle.wire.specs.declared.reply.Fixed.TheVariants.{AlreadyPublished, Unavailable}
 use Rattle.world.specs.World.{World, IsWorld}
 use Rattle.world.specs.declared.entry.Right.TheVariants.{Publishes}

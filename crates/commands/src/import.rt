@@ -13,7 +13,7 @@ use crate::sources::{SourceFault, Sources};
 use csv::{Reader, StringRecord};
 use engine::Io;
 use histories::Tell;
-use shelf::ask::Body;
+use machine::ask::Body;
 use std::alloc::Global;
 use std::io::{Read, Write};
 use wire::reply::Fixed;

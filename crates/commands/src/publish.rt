@@ -1,7 +1,7 @@
 //! A publish of a version from files.
 ghost use Rattle.std.specs.Prelude.{◌≡◌, ◌⊎◌, [], option_copied, Err, IfErr, IfOk, OnOk};
 ghost use Rattle.engine.specs.Causes.{FailsWith};
-ghost use Rattle.shelf.specs.Machine.{ask_reply, after_ask};
+ghost use Rattle.machine.specs.Machine.{ask_reply, after_ask};
 ghost use Rattle.world.specs.Store.{Does};
 ghost use Rattle.commands.specs.Printed.{FailsEarlyOrByOutput, HasFailed, PrintsText};
 ghost use Rattle.commands.specs.Publish as spec;
@@ -12,10 +12,10 @@ use crate::refusal::CommandRefusal;
 use engine::Io;
 use engine::page::fixed_of;
 use histories::Tell;
+use machine::ask::{Ask, Body, GivenTime, Publish};
+use machine::reply::Reply;
+use machine::step::step;
 use modver::read_time;
-use shelf::ask::{Ask, Body, GivenTime, Publish};
-use shelf::reply::Reply;
-use shelf::step::step;
 use std::alloc::{AllocError, Global};
 use std::rt::HostRuntime;
 use text::Text;

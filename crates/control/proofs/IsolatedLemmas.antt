@@ -3,11 +3,11 @@ use Rattle.std.proofs.Common.{◌≡◌, ℕ, List, [], ◌∷◌, Ok, Err, refl
 use Rattle.std.specs.Prelude.{map}
 use Rattle.world.specs.World.{World, IsWorld, chain}
 use Rattle.world.specs.Store.{Shown}
-use Rattle.shelf.specs.declared.reply.Answer.{Answer}
-use Rattle.shelf.specs.declared.reply.Answer.TheVariants.{Replied, Failed}
-use Rattle.shelf.specs.declared.reply.Reply.TheVariants.{Registry}
-use Rattle.shelf.specs.Isolation.{remaining, marked}
-use Rattle.shelf.specs.Machine.{Run}
+use Rattle.machine.specs.declared.reply.Answer.{Answer}
+use Rattle.machine.specs.declared.reply.Answer.TheVariants.{Replied, Failed}
+use Rattle.machine.specs.declared.reply.Reply.TheVariants.{Registry}
+use Rattle.machine.specs.Isolation.{remaining, marked}
+use Rattle.machine.specs.Machine.{Run}
 use Rattle.engine.specs.Happening as happened
 use Rattle.engine.specs.Happening.{Coming, Message, Command, Happening, coming_of, event_at, answer_at}
 use Rattle.engine.specs.Reply.{bytes_of}

@@ -2,8 +2,8 @@
 use Rattle.std.proofs.Common.{◌≡◌, ℕ, List, [], Bool, true, false, Option, Some, None, MatchOption, refl, sym, ap, ◌∙◌}
 use Rattle.std.proofs.Common.{subst}
 use Rattle.std.specs.Prelude.{codes, bytes_eq, if◌then◌else◌, unwrap_or}
-use Rattle.shelf.specs.declared.ask.Event.{Event}
-use Rattle.shelf.specs.declared.ask.Event.TheVariants as event
+use Rattle.machine.specs.declared.ask.Event.{Event}
+use Rattle.machine.specs.declared.ask.Event.TheVariants as event
 use Rattle.world.specs.declared.entry.Right.TheVariants.{Reads, Publishes}
 use Rattle.control.specs.Words.{Said, IsTextOf}
 use Rattle.control.specs.Order.{two, said_in, SaysNoOrder, Orders, OrdersNothing, event_of}

@@ -7,11 +7,11 @@ use Rattle.world.specs.World.{World}
 use Rattle.world.specs.Store.{Shown, Does, DoesAt}
 use Rattle.world.specs.declared.registry.Registered.{Registered}
 use Rattle.world.specs.declared.registry.StoreFault.{StoreFault}
-use Rattle.shelf.specs.Machine.{after, reply_to}
-use Rattle.shelf.specs.declared.reply.Reply.{Reply}
-use Rattle.shelf.specs.declared.reply.Reply.TheVariants.{Registry}
-use Rattle.shelf.specs.Runs.{RunsAt}
-use Rattle.shelf.proofs.Runs.{runs_none, runs_replied, runs_failed, runs_joined, grown_more, grown_before}
+use Rattle.machine.specs.Machine.{after, reply_to}
+use Rattle.machine.specs.declared.reply.Reply.{Reply}
+use Rattle.machine.specs.declared.reply.Reply.TheVariants.{Registry}
+use Rattle.machine.specs.Runs.{RunsAt}
+use Rattle.machine.proofs.Runs.{runs_none, runs_replied, runs_failed, runs_joined, grown_more, grown_before}
 use Rattle.engine.specs.Exchange.{Exchange}
 use Rattle.engine.specs.Store.{GoesThrough}
 use Rattle.engine.proofs.RunLemmas.{world_more, met_either}

@@ -2,9 +2,9 @@
 use Rattle.std.specs.Prelude.{ℕ, ◌≡◌, List, [], ◌∷◌, Bool, map}
 use Rattle.world.specs.World.{World, chain}
 use Rattle.world.specs.Store.{Shown}
-use Rattle.shelf.specs.declared.reply.Answer.{Answer}
-use Rattle.shelf.specs.declared.reply.Answer.TheVariants.{Replied, Failed}
-use Rattle.shelf.specs.Isolation.{remaining, marked, Agree}
+use Rattle.machine.specs.declared.reply.Answer.{Answer}
+use Rattle.machine.specs.declared.reply.Answer.TheVariants.{Replied, Failed}
+use Rattle.machine.specs.Isolation.{remaining, marked, Agree}
 use Rattle.engine.specs.Happening.{Coming, coming_of}
 use Rattle.engine.specs.Reply.{text_of}
 use Rattle.control.specs.Outcome.{outcome_of, line_of}

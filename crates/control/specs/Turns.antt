@@ -1,11 +1,11 @@
 -- What a store goes through while peers send requests and operators send orders.
 use Rattle.std.specs.Prelude.{ℕ, ◌≡◌, ◌≤◌, ◌+◌, ◌⊎◌, Bool, true, false, List, [], ◌∷◌, map, Result, Ok, Err}
-use Rattle.shelf.specs.declared.ask.Event.{Event}
-use Rattle.shelf.specs.declared.reply.Answer.{Answer}
-use Rattle.shelf.specs.declared.reply.Answer.TheVariants.{Replied, Failed}
-use Rattle.shelf.specs.declared.reply.Reply.TheVariants.{Registry}
-use Rattle.shelf.specs.Machine.{after, world_after, MetDevice}
-use Rattle.shelf.specs.Runs.{Runs}
+use Rattle.machine.specs.declared.ask.Event.{Event}
+use Rattle.machine.specs.declared.reply.Answer.{Answer}
+use Rattle.machine.specs.declared.reply.Answer.TheVariants.{Replied, Failed}
+use Rattle.machine.specs.declared.reply.Reply.TheVariants.{Registry}
+use Rattle.machine.specs.Machine.{after, world_after, MetDevice}
+use Rattle.machine.specs.Runs.{Runs}
 use Rattle.world.specs.World.{World}
 use Rattle.world.specs.Store.{Shown, GrewOrFull}
 use Rattle.world.specs.declared.registry.Registered.{Registered}

@@ -1,5 +1,5 @@
 //! Carrying an order out.
-ghost use Rattle.shelf.specs.Machine.{after};
+ghost use Rattle.machine.specs.Machine.{after};
 ghost use Rattle.world.specs.Store.{Does};
 ghost use Rattle.control.specs.Order.{event_of, outcome_in};
 

@@ -1,16 +1,16 @@
 -- What a publish handed in is served for good once it was accepted: the law of runs, in bytes.
 use Rattle.std.proofs.Common.{◌≡◌, ◌⊎◌, ◌≤◌, ℕ, [], ◌∷◌, refl, ◌∙◌, ap, subst, inl, inr, arith}
-use Rattle.shelf.specs.declared.ask.Ask.TheVariants.{Get, Put}
-use Rattle.shelf.specs.declared.ask.Event.TheVariants.{Asked}
-use Rattle.shelf.specs.declared.reply.Answer.{Answer}
-use Rattle.shelf.specs.declared.reply.Answer.TheVariants.{Replied, Failed}
-use Rattle.shelf.specs.declared.reply.Decision.{Decision}
-use Rattle.shelf.specs.declared.reply.Decision.TheVariants as decision
-use Rattle.shelf.specs.declared.reply.Refusal.TheVariants as refusal
-use Rattle.shelf.specs.declared.reply.Reply.TheVariants as reply
-use Rattle.shelf.specs.Immutability.{IsAccepted}
-use Rattle.shelf.specs.Machine.{Run, put_decision}
-use Rattle.shelf.proofs.Served.{accepted_is_served}
+use Rattle.machine.specs.declared.ask.Ask.TheVariants.{Get, Put}
+use Rattle.machine.specs.declared.ask.Event.TheVariants.{Asked}
+use Rattle.machine.specs.declared.reply.Answer.{Answer}
+use Rattle.machine.specs.declared.reply.Answer.TheVariants.{Replied, Failed}
+use Rattle.machine.specs.declared.reply.Decision.{Decision}
+use Rattle.machine.specs.declared.reply.Decision.TheVariants as decision
+use Rattle.machine.specs.declared.reply.Refusal.TheVariants as refusal
+use Rattle.machine.specs.declared.reply.Reply.TheVariants as reply
+use Rattle.machine.specs.Immutability.{IsAccepted}
+use Rattle.machine.specs.Machine.{Run, put_decision}
+use Rattle.machine.proofs.Served.{accepted_is_served}
 use Rattle.engine.specs.Ask as spec
 use Rattle.engine.specs.Exchange.{event_of, answer_of}
 use Rattle.engine.specs.Reply.{page_for, page_status, fixed_of, bytes_of, text_of}

@@ -11,7 +11,7 @@ use Rattle.framing.specs.Message.{Request}
 use Rattle.wire.specs.declared.request.Resource.TheVariants as resource
 use Rattle.wire.specs.declared.request.Target.{Target}
 use Rattle.wire.specs.declared.request.Target.TheVariants as target
-use Rattle.shelf.specs.declared.ask.GivenTime.TheVariants.{Malformed}
+use Rattle.machine.specs.declared.ask.GivenTime.TheVariants.{Malformed}
 use Rattle.engine.specs.Ask.{time_in, given_time, ask_at, asking_of, is_summed, sum_at, sum_by, sum_of, target_in}
 
 -- more than one value of `Version-Time` is malformed

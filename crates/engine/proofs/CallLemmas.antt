@@ -11,12 +11,12 @@ use Rattle.framing.proofs.PieceLemmas.{ReadsMessages-append, messages_make_a_str
 use Rattle.framing.proofs.StreamLemmas.{stream_unique}
 use Rattle.world.specs.Store.{Shown}
 use Rattle.world.specs.World.{World, IsWorld, chain}
-use Rattle.shelf.specs.Machine.{Run}
-use Rattle.shelf.specs.Isolation.{remaining, marked, Agree}
-use Rattle.shelf.specs.Parts.{AllAsked}
-use Rattle.shelf.proofs.Chains.{Later}
-use Rattle.shelf.proofs.Isolated.{ends_later}
-use Rattle.shelf.proofs.Parts.{later_than_asked}
+use Rattle.machine.specs.Machine.{Run}
+use Rattle.machine.specs.Isolation.{remaining, marked, Agree}
+use Rattle.machine.specs.Parts.{AllAsked}
+use Rattle.machine.proofs.Chains.{Later}
+use Rattle.machine.proofs.Isolated.{ends_later}
+use Rattle.machine.proofs.Parts.{later_than_asked}
 use Rattle.engine.specs.Exchange.{Exchange, message_of, event_of, answer_of}
 use Rattle.engine.specs.Reply.{text_of}
 use Rattle.engine.specs.Store.{world_at}

@@ -2,12 +2,12 @@
 use Rattle.std.proofs.Common.{◌≡◌, List, [], ◌∷◌, Bool, true, false, refl, ◌∙◌, sym, ap}
 use Rattle.std.specs.Prelude.{ℕ, map}
 use Rattle.world.specs.World.{World}
-use Rattle.shelf.specs.declared.ask.Event.{Event}
-use Rattle.shelf.specs.declared.reply.Reply.{Reply}
-use Rattle.shelf.specs.declared.reply.Answer.{Answer}
-use Rattle.shelf.specs.declared.reply.Answer.TheVariants.{Replied, Failed}
-use Rattle.shelf.specs.Machine.{Run, replies, replies_of, answered, after, after_all, reply_to}
-use Rattle.shelf.specs.Isolation.{marked}
+use Rattle.machine.specs.declared.ask.Event.{Event}
+use Rattle.machine.specs.declared.reply.Reply.{Reply}
+use Rattle.machine.specs.declared.reply.Answer.{Answer}
+use Rattle.machine.specs.declared.reply.Answer.TheVariants.{Replied, Failed}
+use Rattle.machine.specs.Machine.{Run, replies, replies_of, answered, after, after_all, reply_to}
+use Rattle.machine.specs.Isolation.{marked}
 use Rattle.engine.specs.Happening.{Coming, Happening, event_in, coming_of, event_at, answer_at, faultless}
 
 pub events_are : (xs : List Happening) → map event_at xs ≡ map event_in (map coming_of xs)

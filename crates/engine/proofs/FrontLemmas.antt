@@ -3,9 +3,9 @@ use Rattle.std.proofs.Common.{◌≡◌, ◌⊎◌, ℕ, List, [], ◌∷◌, �
 use Rattle.std.specs.Prelude.{map}
 use Rattle.framing.specs.Message.{Request}
 use Rattle.world.specs.World.{World}
-use Rattle.shelf.specs.declared.reply.Answer.TheVariants.{Replied, Failed}
-use Rattle.shelf.specs.Machine.{Run, after}
-use Rattle.shelf.specs.Isolation.{is_remaining, remaining, marked}
+use Rattle.machine.specs.declared.reply.Answer.TheVariants.{Replied, Failed}
+use Rattle.machine.specs.Machine.{Run, after}
+use Rattle.machine.specs.Isolation.{is_remaining, remaining, marked}
 use Rattle.engine.specs.Ask as spec
 use Rattle.engine.specs.Exchange.{Exchange, message_of, event_of, answer_of}
 use Rattle.engine.specs.Reply.{text_of}

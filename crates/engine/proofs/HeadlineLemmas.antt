@@ -8,22 +8,22 @@ use Rattle.framing.specs.Message.{Request}
 use Rattle.world.specs.declared.entry.Heading.{Heading}
 use Rattle.world.specs.declared.entry.Seen.{Seen}
 use Rattle.world.specs.World.{World, IsWorld, chain, view, without_zip, heading}
-use Rattle.shelf.specs.declared.ask.Ask.TheVariants.{Get}
-use Rattle.shelf.specs.declared.ask.Event.TheVariants.{Asked}
-use Rattle.shelf.specs.declared.ask.Query.{Query}
-use Rattle.shelf.specs.declared.ask.Query.TheVariants as query
-use Rattle.shelf.specs.declared.reply.Answer.{Answer}
-use Rattle.shelf.specs.declared.reply.Answer.TheVariants.{Replied, Failed}
-use Rattle.shelf.specs.declared.reply.Reply.{Reply}
-use Rattle.shelf.specs.declared.reply.Reply.TheVariants as reply
-use Rattle.shelf.specs.Machine.{Run, after_all, replies, replies_of, keyed_reply, query_reply, gomod_reply, zip_reply}
-use Rattle.shelf.specs.Machine.{info_reply, latest_reply}
+use Rattle.machine.specs.declared.ask.Ask.TheVariants.{Get}
+use Rattle.machine.specs.declared.ask.Event.TheVariants.{Asked}
+use Rattle.machine.specs.declared.ask.Query.{Query}
+use Rattle.machine.specs.declared.ask.Query.TheVariants as query
+use Rattle.machine.specs.declared.reply.Answer.{Answer}
+use Rattle.machine.specs.declared.reply.Answer.TheVariants.{Replied, Failed}
+use Rattle.machine.specs.declared.reply.Reply.{Reply}
+use Rattle.machine.specs.declared.reply.Reply.TheVariants as reply
+use Rattle.machine.specs.Machine.{Run, after_all, replies, replies_of, keyed_reply, query_reply, gomod_reply, zip_reply}
+use Rattle.machine.specs.Machine.{info_reply, latest_reply}
 use Rattle.world.specs.Latest.{latest_of}
-use Rattle.shelf.specs.Isolation.{remaining, marked, belongs, Agree}
-use Rattle.shelf.specs.Immutability.{IsOfVersion, IsFound, IsFailed}
-use Rattle.shelf.proofs.Isolated.{isolated}
-use Rattle.shelf.proofs.Latest.{latest_is_the_top, none_is_latest}
-use Rattle.shelf.proofs.Served.{stays_served}
+use Rattle.machine.specs.Isolation.{remaining, marked, belongs, Agree}
+use Rattle.machine.specs.Immutability.{IsOfVersion, IsFound, IsFailed}
+use Rattle.machine.proofs.Isolated.{isolated}
+use Rattle.machine.proofs.Latest.{latest_is_the_top, none_is_latest}
+use Rattle.machine.proofs.Served.{stays_served}
 use Rattle.engine.specs.Ask as spec
 use Rattle.engine.specs.Exchange.{event_of, answer_of}
 use Rattle.engine.specs.Happening.{Coming, Happening, event_in, text_in, coming_of, event_at, answer_at, faultless}

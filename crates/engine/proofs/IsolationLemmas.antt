@@ -5,11 +5,11 @@ use Rattle.framing.specs.Message.{Request, ReadsMessage, clean, too_large, bad}
 use Rattle.wire.specs.declared.reply.Fixed.{Fixed}
 use Rattle.wire.specs.declared.reply.Fixed.TheVariants.{TooLarge, BadRequest, Unavailable}
 use Rattle.framing.proofs.StreamLemmas.{message_unique, no_message_at_end}
-use Rattle.shelf.specs.declared.reply.Answer.TheVariants.{Replied}
+use Rattle.machine.specs.declared.reply.Answer.TheVariants.{Replied}
 use Rattle.world.specs.World.{World, IsWorld}
 use Rattle.world.specs.Store.{Shown}
-use Rattle.shelf.specs.Machine.{ask_reply, after_ask}
-use Rattle.shelf.proofs.Blind.{blind}
+use Rattle.machine.specs.Machine.{ask_reply, after_ask}
+use Rattle.machine.proofs.Blind.{blind}
 use Rattle.engine.specs.Ask.{ask_of}
 use Rattle.engine.specs.First.{First, Answers, Closes, TakesFirst, ServesFirst, first_bytes, first_status}
 use Rattle.engine.specs.First.{first_exchanges}

@@ -4,16 +4,16 @@ use Rattle.std.specs.Prelude.{map}
 use Rattle.framing.specs.Message.{Request}
 use Rattle.wire.specs.Reply.{fixed_bytes}
 use Rattle.wire.specs.declared.reply.Fixed.TheVariants.{NotFound}
-use Rattle.shelf.specs.declared.reply.Reply.{Reply}
-use Rattle.shelf.specs.declared.reply.Reply.TheVariants as reply
-use Rattle.shelf.specs.declared.reply.Decision.TheVariants as decision
-use Rattle.shelf.specs.declared.reply.Answer.{Answer}
-use Rattle.shelf.specs.declared.reply.Answer.TheVariants.{Replied, Failed}
+use Rattle.machine.specs.declared.reply.Reply.{Reply}
+use Rattle.machine.specs.declared.reply.Reply.TheVariants as reply
+use Rattle.machine.specs.declared.reply.Decision.TheVariants as decision
+use Rattle.machine.specs.declared.reply.Answer.{Answer}
+use Rattle.machine.specs.declared.reply.Answer.TheVariants.{Replied, Failed}
 use Rattle.world.specs.World.{World}
 use Rattle.world.specs.Part.{part}
-use Rattle.shelf.specs.Machine.{answered, replies_of, after_all, ask_reply, Run}
-use Rattle.shelf.specs.Parts.{AllOwn, AllAsked, IsNotFound}
-use Rattle.shelf.proofs.Parts.{part_tells_the_same, others_are_not_found, run_leads}
+use Rattle.machine.specs.Machine.{answered, replies_of, after_all, ask_reply, Run}
+use Rattle.machine.specs.Parts.{AllOwn, AllAsked, IsNotFound}
+use Rattle.machine.proofs.Parts.{part_tells_the_same, others_are_not_found, run_leads}
 use Rattle.engine.specs.Ask as spec
 use Rattle.engine.specs.Exchange.{Exchange, Outcome, Unserved, Met, Served, event_of, answer_of}
 use Rattle.engine.specs.Happening.{Happening, event_in, text_in, coming_of, event_at, answer_at, text_at, faultless}

@@ -3,13 +3,13 @@ use Rattle.std.proofs.Common.{◌≡◌, ◌≢◌, ℕ, List, [], ◌∷◌, Bo
 use Rattle.std.specs.Prelude.{map}
 use Rattle.framing.specs.Message.{Request}
 use Rattle.world.specs.World.{World, IsWorld, chain}
-use Rattle.shelf.specs.declared.reply.Answer.{Answer}
-use Rattle.shelf.specs.declared.reply.Answer.TheVariants.{Replied, Failed}
-use Rattle.shelf.specs.Machine.{Run, after}
-use Rattle.shelf.specs.Isolation.{is_remaining, remaining, marked, Agree, IsAnsweredIfItRemains, RemainingAnswered}
-use Rattle.shelf.specs.Isolation.{IsReplied, AllReplied}
-use Rattle.shelf.proofs.Chains.{Later}
-use Rattle.shelf.proofs.Isolated.{purged_runs_agree_so_far}
+use Rattle.machine.specs.declared.reply.Answer.{Answer}
+use Rattle.machine.specs.declared.reply.Answer.TheVariants.{Replied, Failed}
+use Rattle.machine.specs.Machine.{Run, after}
+use Rattle.machine.specs.Isolation.{is_remaining, remaining, marked, Agree, IsAnsweredIfItRemains, RemainingAnswered}
+use Rattle.machine.specs.Isolation.{IsReplied, AllReplied}
+use Rattle.machine.proofs.Chains.{Later}
+use Rattle.machine.proofs.Isolated.{purged_runs_agree_so_far}
 use Rattle.engine.specs.Ask as spec
 use Rattle.engine.specs.Calls.{NoneUnavailable}
 use Rattle.engine.specs.Exchange.{Exchange, message_of, event_of, answer_of}

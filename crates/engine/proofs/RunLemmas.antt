@@ -1,10 +1,10 @@
 -- A run of the machine followed by another.
 use Rattle.std.proofs.Common.{◌≡◌, ◌⊎◌, List, [], ◌∷◌, ◌++◌, refl, inl, inr}
-use Rattle.shelf.specs.declared.ask.Event.{Event}
-use Rattle.shelf.specs.declared.reply.Answer.{Answer}
-use Rattle.shelf.specs.declared.reply.Answer.TheVariants.{Replied, Failed}
+use Rattle.machine.specs.declared.ask.Event.{Event}
+use Rattle.machine.specs.declared.reply.Answer.{Answer}
+use Rattle.machine.specs.declared.reply.Answer.TheVariants.{Replied, Failed}
 use Rattle.world.specs.World.{World}
-use Rattle.shelf.specs.Machine.{after, Run, MetDevice, world_after}
+use Rattle.machine.specs.Machine.{after, Run, MetDevice, world_after}
 
 -- the world after both runs is the world after the second, from the world after the first
 pub world_more : (old mid : World) (events more : List Event) (answers last : List Answer) → Run old events answers mid

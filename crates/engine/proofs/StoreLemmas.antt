@@ -4,14 +4,14 @@ use Rattle.std.proofs.Common.{Err, arith, append-nil}
 use Rattle.std.proofs.lemmas.List.{map-append}
 use Rattle.modver.specs.SemanticVersion.{SemanticVersion}
 use Rattle.framing.specs.Message.{Request}
-use Rattle.shelf.specs.declared.ask.Ask.{Ask}
-use Rattle.shelf.specs.declared.reply.Reply.{Reply}
-use Rattle.shelf.specs.declared.reply.Reply.TheVariants.{GoMod, Info, Versions, Paths}
+use Rattle.machine.specs.declared.ask.Ask.{Ask}
+use Rattle.machine.specs.declared.reply.Reply.{Reply}
+use Rattle.machine.specs.declared.reply.Reply.TheVariants.{GoMod, Info, Versions, Paths}
 use Rattle.world.specs.declared.registry.StoreFault.{StoreFault}
 use Rattle.world.specs.World.{World}
-use Rattle.shelf.specs.Machine.{ask_reply, after_ask, reply_to, after, HasBody}
+use Rattle.machine.specs.Machine.{ask_reply, after_ask, reply_to, after, HasBody}
 use Rattle.world.specs.Store.{Shown, Does, DoesAt}
-use Rattle.shelf.proofs.Changes.{bodies_change_nothing}
+use Rattle.machine.proofs.Changes.{bodies_change_nothing}
 use Rattle.engine.specs.Ask.{ask_of, sum_of}
 use Rattle.engine.specs.Ask.{event_of_message}
 use Rattle.engine.specs.Exchange.{Exchange, Outcome, Unserved, Met, Served, event_of, answer_of}
@@ -19,8 +19,8 @@ use Rattle.engine.specs.Reply.{IsComposed, IsOutcome}
 use Rattle.engine.specs.Store.{GoesThrough, LeavesTwo, AllCalm, world_at}
 use Rattle.engine.proofs.CrashLemmas.{leaves_still, leaves_more, world_step}
 use Rattle.engine.proofs.RunLemmas.{world_more, met_either}
-use Rattle.shelf.proofs.Runs.{runs_none, runs_unasked, runs_failed, runs_replied, runs_lost, runs_joined, grown_more}
-use Rattle.shelf.proofs.Runs.{grown_before}
+use Rattle.machine.proofs.Runs.{runs_none, runs_unasked, runs_failed, runs_replied, runs_lost, runs_joined, grown_more}
+use Rattle.machine.proofs.Runs.{grown_before}
 
 calm_both : (w : World) (xs ys : List Exchange) → AllCalm w (xs ++ ys) → AllCalm w xs × AllCalm (world_at w xs) ys
 calm_both w [] ys all = (tt, all)

@@ -8,15 +8,15 @@ use Rattle.wire.specs.declared.request.Resource.{Resource}
 use Rattle.wire.specs.declared.request.Resource.TheVariants as resource
 use Rattle.wire.specs.declared.request.Target.{Target}
 use Rattle.wire.specs.declared.request.Target.TheVariants as target
-use Rattle.shelf.specs.declared.ask.Query.{Query}
-use Rattle.shelf.specs.declared.ask.Query.TheVariants as query
-use Rattle.shelf.specs.declared.ask.GivenTime.{GivenTime}
-use Rattle.shelf.specs.declared.ask.GivenTime.TheVariants.{Absent, At, Malformed}
-use Rattle.shelf.specs.declared.ask.Body.{Body}
-use Rattle.shelf.specs.declared.ask.Ask.{Ask}
-use Rattle.shelf.specs.declared.ask.Ask.TheVariants as ask
-use Rattle.shelf.specs.declared.ask.Event.{Event}
-use Rattle.shelf.specs.declared.ask.Event.TheVariants.{Asked}
+use Rattle.machine.specs.declared.ask.Query.{Query}
+use Rattle.machine.specs.declared.ask.Query.TheVariants as query
+use Rattle.machine.specs.declared.ask.GivenTime.{GivenTime}
+use Rattle.machine.specs.declared.ask.GivenTime.TheVariants.{Absent, At, Malformed}
+use Rattle.machine.specs.declared.ask.Body.{Body}
+use Rattle.machine.specs.declared.ask.Ask.{Ask}
+use Rattle.machine.specs.declared.ask.Ask.TheVariants as ask
+use Rattle.machine.specs.declared.ask.Event.{Event}
+use Rattle.machine.specs.declared.ask.Event.TheVariants.{Asked}
 use Rattle.world.specs.Forms.{is_time}
 use Rattle.engine.specs.declared.ask.Asking.{Asking}
 

@@ -7,10 +7,10 @@ use Rattle.wire.specs.Reply.{fixed_bytes}
 use Rattle.wire.specs.declared.reply.Fixed.TheVariants.{TooLarge, BadRequest, Unavailable}
 use Rattle.world.specs.Store.{Shown}
 use Rattle.world.specs.World.{World, chain}
-use Rattle.shelf.specs.declared.ask.Event.{Event}
-use Rattle.shelf.specs.declared.reply.Answer.{Answer}
-use Rattle.shelf.specs.Isolation.{remaining, marked, Agree}
-use Rattle.shelf.specs.Machine.{Run}
+use Rattle.machine.specs.declared.ask.Event.{Event}
+use Rattle.machine.specs.declared.reply.Answer.{Answer}
+use Rattle.machine.specs.Isolation.{remaining, marked, Agree}
+use Rattle.machine.specs.Machine.{Run}
 use Rattle.engine.specs.Ask.{event_of_message}
 use Rattle.engine.specs.Exchange.{Exchange, message_of}
 use Rattle.engine.specs.Headline.{unavailable}

@@ -1,9 +1,9 @@
 -- A message, and its outcome.
 use Rattle.framing.specs.Message.{Request}
-use Rattle.shelf.specs.declared.ask.Event.{Event}
-use Rattle.shelf.specs.declared.reply.Answer.{Answer}
-use Rattle.shelf.specs.declared.reply.Answer.TheVariants.{Replied, Failed}
-use Rattle.shelf.specs.declared.reply.Reply.{Reply}
+use Rattle.machine.specs.declared.ask.Event.{Event}
+use Rattle.machine.specs.declared.reply.Answer.{Answer}
+use Rattle.machine.specs.declared.reply.Answer.TheVariants.{Replied, Failed}
+use Rattle.machine.specs.declared.reply.Reply.{Reply}
 use Rattle.world.specs.declared.registry.StoreFault.{StoreFault}
 use Rattle.world.specs.declared.registry.StoreFault.TheVariants.{Memory}
 use Rattle.engine.specs.Ask as spec

@@ -8,14 +8,14 @@ use Rattle.wire.specs.declared.request.Target.TheVariants as target
 use Rattle.wire.specs.declared.reply.Fixed.TheVariants.{NotFound, Unavailable}
 use Rattle.wire.specs.declared.reply.Kind.TheVariants.{Json}
 use Rattle.world.specs.World.{World, IsWorld, chain}
-use Rattle.shelf.specs.declared.ask.Ask.TheVariants.{Get}
-use Rattle.shelf.specs.declared.ask.Event.{Event}
-use Rattle.shelf.specs.declared.ask.Query.TheVariants.{Latest}
-use Rattle.shelf.specs.declared.reply.Answer.{Answer}
-use Rattle.shelf.specs.Machine.{Run}
-use Rattle.shelf.specs.Isolation.{remaining, marked, belongs, Agree}
-use Rattle.shelf.specs.Immutability.{IsOfVersion}
-use Rattle.shelf.specs.PathLaws.{unretracted_versions, HasTime}
+use Rattle.machine.specs.declared.ask.Ask.TheVariants.{Get}
+use Rattle.machine.specs.declared.ask.Event.{Event}
+use Rattle.machine.specs.declared.ask.Query.TheVariants.{Latest}
+use Rattle.machine.specs.declared.reply.Answer.{Answer}
+use Rattle.machine.specs.Machine.{Run}
+use Rattle.machine.specs.Isolation.{remaining, marked, belongs, Agree}
+use Rattle.machine.specs.Immutability.{IsOfVersion}
+use Rattle.machine.specs.PathLaws.{unretracted_versions, HasTime}
 use Rattle.engine.specs.Ask.{ask_of, query_of, target_in}
 use Rattle.engine.specs.Exchange.{Exchange, event_of, answer_of}
 use Rattle.engine.specs.Happening.{Happening, coming_of, event_at, answer_at, text_at, faultless}

@@ -3,10 +3,10 @@ use Rattle.std.specs.Prelude.{◌≡◌, ◌≢◌, ℕ, List, ◌++◌, Option,
 use Rattle.std.specs.Io.KnownBytes.{Appends}
 use Rattle.histories.specs.Account.{Account, Gives, MayFollow}
 use Rattle.framing.specs.Message.{Request, ReadsMessage}
-use Rattle.shelf.specs.declared.reply.Answer.TheVariants.{Replied}
+use Rattle.machine.specs.declared.reply.Answer.TheVariants.{Replied}
 use Rattle.world.specs.World.{World, IsWorld}
-use Rattle.shelf.specs.Machine.{ask_reply, after_ask}
-use Rattle.shelf.specs.Isolation.{sees, belongs, key_of, Low}
+use Rattle.machine.specs.Machine.{ask_reply, after_ask}
+use Rattle.machine.specs.Isolation.{sees, belongs, key_of, Low}
 use Rattle.world.specs.Store.{Shown}
 use Rattle.engine.specs.Ask.{ask_of}
 use Rattle.engine.specs.Reply.{bytes_of}

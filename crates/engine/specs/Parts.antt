@@ -5,9 +5,9 @@ use Rattle.wire.specs.Reply.{fixed_bytes}
 use Rattle.wire.specs.declared.reply.Fixed.TheVariants.{NotFound}
 use Rattle.world.specs.World.{World, IsWorld, chain}
 use Rattle.world.specs.Part.{part, is_held}
-use Rattle.shelf.specs.Machine.{Run}
-use Rattle.shelf.specs.Isolation.{key_of}
-use Rattle.shelf.specs.Parts.{AllOwn}
+use Rattle.machine.specs.Machine.{Run}
+use Rattle.machine.specs.Isolation.{key_of}
+use Rattle.machine.specs.Parts.{AllOwn}
 use Rattle.engine.specs.Ask.{ask_of}
 use Rattle.engine.specs.Exchange.{Exchange, event_of, answer_of}
 use Rattle.engine.specs.Happening.{Happening, coming_of, event_at, answer_at, text_at, faultless}

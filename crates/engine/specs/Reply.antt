@@ -8,14 +8,14 @@ use Rattle.wire.specs.declared.reply.Fixed.{Fixed}
 use Rattle.wire.specs.declared.reply.Fixed.TheVariants as fixed
 use Rattle.wire.specs.declared.reply.Kind.TheVariants as kind
 use Rattle.world.specs.Lines.{in_order, lines_of}
-use Rattle.shelf.specs.declared.reply.Answer.{Answer}
-use Rattle.shelf.specs.declared.reply.Answer.TheVariants.{Replied, Failed}
-use Rattle.shelf.specs.declared.reply.Decision.{Decision}
-use Rattle.shelf.specs.declared.reply.Decision.TheVariants as decision
-use Rattle.shelf.specs.declared.reply.Refusal.{Refusal}
-use Rattle.shelf.specs.declared.reply.Refusal.TheVariants as refusal
-use Rattle.shelf.specs.declared.reply.Reply.{Reply}
-use Rattle.shelf.specs.declared.reply.Reply.TheVariants as reply
+use Rattle.machine.specs.declared.reply.Answer.{Answer}
+use Rattle.machine.specs.declared.reply.Answer.TheVariants.{Replied, Failed}
+use Rattle.machine.specs.declared.reply.Decision.{Decision}
+use Rattle.machine.specs.declared.reply.Decision.TheVariants as decision
+use Rattle.machine.specs.declared.reply.Refusal.{Refusal}
+use Rattle.machine.specs.declared.reply.Refusal.TheVariants as refusal
+use Rattle.machine.specs.declared.reply.Reply.{Reply}
+use Rattle.machine.specs.declared.reply.Reply.TheVariants as reply
 use Rattle.world.specs.declared.registry.StoreFault.{StoreFault}
 use Rattle.engine.specs.Ask.{sum_of}
 use Rattle.engine.specs.Exchange.{Exchange, Outcome, Unserved, Met, Served, answer_of}

@@ -1,9 +1,9 @@
 -- What a store goes through while messages are answered.
 use Rattle.std.specs.Prelude.{◌≡◌, ◌≤◌, ◌⊎◌, List, [], ◌∷◌, map}
-use Rattle.shelf.specs.Machine.{after, world_after, MetDevice}
+use Rattle.machine.specs.Machine.{after, world_after, MetDevice}
 use Rattle.world.specs.World.{World}
 use Rattle.world.specs.Store.{Shown, GrewOrFull}
-use Rattle.shelf.specs.Runs.{Runs}
+use Rattle.machine.specs.Runs.{Runs}
 use Rattle.engine.specs.Exchange.{Exchange, event_of, answer_of, IsUnmet}
 
 -- the machine's world after the exchanges

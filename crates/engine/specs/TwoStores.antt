@@ -4,8 +4,8 @@ use Rattle.std.specs.Io.KnownBytes.{Appends}
 use Rattle.framing.specs.Message.{Request, ReadsMessage}
 use Rattle.world.specs.World.{World}
 use Rattle.world.specs.Store.{Shown}
-use Rattle.shelf.specs.Machine.{after_ask}
-use Rattle.shelf.specs.Isolation.{sees, belongs, key_of, Low}
+use Rattle.machine.specs.Machine.{after_ask}
+use Rattle.machine.specs.Isolation.{sees, belongs, key_of, Low}
 use Rattle.engine.specs.Ask.{ask_of}
 use Rattle.engine.specs.First.{ServesFirst}
 

@@ -3,8 +3,8 @@ ghost use Rattle.std.specs.Prelude.{◌≡◌, ◌≤◌, take, drop, vec_len, I
 ghost use Rattle.framing.specs.Framing.{view, texts};
 ghost use Rattle.engine.specs.Ask as spec;
 
+use machine::ask::{Ask, Body, GivenTime, Publish, Query};
 use modver::read_time;
-use shelf::ask::{Ask, Body, GivenTime, Publish, Query};
 use std::alloc::AllocError;
 use wire::{Memory, Message, Resource, RouteTable, Target, length_value, target};
 use world::bytes::Bytes;

@@ -6,7 +6,7 @@ ghost use Rattle.engine.specs.Reply.{IsOutcome, answer_page};
 
 use crate::ask::Asking;
 use crate::page::{Page, page_of};
-use shelf::reply::Reply;
+use machine::reply::Reply;
 use std::alloc::Global;
 use wire::reply::Fixed;
 use world::registry::StoreFault;

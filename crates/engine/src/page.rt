@@ -6,10 +6,10 @@ ghost use Rattle.engine.specs.Reply.{IsComposed, IsSummed};
 
 use crate::ask::Asking;
 use gosum::sum_line;
+use machine::ask::{Ask, Query};
+use machine::reply::{Decision, Refusal, Reply};
 use modpath::ModulePath;
 use modver::Version;
-use shelf::ask::{Ask, Query};
-use shelf::reply::{Decision, Refusal, Reply};
 use std::alloc::Global;
 use wire::reply::{Fixed, Kind};
 use wire::{Memory, info_body};

@@ -14,7 +14,7 @@ use crate::incoming::{Incoming, next_message};
 use crate::page::Page;
 use crate::write::{flush, write_fixed, write_page};
 use histories::{Hear, Tell};
-use shelf::step::step;
+use machine::step::step;
 use std::alloc::Global;
 use wire::reply::Fixed;
 use wire::{Framer, RouteTable};

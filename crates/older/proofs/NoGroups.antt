@@ -6,7 +6,7 @@ use Rattle.std.proofs.lemmas.Bool.{and_parts, not-true}
 use Rattle.world.specs.Registry.{is_top, is_group}
 use Rattle.world.specs.World.{common}
 use Rattle.world.proofs.Sound.{top_is}
-use Rattle.shelf.proofs.Ungrouped.{each_is_of_one, lists_without_groups}
+use Rattle.machine.proofs.Ungrouped.{each_is_of_one, lists_without_groups}
 use Rattle.older.specs.Laws.{MeanNoGroup, AnswersAsBefore}
 
 -- a world that such tables stand for has no group, because only `common` has no parent in it

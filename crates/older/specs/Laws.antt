@@ -2,8 +2,8 @@
 -- alone.
 use Rattle.std.specs.Prelude.{◌≡◌, List, map as map_list}
 use Rattle.sqlite.specs.Tree.{Trees}
-use Rattle.shelf.specs.Machine as machine
-use Rattle.shelf.specs.Ungrouped.{Ungrouped, Event, IsOf, event_in, replies}
+use Rattle.machine.specs.Machine as machine
+use Rattle.machine.specs.Ungrouped.{Ungrouped, Event, IsOf, event_in, replies}
 use Rattle.world.specs.Groups.{HasNoGroup}
 use Rattle.world.specs.World.{World, IsWorld}
 use Rattle.older.specs.declared.schema.Format.{Format}

@@ -16,7 +16,7 @@ pub fn revoke_all<S: Keyring>(
     shelves: &mut S,
     shelf: &str,
 ) -> Result<Registered, StoreFault>
-    ensures { spec.RevokesAll (S.shown shelves.old) (S.shown shelves.new) result shelf.now }
+    ensures { spec.RevokesAll (S.shown shelves.old) (S.shown shelves.new) result machine.now }
 {
     match shelves.parent(alloc, shelf) {
         Ok(Some(_)) => revoked(revoke_each(shelves, shelf)),
@@ -37,7 +37,7 @@ fn revoked(told: Result<(), StoreFault>) -> Result<Registered, StoreFault>
 
 /// Takes away all keys of a shelf, one after another. Fails as `revoke_all` does.
 fn revoke_each<S: Keyring>(shelves: &mut S, shelf: &str) -> Result<(), StoreFault>
-    ensures { spec.Empties (S.shown shelves.old) (S.shown shelves.new) result shelf.now }
+    ensures { spec.Empties (S.shown shelves.old) (S.shown shelves.new) result machine.now }
 {
     let keys = shelves.keys()?;
     for key in keys.iter() {
@@ -46,15 +46,15 @@ fn revoke_each<S: Keyring>(shelves: &mut S, shelf: &str) -> Result<(), StoreFaul
     Ok(())
 }
 
-/// Takes a key away if it belongs to a shelf. Fails if the store meets a fault, and then changes nothing.
+/// Takes a key away if it belongs to a machine. Fails if the store meets a fault, and then changes nothing.
 fn revoke_of<S: Shelves>(shelves: &mut S, key: &str, shelf: &str) -> Result<(), StoreFault>
     ensures does { Does (S.shown shelves.old) (S.shown shelves.new) result
-        (λ w. tt) (λ w. spec.without w key.now shelf.now) }
+        (λ w. tt) (λ w. spec.without w key.now machine.now) }
 {
     let Some(holder) = shelves.key(key)? else {
         return Ok(());
     };
-    if holder.shelf.as_str() != shelf {
+    if holder.machine.as_str() != shelf {
         return Ok(());
     }
     shelves.key_revoke(key)?;

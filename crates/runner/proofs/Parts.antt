@@ -7,16 +7,16 @@ use Rattle.world.specs.declared.entry.Holder.{Holder}
 use Rattle.world.specs.World.{World, IsWorld, place, group_in, above, is_among, sees}
 use Rattle.world.specs.Part.{is_held}
 use Rattle.world.proofs.Sees.{sees_itself, sees_common, same_chain}
-use Rattle.shelf.specs.declared.ask.Ask.{Ask}
-use Rattle.shelf.specs.declared.ask.Ask.TheVariants.{Unreadable, Get, Put}
-use Rattle.shelf.specs.declared.ask.Event.{Event}
-use Rattle.shelf.specs.declared.ask.Event.TheVariants.{Asked, TeamAdd, GroupAdd, KeyAdd, KeyRevoke}
-use Rattle.shelf.specs.Machine.{decision, after_decision, ask_reply, after_ask, after_all, replies, answered}
-use Rattle.shelf.specs.Isolation.{key_of, Low}
-use Rattle.shelf.proofs.Blind.{blind, same_whole, low_decided, no_key}
-use Rattle.shelf.proofs.Sound.{sound}
-use Rattle.shelf.proofs.Parts.{told_by_machine, SameRegistry, registry_asked, unknown_asked, keys_through}
-use Rattle.shelf.proofs.Served.{decided_of}
+use Rattle.machine.specs.declared.ask.Ask.{Ask}
+use Rattle.machine.specs.declared.ask.Ask.TheVariants.{Unreadable, Get, Put}
+use Rattle.machine.specs.declared.ask.Event.{Event}
+use Rattle.machine.specs.declared.ask.Event.TheVariants.{Asked, TeamAdd, GroupAdd, KeyAdd, KeyRevoke}
+use Rattle.machine.specs.Machine.{decision, after_decision, ask_reply, after_ask, after_all, replies, answered}
+use Rattle.machine.specs.Isolation.{key_of, Low}
+use Rattle.machine.proofs.Blind.{blind, same_whole, low_decided, no_key}
+use Rattle.machine.proofs.Sound.{sound}
+use Rattle.machine.proofs.Parts.{told_by_machine, SameRegistry, registry_asked, unknown_asked, keys_through}
+use Rattle.machine.proofs.Served.{decided_of}
 use Rattle.store.specs.Parts.{part_of, chains, AreTeams}
 use Rattle.store.proofs.PartLemmas.{parent_at, key_at, entry_at, held_key, chains_has, chains_from, chains_world}
 use Rattle.runner.specs.Parts.{AllOf, TeamsAreToldTheSame, OthersOfTeamsAreNotFound}

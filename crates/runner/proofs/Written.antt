@@ -2,9 +2,9 @@
 use Rattle.std.proofs.Common.{◌≡◌, sym, subst}
 use Rattle.std.specs.Prelude.{map}
 use Rattle.world.specs.World.{World}
-use Rattle.shelf.specs.Machine.{answered, after_all, ask_reply}
-use Rattle.shelf.specs.Parts.{IsNotFound}
-use Rattle.shelf.proofs.Parts.{run_leads}
+use Rattle.machine.specs.Machine.{answered, after_all, ask_reply}
+use Rattle.machine.specs.Parts.{IsNotFound}
+use Rattle.machine.proofs.Parts.{run_leads}
 use Rattle.engine.specs.Ask.{ask_of}
 use Rattle.engine.specs.Exchange.{event_of, answer_of}
 use Rattle.engine.specs.Happening.{event_at, answer_at}

@@ -4,12 +4,12 @@ use Rattle.std.specs.FinMap as map
 use Rattle.world.specs.declared.entry.Holder.{Holder}
 use Rattle.world.specs.World.{World, IsWorld, is_among}
 use Rattle.world.specs.Part.{is_held}
-use Rattle.shelf.specs.declared.ask.Ask.{Ask}
-use Rattle.shelf.specs.declared.ask.Event.{Event}
-use Rattle.shelf.specs.declared.reply.Answer.{Answer}
-use Rattle.shelf.specs.Machine.{ask_reply, after_all, Run, answered, replies_of}
-use Rattle.shelf.specs.Isolation.{key_of, asking_key}
-use Rattle.shelf.specs.Parts.{IsNotFound, AllAsked}
+use Rattle.machine.specs.declared.ask.Ask.{Ask}
+use Rattle.machine.specs.declared.ask.Event.{Event}
+use Rattle.machine.specs.declared.reply.Answer.{Answer}
+use Rattle.machine.specs.Machine.{ask_reply, after_all, Run, answered, replies_of}
+use Rattle.machine.specs.Isolation.{key_of, asking_key}
+use Rattle.machine.specs.Parts.{IsNotFound, AllAsked}
 use Rattle.store.specs.Parts.{part_of, chains, AreTeams}
 
 -- Each event is a request with a key that belongs to one of these shelves. No request changes where a key belongs, so

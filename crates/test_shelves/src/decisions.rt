@@ -1,9 +1,9 @@
 //! The checks of a publish, row by row.
+use machine::ask::{Body, GivenTime, Publish};
+use machine::decide::{decide_by_shelf, gomod_refusal, request_refusal};
+use machine::reply::Decision;
 use modpath::ModulePath;
 use modver::{Version, read_time};
-use shelf::ask::{Body, GivenTime, Publish};
-use shelf::decide::{decide_by_shelf, gomod_refusal, request_refusal};
-use shelf::reply::Decision;
 use std::alloc::{AllocError, Global};
 use std::test::Fail;
 use test_support::rows::{answer_of, call_of, column, named, with_lines};

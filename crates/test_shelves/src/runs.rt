@@ -1,9 +1,9 @@
 //! Runs of the machine on shelves in memory.
+use machine::ask::{Ask, Body, Event, GivenTime, Publish, Query};
+use machine::reply::{Answer, Reply};
+use machine::run::run;
 use modpath::ModulePath;
 use modver::Version;
-use shelf::ask::{Ask, Body, Event, GivenTime, Publish, Query};
-use shelf::reply::{Answer, Reply};
-use shelf::run::run;
 use std::alloc::{AllocError, Global};
 use std::process::Abort;
 use std::str::from_utf8;

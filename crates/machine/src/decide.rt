@@ -1,0 +1,111 @@
+//! The checks of a publish.
+ghost use Rattle.std.specs.Prelude.{◌≡◌, Some, true};
+ghost use Rattle.machine.specs.Machine as spec;
+
+use crate::ask::{GivenTime, Publish};
+use crate::reply::{Decision, Refusal};
+use world::entry::{MAX_VERSIONS, Right};
+use world::entry_test::{Misfit, module_misfit, own_misfit};
+use world::reading::Reading;
+use world::standing::Standing;
+
+/// Returns the answer of the first check of the go.mod that fails, or None if all pass. Allocates nothing.
+pub fn gomod_refusal(publish: &Publish, gomod: &Reading) -> Option<Decision>
+    ensures { result ≡ spec.first_failing (spec.gomod_checks publish.now (Some gomod.now)) }
+{
+    let misfit = module_misfit(&publish.path, &publish.version, gomod)?;
+    Some(decision_of(misfit))
+}
+
+/// Returns the answer to an entry that may not stand.
+fn decision_of(misfit: Misfit) -> Decision
+    ensures { result ≡ spec.decision_of misfit }
+{
+    match misfit {
+        Misfit::TooLarge => Decision::TooLarge,
+        Misfit::Version => Decision::Refused(Refusal::MajorMismatch),
+        Misfit::Time => Decision::Refused(Refusal::TimeMismatch),
+        Misfit::GoMod(line) => Decision::Refused(Refusal::BadGoMod(line)),
+        Misfit::ModulePath => Decision::Refused(Refusal::ModulePath),
+        Misfit::NotBare => Decision::Refused(Refusal::IncompatibleGoMod),
+    }
+}
+
+/// Returns the answer of the first check that fails among those of the publish alone, or None if all pass. Allocates
+/// nothing. None of these checks looks at a store, so a publish by a reader reads no entry and no count.
+pub fn request_refusal(publish: &Publish, right: Option<Right>) -> Option<Decision>
+    ensures { result ≡ spec.first_failing (spec.request_checks publish.now right) }
+{
+    well_formed(publish);
+    let Some(right) = right else {
+        return Some(Decision::NotFound);
+    };
+    if !may_publish(right) {
+        return Some(Decision::Forbidden);
+    }
+    entry_refusal(publish)
+}
+
+/// Whether a key with this right may publish.
+fn may_publish(right: Right) -> bool
+    ensures { result ≡ spec.may_publish (Some right) }
+{
+    right == Right::Publishes
+}
+
+/// Returns the answer of the first check of the entry and of the given time that fails, or None if all pass.
+fn entry_refusal(publish: &Publish) -> Option<Decision>
+    ensures { result ≡ spec.first_failing (spec.entry_checks publish.now) }
+{
+    let Some(entry) = publish.entry() else {
+        return Some(Decision::BadLength);
+    };
+    // An entry whose given time is malformed has the time of its stamp, or none, so no check of its time fails.
+    let is_bad = is_bad_time(publish.time);
+    if let Some(misfit) = own_misfit(&publish.path, &publish.version, &entry) {
+        return Some(decision_of(misfit));
+    }
+    if is_bad {
+        return Some(Decision::Refused(Refusal::BadTime));
+    }
+    None
+}
+
+/// Whether something is given that is no single well-formed time. A `TimeText` is always well formed; the definition
+/// checks it anyway, so that the laws over raw events need no premise.
+fn is_bad_time(given: GivenTime) -> bool
+    ensures exact { result ≡ spec.is_bad_time given }
+    ensures malformed { result ≡ true → given ≡ GivenTime.Malformed }
+{
+    match given {
+        GivenTime::Absent => false,
+        GivenTime::Malformed => true,
+        GivenTime::At(time) => {
+            let _time = time.as_str();
+            false
+        }
+    }
+}
+
+/// Proves that the path and the version are well formed, as their types promise. The definition checks them anyway, so
+/// that the laws over raw events need no premise.
+#[tactic(auto, unfolding(modver::specs::SemanticVersion::has_text))]
+fn well_formed(publish: &Publish)
+    ensures { spec.is_readable publish.now ≡ true }
+{
+    let _path = publish.path.as_str();
+    let _version = publish.version.as_str();
+}
+
+/// Returns the outcome of the checks against what stands, from how the entry compares with what the shelf sees and how
+/// many versions of the path stand on the shelf. Allocates nothing.
+pub fn decide_by_shelf(standing: Standing, count: u64) -> Decision
+    ensures { result ≡ spec.decided_by_shelf standing count }
+{
+    match standing {
+        Standing::Same => Decision::Same,
+        Standing::Other => Decision::Conflict,
+        Standing::Absent if count >= MAX_VERSIONS => Decision::Full,
+        Standing::Absent => Decision::Published,
+    }
+}

@@ -1,0 +1,122 @@
+//! The machine over any store.
+ghost use Rattle.std.specs.Prelude.{◌≡◌, ◌∷◌, Some};
+ghost use Rattle.std.specs.FinMap as map;
+ghost use Rattle.machine.specs.Machine.{ask_reply, after_ask};
+ghost use Rattle.machine.specs.Calls.{fault_of, of_key};
+ghost use Rattle.machine.specs.Needs.{Told, Meets, MeetsIn, for_entry, needs, publish_needs, store_needs};
+ghost use Rattle.machine.specs.Publishing.{AnswersPut, PublishesTo, CarriesOut, StoresFor};
+ghost use Rattle.world.specs.Store.{Does};
+
+use crate::ask::{Ask, Publish};
+use crate::asked::Asked;
+use crate::asking::Asking;
+use crate::judge::judge;
+use crate::queries::answer_query;
+use crate::reply::{Decision, Reply};
+use std::alloc::Global;
+use world::entry::Holder;
+use world::registry::StoreFault;
+use world::shelves::Shelves;
+
+/// Answers a request and returns the reply. Fails with `Device` if a device failed, and with `Memory` if memory ran
+/// out.
+pub fn step<S: Shelves>(alloc: Global, shelves: &mut S, ask: &Ask) -> Result<Reply, StoreFault>
+    ensures does { Does (S.shown shelves.old) (S.shown shelves.new) result
+        (λ w. ask_reply w ask.now) (λ w. after_ask w ask.now) }
+{
+    let mut asking = Asking::new(shelves);
+    step_over(alloc, &mut asking, ask)
+}
+
+/// Answers a request as [`step`] does, over a store that keeps account of what it is asked.
+pub fn step_over<S: Asked>(alloc: Global, shelves: &mut S, ask: &Ask) -> Result<Reply, StoreFault>
+    ensures does { Does (S.shown shelves.old) (S.shown shelves.new) result
+        (λ w. ask_reply w ask.now) (λ w. after_ask w ask.now) }
+    // It asks the store for what the request needs, in that order and no more, and fails only by a refused need.
+    ensures needs { MeetsIn (S.shown shelves.old) (S.shown shelves.new) (S.asked shelves.old) (S.asked shelves.new)
+        (λ w. needs w ask.now) (fault_of result) }
+    ensures same { (S.asked shelves.new).source ≡ (S.asked shelves.old).source }
+{
+    match ask {
+        Ask::Unreadable => Ok(Reply::NotFound),
+        Ask::Get { key, query } => answer_query(alloc, shelves, key.as_str(), query),
+        Ask::Put { key, publish } => Ok(Reply::Decided(answer_publish(
+            alloc,
+            shelves,
+            key.as_str(),
+            publish,
+        )?)),
+    }
+}
+
+/// Decides a PUT, stores what it publishes, and returns the decision. Fails only if the store fails or memory runs out.
+fn answer_publish<S: Asked>(
+    alloc: Global,
+    shelves: &mut S,
+    key: &str,
+    publish: &Publish,
+) -> Result<Decision, StoreFault>
+    ensures does { AnswersPut (S.shown shelves.old) (S.shown shelves.new) result key.now publish.now }
+    ensures needs { MeetsIn (S.shown shelves.old) (S.shown shelves.new) (S.asked shelves.old) (S.asked shelves.new)
+        (λ w. Told (of_key key.now) ∷ publish_needs w (map.get w.keys key.now) publish.now) (fault_of result) }
+    ensures same { (S.asked shelves.new).source ≡ (S.asked shelves.old).source }
+{
+    let Some(holder) = shelves.key(key)? else {
+        return Ok(Decision::NotFound);
+    };
+    publish_to(alloc, shelves, &holder, publish)
+}
+
+/// Decides a PUT by the holder of a key, stores what it publishes, and returns the decision. Fails only if the store
+/// fails or memory runs out.
+fn publish_to<S: Asked>(
+    alloc: Global,
+    shelves: &mut S,
+    holder: &Holder,
+    publish: &Publish,
+) -> Result<Decision, StoreFault>
+    ensures does { PublishesTo (S.shown shelves.old) (S.shown shelves.new) result holder.now publish.now }
+    ensures needs { MeetsIn (S.shown shelves.old) (S.shown shelves.new) (S.asked shelves.old) (S.asked shelves.new)
+        (λ w. publish_needs w (Some holder.now) publish.now) (fault_of result) }
+    ensures same { (S.asked shelves.new).source ≡ (S.asked shelves.old).source }
+{
+    let decision = judge(alloc, shelves, holder, publish)?;
+    carry_out(shelves, holder, publish, decision)?;
+    Ok(decision)
+}
+
+/// Stores the publish if the decision is `Published`, and does nothing otherwise. Fails only if the store fails.
+fn carry_out<S: Asked>(
+    shelves: &mut S,
+    holder: &Holder,
+    publish: &Publish,
+    decision: Decision,
+) -> Result<(), StoreFault>
+    ensures does { CarriesOut (S.shown shelves.old) (S.shown shelves.new) result holder.now publish.now decision }
+    ensures needs { Meets (S.asked shelves.old) (S.asked shelves.new)
+        (store_needs holder.now publish.now decision) (fault_of result) }
+    ensures same { (S.asked shelves.new).source ≡ (S.asked shelves.old).source }
+{
+    if decision == Decision::Published {
+        return store(shelves, holder, publish);
+    }
+    Ok(())
+}
+
+/// Stores a publish that passed the checks. Fails only if the store fails.
+fn store<S: Asked>(shelves: &mut S, holder: &Holder, publish: &Publish) -> Result<(), StoreFault>
+    ensures does { StoresFor (S.shown shelves.old) (S.shown shelves.new) result holder.now publish.now }
+    ensures needs { Meets (S.asked shelves.old) (S.asked shelves.new)
+        (store_needs holder.now publish.now Decision.Published) (fault_of result) }
+    ensures same { (S.asked shelves.new).source ≡ (S.asked shelves.old).source }
+{
+    let Some(entry) = publish.entry() else {
+        return Ok(());
+    };
+    shelves.insert(
+        holder.shelf.as_str(),
+        &publish.path,
+        &publish.version,
+        &entry,
+    )
+}

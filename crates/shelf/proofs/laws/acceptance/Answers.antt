@@ -1,5 +1,0 @@
-use Rattle.shelf.proofs.Served.{accepted_is_served}
-use Rattle.shelf.proofs.laws.acceptance.Goals as goal
-
-pub returns : goal.returns
-returns c = accepted_is_served

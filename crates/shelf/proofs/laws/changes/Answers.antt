@@ -1,5 +1,0 @@
-use Rattle.shelf.proofs.Changes.{only_changes_change, bodies_change_nothing}
-use Rattle.shelf.proofs.laws.changes.Goals as goal
-
-pub returns : goal.returns
-returns c = record { others = only_changes_change; bodies = bodies_change_nothing }

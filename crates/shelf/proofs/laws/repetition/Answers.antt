@@ -1,5 +1,0 @@
-use Rattle.shelf.proofs.Repeated.{repeated_list_changes_nothing}
-use Rattle.shelf.proofs.laws.repetition.Goals as goal
-
-pub returns : goal.returns
-returns c = repeated_list_changes_nothing

@@ -1,5 +1,0 @@
-use Rattle.shelf.proofs.Changes.{runs_are_cut, runs_are_joined}
-use Rattle.shelf.proofs.laws.runs.Goals as goal
-
-pub returns : goal.returns
-returns c = record { cut = runs_are_cut; joined = runs_are_joined }

@@ -1,6 +1,0 @@
-use Rattle.world.proofs.SeenVersions.{versions_are_seen}
-use Rattle.shelf.proofs.Told.{paths_are_seen, paths_are_told}
-use Rattle.shelf.proofs.laws.sight.Goals as goal
-
-pub returns : goal.returns
-returns c = record { versions = versions_are_seen; paths = paths_are_seen; told = paths_are_told }

@@ -1,5 +1,0 @@
-use Rattle.shelf.proofs.Sound.{sound, world_through}
-use Rattle.shelf.proofs.laws.soundness.Goals as goal
-
-pub returns : goal.returns
-returns c = record { event = sound; run = world_through }

@@ -4,7 +4,7 @@ ghost use Rattle.modlex.specs.Lines.{lines};
 ghost use Rattle.modlex.specs.Symbols.{symbols};
 ghost use Rattle.catalog.specs.GoVersion as spec;
 
-use gomod::{Kind, Token, TokenFault};
+use gomod::{MediaType, Token, TokenFault};
 use modlex::{cut_line, first_tokens};
 use std::alloc::{AllocError, Global};
 use text::Text;
@@ -77,7 +77,7 @@ fn is_inside(inside: bool, tokens: &[Token]) -> bool
         !matches!(
             tokens,
             [Token {
-                kind: Kind::ParenRight,
+                kind: MediaType::ParenRight,
                 ..
             }]
         )
@@ -87,7 +87,7 @@ fn is_inside(inside: bool, tokens: &[Token]) -> bool
             [
                 _,
                 Token {
-                    kind: Kind::ParenLeft,
+                    kind: MediaType::ParenLeft,
                     ..
                 }
             ]

@@ -10,7 +10,7 @@ use runner::{Command, run};
 use std::io::IsTerminal;
 use std::rt::HostRuntime;
 use store::files::is_new_store;
-use store::refusal::Refusal;
+use store::refusal::StoreRefusal;
 
 /// Runs commands. A run of the program reaches the files of stores only by it.
 pub trait Runner {
@@ -49,10 +49,10 @@ impl<'a> Runner for SystemStores<'a> {
         RunsAfresh ⟦<SystemHost<'a> as ActionHost<OpenedStore>>⟧.acts
         ⟦<SystemHost<'a> as Host<OpenedStore, ClosedFile>>⟧.state_of
         ⟦<SystemHost<'a> as Host<OpenedStore, ClosedFile>>⟧.shown
-        ⟦<SystemStoreFiles<'a> as StoreFiles<OpenedStore, ClosedFile, Refusal>>⟧.begins
-        ⟦<SystemStoreFiles<'a> as StoreFiles<OpenedStore, ClosedFile, Refusal>>⟧.left
-        ⟦<SystemOlderFiles<'a> as StoreFiles<ClosedFile, ClosedFile, Refusal>>⟧.begins
-        ⟦<SystemOlderFiles<'a> as StoreFiles<ClosedFile, ClosedFile, Refusal>>⟧.left };
+        ⟦<SystemStoreFiles<'a> as StoreFiles<OpenedStore, ClosedFile, StoreRefusal>>⟧.begins
+        ⟦<SystemStoreFiles<'a> as StoreFiles<OpenedStore, ClosedFile, StoreRefusal>>⟧.left
+        ⟦<SystemOlderFiles<'a> as StoreFiles<ClosedFile, ClosedFile, StoreRefusal>>⟧.begins
+        ⟦<SystemOlderFiles<'a> as StoreFiles<ClosedFile, ClosedFile, StoreRefusal>>⟧.left };
 
     fn is_new(&self, db: &str) -> bool {
         is_new_store(self.rt, db)

@@ -5,8 +5,8 @@ use Rattle.std.specs.Prelude.{bytes_eq, codes}
 use Rattle.std.proofs.lemmas.List.Folds.{list_all-append}
 use Rattle.world.specs.Store.{Shown}
 use Rattle.world.specs.World.{World, IsWorld}
-use Rattle.world.specs.declared.registry.Registered.{Registered}
-use Rattle.world.specs.declared.registry.Registered.TheVariants.{Done}
+use Rattle.world.specs.declared.registry.RegistryReply.{RegistryReply}
+use Rattle.world.specs.declared.registry.RegistryReply.TheVariants.{Done}
 use Rattle.world.specs.declared.registry.StoreFault.{StoreFault}
 use Rattle.world.specs.declared.entry.Right.TheVariants.{Reads, Publishes}
 use Rattle.machine.specs.Machine.{after, reply_to}
@@ -75,7 +75,7 @@ same_event got one two first second =
     one_event first.line one two first.says
     (subst (λ l. Orders l two) (one_line got first.line second.line first.ends.is second.ends) second.says)
 
-abbrev registered_in : Reply → Registered
+abbrev registered_in : Reply → RegistryReply
 registered_in (Registry r) = r
 registered_in reply = Done
 
@@ -94,7 +94,7 @@ module _ (old new : Shown) (sent : List ℕ) (order asked : Order) (result : Res
   where
     carried : new.is_honest → old.stands w → IsWorld w → ComeToTheSame asked order → IsSent sent asked → (other : Order)
         → IsSent sent other
-        → (told : Result Registered StoreFault) → result ≡ told_ending asked (Ok (outcome_of told))
+        → (told : Result RegistryReply StoreFault) → result ≡ told_ending asked (Ok (outcome_of told))
         → GoesThroughSteps old new (steps_heard (Carried other told)) → EndsAt new w order result
     carried honest stands is same asks other heard (Ok r) ends through =
         let run = through.runs.at honest w stands in

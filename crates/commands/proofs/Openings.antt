@@ -9,8 +9,8 @@ use Rattle.world.specs.Registry.{team_added, after_team_add, key_added, after_ke
 use Rattle.world.specs.Store.{Does}
 use Rattle.world.specs.World.{World, IsWorld, only_common, with_team, is_team_name, is_key, common, text_cmp}
 use Rattle.world.specs.declared.entry.Right.TheVariants.{Publishes}
-use Rattle.world.specs.declared.registry.Registered.{Registered}
-use Rattle.world.specs.declared.registry.Registered.TheVariants.{Done}
+use Rattle.world.specs.declared.registry.RegistryReply.{RegistryReply}
+use Rattle.world.specs.declared.registry.RegistryReply.TheVariants.{Done}
 use Rattle.world.proofs.MapsDone.{team_done, key_done}
 use Rattle.world.proofs.OnlyCommon.{only_common_stands, has_nothing_else}
 use Rattle.machine.proofs.Sound.{sound}
@@ -44,7 +44,7 @@ one_team : (t : List ℕ) → is_team_name t ≡ true → IsWorld (with_team onl
 one_team t named = subst IsWorld (ap (after_team_add only_common t None) (team_is_added t named))
     (sound only_common (TeamAdd t None) only_common_stands)
 
-module _ (old new : World) (t : List ℕ) (r : Registered) where
+module _ (old new : World) (t : List ℕ) (r : RegistryReply) where
   pub team_stands : Does (in_memory old) (in_memory new) (Ok r) (λ w. team_added w t None)
       (λ w. after_team_add w t None (team_added w t None))
       → old ≡ only_common → is_team_name t ≡ true → new ≡ with_team only_common t None

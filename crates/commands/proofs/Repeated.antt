@@ -24,8 +24,8 @@ use Rattle.machine.specs.declared.reply.Answer.{Answer}
 use Rattle.machine.specs.declared.reply.Answer.TheVariants.{Replied, Failed}
 use Rattle.machine.specs.declared.reply.Decision.{Decision}
 use Rattle.machine.specs.declared.reply.Decision.TheVariants as decision
-use Rattle.machine.specs.declared.reply.Refusal.{Refusal}
-use Rattle.machine.specs.declared.reply.Refusal.TheVariants as refusal
+use Rattle.machine.specs.declared.reply.ContentRefusal.{ContentRefusal}
+use Rattle.machine.specs.declared.reply.ContentRefusal.TheVariants as refusal
 use Rattle.machine.specs.declared.reply.Reply.{Reply}
 use Rattle.machine.specs.declared.reply.Reply.TheVariants as reply
 use Rattle.machine.proofs.Repeated.{repeated_list_changes_nothing}
@@ -113,7 +113,7 @@ again_first text (t ∷ ts) us (s1, y1, some, _) (s2, y2, all, end) =
 
 -- ---- a row that was accepted
 
-refused : (why : Refusal) → accepts (fixed_status (refusal_of why)) ≡ true → ⊥
+refused : (why : ContentRefusal) → accepts (fixed_status (refusal_of why)) ≡ true → ⊥
 refused refusal.MajorMismatch is = cc is
 refused refusal.BadTime is = cc is
 refused refusal.TimeMismatch is = cc is

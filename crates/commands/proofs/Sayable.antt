@@ -16,8 +16,8 @@ use Rattle.std.proofs.lemmas.Str.Ascii.{IsAscii-nil, IsAscii-cons}
 use Rattle.world.specs.declared.entry.Holder.{Holder}
 use Rattle.world.specs.declared.entry.Right.{Right}
 use Rattle.world.specs.declared.entry.Right.TheVariants.{Reads, Publishes}
-use Rattle.world.specs.declared.registry.Registered.{Registered}
-use Rattle.world.specs.declared.registry.Registered.TheVariants as registered
+use Rattle.world.specs.declared.registry.RegistryReply.{RegistryReply}
+use Rattle.world.specs.declared.registry.RegistryReply.TheVariants as registered
 use Rattle.world.specs.Names.{is_lower, is_digit}
 use Rattle.world.specs.Registry.{is_top, is_group, lacks_group, team_added, after_team_add}
 use Rattle.world.specs.World.{World, IsWorld, common, is_team_name, is_key}
@@ -182,7 +182,7 @@ no_group w g is unnamed = go (map.get w.shelves g) refl
     ]
 
 -- the answer to adding a team, by these tests
-abbrev answer : Bool → Bool → Bool → Registered
+abbrev answer : Bool → Bool → Bool → RegistryReply
 answer named there group =
     if not named then registered.Name else if there then registered.Taken else if not group then registered.NoGroup else
     registered.Done
@@ -260,7 +260,7 @@ group_unsaid name unsaid w = go (is_team_name name.now) refl
         (team_fits name.now named) tt (omega arith) in
         absurd (unsaid it.0 it.1)
 
-abbrev key_told : Bool → Bool → Bool → Registered
+abbrev key_told : Bool → Bool → Bool → RegistryReply
 key_told named there taken =
     if not named then registered.Name else if not there then registered.NoTeam else if taken then registered.Taken else
     registered.Done

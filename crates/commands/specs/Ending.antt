@@ -1,8 +1,8 @@
 -- How a command ends, by the result of the store.
 use Rattle.std.specs.Prelude.{ℕ, ◌≡◌, List, codes, Result, Ok, Err}
 use Rattle.world.specs.Store.{Shown, Does}
-use Rattle.world.specs.declared.registry.Registered.{Registered}
-use Rattle.world.specs.declared.registry.Registered.TheVariants as registered
+use Rattle.world.specs.declared.registry.RegistryReply.{RegistryReply}
+use Rattle.world.specs.declared.registry.RegistryReply.TheVariants as registered
 use Rattle.world.specs.declared.registry.StoreFault.{StoreFault}
 use Rattle.world.specs.declared.registry.StoreFault.TheVariants as fault
 use Rattle.machine.specs.Machine.{after}
@@ -29,7 +29,7 @@ word refusal.BadRow = codes "bad-row"
 word refusal.Io = codes "io"
 
 -- how a registry command ends
-abbrev pub ending : Result Registered StoreFault → Result (Unit {0}) CommandRefusal
+abbrev pub ending : Result RegistryReply StoreFault → Result (Unit {0}) CommandRefusal
 ending (Ok registered.Done) = Ok tt
 ending (Ok registered.Name) = Err refusal.Name
 ending (Ok registered.Taken) = Err refusal.Taken
@@ -42,19 +42,19 @@ ending (Err fault.Memory) = Err refusal.Memory
 -- From old to new the order was carried out: in each world that the store stood for, it gave the machine's reply and
 -- made the world after the order's event, or met a fault and changed nothing; and the command ends by that.
 pub record Registers (old new : Shown) (order : Order) (result : Result (Unit {0}) CommandRefusal) : Type 0 where
-  pub told : Result Registered StoreFault
+  pub told : Result RegistryReply StoreFault
   pub does : Does old new told (λ w. outcome_in w order) (λ w. after w (event_of order))
   pub ends : result ≡ ending told
 
 -- From old to new the one key with this fingerprint was revoked, if there is one; and the command ends by that.
 pub record RevokesNamed (old new : Shown) (fingerprint : List ℕ) (result : Result (Unit {0}) CommandRefusal)
     : Type 0 where
-  pub told : Result Registered StoreFault
+  pub told : Result RegistryReply StoreFault
   pub does : Does old new told (λ w. revoked_with w fingerprint) (λ w. after_revoke_with w fingerprint)
   pub ends : result ≡ ending told
 
 -- From old to new all keys of a shelf were revoked, if there is such a shelf; and the command ends by that.
 pub record RevokesShelf (old new : Shown) (shelf : List ℕ) (result : Result (Unit {0}) CommandRefusal) : Type 0 where
-  pub told : Result Registered StoreFault
+  pub told : Result RegistryReply StoreFault
   pub revokes : RevokesAll old new told shelf
   pub ends : result ≡ ending told

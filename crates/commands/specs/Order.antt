@@ -48,7 +48,7 @@ unsayable (KeyRevoke key) = NoKey
 
 -- how a command ends, by the result of sending its order
 abbrev pub told_ending : Order → Result Outcome Untold → Result (Unit {0}) CommandRefusal
-told_ending order (Ok (outcome.Registered registered)) = ending (Ok registered)
+told_ending order (Ok (outcome.RegistryReply registered)) = ending (Ok registered)
 told_ending order (Ok (outcome.Failed fault)) = ending (Err fault)
 told_ending order (Ok outcome.NotEmpty) = Err Io
 told_ending order (Ok outcome.Stopping) = Err Io
@@ -81,7 +81,7 @@ OrdersThere order result =
 -- how `copy` ends, by the result of sending its order; a path that no line can carry counts as a name that breaks its
 -- rule
 abbrev pub copy_ending : Result Outcome Untold → Result (Unit {0}) CommandRefusal
-copy_ending (Ok (outcome.Registered registered)) = ending (Ok registered)
+copy_ending (Ok (outcome.RegistryReply registered)) = ending (Ok registered)
 copy_ending (Ok (outcome.Failed fault)) = ending (Err fault)
 copy_ending (Ok outcome.NotEmpty) = Err NotEmpty
 copy_ending (Ok outcome.Stopping) = Err Io
@@ -107,7 +107,7 @@ CopiesThere path result =
 abbrev pub stop_ending : Result Outcome Untold → Result (Unit {0}) CommandRefusal
 stop_ending (Ok outcome.Stopping) = Ok tt
 stop_ending (Ok (outcome.Failed fault)) = ending (Err fault)
-stop_ending (Ok (outcome.Registered registered)) = Err Io
+stop_ending (Ok (outcome.RegistryReply registered)) = Err Io
 stop_ending (Ok outcome.NotEmpty) = Err Io
 stop_ending (Ok outcome.Bad) = Err Io
 stop_ending (Err why) = Err Io

@@ -17,7 +17,7 @@ use Rattle.commands.specs.declared.refusal.CommandRefusal.TheVariants.{Device, M
 abbrev pub refusal_of : Outcome → CommandRefusal
 refusal_of (outcome.Failed fault.Device) = Device
 refusal_of (outcome.Failed fault.Memory) = Memory
-refusal_of (outcome.Registered registered) = Io
+refusal_of (outcome.RegistryReply registered) = Io
 refusal_of outcome.NotEmpty = Io
 refusal_of outcome.Stopping = Io
 refusal_of outcome.Bad = Io

@@ -74,7 +74,7 @@ fn told_ending(told: Result<Outcome, Untold>, order: &Order) -> Result<(), Comma
     ensures { result ≡ spec.told_ending order.now told }
 {
     match told {
-        Ok(Outcome::Registered(registered)) => ending(Ok(registered)),
+        Ok(Outcome::RegistryReply(registered)) => ending(Ok(registered)),
         Ok(Outcome::Failed(fault)) => ending(Err(fault)),
         Ok(Outcome::NotEmpty | Outcome::Stopping | Outcome::Bad) => Err(CommandRefusal::Io),
         Err(Untold::Words) => Err(unsayable(order)),
@@ -147,7 +147,7 @@ fn copy_ending(told: Result<Outcome, Untold>) -> Result<(), CommandRefusal>
     ensures { result ≡ spec.copy_ending told }
 {
     match told {
-        Ok(Outcome::Registered(registered)) => ending(Ok(registered)),
+        Ok(Outcome::RegistryReply(registered)) => ending(Ok(registered)),
         Ok(Outcome::Failed(fault)) => ending(Err(fault)),
         Ok(Outcome::NotEmpty) => Err(CommandRefusal::NotEmpty),
         Ok(Outcome::Stopping | Outcome::Bad) | Err(Untold::Io) => Err(CommandRefusal::Io),
@@ -192,7 +192,7 @@ fn stop_ending(told: Result<Outcome, Untold>) -> Result<(), CommandRefusal>
     match told {
         Ok(Outcome::Stopping) => Ok(()),
         Ok(Outcome::Failed(fault)) => ending(Err(fault)),
-        Ok(Outcome::Registered(_)) => Err(CommandRefusal::Io),
+        Ok(Outcome::RegistryReply(_)) => Err(CommandRefusal::Io),
         Ok(Outcome::NotEmpty) => Err(CommandRefusal::Io),
         Ok(Outcome::Bad) => Err(CommandRefusal::Io),
         Err(_) => Err(CommandRefusal::Io),

@@ -74,7 +74,7 @@ pub(crate) fn refusal_of(outcome: Outcome) -> CommandRefusal
     match outcome {
         Outcome::Failed(StoreFault::Device) => CommandRefusal::Device,
         Outcome::Failed(StoreFault::Memory) => CommandRefusal::Memory,
-        Outcome::Registered(_) | Outcome::NotEmpty | Outcome::Stopping | Outcome::Bad => {
+        Outcome::RegistryReply(_) | Outcome::NotEmpty | Outcome::Stopping | Outcome::Bad => {
             CommandRefusal::Io
         }
     }

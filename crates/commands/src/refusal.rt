@@ -5,7 +5,7 @@ ghost use Rattle.commands.specs.Ending as spec;
 use engine::Io;
 use std::alloc::AllocError;
 use std::io;
-use world::registry::{Registered, StoreFault};
+use world::registry::{RegistryReply, StoreFault};
 
 /// Why a command was refused, with exit status 1.
 #[derive(Clone, Copy, Debug, Drop, PartialEq, Eq)]
@@ -81,16 +81,16 @@ impl From<AllocError> for CommandRefusal {
 }
 
 /// Returns how a registry command ends with this answer of the store.
-pub fn ending(told: Result<Registered, StoreFault>) -> Result<(), CommandRefusal>
+pub fn ending(told: Result<RegistryReply, StoreFault>) -> Result<(), CommandRefusal>
     ensures { result ≡ spec.ending told }
 {
     match told {
-        Ok(Registered::Done) => Ok(()),
-        Ok(Registered::Name) => Err(CommandRefusal::Name),
-        Ok(Registered::Taken) => Err(CommandRefusal::Taken),
-        Ok(Registered::NoTeam) => Err(CommandRefusal::NoTeam),
-        Ok(Registered::NoKey) => Err(CommandRefusal::NoKey),
-        Ok(Registered::NoGroup) => Err(CommandRefusal::NoGroup),
+        Ok(RegistryReply::Done) => Ok(()),
+        Ok(RegistryReply::Name) => Err(CommandRefusal::Name),
+        Ok(RegistryReply::Taken) => Err(CommandRefusal::Taken),
+        Ok(RegistryReply::NoTeam) => Err(CommandRefusal::NoTeam),
+        Ok(RegistryReply::NoKey) => Err(CommandRefusal::NoKey),
+        Ok(RegistryReply::NoGroup) => Err(CommandRefusal::NoGroup),
         Err(StoreFault::Device) => Err(CommandRefusal::Device),
         Err(StoreFault::Memory) => Err(CommandRefusal::Memory),
     }

@@ -5,7 +5,7 @@ use Rattle.std.proofs.Common.{◌∙◌, inl, inr, Result, Ok, Err, arith, appen
 use Rattle.std.proofs.lemmas.List.{map-append}
 use Rattle.world.specs.World.{World}
 use Rattle.world.specs.Store.{Shown, Does, DoesAt}
-use Rattle.world.specs.declared.registry.Registered.{Registered}
+use Rattle.world.specs.declared.registry.RegistryReply.{RegistryReply}
 use Rattle.world.specs.declared.registry.StoreFault.{StoreFault}
 use Rattle.machine.specs.Machine.{after, reply_to}
 use Rattle.machine.specs.declared.reply.Reply.{Reply}
@@ -113,9 +113,9 @@ turns_asked old new (x ∷ y ∷ more) few through = absurd (omega (arith, few))
 
 module _ (old new : Shown) (w : World) where
   -- what was done for an order is what the machine does for its event
-  by_event : (o : Order) (told : Result Registered StoreFault)
+  by_event : (o : Order) (told : Result RegistryReply StoreFault)
       → DoesAt old new w told (outcome_in w o) (after w (event_of o))
-      → (outcome : Registered) × (reply_to w (event_of o) ≡ Registry outcome)
+      → (outcome : RegistryReply) × (reply_to w (event_of o) ≡ Registry outcome)
       × DoesAt old new w told outcome (after w (event_of o))
   by_event (TeamAdd name group) told does = (_, refl, does)
   by_event (GroupAdd name) told does = (_, refl, does)
@@ -123,7 +123,7 @@ module _ (old new : Shown) (w : World) where
   by_event (KeyRevoke key) told does = (_, refl, does)
 
   -- an order that was done got the machine's reply to its event
-  pub replied : (o : Order) (r : Registered) → DoesAt old new w (Ok r) (outcome_in w o) (after w (event_of o))
+  pub replied : (o : Order) (r : RegistryReply) → DoesAt old new w (Ok r) (outcome_in w o) (after w (event_of o))
       → DoesAt {T = Reply} old new w (Ok (Registry r)) (reply_to w (event_of o)) (after w (event_of o))
   replied o r does = let so = by_event o (Ok r) does in record {
     answer = ap Registry so.2.answer ∙ sym so.1;
@@ -133,7 +133,7 @@ module _ (old new : Shown) (w : World) where
   }
 
 -- a store that carried out an order goes through one turn
-pub turns_ordered : (old new : Shown) (o : Order) (told : Result Registered StoreFault)
+pub turns_ordered : (old new : Shown) (o : Order) (told : Result RegistryReply StoreFault)
     → Does old new told (λ w. outcome_in w o) (λ w. after w (event_of o))
     → GoesThroughTurns old new (Ordered o told ∷ []) false
 turns_ordered old new o (Ok r) does = record {

@@ -3,7 +3,7 @@ use Rattle.std.specs.Prelude.{ℕ, ◌≡◌, ◌≢◌, ◌⊎◌, List, [], �
 use Rattle.std.specs.Io.KnownBytes.{Appends, Keeps}
 use Rattle.histories.specs.Account.{Account}
 use Rattle.world.specs.Store.{Shown}
-use Rattle.world.specs.declared.registry.Registered.{Registered}
+use Rattle.world.specs.declared.registry.RegistryReply.{RegistryReply}
 use Rattle.world.specs.declared.registry.StoreFault.{StoreFault}
 use Rattle.world.specs.declared.registry.StoreFault.TheVariants.{Memory}
 use Rattle.engine.specs.Written.{WritesBeginning}
@@ -29,7 +29,7 @@ use Rattle.control.specs.declared.told.Told.TheVariants as spoken
 -- what a line ordered, and the result
 pub data Heard : Type 0 where
   -- it was an order, which was carried out
-  Carried : Order → Result Registered StoreFault → Heard
+  Carried : Order → Result RegistryReply StoreFault → Heard
   -- a copy to a path was ordered, with this result
   Copied : List ℕ → Result (Unit {0}) CopyRefusal → Heard
   -- the health of the server was asked for, and this was told

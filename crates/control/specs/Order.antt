@@ -6,7 +6,7 @@ use Rattle.world.specs.World.{World}
 use Rattle.world.specs.Registry.{team_added, group_added, key_added, key_revoked}
 use Rattle.world.specs.declared.entry.Right.{Right}
 use Rattle.world.specs.declared.entry.Right.TheVariants.{Reads, Publishes}
-use Rattle.world.specs.declared.registry.Registered.{Registered}
+use Rattle.world.specs.declared.registry.RegistryReply.{RegistryReply}
 use Rattle.control.specs.Words.{Said, text_of, IsTextOf}
 use Rattle.control.specs.declared.order.Order.{Order}
 use Rattle.control.specs.declared.order.Order.TheVariants.{TeamAdd, GroupAdd, KeyAdd, KeyRevoke}
@@ -58,7 +58,7 @@ event_of (KeyAdd shelf key right) = event.KeyAdd shelf.now key.now right
 event_of (KeyRevoke key) = event.KeyRevoke key.now
 
 -- the machine's reply to the order in a world
-abbrev pub outcome_in : World → Order → Registered
+abbrev pub outcome_in : World → Order → RegistryReply
 outcome_in w (TeamAdd name group) = team_added w name.now (option_copied group)
 outcome_in w (GroupAdd name) = group_added w name.now
 outcome_in w (KeyAdd shelf key right) = key_added w shelf.now key.now

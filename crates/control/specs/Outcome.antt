@@ -1,7 +1,7 @@
 -- The outcome of an order, and its line.
 use Rattle.std.specs.Prelude.{ℕ, ◌≢◌, List, [], ◌∷◌, ◌++◌, codes, Result, Ok, Err}
-use Rattle.world.specs.declared.registry.Registered.{Registered}
-use Rattle.world.specs.declared.registry.Registered.TheVariants as registered
+use Rattle.world.specs.declared.registry.RegistryReply.{RegistryReply}
+use Rattle.world.specs.declared.registry.RegistryReply.TheVariants as registered
 use Rattle.world.specs.declared.registry.StoreFault.{StoreFault}
 use Rattle.world.specs.declared.registry.StoreFault.TheVariants as fault
 use Rattle.control.specs.Words.{line_end}
@@ -11,24 +11,24 @@ use Rattle.control.specs.declared.outcome.Outcome.{Outcome}
 use Rattle.control.specs.declared.outcome.Outcome.TheVariants as outcome
 
 -- the outcome of an order that was carried out with this result
-abbrev pub outcome_of : Result Registered StoreFault → Outcome
-outcome_of (Ok r) = outcome.Registered r
+abbrev pub outcome_of : Result RegistryReply StoreFault → Outcome
+outcome_of (Ok r) = outcome.RegistryReply r
 outcome_of (Err f) = outcome.Failed f
 
 -- the outcome of a copy with this result
 abbrev pub outcome_of_copy : Result (Unit {0}) CopyRefusal → Outcome
-outcome_of_copy (Ok done) = outcome.Registered registered.Done
+outcome_of_copy (Ok done) = outcome.RegistryReply registered.Done
 outcome_of_copy (Err copy.NotEmpty) = outcome.NotEmpty
 outcome_of_copy (Err copy.Device) = outcome.Failed fault.Device
 outcome_of_copy (Err copy.Memory) = outcome.Failed fault.Memory
 
 abbrev pub word_of : Outcome → List ℕ
-word_of (outcome.Registered registered.Done) = codes "done"
-word_of (outcome.Registered registered.Name) = codes "name"
-word_of (outcome.Registered registered.Taken) = codes "taken"
-word_of (outcome.Registered registered.NoTeam) = codes "no-team"
-word_of (outcome.Registered registered.NoGroup) = codes "no-group"
-word_of (outcome.Registered registered.NoKey) = codes "no-key"
+word_of (outcome.RegistryReply registered.Done) = codes "done"
+word_of (outcome.RegistryReply registered.Name) = codes "name"
+word_of (outcome.RegistryReply registered.Taken) = codes "taken"
+word_of (outcome.RegistryReply registered.NoTeam) = codes "no-team"
+word_of (outcome.RegistryReply registered.NoGroup) = codes "no-group"
+word_of (outcome.RegistryReply registered.NoKey) = codes "no-key"
 word_of (outcome.Failed fault.Device) = codes "device"
 word_of (outcome.Failed fault.Memory) = codes "memory"
 word_of outcome.NotEmpty = codes "not-empty"

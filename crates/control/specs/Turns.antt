@@ -8,7 +8,7 @@ use Rattle.machine.specs.Machine.{after, world_after, MetDevice}
 use Rattle.machine.specs.Runs.{Runs}
 use Rattle.world.specs.World.{World}
 use Rattle.world.specs.Store.{Shown, GrewOrFull}
-use Rattle.world.specs.declared.registry.Registered.{Registered}
+use Rattle.world.specs.declared.registry.RegistryReply.{RegistryReply}
 use Rattle.world.specs.declared.registry.StoreFault.{StoreFault}
 use Rattle.engine.specs.Exchange.{Exchange, IsUnmet, answer_of as answer_to_message}
 use Rattle.engine.specs.Happening.{Happening, Message, Command, event_at, answer_at}
@@ -18,9 +18,9 @@ use Rattle.control.specs.declared.order.Order.{Order}
 -- a message that was answered, or an order that was carried out
 pub data Turn : Type 0 where
   Asked : Exchange → Turn
-  Ordered : Order → Result Registered StoreFault → Turn
+  Ordered : Order → Result RegistryReply StoreFault → Turn
 
-abbrev pub answer_to_order : Result Registered StoreFault → Answer
+abbrev pub answer_to_order : Result RegistryReply StoreFault → Answer
 answer_to_order (Ok r) = Replied (Registry r)
 answer_to_order (Err fault) = Failed fault
 
@@ -42,7 +42,7 @@ messages (Asked x ∷ ts) = messages ts + 1
 messages (Ordered order told ∷ ts) = messages ts
 
 -- the order met no fault
-abbrev pub IsUnmetOrder : Result Registered StoreFault → Type 0
+abbrev pub IsUnmetOrder : Result RegistryReply StoreFault → Type 0
 IsUnmetOrder (Ok r) = Unit {0}
 IsUnmetOrder (Err fault) = ⊥
 

@@ -3,13 +3,13 @@ ghost use Rattle.std.specs.Prelude.{◌≡◌, MatchOption};
 ghost use Rattle.control.specs.Outcome as spec;
 
 use crate::copies::CopyRefusal;
-use world::registry::{Registered, StoreFault};
+use world::registry::{RegistryReply, StoreFault};
 
 /// What came of an order.
 #[derive(Clone, Copy, Debug, Drop, PartialEq, Eq)]
 pub enum Outcome {
     /// The machine's reply to the order; only `Done` changed anything. `Done` also means that a copy was made.
-    Registered(Registered),
+    RegistryReply(RegistryReply),
     /// A disk failed, the file of a copy can't be opened, or memory ran out, for the order or already for its line.
     /// Nothing was changed.
     Failed(StoreFault),
@@ -22,11 +22,11 @@ pub enum Outcome {
 }
 
 /// What came of an order that was carried out.
-pub(crate) fn outcome_of(told: Result<Registered, StoreFault>) -> Outcome
+pub(crate) fn outcome_of(told: Result<RegistryReply, StoreFault>) -> Outcome
     ensures { result ≡ spec.outcome_of told }
 {
     match told {
-        Ok(registered) => Outcome::Registered(registered),
+        Ok(registered) => Outcome::RegistryReply(registered),
         Err(fault) => Outcome::Failed(fault),
     }
 }
@@ -36,7 +36,7 @@ pub(crate) fn outcome_of_copy(told: Result<(), CopyRefusal>) -> Outcome
     ensures { result ≡ spec.outcome_of_copy told }
 {
     match told {
-        Ok(()) => Outcome::Registered(Registered::Done),
+        Ok(()) => Outcome::RegistryReply(RegistryReply::Done),
         Err(CopyRefusal::NotEmpty) => Outcome::NotEmpty,
         Err(CopyRefusal::Device) => Outcome::Failed(StoreFault::Device),
         Err(CopyRefusal::Memory) => Outcome::Failed(StoreFault::Memory),
@@ -49,12 +49,12 @@ impl Outcome {
         ensures { result.now ≡ spec.line_of self }
     {
         match self {
-            Outcome::Registered(Registered::Done) => "done\n",
-            Outcome::Registered(Registered::Name) => "name\n",
-            Outcome::Registered(Registered::Taken) => "taken\n",
-            Outcome::Registered(Registered::NoTeam) => "no-team\n",
-            Outcome::Registered(Registered::NoGroup) => "no-group\n",
-            Outcome::Registered(Registered::NoKey) => "no-key\n",
+            Outcome::RegistryReply(RegistryReply::Done) => "done\n",
+            Outcome::RegistryReply(RegistryReply::Name) => "name\n",
+            Outcome::RegistryReply(RegistryReply::Taken) => "taken\n",
+            Outcome::RegistryReply(RegistryReply::NoTeam) => "no-team\n",
+            Outcome::RegistryReply(RegistryReply::NoGroup) => "no-group\n",
+            Outcome::RegistryReply(RegistryReply::NoKey) => "no-key\n",
             Outcome::Failed(StoreFault::Device) => "device\n",
             Outcome::Failed(StoreFault::Memory) => "memory\n",
             Outcome::NotEmpty => "not-empty\n",
@@ -68,12 +68,12 @@ impl Outcome {
         ensures { MatchOption result (spec.TellsNothing word.now) (λ outcome. word.now ≡ spec.word_of outcome) }
     {
         match word {
-            "done" => Some(Outcome::Registered(Registered::Done)),
-            "name" => Some(Outcome::Registered(Registered::Name)),
-            "taken" => Some(Outcome::Registered(Registered::Taken)),
-            "no-team" => Some(Outcome::Registered(Registered::NoTeam)),
-            "no-group" => Some(Outcome::Registered(Registered::NoGroup)),
-            "no-key" => Some(Outcome::Registered(Registered::NoKey)),
+            "done" => Some(Outcome::RegistryReply(RegistryReply::Done)),
+            "name" => Some(Outcome::RegistryReply(RegistryReply::Name)),
+            "taken" => Some(Outcome::RegistryReply(RegistryReply::Taken)),
+            "no-team" => Some(Outcome::RegistryReply(RegistryReply::NoTeam)),
+            "no-group" => Some(Outcome::RegistryReply(RegistryReply::NoGroup)),
+            "no-key" => Some(Outcome::RegistryReply(RegistryReply::NoKey)),
             "device" => Some(Outcome::Failed(StoreFault::Device)),
             "memory" => Some(Outcome::Failed(StoreFault::Memory)),
             "not-empty" => Some(Outcome::NotEmpty),

@@ -1,7 +1,7 @@
 -- What is said of an account is said of a reader that had the bytes that were heard, and any that may follow.
 use Rattle.std.proofs.Common.{ℕ, inl, inr, List, ◌++◌, Option, Some, None, Result, Ok, Err, sym, ap, subst}
 use Rattle.std.specs.Io.KnownBytes.{Consumes}
-use Rattle.histories.specs.Account.{Account, Gives, MayFollow, IsSound, Tells}
+use Rattle.histories.specs.Account.{Account, Gives, MayFollow, IsSound, IsKnownInput}
 use Rattle.histories.specs.Account as account
 use Rattle.histories.proofs.AccountLemmas.{Gives-one, left_follows, had}
 use Rattle.framing.proofs.PieceLemmas.{ReadsMessages-append}
@@ -16,7 +16,7 @@ use Rattle.engine.specs.declared.fault.Io.TheVariants as io
 -- a reader that had these bytes, and then more, and gave the bytes
 pub record Had (u u' : Option (List ℕ)) (bytes more : List ℕ) : Type 0 where
   pub consumed : Consumes u u' bytes
-  pub tells : Tells u (bytes ++ more)
+  pub tells : IsKnownInput u (bytes ++ more)
 
 known : (a b : Account) (bytes : List ℕ) → Gives a b bytes → Had a.left b.left bytes (account.left_of b.left)
 known a b bytes gives = record { consumed = gives.left; tells = had a b bytes gives }

@@ -1,7 +1,7 @@
 -- What `answer_one` does with the first message of a stream.
 use Rattle.std.specs.Prelude.{◌≡◌, ℕ, ◌≤◌, ◌⊎◌, List, [], ◌∷◌, ◌++◌, length, Option, Some, Result, Ok, Err}
 use Rattle.std.specs.Io.KnownBytes.{Consumes, Appends, Keeps}
-use Rattle.histories.specs.Account.{Account, Gives, MayFollow, Tells}
+use Rattle.histories.specs.Account.{Account, Gives, MayFollow, IsKnownInput}
 use Rattle.framing.specs.Message.{ReadsMessage}
 use Rattle.framing.specs.Framing.{IsUnfinished}
 use Rattle.wire.specs.declared.reply.Fixed.{Fixed}
@@ -42,7 +42,7 @@ first_exchanges (Closes closing) = []
 -- at most the last `read_limit`, begin with no whole message, and the stream could go on from them.
 pub record TakesFirst (unread unread_new : Option (List ℕ)) (first : First) : Type 0 where
   pub input : List ℕ
-  pub tells : Tells unread input
+  pub tells : IsKnownInput unread input
   pub stands : IsFirst first input
   pub early : List ℕ
   pub last : List ℕ

@@ -6,7 +6,7 @@ use Rattle.wire.specs.Reply.{reply_bytes, fixed_bytes, info_bytes}
 use Rattle.wire.specs.declared.request.Resource.{Resource}
 use Rattle.wire.specs.declared.request.Target.TheVariants as target
 use Rattle.wire.specs.declared.reply.Fixed.TheVariants.{NotFound, Unavailable}
-use Rattle.wire.specs.declared.reply.Kind.TheVariants.{Json}
+use Rattle.wire.specs.declared.reply.MediaType.TheVariants.{Json}
 use Rattle.world.specs.World.{World, IsWorld, chain}
 use Rattle.machine.specs.declared.ask.Ask.TheVariants.{Get}
 use Rattle.machine.specs.declared.ask.Event.{Event}

@@ -6,14 +6,14 @@ use Rattle.framing.specs.Message.{Request}
 use Rattle.wire.specs.Reply.{reply_bytes, fixed_bytes, fixed_status, info_bytes}
 use Rattle.wire.specs.declared.reply.Fixed.{Fixed}
 use Rattle.wire.specs.declared.reply.Fixed.TheVariants as fixed
-use Rattle.wire.specs.declared.reply.Kind.TheVariants as kind
+use Rattle.wire.specs.declared.reply.MediaType.TheVariants as kind
 use Rattle.world.specs.Lines.{in_order, lines_of}
 use Rattle.machine.specs.declared.reply.Answer.{Answer}
 use Rattle.machine.specs.declared.reply.Answer.TheVariants.{Replied, Failed}
 use Rattle.machine.specs.declared.reply.Decision.{Decision}
 use Rattle.machine.specs.declared.reply.Decision.TheVariants as decision
-use Rattle.machine.specs.declared.reply.Refusal.{Refusal}
-use Rattle.machine.specs.declared.reply.Refusal.TheVariants as refusal
+use Rattle.machine.specs.declared.reply.ContentRefusal.{ContentRefusal}
+use Rattle.machine.specs.declared.reply.ContentRefusal.TheVariants as refusal
 use Rattle.machine.specs.declared.reply.Reply.{Reply}
 use Rattle.machine.specs.declared.reply.Reply.TheVariants as reply
 use Rattle.world.specs.declared.registry.StoreFault.{StoreFault}
@@ -23,7 +23,7 @@ use Rattle.engine.specs.declared.page.Page.{Page}
 use Rattle.engine.specs.declared.page.Page.TheVariants as page
 
 -- the fixed reply that refuses the content of a publish
-abbrev pub refusal_of : Refusal → Fixed
+abbrev pub refusal_of : ContentRefusal → Fixed
 refusal_of refusal.MajorMismatch = fixed.MajorMismatch
 refusal_of refusal.BadTime = fixed.BadTime
 refusal_of refusal.TimeMismatch = fixed.TimeMismatch

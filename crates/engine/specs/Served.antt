@@ -2,7 +2,7 @@
 use Rattle.std.specs.Prelude.{◌≡◌, ◌≢◌, ℕ, ◌⊎◌, List, [], ◌∷◌, ◌++◌, Option, Some, None, map, Result, Ok, Err}
 use Rattle.std.specs.List.{flat_map}
 use Rattle.std.specs.Io.KnownBytes.{Consumes, Appends}
-use Rattle.histories.specs.Account.{Account, Gives, MayFollow, Tells}
+use Rattle.histories.specs.Account.{Account, Gives, MayFollow, IsKnownInput}
 use Rattle.framing.specs.Message.{ReadsMessages, Ends, clean, too_large, bad}
 use Rattle.framing.specs.Framing.{IsUnfinished}
 use Rattle.wire.specs.Reply.{fixed_bytes, fixed_status}

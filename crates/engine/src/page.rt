@@ -11,7 +11,7 @@ use machine::reply::{Decision, Refusal, Reply};
 use modpath::ModulePath;
 use modver::Version;
 use std::alloc::Global;
-use wire::reply::{Fixed, Kind};
+use wire::reply::{Fixed, MediaType};
 use wire::{Memory, info_body};
 use world::bytes::Bytes;
 
@@ -21,20 +21,20 @@ pub enum Page {
     /// One of the fixed replies.
     Fixed(Fixed),
     /// A 200 with a body of this kind.
-    Body(Kind, Bytes),
+    Body(MediaType, Bytes),
 }
 
 /// Returns the fixed reply that refuses the content of a publish.
-fn refusal_of(refusal: Refusal) -> Fixed
+fn refusal_of(refusal: ContentRefusal) -> Fixed
     ensures { result ≡ spec.refusal_of refusal }
 {
     match refusal {
-        Refusal::MajorMismatch => Fixed::MajorMismatch,
-        Refusal::BadTime => Fixed::BadTime,
-        Refusal::TimeMismatch => Fixed::TimeMismatch,
-        Refusal::BadGoMod(line) => Fixed::BadGoMod(line as u64),
-        Refusal::ModulePath => Fixed::ModulePath,
-        Refusal::IncompatibleGoMod => Fixed::IncompatibleGoMod,
+        ContentRefusal::MajorMismatch => Fixed::MajorMismatch,
+        ContentRefusal::BadTime => Fixed::BadTime,
+        ContentRefusal::TimeMismatch => Fixed::TimeMismatch,
+        ContentRefusal::BadGoMod(line) => Fixed::BadGoMod(line as u64),
+        ContentRefusal::ModulePath => Fixed::ModulePath,
+        ContentRefusal::IncompatibleGoMod => Fixed::IncompatibleGoMod,
     }
 }
 
@@ -99,12 +99,12 @@ pub(crate) fn page_of(alloc: Global, asking: &Asking, reply: Reply) -> Result<Pa
         Reply::NotFound | Reply::Registry(_) => Ok(Page::Fixed(Fixed::NotFound)),
         Reply::Decided(decision) => Ok(Page::Fixed(fixed_of(decision))),
         Reply::GoMod(text) => Ok(Page::Body(Kind::TextPlain, gomod_body(alloc, asking, text)?)),
-        Reply::Zip(zip) => Ok(Page::Body(Kind::Zip, zip)),
+        Reply::Zip(zip) => Ok(Page::Body(MediaType::Zip, zip)),
         Reply::Info { version, time } => {
             let body = info_body(alloc, &version, time)?;
-            Ok(Page::Body(Kind::Json, Bytes::new(body)))
+            Ok(Page::Body(MediaType::Json, Bytes::new(body)))
         }
-        Reply::Versions(versions) => Ok(Page::Body(Kind::TextPlain, versions.lines(alloc)?)),
-        Reply::Paths(paths) => Ok(Page::Body(Kind::TextPlain, paths.lines(alloc)?)),
+        Reply::Versions(versions) => Ok(Page::Body(MediaType::TextPlain, versions.lines(alloc)?)),
+        Reply::Paths(paths) => Ok(Page::Body(MediaType::TextPlain, paths.lines(alloc)?)),
     }
 }

@@ -12,7 +12,7 @@ use crate::read::TRIES;
 use histories::Tell;
 use std::alloc::{AllocError, Global};
 use std::io::ErrorKind;
-use wire::reply::{Fixed, Kind, StatusCode};
+use wire::reply::{Fixed, MediaType, StatusCode};
 use wire::{encode_head, fixed};
 
 /// The most bytes of a body that is written with its head.
@@ -103,7 +103,7 @@ pub(crate) fn write_fixed<W: Tell>(writer: &mut W, answer: Fixed) -> Result<Stat
 fn write_body<W: Tell>(
     alloc: Global,
     writer: &mut W,
-    kind: Kind,
+    kind: MediaType,
     body: &[u8],
 ) -> Result<StatusCode, Io>
     ensures bytes { Writes (W.contents writer.old) (W.contents writer.new) (reply_bytes 200 kind body.now) result }

@@ -1,6 +1,6 @@
 -- Why a command is refused whose store is not opened.
 use Rattle.setup.specs.declared.refusal.Refusal.{Refusal as Unopened}
-use Rattle.setup.specs.declared.refusal.Refusal.TheVariants as store
+use Rattle.setup.specs.declared.refusal.StoreRefusal.TheVariants as store
 use Rattle.commands.specs.declared.refusal.CommandRefusal.{CommandRefusal}
 use Rattle.commands.specs.declared.refusal.CommandRefusal.TheVariants as refusal
 

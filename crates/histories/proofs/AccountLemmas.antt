@@ -4,7 +4,7 @@ use Rattle.std.proofs.Common.{append-nil}
 use Rattle.std.proofs.lemmas.List.{append_cancel_left}
 use Rattle.std.specs.Io.KnownBytes.{Consumes, IsAtEnd}
 use Rattle.std.proofs.KnownBytes.{Consumes-nil, Consumes-trans}
-use Rattle.histories.specs.Account.{Account, Gives, MayFollow, IsSound, Tells, left_of}
+use Rattle.histories.specs.Account.{Account, Gives, MayFollow, IsSound, IsKnownInput, left_of}
 
 pub Gives-none : (a : Account) → Gives a a []
 Gives-none a = record {
@@ -49,5 +49,5 @@ tells_after (Some xs) None bytes x = absurd x
 tells_after (Some xs) (Some ys) bytes x = sym x
 
 -- what a reader had, if that is known, is what it gave and what it still has
-pub had : (old new : Account) (bytes : List ℕ) → Gives old new bytes → Tells old.left (bytes ++ left_of new.left)
+pub had : (old new : Account) (bytes : List ℕ) → Gives old new bytes → IsKnownInput old.left (bytes ++ left_of new.left)
 had old new bytes gives = tells_after old.left new.left bytes gives.left

@@ -48,6 +48,6 @@ left_of None = []
 left_of (Some bytes) = bytes
 
 -- the input is what the reader has, if that is known
-abbrev pub Tells : Option (List ℕ) → List ℕ → Type 0
-Tells None input = ⊤
-Tells (Some bytes) input = input ≡ bytes
+abbrev pub IsKnownInput : Option (List ℕ) → List ℕ → Type 0
+IsKnownInput None input = ⊤
+IsKnownInput (Some bytes) input = input ≡ bytes

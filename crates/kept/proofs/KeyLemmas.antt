@@ -5,7 +5,7 @@ use Rattle.std.specs.FinMap as map
 use Rattle.world.specs.World.{World, is_key, with_key}
 use Rattle.world.specs.Registry.{key_added}
 use Rattle.world.specs.declared.entry.Holder.{Holder}
-use Rattle.world.specs.declared.registry.Registered.TheVariants.{Done, Name, NoTeam, Taken}
+use Rattle.world.specs.declared.registry.RegistryReply.TheVariants.{Done, Name, NoTeam, Taken}
 use Rattle.world.proofs.Orders.{texts_total, texts_exact, get_elsewhere, text_same}
 use Rattle.kept.specs.declared.keys.KeptKey.{KeptKey}
 use Rattle.kept.specs.Keys.{AreKeys}

@@ -6,8 +6,8 @@ use Rattle.keyring.specs.Named.{keys_in}
 use Rattle.world.specs.Lines.{in_order}
 use Rattle.world.specs.Registry.{key_revoked, after_key_revoke}
 use Rattle.world.specs.World.{World, text_cmp}
-use Rattle.world.specs.declared.registry.Registered.{Registered}
-use Rattle.world.specs.declared.registry.Registered.TheVariants.{NoKey}
+use Rattle.world.specs.declared.registry.RegistryReply.{RegistryReply}
+use Rattle.world.specs.declared.registry.RegistryReply.TheVariants.{NoKey}
 
 -- whether a key has this fingerprint
 abbrev pub has : List ℕ → List ℕ → Bool
@@ -27,7 +27,7 @@ abbrev pub only_with : set.FinSet text_cmp → List ℕ → Option (List ℕ)
 only_with keys f = only (all_with keys f)
 
 -- the outcome of revoking the key that was found, and the world after it
-abbrev pub revoked : World → Option (List ℕ) → Registered
+abbrev pub revoked : World → Option (List ℕ) → RegistryReply
 revoked w None = NoKey
 revoked w (Some k) = key_revoked w k
 
@@ -36,7 +36,7 @@ after_revoke w None = w
 after_revoke w (Some k) = after_key_revoke w k (key_revoked w k)
 
 -- the outcome of revoking the key that has a fingerprint, and the world after it
-abbrev pub revoked_with : World → List ℕ → Registered
+abbrev pub revoked_with : World → List ℕ → RegistryReply
 revoked_with w f = revoked w (only_with (keys_in w) f)
 
 abbrev pub after_revoke_with : World → List ℕ → World

@@ -8,7 +8,7 @@ use crate::Keyring;
 use crate::key_list::fingerprint;
 use std::alloc::{AllocError, Global};
 use text::Text;
-use world::registry::{Registered, StoreFault};
+use world::registry::{RegistryReply, StoreFault};
 use world::text_set::TextSet;
 
 /// Takes away the key that has a fingerprint. Returns `Done`, or `NoKey` if no key has it or several have. Fails if the
@@ -17,13 +17,13 @@ pub fn revoke_with<S: Keyring>(
     alloc: Global,
     shelves: &mut S,
     fingerprint: &str,
-) -> Result<Registered, StoreFault>
+) -> Result<RegistryReply, StoreFault>
     ensures does { Does (S.shown shelves.old) (S.shown shelves.new) result
         (λ w. spec.revoked_with w fingerprint.now) (λ w. spec.after_revoke_with w fingerprint.now) }
 {
     match key_with(alloc, shelves, fingerprint)? {
         Some(key) => shelves.key_revoke(key.as_str()),
-        None => Ok(Registered::NoKey),
+        None => Ok(RegistryReply::NoKey),
     }
 }
 

@@ -14,8 +14,8 @@ use Rattle.machine.specs.declared.ask.Event.{Event}
 use Rattle.machine.specs.declared.ask.Event.TheVariants.{Asked, TeamAdd, GroupAdd, KeyAdd, KeyRevoke}
 use Rattle.machine.specs.declared.reply.Decision.{Decision}
 use Rattle.machine.specs.declared.reply.Decision.TheVariants.{Published}
-use Rattle.world.specs.declared.registry.Registered.{Registered}
-use Rattle.world.specs.declared.registry.Registered.TheVariants.{Done, Name, Taken, NoTeam, NoKey, NoGroup}
+use Rattle.world.specs.declared.registry.RegistryReply.{RegistryReply}
+use Rattle.world.specs.declared.registry.RegistryReply.TheVariants.{Done, Name, Taken, NoTeam, NoKey, NoGroup}
 use Rattle.machine.specs.declared.reply.Reply.{Reply}
 use Rattle.machine.specs.declared.reply.Reply.TheVariants as reply
 use Rattle.world.specs.World.{World, IsWorld, chain, common, place, is_team_name, is_key}
@@ -111,7 +111,7 @@ get_alike w x ss (Some h) q near stands all agree =
     query_same w x h.shelf (agree_chain w x ss h.shelf agree) (agree_seen w x ss h.shelf agree all (stands h refl) near)
     q
 
-both_add_team : (w x : World) (ss : List (List ℕ)) (t : List ℕ) (group : Option (List ℕ)) (r : Registered)
+both_add_team : (w x : World) (ss : List (List ℕ)) (t : List ℕ) (group : Option (List ℕ)) (r : RegistryReply)
     → Agree w x ss → Agree (after_team_add w t group r) (after_team_add x t group r) ss
 both_add_team w x ss t group Done agree =
     record {
@@ -122,13 +122,13 @@ both_add_team w x ss t group Done agree =
     }
 both_add_team w x ss t group r agree = agree
 
-both_add_group : (w x : World) (ss : List (List ℕ)) (g : List ℕ) (r : Registered) → Agree w x ss
+both_add_group : (w x : World) (ss : List (List ℕ)) (g : List ℕ) (r : RegistryReply) → Agree w x ss
     → Agree (after_group_add w g r) (after_group_add x g r) ss
 both_add_group w x ss g Done agree =
     record { keys = agree.keys; shelves = ap (λ m. map.insert m g None) agree.shelves; seen = agree.seen }
 both_add_group w x ss g r agree = agree
 
-both_add_key : (w x : World) (ss : List (List ℕ)) (t k : List ℕ) (right : Right) (r : Registered) → Agree w x ss
+both_add_key : (w x : World) (ss : List (List ℕ)) (t k : List ℕ) (right : Right) (r : RegistryReply) → Agree w x ss
     → Agree (after_key_add w t k right r) (after_key_add x t k right r) ss
 both_add_key w x ss t k right Done agree =
     record {
@@ -138,7 +138,7 @@ both_add_key w x ss t k right Done agree =
     }
 both_add_key w x ss t k right r agree = agree
 
-both_revoke : (w x : World) (ss : List (List ℕ)) (k : List ℕ) (r : Registered) → Agree w x ss
+both_revoke : (w x : World) (ss : List (List ℕ)) (k : List ℕ) (r : RegistryReply) → Agree w x ss
     → Agree (after_key_revoke w k r) (after_key_revoke x k r) ss
 both_revoke w x ss k Done agree =
     record { keys = ap (λ m. map.remove m k) agree.keys; shelves = agree.shelves; seen = agree.seen }

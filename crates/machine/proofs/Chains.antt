@@ -12,8 +12,8 @@ use Rattle.machine.specs.declared.ask.Event.{Event}
 use Rattle.machine.specs.declared.ask.Event.TheVariants.{Asked, TeamAdd, GroupAdd, KeyAdd, KeyRevoke}
 use Rattle.machine.specs.declared.reply.Decision.{Decision}
 use Rattle.machine.specs.declared.reply.Decision.TheVariants.{Published}
-use Rattle.world.specs.declared.registry.Registered.{Registered}
-use Rattle.world.specs.declared.registry.Registered.TheVariants.{Done}
+use Rattle.world.specs.declared.registry.RegistryReply.{RegistryReply}
+use Rattle.world.specs.declared.registry.RegistryReply.TheVariants.{Done}
 use Rattle.machine.specs.declared.reply.Answer.{Answer}
 use Rattle.machine.specs.declared.reply.Answer.TheVariants.{Replied, Failed}
 use Rattle.world.specs.World.{World, IsWorld, chain, common, with_shelf}
@@ -58,23 +58,23 @@ stands_shelf w s t parent fresh stands =
           same_chain (with_shelf w t parent) w s (parent_still w t parent fresh s stands);
     }
 
-stands_team : (w : World) (s t : List ℕ) (group : Option (List ℕ)) (r : Registered) → team_added w t group ≡ r
+stands_team : (w : World) (s t : List ℕ) (group : Option (List ℕ)) (r : RegistryReply) → team_added w t group ≡ r
     → map.contains_key w.shelves s ≡ true → Stands w (after_team_add w t group r) s
 stands_team w s t group Done e stands =
     stands_shelf w s t (Some (unwrap_or group common)) (new_team w t group e).1 stands
 stands_team w s t group r e stands = same_registry w w s stands refl
 
-stands_group : (w : World) (s g : List ℕ) (r : Registered) → group_added w g ≡ r → map.contains_key w.shelves s ≡ true
+stands_group : (w : World) (s g : List ℕ) (r : RegistryReply) → group_added w g ≡ r → map.contains_key w.shelves s ≡ true
     → Stands w (after_group_add w g r) s
 stands_group w s g Done e stands = stands_shelf w s g None (new_group w g e).1 stands
 stands_group w s g r e stands = same_registry w w s stands refl
 
-stands_key : (w : World) (s t k : List ℕ) (right : Right) (r : Registered) → map.contains_key w.shelves s ≡ true
+stands_key : (w : World) (s t k : List ℕ) (right : Right) (r : RegistryReply) → map.contains_key w.shelves s ≡ true
     → Stands w (after_key_add w t k right r) s
 stands_key w s t k right Done stands = record { stands = stands; chains = refl }
 stands_key w s t k right r stands = same_registry w w s stands refl
 
-stands_revoke : (w : World) (s k : List ℕ) (r : Registered) → map.contains_key w.shelves s ≡ true
+stands_revoke : (w : World) (s k : List ℕ) (r : RegistryReply) → map.contains_key w.shelves s ≡ true
     → Stands w (after_key_revoke w k r) s
 stands_revoke w s k Done stands = record { stands = stands; chains = refl }
 stands_revoke w s k r stands = same_registry w w s stands refl

@@ -9,8 +9,8 @@ use Rattle.machine.specs.declared.ask.Ask.TheVariants.{Unreadable, Get, Put}
 use Rattle.machine.specs.declared.ask.Event.TheVariants.{Asked, TeamAdd, GroupAdd, KeyAdd, KeyRevoke}
 use Rattle.machine.specs.declared.reply.Decision.{Decision}
 use Rattle.machine.specs.declared.reply.Decision.TheVariants.{Published}
-use Rattle.world.specs.declared.registry.Registered.{Registered}
-use Rattle.world.specs.declared.registry.Registered.TheVariants.{Done}
+use Rattle.world.specs.declared.registry.RegistryReply.{RegistryReply}
+use Rattle.world.specs.declared.registry.RegistryReply.TheVariants.{Done}
 use Rattle.machine.specs.declared.reply.Reply.TheVariants as reply
 use Rattle.machine.specs.declared.reply.Answer.TheVariants.{Replied, Failed}
 use Rattle.world.specs.World.{World}
@@ -31,21 +31,21 @@ put_changes w h p Published = inl tt
 put_changes w None p d = inr refl
 put_changes w (Some h) p d = inr refl
 
-team_changes : (w : World) (t : List ℕ) (group : Option (List ℕ)) (r : Registered)
+team_changes : (w : World) (t : List ℕ) (group : Option (List ℕ)) (r : RegistryReply)
     → IsChange (reply.Registry r) ⊎ (after_team_add w t group r ≡ w)
 team_changes w t group Done = inl tt
 team_changes w t group r = inr refl
 
-group_changes : (w : World) (g : List ℕ) (r : Registered) → IsChange (reply.Registry r) ⊎ (after_group_add w g r ≡ w)
+group_changes : (w : World) (g : List ℕ) (r : RegistryReply) → IsChange (reply.Registry r) ⊎ (after_group_add w g r ≡ w)
 group_changes w g Done = inl tt
 group_changes w g r = inr refl
 
-key_changes : (w : World) (s k : List ℕ) (right : Right) (r : Registered)
+key_changes : (w : World) (s k : List ℕ) (right : Right) (r : RegistryReply)
     → IsChange (reply.Registry r) ⊎ (after_key_add w s k right r ≡ w)
 key_changes w s k right Done = inl tt
 key_changes w s k right r = inr refl
 
-revoke_changes : (w : World) (k : List ℕ) (r : Registered) → IsChange (reply.Registry r) ⊎ (after_key_revoke w k r ≡ w)
+revoke_changes : (w : World) (k : List ℕ) (r : RegistryReply) → IsChange (reply.Registry r) ⊎ (after_key_revoke w k r ≡ w)
 revoke_changes w k Done = inl tt
 revoke_changes w k r = inr refl
 

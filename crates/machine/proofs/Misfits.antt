@@ -14,7 +14,7 @@ use Rattle.world.proofs.Orders.{text_self}
 use Rattle.machine.specs.declared.ask.GivenTime.TheVariants.{Malformed}
 use Rattle.machine.specs.declared.ask.Publish.{Publish}
 use Rattle.machine.specs.declared.reply.Decision.TheVariants.{BadLength, TooLarge, Refused}
-use Rattle.machine.specs.declared.reply.Refusal.TheVariants as refusal
+use Rattle.machine.specs.declared.reply.ContentRefusal.TheVariants as refusal
 use Rattle.machine.specs.Machine.{first_failing, is_bad_time, is_other_time, is_too_large, entry_of, offered}
 use Rattle.machine.specs.Machine.{version_checks, entry_checks, decision_of}
 use Rattle.machine.proofs.Checks.{body_of}

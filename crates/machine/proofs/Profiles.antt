@@ -26,7 +26,7 @@ use Rattle.machine.specs.declared.ask.Query.{Query}
 use Rattle.machine.specs.declared.ask.Query.TheVariants as query
 use Rattle.machine.specs.declared.reply.Decision.{Decision}
 use Rattle.machine.specs.declared.reply.Decision.TheVariants.{Refused}
-use Rattle.machine.specs.declared.reply.Refusal.TheVariants as refusal
+use Rattle.machine.specs.declared.reply.ContentRefusal.TheVariants as refusal
 use Rattle.machine.specs.declared.reply.Reply.TheVariants as reply
 use Rattle.machine.specs.Machine.{after_decision, decided, decision, first_failing, gomod_checks, keyed_reply}
 use Rattle.machine.specs.Machine.{latest_reply, query_reply, request_checks, standing_of}

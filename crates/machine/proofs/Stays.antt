@@ -16,8 +16,8 @@ use Rattle.machine.specs.declared.ask.Event.{Event}
 use Rattle.machine.specs.declared.ask.Event.TheVariants.{Asked, TeamAdd, GroupAdd, KeyAdd, KeyRevoke}
 use Rattle.machine.specs.declared.reply.Decision.{Decision}
 use Rattle.machine.specs.declared.reply.Decision.TheVariants.{Published}
-use Rattle.world.specs.declared.registry.Registered.{Registered}
-use Rattle.world.specs.declared.registry.Registered.TheVariants.{Done}
+use Rattle.world.specs.declared.registry.RegistryReply.{RegistryReply}
+use Rattle.world.specs.declared.registry.RegistryReply.TheVariants.{Done}
 use Rattle.machine.specs.declared.reply.Answer.{Answer}
 use Rattle.machine.specs.declared.reply.Answer.TheVariants.{Replied, Failed}
 use Rattle.world.specs.World.{World, chain, group_of, above, place, seen_at, first_on, view, with_entry}
@@ -173,21 +173,21 @@ stays_registry : (w x : World) (s p v : List ℕ) (seen : Seen) → w.entries �
 stays_registry w x s p v seen same chains found =
     view_same x w s p v chains (λ t h a b. ap (λ m. map.get m (place t a b)) (sym same)) ∙ found
 
-entries_team : (w : World) (t : List ℕ) (group : Option (List ℕ)) (r : Registered)
+entries_team : (w : World) (t : List ℕ) (group : Option (List ℕ)) (r : RegistryReply)
     → w.entries ≡ (after_team_add w t group r).entries
 entries_team w t group Done = refl
 entries_team w t group r = refl
 
-entries_group : (w : World) (g : List ℕ) (r : Registered) → w.entries ≡ (after_group_add w g r).entries
+entries_group : (w : World) (g : List ℕ) (r : RegistryReply) → w.entries ≡ (after_group_add w g r).entries
 entries_group w g Done = refl
 entries_group w g r = refl
 
-entries_key : (w : World) (t k : List ℕ) (right : Right) (r : Registered)
+entries_key : (w : World) (t k : List ℕ) (right : Right) (r : RegistryReply)
     → w.entries ≡ (after_key_add w t k right r).entries
 entries_key w t k right Done = refl
 entries_key w t k right r = refl
 
-entries_revoke : (w : World) (k : List ℕ) (r : Registered) → w.entries ≡ (after_key_revoke w k r).entries
+entries_revoke : (w : World) (k : List ℕ) (r : RegistryReply) → w.entries ≡ (after_key_revoke w k r).entries
 entries_revoke w k Done = refl
 entries_revoke w k r = refl
 

@@ -11,8 +11,8 @@ use Rattle.world.specs.declared.entry.Entry.{Entry}
 use Rattle.world.specs.declared.entry.Holder.{Holder}
 use Rattle.world.specs.declared.entry.Place.{Place}
 use Rattle.world.specs.declared.entry.Right.{Right}
-use Rattle.world.specs.declared.registry.Registered.{Registered}
-use Rattle.world.specs.declared.registry.Registered.TheVariants.{Done, Name, Taken, NoTeam}
+use Rattle.world.specs.declared.registry.RegistryReply.{RegistryReply}
+use Rattle.world.specs.declared.registry.RegistryReply.TheVariants.{Done, Name, Taken, NoTeam}
 use Rattle.world.specs.Groups.{HasNoGroup}
 use Rattle.world.specs.FinMaps.{with_texts}
 use Rattle.world.specs.Latest.{module_of, highest, highest_left}
@@ -149,16 +149,16 @@ module _ (w : World) (is : IsWorld w) (none : HasNoGroup w) (names : set.FinSet 
     names_put t s = set.contains-insert texts_total names t s ∙ ap (λ b. eq_by_cmp text_cmp s t || b) (are s)
         ∙ sym (has_put w t (Some common) s)
 
-    of_team : (t : List ℕ) (r : Registered) → IsOf (alone.after_team_add u t r) (registry.after_team_add w t None r)
+    of_team : (t : List ℕ) (r : RegistryReply) → IsOf (alone.after_team_add u t r) (registry.after_team_add w t None r)
     of_team t Done = record { keys = refl; names = names_put t; entries = refl; none = none_put_in t }
     of_team t r = is_of
 
-    of_key : (t k : List ℕ) (right : Right) (r : Registered)
+    of_key : (t k : List ℕ) (right : Right) (r : RegistryReply)
         → IsOf (alone.after_key_add u t k right r) (registry.after_key_add w t k right r)
     of_key t k right Done = record { keys = refl; names = are; entries = refl; none = none }
     of_key t k right r = is_of
 
-    of_revoke : (k : List ℕ) (r : Registered) → IsOf (alone.after_key_revoke u k r) (registry.after_key_revoke w k r)
+    of_revoke : (k : List ℕ) (r : RegistryReply) → IsOf (alone.after_key_revoke u k r) (registry.after_key_revoke w k r)
     of_revoke k Done = record { keys = refl; names = are; entries = refl; none = none }
     of_revoke k r = is_of
 
@@ -188,13 +188,13 @@ module _ (w : World) (is : IsWorld w) (none : HasNoGroup w) (names : set.FinSet 
         )
     as_alone (TeamAdd t) =
         let same = same_team t in (
-          ap (λ (r : Registered). reply.Registry r) same,
+          ap (λ (r : RegistryReply). reply.Registry r) same,
           subst (λ r. IsOf (alone.after_team_add u t (alone.team_added u t)) (registry.after_team_add w t None r))
               (sym same) (of_team t (alone.team_added u t)),
         )
     as_alone (KeyAdd t k right) =
         let same = same_key t k in (
-          ap (λ (r : Registered). reply.Registry r) same,
+          ap (λ (r : RegistryReply). reply.Registry r) same,
           subst (λ r. IsOf (alone.after_key_add u t k right (alone.key_added u t k))
               (registry.after_key_add w t k right r)) (sym same) (of_key t k right (alone.key_added u t k)),
         )

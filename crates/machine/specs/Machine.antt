@@ -23,7 +23,7 @@ use Rattle.machine.specs.declared.ask.Event.TheVariants.{Asked, TeamAdd, GroupAd
 use Rattle.machine.specs.declared.reply.Decision.{Decision}
 use Rattle.machine.specs.declared.reply.Decision.TheVariants.{Published, Same, NotFound, Forbidden}
 use Rattle.machine.specs.declared.reply.Decision.TheVariants.{BadLength, TooLarge, Refused, Conflict, Full}
-use Rattle.machine.specs.declared.reply.Refusal.TheVariants as refusal
+use Rattle.machine.specs.declared.reply.ContentRefusal.TheVariants as refusal
 use Rattle.machine.specs.declared.reply.Reply.TheVariants as reply
 use Rattle.machine.specs.declared.reply.Reply.{Reply}
 use Rattle.machine.specs.declared.reply.Answer.{Answer}

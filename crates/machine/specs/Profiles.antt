@@ -22,7 +22,7 @@ use Rattle.machine.specs.declared.ask.Query.{Query}
 use Rattle.machine.specs.declared.ask.Query.TheVariants as query
 use Rattle.machine.specs.declared.reply.Decision.{Decision}
 use Rattle.machine.specs.declared.reply.Decision.TheVariants.{Refused}
-use Rattle.machine.specs.declared.reply.Refusal.TheVariants as refusal
+use Rattle.machine.specs.declared.reply.ContentRefusal.TheVariants as refusal
 use Rattle.machine.specs.declared.reply.Reply.{Reply}
 use Rattle.machine.specs.declared.reply.Reply.TheVariants as reply
 use Rattle.machine.specs.Machine.{after, after_decision, decided, latest_reply, query_reply, reply_to, standing_of}

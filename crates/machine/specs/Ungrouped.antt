@@ -12,8 +12,8 @@ use Rattle.world.specs.declared.entry.Heading.{Heading}
 use Rattle.world.specs.declared.entry.Holder.{Holder}
 use Rattle.world.specs.declared.entry.Right.{Right}
 use Rattle.world.specs.declared.entry.Seen.{Seen}
-use Rattle.world.specs.declared.registry.Registered.{Registered}
-use Rattle.world.specs.declared.registry.Registered.TheVariants.{Done, Name, Taken, NoTeam, NoKey}
+use Rattle.world.specs.declared.registry.RegistryReply.{RegistryReply}
+use Rattle.world.specs.declared.registry.RegistryReply.TheVariants.{Done, Name, Taken, NoTeam, NoKey}
 use Rattle.world.specs.declared.standing.Standing.{Standing}
 use Rattle.world.specs.declared.standing.Standing.TheVariants as standing
 use Rattle.world.specs.Groups.{HasNoGroup}
@@ -108,29 +108,29 @@ keyed_reply u (Some h) q = query_reply u h.shelf q
 
 -- ---- the registry
 
-abbrev pub team_added : Ungrouped → List ℕ → Registered
+abbrev pub team_added : Ungrouped → List ℕ → RegistryReply
 team_added u t = if not (is_team_name t) then Name else if set.contains u.shelves t then Taken else Done
 
-abbrev pub key_added : Ungrouped → List ℕ → List ℕ → Registered
+abbrev pub key_added : Ungrouped → List ℕ → List ℕ → RegistryReply
 key_added u s k =
     if not (is_key k) then Name
     else if not (set.contains u.shelves s) then NoTeam
     else if map.contains_key u.keys k then Taken
     else Done
 
-abbrev pub key_revoked : Ungrouped → List ℕ → Registered
+abbrev pub key_revoked : Ungrouped → List ℕ → RegistryReply
 key_revoked u k = if map.contains_key u.keys k then Done else NoKey
 
-abbrev pub after_team_add : Ungrouped → List ℕ → Registered → Ungrouped
+abbrev pub after_team_add : Ungrouped → List ℕ → RegistryReply → Ungrouped
 after_team_add u t Done = record { keys = u.keys; shelves = set.insert u.shelves t; entries = u.entries }
 after_team_add u t r = u
 
-abbrev pub after_key_add : Ungrouped → List ℕ → List ℕ → Right → Registered → Ungrouped
+abbrev pub after_key_add : Ungrouped → List ℕ → List ℕ → Right → RegistryReply → Ungrouped
 after_key_add u s k right Done =
     record { keys = map.insert u.keys k (record { shelf = s; right = right }); shelves = u.shelves; entries = u.entries }
 after_key_add u s k right r = u
 
-abbrev pub after_key_revoke : Ungrouped → List ℕ → Registered → Ungrouped
+abbrev pub after_key_revoke : Ungrouped → List ℕ → RegistryReply → Ungrouped
 after_key_revoke u k Done = record { keys = map.remove u.keys k; shelves = u.shelves; entries = u.entries }
 after_key_revoke u k r = u
 

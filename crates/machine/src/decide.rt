@@ -23,11 +23,11 @@ fn decision_of(misfit: Misfit) -> Decision
 {
     match misfit {
         Misfit::TooLarge => Decision::TooLarge,
-        Misfit::Version => Decision::Refused(Refusal::MajorMismatch),
-        Misfit::Time => Decision::Refused(Refusal::TimeMismatch),
-        Misfit::GoMod(line) => Decision::Refused(Refusal::BadGoMod(line)),
-        Misfit::ModulePath => Decision::Refused(Refusal::ModulePath),
-        Misfit::NotBare => Decision::Refused(Refusal::IncompatibleGoMod),
+        Misfit::Version => Decision::Refused(ContentRefusal::MajorMismatch),
+        Misfit::Time => Decision::Refused(ContentRefusal::TimeMismatch),
+        Misfit::GoMod(line) => Decision::Refused(ContentRefusal::BadGoMod(line)),
+        Misfit::ModulePath => Decision::Refused(ContentRefusal::ModulePath),
+        Misfit::NotBare => Decision::Refused(ContentRefusal::IncompatibleGoMod),
     }
 }
 

@@ -11,11 +11,11 @@
 //! | the key may publish | [`reply::Decision::Forbidden`] | 403 |
 //! | the body splits into a go.mod and a zip | [`reply::Decision::BadLength`] | 400 |
 //! | the go.mod has at most 1,048,576 bytes, the zip at most 16,777,216 | [`reply::Decision::TooLarge`] | 413 |
-//! | the version fits the path | [`reply::Refusal::MajorMismatch`] | 422 |
-//! | at most one time is given, and it is well formed | [`reply::Refusal::BadTime`] | 422 |
-//! | with a pseudo-version, a given time is that of the stamp | [`reply::Refusal::TimeMismatch`] | 422 |
-//! | the go.mod reads | [`reply::Refusal::BadGoMod`], with the faulty line | 422 |
-//! | the go.mod names the path | [`reply::Refusal::ModulePath`] | 422 |
+//! | the version fits the path | [`reply::ContentRefusal::MajorMismatch`] | 422 |
+//! | at most one time is given, and it is well formed | [`reply::ContentRefusal::BadTime`] | 422 |
+//! | with a pseudo-version, a given time is that of the stamp | [`reply::ContentRefusal::TimeMismatch`] | 422 |
+//! | the go.mod reads | [`reply::ContentRefusal::BadGoMod`], with the faulty line | 422 |
+//! | the go.mod names the path | [`reply::ContentRefusal::ModulePath`] | 422 |
 //! | with the mark `+incompatible`, the go.mod has only its module directive | [`reply::Refusal::IncompatibleGoMod`] | 422 |
 //! | the shelf sees no entry of the version with these files and this time | [`reply::Decision::Same`] | 200 |
 //! | the shelf sees no other entry of the version | [`reply::Decision::Conflict`] | 409 |

@@ -18,8 +18,8 @@ use Rattle.world.specs.Lines.{in_order}
 use Rattle.world.specs.Store.{Shown, Does, Reads}
 use Rattle.world.specs.World.{World, text_cmp, without_key}
 use Rattle.world.specs.declared.entry.Holder.{Holder}
-use Rattle.world.specs.declared.registry.Registered.{Registered}
-use Rattle.world.specs.declared.registry.Registered.TheVariants.{Done}
+use Rattle.world.specs.declared.registry.RegistryReply.{RegistryReply}
+use Rattle.world.specs.declared.registry.RegistryReply.TheVariants.{Done}
 use Rattle.world.specs.declared.registry.StoreFault.{StoreFault}
 use Rattle.revocation.specs.All.{Empties, IsLess, IsRevoked, RevokesAll, is_of, without}
 
@@ -183,7 +183,7 @@ not_gone a b c t y left fault (Err e) on far does = record {
 -- ---- after the shelf was looked up
 
 pub revokes_found : (a b c : Shown) (t : List ℕ) (parent : Option (Option (List ℕ)))
-    (told : Result (Unit {0}) StoreFault) (result : Result Registered StoreFault)
+    (told : Result (Unit {0}) StoreFault) (result : Result RegistryReply StoreFault)
     → Reads a b (Ok parent) (λ w. map.get w.shelves t) → Empties b c told t → IsRevoked told result
     → RevokesAll a c result t
 revokes_found a b c t parent (Ok u) result reads empties is = subst (λ r. RevokesAll a c r t) (sym is) (record {

@@ -5,8 +5,8 @@ use Rattle.std.specs.FinMap as map
 use Rattle.world.specs.Store.{Shown, HasCause}
 use Rattle.world.specs.World.{World, without_key}
 use Rattle.world.specs.declared.entry.Holder.{Holder}
-use Rattle.world.specs.declared.registry.Registered.{Registered}
-use Rattle.world.specs.declared.registry.Registered.TheVariants.{Done, NoTeam}
+use Rattle.world.specs.declared.registry.RegistryReply.{RegistryReply}
+use Rattle.world.specs.declared.registry.RegistryReply.TheVariants.{Done, NoTeam}
 use Rattle.world.specs.declared.registry.StoreFault.{StoreFault}
 
 -- whether a key, by its holder, belongs to the shelf
@@ -50,19 +50,19 @@ pub record Empties (old new : Shown) (result : Result (Unit {0}) StoreFault) (t 
   pub cause : HasCause old new result
 
 -- the outcome for keys that were taken away
-abbrev pub IsRevoked : Result (Unit {0}) StoreFault → Result Registered StoreFault → Type 0
+abbrev pub IsRevoked : Result (Unit {0}) StoreFault → Result RegistryReply StoreFault → Type 0
 IsRevoked (Ok u) result = result ≡ Ok Done
 IsRevoked (Err fault) result = result ≡ Err fault
 
 -- the keys of the shelf were taken away, there is no such shelf and nothing was changed, or a fault was met
-abbrev pub RevokesAllAt : Shown → World → Result Registered StoreFault → List ℕ → Type 0
+abbrev pub RevokesAllAt : Shown → World → Result RegistryReply StoreFault → List ℕ → Type 0
 RevokesAllAt new w (Ok Done) t = StandsForNone new w t
 RevokesAllAt new w (Ok NoTeam) t = (map.get w.shelves t ≡ None) × new.stands w
 RevokesAllAt new w (Ok other) t = ⊥
 RevokesAllAt new w (Err fault) t = StandsForLess new w t
 
 -- If the disks are honest, so it is in each world that the store stood for. Honest or not, a fault has a cause.
-pub record RevokesAll (old new : Shown) (result : Result Registered StoreFault) (t : List ℕ) : Type 0 where
+pub record RevokesAll (old new : Shown) (result : Result RegistryReply StoreFault) (t : List ℕ) : Type 0 where
   pub honest : new.is_honest → old.is_honest
   pub at : new.is_honest → (w : World) → old.stands w → RevokesAllAt new w result t
   pub cause : HasCause old new result

@@ -6,7 +6,7 @@ ghost use Rattle.revocation.specs.All as spec;
 
 use keyring::Keyring;
 use std::alloc::Global;
-use world::registry::{Registered, StoreFault};
+use world::registry::{RegistryReply, StoreFault};
 use world::shelves::Shelves;
 
 /// Takes away all keys of a shelf, one after another. Returns `Done`, or `NoTeam` if no shelf has this name. Fails if
@@ -15,22 +15,22 @@ pub fn revoke_all<S: Keyring>(
     alloc: Global,
     shelves: &mut S,
     shelf: &str,
-) -> Result<Registered, StoreFault>
+) -> Result<RegistryReply, StoreFault>
     ensures { spec.RevokesAll (S.shown shelves.old) (S.shown shelves.new) result machine.now }
 {
     match shelves.parent(alloc, shelf) {
         Ok(Some(_)) => revoked(revoke_each(shelves, shelf)),
-        Ok(None) => Ok(Registered::NoTeam),
+        Ok(None) => Ok(RegistryReply::NoTeam),
         Err(fault) => Err(fault),
     }
 }
 
 /// Returns `Done` for keys that were taken away.
-fn revoked(told: Result<(), StoreFault>) -> Result<Registered, StoreFault>
+fn revoked(told: Result<(), StoreFault>) -> Result<RegistryReply, StoreFault>
     ensures { spec.IsRevoked told result }
 {
     match told {
-        Ok(()) => Ok(Registered::Done),
+        Ok(()) => Ok(RegistryReply::Done),
         Err(fault) => Err(fault),
     }
 }

@@ -7,7 +7,7 @@ use Rattle.statements.specs.Counted.{versions_in}
 use Rattle.store.specs.Extracted.{HasCauseInEither}
 use Rattle.store.specs.Parts.{CopiesAll}
 use Rattle.store.specs.declared.refusal.Refusal.{Refusal as Unopened}
-use Rattle.store.specs.declared.refusal.Refusal.TheVariants as store
+use Rattle.store.specs.declared.refusal.StoreRefusal.TheVariants as store
 use Rattle.control.specs.declared.copies.CopyRefusal.{CopyRefusal}
 use Rattle.control.specs.declared.copies.CopyRefusal.TheVariants as copy
 use Rattle.runner.specs.Opened.{OnOpened}

@@ -5,16 +5,16 @@ use commands::files::is_same_file;
 use std::fs;
 use std::io::{self, ErrorKind};
 use std::rt::HostRuntime;
-use store::refusal::Refusal;
+use store::refusal::StoreRefusal;
 
 /// Tests the name of a new store. Fails with `Device` if SQLite has a use for that file, by its name or by a link: for
 /// the database at `db`, or for another that stands there. Fails with `Memory` if memory runs out.
-pub(crate) fn check_name(rt: &HostRuntime, db: &str, to: &str) -> Result<(), Refusal> {
+pub(crate) fn check_name(rt: &HostRuntime, db: &str, to: &str) -> Result<(), StoreRefusal> {
     match is_taken(rt, db, to) {
         Ok(false) => Ok(()),
-        Ok(true) => Err(Refusal::Device),
-        Err(error) if error.kind() == ErrorKind::OutOfMemory => Err(Refusal::Memory),
-        Err(_) => Err(Refusal::Device),
+        Ok(true) => Err(StoreRefusal::Device),
+        Err(error) if error.kind() == ErrorKind::OutOfMemory => Err(StoreRefusal::Memory),
+        Err(_) => Err(StoreRefusal::Device),
     }
 }
 

@@ -27,7 +27,7 @@ use sqlite_trees::store::Store;
 use std::alloc::Global;
 use std::rt::HostRuntime;
 use store::open::FileShelves;
-use store::refusal::Refusal;
+use store::refusal::StoreRefusal;
 use world::entry::Right;
 use world::shelves::Shelves;
 
@@ -55,7 +55,7 @@ pub trait Host<S, C>: ActionHost<S> + Looks {
 
     /// Puts some teams' part of the store of one file into the store of another, each opened by these files. Fails with
     /// the refusals of the store, and with `NotEmpty` if both names lead to one file.
-    fn extract<F: StoreFiles<S, C, Refusal>, G: StoreFiles<S, C, Refusal>>(
+    fn extract<F: StoreFiles<S, C, StoreRefusal>, G: StoreFiles<S, C, StoreRefusal>>(
         &mut self,
         files: &mut F,
         targets: &mut G,
@@ -70,7 +70,7 @@ pub trait Host<S, C>: ActionHost<S> + Looks {
 
     /// Puts what the older store of one file has into the store of another, each opened by these files. Fails with the
     /// refusals of the store, and with `NotEmpty` if both names lead to one file.
-    fn migrate<Q: OlderFiles<C>, G: StoreFiles<S, C, Refusal>>(
+    fn migrate<Q: OlderFiles<C>, G: StoreFiles<S, C, StoreRefusal>>(
         &mut self,
         older: &mut Q,
         targets: &mut G,
@@ -137,7 +137,7 @@ impl<'a> Looks for SystemHost<'a> {
         is_same_file(self.rt, name, other)
     }
 
-    fn check_name(&self, db: &str, to: &str) -> Result<(), Refusal> {
+    fn check_name(&self, db: &str, to: &str) -> Result<(), StoreRefusal> {
         check_name(self.rt, db, to)
     }
 }
@@ -191,8 +191,8 @@ impl<'a> Host<OpenedStore, ClosedFile> for SystemHost<'a> {
         to: &str,
     ) -> Result<(), CommandRefusal>
     where
-        F: StoreFiles<OpenedStore, ClosedFile, Refusal>,
-        G: StoreFiles<OpenedStore, ClosedFile, Refusal>,
+        F: StoreFiles<OpenedStore, ClosedFile, StoreRefusal>,
+        G: StoreFiles<OpenedStore, ClosedFile, StoreRefusal>,
     {
         extract_file(self, files, targets, db, teams, to)
     }
@@ -206,7 +206,7 @@ impl<'a> Host<OpenedStore, ClosedFile> for SystemHost<'a> {
     ) -> Result<(), CommandRefusal>
     where
         Q: OlderFiles<ClosedFile>,
-        G: StoreFiles<OpenedStore, ClosedFile, Refusal>,
+        G: StoreFiles<OpenedStore, ClosedFile, StoreRefusal>,
     {
         migrate_file(self.rt.alloc(), self, older, targets, from, to)
     }

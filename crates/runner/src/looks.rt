@@ -1,5 +1,5 @@
 //! What a command looks at before it opens a store.
-use store::refusal::Refusal;
+use store::refusal::StoreRefusal;
 
 /// Looks at files. They change none, so no history has them.
 pub trait Looks {
@@ -14,5 +14,5 @@ pub trait Looks {
 
     /// Tests the name of a new store. Fails with `Device` if SQLite has a use for that file, by its name or by a link:
     /// for the database at `db`, or for another that stands there. Fails with `Memory` if memory runs out.
-    fn check_name(&self, db: &str, to: &str) -> Result<(), Refusal>;
+    fn check_name(&self, db: &str, to: &str) -> Result<(), StoreRefusal>;
 }

@@ -10,7 +10,7 @@ use std::io::{self, ErrorKind, Read};
 use std::os::fd::AsRawFd;
 use std::os::unix::fs::{FileExt, MetadataExt, OpenOptionsExt};
 use std::rt::HostRuntime;
-use store::refusal::Refusal;
+use store::refusal::StoreRefusal;
 
 /// The position of the locks of a database, and their number of bytes.
 const LOCKS: (u64, u64) = (1 << 30, 512);
@@ -32,13 +32,13 @@ struct LockedFile {
 /// meanwhile. Fails with `Device` if another program has one of them open, if one can't be read or has a second name,
 /// if SQLite left a journal, or if the copy can't be written; if there is no room for a copy of a file that is no
 /// database, with `BadSchema`; and with `Memory` if memory runs out. Then it leaves no copy.
-pub(crate) fn copy_of(rt: &HostRuntime, path: &str, to: &str) -> Result<Unnamed, Refusal> {
+pub(crate) fn copy_of(rt: &HostRuntime, path: &str, to: &str) -> Result<Unnamed, StoreRefusal> {
     match copy_locked(rt, path, to) {
         Ok(copy) => Ok(copy),
         Err(error) => match error.kind() {
-            ErrorKind::OutOfMemory => Err(Refusal::Memory),
-            ErrorKind::InvalidData => Err(Refusal::BadSchema),
-            _ => Err(Refusal::Device),
+            ErrorKind::OutOfMemory => Err(StoreRefusal::Memory),
+            ErrorKind::InvalidData => Err(StoreRefusal::BadSchema),
+            _ => Err(StoreRefusal::Device),
         },
     }
 }

@@ -4,13 +4,13 @@ ghost use Rattle.files.specs.declared.files.Deed.TheVariants.{Copied, Made, Refu
 
 use crate::unnamed::Unnamed;
 use files::files::StoreFiles;
-use store::refusal::Refusal;
+use store::refusal::StoreRefusal;
 
 /// The files of older stores, which are opened as connections `C`.
-pub trait OlderFiles<C>: StoreFiles<C, C, Refusal> {
+pub trait OlderFiles<C>: StoreFiles<C, C, StoreRefusal> {
     /// Copies a file, and its log if there is one, into new files in the folder of another, and returns their names.
     /// Fails with `Device`, `BadSchema` or `Memory`, and then leaves no copy.
-    fn copy(&mut self, from: &str, beside: &str) -> Result<Unnamed, Refusal>
+    fn copy(&mut self, from: &str, beside: &str) -> Result<Unnamed, StoreRefusal>
         ensures copied { IfOk result (λ copy. Self.history self.new ≡ Self.history self.old
             ++ (from.now, Copied) ∷ (copy.path.bytes.items, Made) ∷ (copy.log.bytes.items, Made) ∷ []) }
         ensures refused { IfErr result

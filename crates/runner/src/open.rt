@@ -12,7 +12,7 @@ use std::io::{self, ErrorKind};
 use std::rt::HostRuntime;
 use store::files::names_no_file;
 use store::open::FileShelves;
-use store::refusal::Refusal;
+use store::refusal::StoreRefusal;
 use world::shelves::Shelves;
 
 /// Opens the store of a file. Fails as `FileShelves::open_from` does.
@@ -25,7 +25,7 @@ pub(crate) fn open_for<T: Start>(
     path: &str,
     start: T,
     purpose: Use,
-) -> Result<FileShelves<T>, Refusal>
+) -> Result<FileShelves<T>, StoreRefusal>
     ensures { IfOk result (HasBegun ⟦<FileShelves<T> as Shelves>⟧.shown (image_at T.Start)) }
 {
     if matches!(purpose, Use::Reading) && !names_no_file(path) && is_unmade(rt, path) {
@@ -58,10 +58,10 @@ fn open_unnamed<T: Start>(rt: &HostRuntime, path: &str, start: T) -> Result<File
 }
 
 /// Returns why there are no such files: `Memory` if memory ran out, and otherwise `Device`.
-fn unnamed_refusal(error: io::Error) -> Refusal {
+fn unnamed_refusal(error: io::Error) -> StoreRefusal {
     match error.kind() {
-        ErrorKind::OutOfMemory => Refusal::Memory,
-        _ => Refusal::Device,
+        ErrorKind::OutOfMemory => StoreRefusal::Memory,
+        _ => StoreRefusal::Device,
     }
 }
 

@@ -14,7 +14,7 @@ use sqlite_trees::store::Store;
 use std::fs;
 use std::rt::HostRuntime;
 use store::open_older::open_older;
-use store::refusal::Refusal;
+use store::refusal::StoreRefusal;
 use world::shelves::Shelves;
 
 /// The files of the system with the stores in them.
@@ -36,7 +36,7 @@ impl<'a> SystemStoreFiles<'a> {
     }
 }
 
-impl<'a> StoreFiles<OpenedStore, ClosedFile, Refusal> for SystemStoreFiles<'a> {
+impl<'a> StoreFiles<OpenedStore, ClosedFile, StoreRefusal> for SystemStoreFiles<'a> {
     ghost use Rattle.sqlite_wal.specs.Files.{image_at};
     ghost use Rattle.runner.specs.Opened.{HasBegun};
 
@@ -50,7 +50,7 @@ impl<'a> StoreFiles<OpenedStore, ClosedFile, Refusal> for SystemStoreFiles<'a> {
         &mut self,
         name: &'n str,
         purpose: Use,
-    ) -> Result<OpenFile<'n, OpenedStore>, Refusal> {
+    ) -> Result<OpenFile<'n, OpenedStore>, StoreRefusal> {
         match open_for(self.rt, name, AsFound, purpose) {
             Ok(shelves) => {
                 self.noted.note(name.as_bytes(), &Deed::Opened);
@@ -99,7 +99,7 @@ impl<'a> SystemOlderFiles<'a> {
     }
 }
 
-impl<'a> StoreFiles<ClosedFile, ClosedFile, Refusal> for SystemOlderFiles<'a> {
+impl<'a> StoreFiles<ClosedFile, ClosedFile, StoreRefusal> for SystemOlderFiles<'a> {
     ghost use Rattle.sqlite.specs.Held.{state};
     ghost use Rattle.sqlite_wal.specs.Files.{image_at};
     ghost use Rattle.runner.specs.Migrate.{IsOlder};
@@ -114,7 +114,7 @@ impl<'a> StoreFiles<ClosedFile, ClosedFile, Refusal> for SystemOlderFiles<'a> {
         &mut self,
         name: &'n str,
         _purpose: Use,
-    ) -> Result<OpenFile<'n, ClosedFile>, Refusal> {
+    ) -> Result<OpenFile<'n, ClosedFile>, StoreRefusal> {
         match open_older(self.rt, name, AsFound) {
             Ok(connection) => {
                 self.noted.note(name.as_bytes(), &Deed::Opened);
@@ -140,7 +140,7 @@ impl<'a> StoreFiles<ClosedFile, ClosedFile, Refusal> for SystemOlderFiles<'a> {
 }
 
 impl<'a> OlderFiles<ClosedFile> for SystemOlderFiles<'a> {
-    fn copy(&mut self, from: &str, beside: &str) -> Result<Unnamed, Refusal> {
+    fn copy(&mut self, from: &str, beside: &str) -> Result<Unnamed, StoreRefusal> {
         match copy_of(self.rt, from, beside) {
             Ok(copy) => {
                 self.noted.note(from.as_bytes(), &Deed::Copied);

@@ -8,8 +8,8 @@ use Rattle.tables.specs.Means.{StandFor, Holds, IsSettled, StandsForSome}
 use Rattle.setup.specs.Shown.{shown_of, BeginsAt}
 use Rattle.tables.specs.Causes.{IsHindered, IsExcused, IsVast, HasReason}
 use Rattle.setup.specs.Opened.{Opens}
-use Rattle.setup.specs.declared.refusal.Refusal.{Refusal}
-use Rattle.setup.specs.declared.refusal.Refusal.TheVariants as refusal
+use Rattle.setup.specs.declared.refusal.StoreRefusal.{StoreRefusal}
+use Rattle.setup.specs.declared.refusal.StoreRefusal.TheVariants as refusal
 use Rattle.sqlite.specs.declared.error.Error.{Error}
 use Rattle.sqlite.specs.declared.error.Error.TheVariants.{SqliteFailure}
 use Rattle.sqlite.specs.declared.error.ErrorCode.TheVariants as code
@@ -46,14 +46,14 @@ module _ (old new : State) where
 -- ---- why an opening is refused
 
 -- if running out of memory is refused with `Memory`, `Device` says that something hindered the call
-pub device_hindered : (old new : State) (e : Error) (r : Refusal)
+pub device_hindered : (old new : State) (e : Error) (r : StoreRefusal)
     → (e ≡ SqliteFailure code.OutOfMemory → r ≡ refusal.Memory) → IsExcused old new e → r ≡ refusal.Device
     → IsHindered old new
 device_hindered old new e r memory (inl wanted) device =
     absurd (let d : refusal.Memory ≡ refusal.Device = sym (memory wanted) ∙ device in cc)
 device_hindered old new e r memory (inr hindered) device = hindered
 
-pub device_reason : (old new : State) (e : Error) (r : Refusal)
+pub device_reason : (old new : State) (e : Error) (r : StoreRefusal)
     → (e ≡ SqliteFailure code.OutOfMemory → r ≡ refusal.Memory)
     → HasReason old new e → r ≡ refusal.Device → IsHindered old new ⊎ IsVast old.now
 device_reason old new e r memory (inl excused) device = inl (device_hindered old new e r memory excused device)

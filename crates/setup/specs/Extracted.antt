@@ -8,8 +8,8 @@ use Rattle.world.specs.declared.entry.Holder.{Holder}
 use Rattle.world.specs.declared.entry.Place.{Place}
 use Rattle.world.specs.Store.{Shown, AddsNothing, GrewOrFull}
 use Rattle.world.specs.World.{World, common}
-use Rattle.setup.specs.declared.refusal.Refusal.{Refusal}
-use Rattle.setup.specs.declared.refusal.Refusal.TheVariants as refusal
+use Rattle.setup.specs.declared.refusal.StoreRefusal.{StoreRefusal}
+use Rattle.setup.specs.declared.refusal.StoreRefusal.TheVariants as refusal
 
 -- ---- a store that has more than `common`
 
@@ -37,7 +37,7 @@ pub record IsRead (old new : Shown) : Type 0 where
   pub left : new.is_honest → (w x y : World) → old.stands w → old.leaves x y → new.leaves x y
 
 -- the refusal is that there is no such team, or that the fresh store has more than `common`
-abbrev pub IsUnfit : Result (Unit {0}) Refusal → Type 0
+abbrev pub IsUnfit : Result (Unit {0}) StoreRefusal → Type 0
 IsUnfit result = (result ≡ Err refusal.NoTeam) ⊎ (result ≡ Err refusal.NotEmpty)
 
 -- What a crash leaves of a fresh store after a call that leads it from the world x to the next one, wherever an earlier
@@ -51,7 +51,7 @@ pub record AfterFill (old new : Shown) (x : World) (result : Result (Unit {0}) R
   pub failed : OnErr result (new.leaves x next ⊎ AddsNothing old new)
 
 -- the call returns `Device` only if a device of one of the two stores failed in it, or a count of failures cannot grow
-pub record HasCauseInEither (before now before_too now_too : ℕ) (result : Result (Unit {0}) Refusal) : Type 0 where
+pub record HasCauseInEither (before now before_too now_too : ℕ) (result : Result (Unit {0}) StoreRefusal) : Type 0 where
   pub no_fewer : before ≤ now
   pub no_fewer_too : before_too ≤ now_too
   pub device : result ≡ Err refusal.Device → GrewOrFull before now ⊎ GrewOrFull before_too now_too

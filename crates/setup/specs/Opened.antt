@@ -7,8 +7,8 @@ use Rattle.world.specs.World.{World, only_common}
 use Rattle.tables.specs.Schema.{store_schema, no_schema}
 use Rattle.tables.specs.Means.{Means, StandFor, StandsForNone}
 use Rattle.setup.specs.Shown.{shown_of, BeginsAt}
-use Rattle.setup.specs.declared.refusal.Refusal.{Refusal}
-use Rattle.setup.specs.declared.refusal.Refusal.TheVariants as refusal
+use Rattle.setup.specs.declared.refusal.StoreRefusal.{StoreRefusal}
+use Rattle.setup.specs.declared.refusal.StoreRefusal.TheVariants as refusal
 
 -- the tables are those of the schema, stay as they are, and stand for the world
 pub record IsFound (old new : State) (w : World) : Type 0 where
@@ -33,7 +33,7 @@ abbrev pub LeavesFirst : State → State → Type 0
 LeavesFirst old new = (db : Trees) → new.may_leave db → old.may_leave db ⊎ ((old.now.schema ≡ no_schema) × StandFor db only_common)
 
 -- the refusals of a call that opens a store
-abbrev pub IsOfOpening : Refusal → Type 0
+abbrev pub IsOfOpening : StoreRefusal → Type 0
 IsOfOpening refusal.Device = Unit {0}
 IsOfOpening refusal.Memory = Unit {0}
 IsOfOpening refusal.BadSchema = Unit {0}

@@ -21,8 +21,8 @@ use Rattle.setup.specs.declared.judge.Judged.{Judged}
 use Rattle.setup.specs.declared.judge.Judged.TheVariants as judged
 use Rattle.setup.specs.declared.write.Rows.{Rows}
 use Rattle.setup.specs.declared.write.Rows.TheVariants as rows
-use Rattle.setup.specs.declared.refusal.Refusal.{Refusal}
-use Rattle.setup.specs.declared.refusal.Refusal.TheVariants as refusal
+use Rattle.setup.specs.declared.refusal.StoreRefusal.{StoreRefusal}
+use Rattle.setup.specs.declared.refusal.StoreRefusal.TheVariants as refusal
 
 -- ---- some shelves of a world
 
@@ -154,7 +154,7 @@ pub record FillsAt (old new : Shown) (There : Type 0) (next x : World) (result :
 -- For each world of the source and each of the fresh store, `FillsAt` holds, if the disks have returned what was
 -- written. The source is only read, and so is the fresh store if `IsUnfit` holds of the result.
 pub record FillsBy (There : World → Type 0) (next : World → World)
-    (source source_new fresh fresh_new : Shown) (result : Result (Unit {0}) Refusal) : Type 0 where
+    (source source_new fresh fresh_new : Shown) (result : Result (Unit {0}) StoreRefusal) : Type 0 where
   pub reads : IsRead source source_new
   pub honest : fresh_new.is_honest → fresh.is_honest
   pub spares : IsUnfit result → IsRead fresh fresh_new
@@ -163,17 +163,17 @@ pub record FillsBy (There : World → Type 0) (next : World → World)
       → FillsAt fresh fresh_new (There w) (next w) x result
 
 -- the wanted shelves are put into a fresh store
-abbrev pub Fills : Wanted → Shown → Shown → Shown → Shown → Result (Unit {0}) Refusal → Type 0
+abbrev pub Fills : Wanted → Shown → Shown → Shown → Shown → Result (Unit {0}) StoreRefusal → Type 0
 Fills it = FillsBy (λ w. IsThere w it) (wanted_part it)
 
 -- the part of this team is put into a fresh store
-abbrev pub Extracts : List ℕ → Shown → Shown → Shown → Shown → Result (Unit {0}) Refusal → Type 0
+abbrev pub Extracts : List ℕ → Shown → Shown → Shown → Shown → Result (Unit {0}) StoreRefusal → Type 0
 Extracts t = FillsBy (λ w. IsTeam w t) (λ w. part w t)
 
 -- the part of these teams is put into a fresh store
-abbrev pub ExtractsTeams : List (List ℕ) → Shown → Shown → Shown → Shown → Result (Unit {0}) Refusal → Type 0
+abbrev pub ExtractsTeams : List (List ℕ) → Shown → Shown → Shown → Shown → Result (Unit {0}) StoreRefusal → Type 0
 ExtractsTeams ts = FillsBy (λ w. AreTeams w ts) (λ w. part_of w (chains w ts))
 
 -- the whole store is put into a fresh store
-abbrev pub CopiesAll : Shown → Shown → Shown → Shown → Result (Unit {0}) Refusal → Type 0
+abbrev pub CopiesAll : Shown → Shown → Shown → Shown → Result (Unit {0}) StoreRefusal → Type 0
 CopiesAll = FillsBy (λ _. Unit {0}) (λ w. w)

@@ -7,7 +7,7 @@ use sqlite::{Error, ErrorCode};
 
 /// Why a call that opens a store, copies one or a part of it, or migrates one, fails.
 #[derive(Clone, Copy, Debug, PartialEq, Eq)]
-pub enum Refusal {
+pub enum StoreRefusal {
     /// A disk failed; the connection is closed, in a transaction or limited in its steps; a table has 2^64 rows, one
     /// for each rowid; or the files cannot be opened: the name is empty, too long, `:memory:`, a URI or a folder's, or
     /// its folder is missing; the system forbids it; another process has the file open; the file has a second hard
@@ -24,13 +24,13 @@ pub enum Refusal {
 }
 
 /// Returns the refusal for tables that cannot be read or made: `Memory` if memory ran out, and otherwise `Device`.
-pub fn open_refusal(error: Error) -> Refusal
-    ensures named { result ≢ Refusal.BadSchema }
+pub fn open_refusal(error: Error) -> StoreRefusal
+    ensures named { result ≢ StoreRefusal.BadSchema }
     ensures opening { IsOfOpening result }
-    ensures memory { error ≡ Error.SqliteFailure ErrorCode.OutOfMemory → result ≡ Refusal.Memory }
+    ensures memory { error ≡ Error.SqliteFailure ErrorCode.OutOfMemory → result ≡ StoreRefusal.Memory }
 {
     match error {
-        Error::SqliteFailure(ErrorCode::OutOfMemory) => Refusal::Memory,
-        _ => Refusal::Device,
+        Error::SqliteFailure(ErrorCode::OutOfMemory) => StoreRefusal::Memory,
+        _ => StoreRefusal::Device,
     }
 }

@@ -16,8 +16,8 @@ use Rattle.tables.specs.Schema.{store_schema, access_table}
 use Rattle.std.specs.FinMap as map
 use Rattle.world.specs.declared.entry.Holder.{Holder}
 use Rattle.world.specs.declared.entry.Right.{Right}
-use Rattle.world.specs.declared.registry.Registered.{Registered}
-use Rattle.world.specs.declared.registry.Registered.TheVariants.{Done, Name, Taken, NoTeam, NoKey, NoGroup}
+use Rattle.world.specs.declared.registry.RegistryReply.{RegistryReply}
+use Rattle.world.specs.declared.registry.RegistryReply.TheVariants.{Done, Name, Taken, NoTeam, NoKey, NoGroup}
 use Rattle.world.specs.World.{World, with_key, is_key}
 use Rattle.world.specs.Registry.{key_added, after_key_add}
 use Rattle.world.proofs.Orders.{texts_total, texts_exact, get_put}
@@ -85,17 +85,17 @@ module _ (w : World) (token : List ℕ) (g : Holder) (unused : map.get w.keys to
       added old.step_limit token g old.now text tally after h.schema does in
       (it.0, key_means old.now.trees after.trees it.1 h.trees.means)
 
-is_done : Registered → Bool
+is_done : RegistryReply → Bool
 is_done Done = true
 is_done r = false
 
 module _ (w : World) (shelf token : List ℕ) (right : Right) where
   -- a command to add a key that is not `Done` leaves the world as it is
-  pub added_same : (r : Registered) → r ≡ key_added w shelf token → (r ≡ Done → ⊥)
+  pub added_same : (r : RegistryReply) → r ≡ key_added w shelf token → (r ≡ Done → ⊥)
       → with_key_added shelf token right w ≡ w
   added_same r is other = go (key_added w shelf token) (λ e. other (is ∙ e))
     where
-      go : (q : Registered) → (q ≡ Done → ⊥) → after_key_add w shelf token right q ≡ w
+      go : (q : RegistryReply) → (q ≡ Done → ⊥) → after_key_add w shelf token right q ≡ w
       go Done other = absurd (other refl)
       go Name other = refl
       go Taken other = refl
@@ -105,7 +105,7 @@ module _ (w : World) (shelf token : List ℕ) (right : Right) where
 
   pub added_new : key_added w shelf token ≡ Done
       → with_key_added shelf token right w ≡ with_key w token (record { shelf = shelf; right = right })
-  added_new h = ap (λ (q : Registered). after_key_add w shelf token right q) h
+  added_new h = ap (λ (q : RegistryReply). after_key_add w shelf token right q) h
 
   pub unused_from : key_added w shelf token ≡ Done → map.get w.keys token ≡ None
   unfolding is_done

@@ -20,8 +20,8 @@ use Rattle.sqlite_catalog.specs.Listing.{IsSound}
 use Rattle.sqlite_rules.specs.Lists.{Has}
 use Rattle.sqlite_rules.proofs.ListLemmas.{all_from}
 use Rattle.std.specs.FinMap as map
-use Rattle.world.specs.declared.registry.Registered.{Registered}
-use Rattle.world.specs.declared.registry.Registered.TheVariants.{Done, Name}
+use Rattle.world.specs.declared.registry.RegistryReply.{RegistryReply}
+use Rattle.world.specs.declared.registry.RegistryReply.TheVariants.{Done, Name}
 use Rattle.world.specs.World.{World, is_team_name, with_shelf, with_team, with_group}
 use Rattle.world.specs.Registry.{team_added, group_added, after_team_add, after_group_add}
 use Rattle.world.proofs.Orders.{texts_total, texts_exact, get_put}
@@ -115,29 +115,29 @@ none_is None e = refl
 none_is (Some x) e = absurd (true≢false e)
 
 module _ (w : World) (name : List ℕ) (group : Option (List ℕ)) where
-  pub team_same : (r : Registered) → r ≡ team_added w name group → (r ≡ Done → ⊥) → with_team_added name group w ≡ w
+  pub team_same : (r : RegistryReply) → r ≡ team_added w name group → (r ≡ Done → ⊥) → with_team_added name group w ≡ w
   team_same r is other = go (team_added w name group) (λ e. other (is ∙ e))
     where
-      go : (q : Registered) → (q ≡ Done → ⊥) → after_team_add w name group q ≡ w
+      go : (q : RegistryReply) → (q ≡ Done → ⊥) → after_team_add w name group q ≡ w
       go Done other = absurd (other refl)
       go _ other = refl
 
   pub team_new : team_added w name group ≡ Done → with_team_added name group w ≡ with_team w name group
-  team_new h = ap (λ (q : Registered). after_team_add w name group q) h
+  team_new h = ap (λ (q : RegistryReply). after_team_add w name group q) h
 
   pub team_free : team_added w name group ≡ Done → map.get w.shelves name ≡ None
   team_free h = none_is (map.get w.shelves name) (new_team w name group h).1
 
 module _ (w : World) (name : List ℕ) where
-  pub group_same : (r : Registered) → r ≡ group_added w name → (r ≡ Done → ⊥) → with_group_added name w ≡ w
+  pub group_same : (r : RegistryReply) → r ≡ group_added w name → (r ≡ Done → ⊥) → with_group_added name w ≡ w
   group_same r is other = go (group_added w name) (λ e. other (is ∙ e))
     where
-      go : (q : Registered) → (q ≡ Done → ⊥) → after_group_add w name q ≡ w
+      go : (q : RegistryReply) → (q ≡ Done → ⊥) → after_group_add w name q ≡ w
       go Done other = absurd (other refl)
       go _ other = refl
 
   pub group_new : group_added w name ≡ Done → with_group_added name w ≡ with_group w name
-  group_new h = ap (λ (q : Registered). after_group_add w name q) h
+  group_new h = ap (λ (q : RegistryReply). after_group_add w name q) h
 
   pub group_free : group_added w name ≡ Done → map.get w.shelves name ≡ None
   group_free h = none_is (map.get w.shelves name) (new_group w name h).1

@@ -31,7 +31,7 @@ use Rattle.sqlite_schema.specs.declared.program.Program.{Program}
 use Rattle.sqlite_schema.specs.declared.schema.Keys.TheVariants.{Enforced}
 use Rattle.sqlite_value.proofs.OrderLemmas.{value_cmp_total}
 use Rattle.sqlite_value.specs.Order.{value_cmp}
-use Rattle.world.specs.declared.registry.Registered.TheVariants.{Done, NoKey}
+use Rattle.world.specs.declared.registry.RegistryReply.TheVariants.{Done, NoKey}
 use Rattle.world.specs.World.{World, text_cmp, without_key}
 use Rattle.world.specs.Registry.{after_key_revoke}
 use Rattle.world.proofs.Orders.{texts_total, texts_exact}

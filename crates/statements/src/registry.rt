@@ -19,7 +19,7 @@ use sqlite::{Alter, Connection, Error, Row, params};
 use text::Text;
 use world::entry::{Holder, Right};
 use world::names::COMMON;
-use world::registry::Registered;
+use world::registry::RegistryReply;
 
 fn may_publish(right: Right) -> bool
     ensures { result ≡ may_publish right }
@@ -137,19 +137,19 @@ fn judge_key<S: Alter>(
     conn: &mut Connection<S>,
     shelf: &str,
     token: &str,
-) -> Result<Registered, Error>
+) -> Result<RegistryReply, Error>
     requires { is_key token.now ≡ true }
     ensures spares { Spares (state S.Store conn.old) (state S.Store conn.new) }
     ensures answer { InEachWorld (state S.Store conn.old) (state S.Store conn.new) (λ _ new w.
         IfOk result (λ r. IsTrue new.is_open × (r ≡ key_added w shelf.now token.now))) }
 {
     if find_shelf(conn, shelf)?.is_none() {
-        return Ok(Registered::NoTeam);
+        return Ok(RegistryReply::NoTeam);
     }
     if find_key(conn, token)?.is_some() {
-        return Ok(Registered::Taken);
+        return Ok(RegistryReply::Taken);
     }
-    Ok(Registered::Done)
+    Ok(RegistryReply::Done)
 }
 
 /// Adds a well-formed key to a shelf and returns `Done`, or returns `NoTeam` if there is no such shelf, or `Taken` if
@@ -159,7 +159,7 @@ pub fn add_key<S: Alter>(
     shelf: &str,
     token: &str,
     right: Right,
-) -> Result<Registered, Error>
+) -> Result<RegistryReply, Error>
     requires { is_key token.now ≡ true }
     ensures changes { Changes (state S.Store conn.old) (state S.Store conn.new) (is_ok result)
         (with_key_added shelf.now token.now right) }
@@ -167,7 +167,7 @@ pub fn add_key<S: Alter>(
         IfOk result (λ r. r ≡ key_added w shelf.now token.now)) }
 {
     let registered = judge_key(conn, shelf, token)?;
-    if registered == Registered::Done {
+    if registered == RegistryReply::Done {
         insert_key(conn, token, shelf, right)?;
     }
     Ok(registered)
@@ -200,22 +200,22 @@ fn judge_team<S: Alter>(
     conn: &mut Connection<S>,
     name: &str,
     group: Option<&str>,
-) -> Result<Registered, Error>
+) -> Result<RegistryReply, Error>
     requires { is_team_name name.now ≡ true }
     ensures spares { Spares (state S.Store conn.old) (state S.Store conn.new) }
     ensures answer { InEachWorld (state S.Store conn.old) (state S.Store conn.new) (λ _ new w.
         IfOk result (λ r. IsTrue new.is_open × (r ≡ team_added w name.now (option_copied group.entry)))) }
 {
     if find_shelf(conn, name)?.is_some() {
-        return Ok(Registered::Taken);
+        return Ok(RegistryReply::Taken);
     }
     let Some(group) = group else {
-        return Ok(Registered::Done);
+        return Ok(RegistryReply::Done);
     };
     if !is_group(conn, group)? {
-        return Ok(Registered::NoGroup);
+        return Ok(RegistryReply::NoGroup);
     }
-    Ok(Registered::Done)
+    Ok(RegistryReply::Done)
 }
 
 /// Adds a team with a valid name, as a member of a group or of none, and returns `Done`, or returns `Taken` if the name
@@ -224,7 +224,7 @@ pub fn add_team<S: Alter>(
     conn: &mut Connection<S>,
     name: &str,
     group: Option<&str>,
-) -> Result<Registered, Error>
+) -> Result<RegistryReply, Error>
     requires { is_team_name name.now ≡ true }
     ensures changes { Changes (state S.Store conn.old) (state S.Store conn.new) (is_ok result)
         (with_team_added name.now (option_copied group.entry)) }
@@ -232,27 +232,27 @@ pub fn add_team<S: Alter>(
         IfOk result (λ r. r ≡ team_added w name.now (option_copied group.entry))) }
 {
     let registered = judge_team(conn, name, group)?;
-    if registered == Registered::Done {
+    if registered == RegistryReply::Done {
         insert_shelf(conn, name, Some(group.unwrap_or(COMMON)))?;
     }
     Ok(registered)
 }
 
 /// Returns the outcome of adding a group with a valid name: `Taken` if the name is taken, otherwise `Done`.
-fn judge_group<S: Alter>(conn: &mut Connection<S>, name: &str) -> Result<Registered, Error>
+fn judge_group<S: Alter>(conn: &mut Connection<S>, name: &str) -> Result<RegistryReply, Error>
     requires { is_team_name name.now ≡ true }
     ensures spares { Spares (state S.Store conn.old) (state S.Store conn.new) }
     ensures answer { InEachWorld (state S.Store conn.old) (state S.Store conn.new) (λ _ new w.
         IfOk result (λ r. IsTrue new.is_open × (r ≡ group_added w name.now))) }
 {
     if find_shelf(conn, name)?.is_some() {
-        return Ok(Registered::Taken);
+        return Ok(RegistryReply::Taken);
     }
-    Ok(Registered::Done)
+    Ok(RegistryReply::Done)
 }
 
 /// Adds a group with a valid name and returns `Done`, or returns `Taken` if the name is taken.
-pub fn add_group<S: Alter>(conn: &mut Connection<S>, name: &str) -> Result<Registered, Error>
+pub fn add_group<S: Alter>(conn: &mut Connection<S>, name: &str) -> Result<RegistryReply, Error>
     requires { is_team_name name.now ≡ true }
     ensures changes { Changes (state S.Store conn.old) (state S.Store conn.new) (is_ok result)
         (with_group_added name.now) }
@@ -260,7 +260,7 @@ pub fn add_group<S: Alter>(conn: &mut Connection<S>, name: &str) -> Result<Regis
         IfOk result (λ r. r ≡ group_added w name.now)) }
 {
     let registered = judge_group(conn, name)?;
-    if registered == Registered::Done {
+    if registered == RegistryReply::Done {
         insert_shelf(conn, name, None)?;
     }
     Ok(registered)

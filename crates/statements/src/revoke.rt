@@ -10,7 +10,7 @@ ghost use Rattle.statements.specs.Views.{with_key_revoked};
 
 use crate::registry::find_key;
 use sqlite::{Alter, Connection, Error, params};
-use world::registry::Registered;
+use world::registry::RegistryReply;
 
 /// Deletes the row of a key.
 fn delete_key<S: Alter>(conn: &mut Connection<S>, token: &str) -> Result<(), Error>
@@ -25,15 +25,15 @@ fn delete_key<S: Alter>(conn: &mut Connection<S>, token: &str) -> Result<(), Err
 }
 
 /// Revokes a key and returns `Done`, or returns `NoKey` if there is no such key.
-pub fn revoke_key<S: Alter>(conn: &mut Connection<S>, token: &str) -> Result<Registered, Error>
+pub fn revoke_key<S: Alter>(conn: &mut Connection<S>, token: &str) -> Result<RegistryReply, Error>
     ensures changes { Changes (state S.Store conn.old) (state S.Store conn.new) (is_ok result)
         (with_key_revoked token.now) }
     ensures answer { InEachWorld (state S.Store conn.old) (state S.Store conn.new) (λ _ _ w.
         IfOk result (λ r. r ≡ key_revoked w token.now)) }
 {
     if find_key(conn, token)?.is_none() {
-        return Ok(Registered::NoKey);
+        return Ok(RegistryReply::NoKey);
     }
     delete_key(conn, token)?;
-    Ok(Registered::Done)
+    Ok(RegistryReply::Done)
 }

@@ -17,15 +17,15 @@ use Rattle.setup.specs.Parts.{AreTeams, wanted_part, Tells, FillsAt, FillsBy, Ex
 use Rattle.setup.specs.declared.choice.Wanted.{Wanted}
 use Rattle.setup.specs.declared.choice.Wanted.TheVariants as wanted
 use Rattle.setup.proofs.PartLemmas.{chains_world, part_of_one, not_cons}
-use Rattle.setup.specs.declared.refusal.Refusal.{Refusal}
-use Rattle.setup.specs.declared.refusal.Refusal.TheVariants as refusal
+use Rattle.setup.specs.declared.refusal.StoreRefusal.{StoreRefusal}
+use Rattle.setup.specs.declared.refusal.StoreRefusal.TheVariants as refusal
 use Rattle.store.proofs.StoreLemmas.{narrow}
 
 pub done_is_fit : IsUnfit (Ok tt) → ⊥
 done_is_fit (inl e) = cc
 done_is_fit (inr e) = cc
 
-pub fault_is_fit : (r : Refusal) → r ≢ refusal.NotEmpty → r ≢ refusal.NoTeam → IsUnfit (Err r) → ⊥
+pub fault_is_fit : (r : StoreRefusal) → r ≢ refusal.NotEmpty → r ≢ refusal.NoTeam → IsUnfit (Err r) → ⊥
 fault_is_fit r some none (inl e) = let it : r ≡ refusal.NoTeam = cc in none it
 fault_is_fit r some none (inr e) = let it : r ≡ refusal.NotEmpty = cc in some it
 
@@ -36,7 +36,7 @@ is_read a b spares = record {
   left = λ clean w x y stands only db may. only db (spares.left clean w stands.0 db may);
 }
 
-pub fault_tells : (There : Type 0) (x : World) (r : Refusal) → r ≢ refusal.BadSchema → r ≢ refusal.NotEmpty
+pub fault_tells : (There : Type 0) (x : World) (r : StoreRefusal) → r ≢ refusal.BadSchema → r ≢ refusal.NotEmpty
     → r ≢ refusal.NoTeam → Tells There x (Err r)
 fault_tells There x refusal.Device a b c = tt
 fault_tells There x refusal.Memory a b c = tt
@@ -50,7 +50,7 @@ wanted_is_world (wanted.Teams ts) w is = chains_world w _ is
 wanted_is_world wanted.All w is = is
 
 -- after a change from x to the next world, done if the result is Ok, a crash leaves what `AfterFill` says
-pub after_fill : (old new : State) (x next : World) (result : Result (Unit {0}) Refusal) → HasCleanDisk new
+pub after_fill : (old new : State) (x next : World) (result : Result (Unit {0}) StoreRefusal) → HasCleanDisk new
     → Stands old x → ChangesAt old new (is_ok result) x next
     → AfterFill (shown_of old) (shown_of new) x result next
 after_fill old new x next (Ok u) clean stands change = record {
@@ -69,7 +69,7 @@ after_fill old new x next (Err e) clean stands change = record {
 
 -- what a crash leaves does not depend on what the store caches
 pub fill_kept : (old new : State) (kept kept_new : Kept) (n n_new : ℕ) (x next : World)
-    (result : Result (Unit {0}) Refusal)
+    (result : Result (Unit {0}) StoreRefusal)
     → AfterFill (shown_of old) (shown_of new) x result next
     → AfterFill (shown_with old kept n) (shown_with new kept_new n_new) x result next
 fill_kept old new kept kept_new n n_new x next result after =
@@ -77,7 +77,7 @@ fill_kept old new kept kept_new n n_new x next result after =
 
 -- a change from x to the next world, done if the result is Ok, fills the store as `FillsAt` says, without what it
 -- caches
-pub fills_at : (old new : State) (There : Type 0) (next x : World) (result : Result (Unit {0}) Refusal)
+pub fills_at : (old new : State) (There : Type 0) (next x : World) (result : Result (Unit {0}) StoreRefusal)
     → HasCleanDisk new → StandsFor old x → IsWorld next
     → ChangesAt old new (is_ok result) x next → Tells There x result
     → FillsAt (shown_of old) (shown_of new) There next x result
@@ -96,17 +96,17 @@ fills_at old new There next x (Err e) clean stands is change tells = record {
 
 -- ---- with what the stores cache
 
-on_ok_both : (A : Type 0) {B : Type 0} (r : Result (Unit {0}) Refusal) → B → OnOk r A → OnOk r (A × B)
+on_ok_both : (A : Type 0) {B : Type 0} (r : Result (Unit {0}) StoreRefusal) → B → OnOk r A → OnOk r (A × B)
 on_ok_both A (Ok u) b a = (a, b)
 on_ok_both A (Err e) b a = tt
 
-on_err_both : (A : Type 0) {B : Type 0} (r : Result (Unit {0}) Refusal) → B → OnErr r A → OnErr r (A × B)
+on_err_both : (A : Type 0) {B : Type 0} (r : Result (Unit {0}) StoreRefusal) → B → OnErr r A → OnErr r (A × B)
 on_err_both A (Ok u) b a = tt
 on_err_both A (Err e) b a = (a, b)
 
 -- a fill holds with what the stores cache too, if the source caches what it did, and the fresh store nothing
 pub fills_kept : (There : World → Type 0) (next : World → World) (a a_new b b_new : State)
-    (kept kept_new old new : Kept) (n n_new m m_new : ℕ) (r : Result (Unit {0}) Refusal) → kept_new ≡ kept
+    (kept kept_new old new : Kept) (n n_new m m_new : ℕ) (r : Result (Unit {0}) StoreRefusal) → kept_new ≡ kept
     → IsNothing new → FillsBy There next (shown_of a) (shown_of a_new) (shown_of b) (shown_of b_new) r
     → FillsBy There next (shown_with a kept n) (shown_with a_new kept_new n_new) (shown_with b old m)
     (shown_with b_new new m_new) r
@@ -151,7 +151,7 @@ one_tells w x t (Err refusal.Device) h = tt
 one_tells w x t (Err refusal.Memory) h = tt
 
 -- extracting the list of one team is extracting the team
-pub extracts_one : (source source_new fresh fresh_new : Shown) (t : List ℕ) (r : Result (Unit {0}) Refusal)
+pub extracts_one : (source source_new fresh fresh_new : Shown) (t : List ℕ) (r : Result (Unit {0}) StoreRefusal)
     → ExtractsTeams (t ∷ []) source source_new fresh fresh_new r → Extracts t source source_new fresh fresh_new r
 extracts_one source source_new fresh fresh_new t r does = record {
   reads = does.reads;

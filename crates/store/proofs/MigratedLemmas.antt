@@ -29,8 +29,8 @@ use Rattle.setup.specs.Opened.{IsOfOpening}
 use Rattle.kept.specs.declared.kept.Kept.{Kept}
 use Rattle.store.specs.declared.migrate.Migrated.{Migrated}
 use Rattle.store.specs.declared.migrate.Migrated.TheVariants.{Whole, NotEmpty, BadSchema}
-use Rattle.setup.specs.declared.refusal.Refusal.{Refusal}
-use Rattle.setup.specs.declared.refusal.Refusal.TheVariants as refusal
+use Rattle.setup.specs.declared.refusal.StoreRefusal.{StoreRefusal}
+use Rattle.setup.specs.declared.refusal.StoreRefusal.TheVariants as refusal
 use Rattle.setup.proofs.PutLemmas.{spared_at}
 use Rattle.kept.proofs.KeptLemmas.{nothing_kept}
 use Rattle.setup.proofs.OpenLemmas.{device_hindered}
@@ -126,7 +126,7 @@ world_of db x w (inr rest) = absurd (true≢false rest.0)
 
 -- a change from x to w, done if the result is Ok, migrates the store as `MigratesAt` says, with nothing cached after
 at_end : (db : Database) (old new : State) (kept kept_new : Kept) (n n_new : ℕ) (x w : World)
-    (r : Result (Unit {0}) Refusal) → IsNothing kept_new → HasCleanDisk new → StandsFor old x
+    (r : Result (Unit {0}) StoreRefusal) → IsNothing kept_new → HasCleanDisk new → StandsFor old x
     → IsOldOr db x (is_ok r) w → ChangesAt old new (is_ok r) x w → Tells x r
     → MigratesAt db (shown_with old kept n) (shown_with new kept_new n_new) x r
 at_end db old new kept kept_new n n_new x w (Ok u) none clean stands was change tells = record {
@@ -148,7 +148,7 @@ at_end db old new kept kept_new n n_new x w (Err e) none clean stands was change
 
 -- the result of the call follows from the outcome of the rows, and the fresh store caches nothing
 module _ (s t f g : State) (kept kept_new : Kept) (n n_new : ℕ) (rows : Result Migrated CopyError)
-    (r : Result (Unit {0}) Refusal) (moved : MigratesRows s t f g rows) (none : IsNothing kept_new)
+    (r : Result (Unit {0}) StoreRefusal) (moved : MigratesRows s t f g rows) (none : IsNothing kept_new)
     (done : is_whole rows ≡ is_ok r) (full : r ≡ Err refusal.NotEmpty → rows ≡ Ok NotEmpty)
     (tells : (x : World) → IfOk rows (IsMigrated x) → Tells x r) where
   spared : (r ≡ Err refusal.NotEmpty) ⊎ IsForeign s.now → Spares f g
@@ -174,7 +174,7 @@ module _ (s t f g : State) (kept kept_new : Kept) (n n_new : ℕ) (rows : Result
   }
 
 -- `Tells` holds of each refusal that is a fault
-pub fault_tells : (x : World) (e : Refusal) → e ≢ refusal.BadSchema → e ≢ refusal.NotEmpty → e ≢ refusal.NoTeam
+pub fault_tells : (x : World) (e : StoreRefusal) → e ≢ refusal.BadSchema → e ≢ refusal.NotEmpty → e ≢ refusal.NoTeam
     → Tells x (Err e)
 fault_tells x refusal.Device a b c = tt
 fault_tells x refusal.Memory a b c = tt
@@ -190,26 +190,26 @@ opening_tells x refusal.BadSchema of a = absurd (a refl)
 opening_tells x refusal.NotEmpty of a = absurd of
 opening_tells x refusal.NoTeam of a = absurd of
 
-pub opening_some : (e : Refusal) → IsOfOpening e → e ≢ refusal.NotEmpty
+pub opening_some : (e : StoreRefusal) → IsOfOpening e → e ≢ refusal.NotEmpty
 opening_some refusal.NotEmpty of same = of
 opening_some refusal.Device of same = cc
 opening_some refusal.Memory of same = cc
 opening_some refusal.BadSchema of same = cc
 opening_some refusal.NoTeam of same = of
 
-pub error_not_full : {X : Type 0} (e : Refusal) → e ≢ refusal.NotEmpty
-    → ◌≡◌ {A = Result (Unit {0}) Refusal} (Err e) (Err refusal.NotEmpty) → X
+pub error_not_full : {X : Type 0} (e : StoreRefusal) → e ≢ refusal.NotEmpty
+    → ◌≡◌ {A = Result (Unit {0}) StoreRefusal} (Err e) (Err refusal.NotEmpty) → X
 error_not_full e some same = let it : e ≡ refusal.NotEmpty = cc in absurd (some it)
 
-pub done_not_full : {X : Type 0} → ◌≡◌ {A = Result (Unit {0}) Refusal} (Ok tt) (Err refusal.NotEmpty) → X
+pub done_not_full : {X : Type 0} → ◌≡◌ {A = Result (Unit {0}) StoreRefusal} (Ok tt) (Err refusal.NotEmpty) → X
 done_not_full same = absurd (never same)
   where
-    never : ◌≡◌ {A = Result (Unit {0}) Refusal} (Ok tt) (Err refusal.NotEmpty) → ⊥
+    never : ◌≡◌ {A = Result (Unit {0}) StoreRefusal} (Ok tt) (Err refusal.NotEmpty) → ⊥
     never e = cc
 
 -- ---- why the call returns `Device`
 
-pub no_device : (s t : State) (count : ℕ) (r : Result (Unit {0}) Refusal) → r ≢ Err refusal.Device
+pub no_device : (s t : State) (count : ℕ) (r : Result (Unit {0}) StoreRefusal) → r ≢ Err refusal.Device
     → HasCauseInOne s t count count r
 no_device s t count r other =
     record { no_fewer = omega arith; device = λ _ same. absurd (other same); once = omega arith; stays = λ _. refl }
@@ -217,7 +217,7 @@ no_device s t count r other =
 pub device_is : (r : Refusal) → ◌≡◌ {A = Result (Unit {0}) Refusal} (Err r) (Err refusal.Device) → r ≡ refusal.Device
 device_is r same = cc
 
-pub older_device : (s t : State) (e : Error) (r : Refusal) (count : ℕ)
+pub older_device : (s t : State) (e : Error) (r : StoreRefusal) (count : ℕ)
     → (e ≡ SqliteFailure code.OutOfMemory → r ≡ refusal.Memory)
     → (HasCleanDisk t → HasOlderReason s t (Source e)) → HasCauseInOne s t count count (Err r)
 older_device s t e r count memory reason = record {

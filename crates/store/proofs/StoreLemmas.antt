@@ -11,8 +11,8 @@ use Rattle.world.specs.declared.registry.StoreFault.{StoreFault}
 use Rattle.world.specs.declared.registry.StoreFault.TheVariants.{Memory}
 use Rattle.world.specs.World.{World, IsWorld, group_of, above, chain, with_shelf}
 use Rattle.world.specs.Store.{Shown, Does, DoesWhere, DoesAt, Reads, HasCause}
-use Rattle.world.specs.declared.registry.Registered.{Registered}
-use Rattle.world.specs.declared.registry.Registered.TheVariants.{Done, Name, Taken, NoTeam, NoKey, NoGroup}
+use Rattle.world.specs.declared.registry.RegistryReply.{RegistryReply}
+use Rattle.world.specs.declared.registry.RegistryReply.TheVariants.{Done, Name, Taken, NoTeam, NoKey, NoGroup}
 use Rattle.world.specs.declared.entry.Right.{Right}
 use Rattle.world.specs.Registry.{team_added, group_added, key_added, after_team_add, after_group_add, after_key_add}
 use Rattle.world.specs.Registry.{after_key_revoke}
@@ -365,7 +365,7 @@ module _ (w : World) (kept : Kept) (right : AreKept w kept) where
       (right.3.0, none_held _ headings none_too, right.3.2),
     )
 
-    pub kept_after_team : (name : List ℕ) (group : Option (List ℕ)) (r : Registered) → team_added w name group ≡ r
+    pub kept_after_team : (name : List ℕ) (group : Option (List ℕ)) (r : RegistryReply) → team_added w name group ≡ r
         → AreKept (after_team_add w name group r)
         (record kept { lists = lists; headings = headings; absences = absences })
     kept_after_team name group Done is = kept_with_shelf name _ (new_team w name group is).1
@@ -375,7 +375,7 @@ module _ (w : World) (kept : Kept) (right : AreKept w kept) where
     kept_after_team name group NoKey is = kept_but_lists
     kept_after_team name group NoGroup is = kept_but_lists
 
-  pub kept_after_group : (name : List ℕ) (r : Registered) → group_added w name ≡ r
+  pub kept_after_group : (name : List ℕ) (r : RegistryReply) → group_added w name ≡ r
       → AreKept (after_group_add w name r) kept
   kept_after_group name Done is =
       let free = (new_group w name is).1 in (
@@ -390,7 +390,7 @@ module _ (w : World) (kept : Kept) (right : AreKept w kept) where
   kept_after_group name NoKey is = right
   kept_after_group name NoGroup is = right
 
-  pub kept_after_key : (shelf key : List ℕ) (may : Right) (r : Registered) → key_added w shelf key ≡ r
+  pub kept_after_key : (shelf key : List ℕ) (may : Right) (r : RegistryReply) → key_added w shelf key ≡ r
       → AreKept (after_key_add w shelf key may r) kept
   kept_after_key shelf key may Done is =
       (right.0, right.1, right.2, (right.3.0, right.3.1, keys_still w shelf key _ is kept.keys right.3.2))
@@ -404,7 +404,7 @@ module _ (w : World) (kept : Kept) (right : AreKept w kept) where
     pub kept_but_keys : AreKept w (record kept { keys = keys })
     kept_but_keys = (right.0, right.1, right.2, (right.3.0, right.3.1, none_held _ keys none))
 
-    pub kept_after_revoke : (key : List ℕ) (r : Registered)
+    pub kept_after_revoke : (key : List ℕ) (r : RegistryReply)
         → AreKept (after_key_revoke w key r) (record kept { keys = keys })
     kept_after_revoke key Done = (right.0, right.1, right.2, (right.3.0, right.3.1, none_held _ keys none))
     kept_after_revoke key Name = kept_but_keys

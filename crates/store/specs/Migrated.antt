@@ -18,8 +18,8 @@ use Rattle.world.specs.World.{World, only_common}
 use Rattle.setup.specs.Extracted.{IsRead, AfterFill}
 use Rattle.store.specs.declared.migrate.Migrated.{Migrated}
 use Rattle.store.specs.declared.migrate.Migrated.TheVariants.{Whole, NotEmpty, BadSchema}
-use Rattle.setup.specs.declared.refusal.Refusal.{Refusal}
-use Rattle.setup.specs.declared.refusal.Refusal.TheVariants as refusal
+use Rattle.setup.specs.declared.refusal.StoreRefusal.{StoreRefusal}
+use Rattle.setup.specs.declared.refusal.StoreRefusal.TheVariants as refusal
 
 -- the tables are those of an older schema, and stand for the world
 abbrev pub WasOf : Database → World → Type 0
@@ -107,7 +107,7 @@ pub record Migrates (old old_new : State) (fresh fresh_new : Shown) (result : Re
 
 -- The call returns `Device` only if the older connection was closed or limited in its steps, or its disk failed in the
 -- call, or a table of it is vast, or if a device of the fresh store failed or its count of failures cannot grow.
-pub record HasCauseInOne (old old_new : State) (before now : ℕ) (result : Result (Unit {0}) Refusal) : Type 0 where
+pub record HasCauseInOne (old old_new : State) (before now : ℕ) (result : Result (Unit {0}) StoreRefusal) : Type 0 where
   pub no_fewer : before ≤ now
   pub device : HasCleanDisk old_new → result ≡ Err refusal.Device → (IsHindered old old_new ⊎ IsVastOlder old.now) ⊎ GrewOrFull before now
   -- the count grows by one at most, and only for `Device`

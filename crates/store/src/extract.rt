@@ -11,20 +11,20 @@ use kept::kept::Kept;
 use setup::choice::Wanted;
 use setup::copy::copy_shelves;
 use setup::judge::Judged;
-use setup::refusal::Refusal;
+use setup::refusal::StoreRefusal;
 use sqlite::Alter;
 use statements::extract_rows::CopyError;
 use world::registry::StoreFault;
 
 /// Returns the refusal for a fault of a store.
-pub(crate) fn refusal_of(fault: StoreFault) -> Refusal
-    ensures device { result ≡ Refusal.Device → fault ≡ StoreFault.Device }
-    ensures told { fault ≡ StoreFault.Device → result ≡ Refusal.Device }
+pub(crate) fn refusal_of(fault: StoreFault) -> StoreRefusal
+    ensures device { result ≡ StoreRefusal.Device → fault ≡ StoreFault.Device }
+    ensures told { fault ≡ StoreFault.Device → result ≡ StoreRefusal.Device }
     ensures named { (result ≢ Refusal.BadSchema) × (result ≢ Refusal.NotEmpty) × (result ≢ Refusal.NoTeam) }
 {
     match fault {
-        StoreFault::Device => Refusal::Device,
-        StoreFault::Memory => Refusal::Memory,
+        StoreFault::Device => StoreRefusal::Device,
+        StoreFault::Memory => StoreRefusal::Memory,
     }
 }
 
@@ -41,7 +41,7 @@ impl<S: Alter> SqlShelves<S> {
         &mut self,
         team: &str,
         fresh: &mut SqlShelves<F>,
-    ) -> Result<(), Refusal>
+    ) -> Result<(), StoreRefusal>
         ensures extracts { Extracts team.now (shown_with (state S.Store self.old.conn) self.old.kept self.old.failures)
             (shown_with (state S.Store self.new.conn) self.new.kept self.new.failures)
             (shown_with (state F.Store fresh.old.conn) fresh.old.kept fresh.old.failures)
@@ -65,7 +65,7 @@ impl<S: Alter> SqlShelves<S> {
         &mut self,
         teams: &[&str],
         fresh: &mut SqlShelves<F>,
-    ) -> Result<(), Refusal>
+    ) -> Result<(), StoreRefusal>
         ensures extracts { ExtractsTeams (each (λ team. team.now) teams.now)
             (shown_with (state S.Store self.old.conn) self.old.kept self.old.failures)
             (shown_with (state S.Store self.new.conn) self.new.kept self.new.failures)
@@ -84,7 +84,7 @@ impl<S: Alter> SqlShelves<S> {
     /// disk failed and with `Memory` if memory ran out. Then both stores are as they were; the source always is. After
     /// Ok, a crash leaves only the copy in the fresh store, wherever an earlier fault had left that; after `NotEmpty`,
     /// nothing that it did not leave before; after another failure, as `AfterFill` says, it may leave the copy too.
-    pub fn copy<F: Alter>(&mut self, fresh: &mut SqlShelves<F>) -> Result<(), Refusal>
+    pub fn copy<F: Alter>(&mut self, fresh: &mut SqlShelves<F>) -> Result<(), StoreRefusal>
         ensures copies { CopiesAll (shown_with (state S.Store self.old.conn) self.old.kept self.old.failures)
             (shown_with (state S.Store self.new.conn) self.new.kept self.new.failures)
             (shown_with (state F.Store fresh.old.conn) fresh.old.kept fresh.old.failures)
@@ -101,7 +101,7 @@ impl<S: Alter> SqlShelves<S> {
         &mut self,
         wanted: Wanted<'_>,
         fresh: &mut SqlShelves<F>,
-    ) -> Result<(), Refusal>
+    ) -> Result<(), StoreRefusal>
         ensures fills { Fills wanted.entry (shown_with (state S.Store self.old.conn) self.old.kept self.old.failures)
             (shown_with (state S.Store self.new.conn) self.new.kept self.new.failures)
             (shown_with (state F.Store fresh.old.conn) fresh.old.kept fresh.old.failures)
@@ -119,7 +119,7 @@ impl<S: Alter> SqlShelves<S> {
         &mut self,
         wanted: Wanted<'_>,
         fresh: &mut SqlShelves<F>,
-    ) -> Result<(), Refusal>
+    ) -> Result<(), StoreRefusal>
         ensures fills { Fills wanted.entry
             (shown_of (state S.Store self.old.conn)) (shown_of (state S.Store self.new.conn))
             (shown_of (state F.Store fresh.old.conn)) (shown_of (state F.Store fresh.new.conn)) result }
@@ -129,8 +129,8 @@ impl<S: Alter> SqlShelves<S> {
     {
         match copy_shelves(self.alloc, &mut self.conn, wanted, &mut fresh.conn) {
             Ok(Judged::Fit(_)) => Ok(()),
-            Ok(Judged::NoTeam) => Err(Refusal::NoTeam),
-            Ok(Judged::NotEmpty) => Err(Refusal::NotEmpty),
+            Ok(Judged::NoTeam) => Err(StoreRefusal::NoTeam),
+            Ok(Judged::NotEmpty) => Err(StoreRefusal::NotEmpty),
             Err(CopyError::Source(error)) => Err(refusal_of(fault(&mut self.failures, error))),
             Err(CopyError::Fresh(error)) => Err(refusal_of(fault(&mut fresh.failures, error))),
         }

@@ -10,7 +10,7 @@ ghost use Rattle.setup.specs.Opened.{IsOfOpening};
 ghost use Rattle.store.specs.Names.{IsNoFileName};
 ghost use Rattle.store.specs.Restart.{HoldsNoDatabase, HoldsNoFile, IsOddByte, IsStray};
 
-use setup::refusal::Refusal;
+use setup::refusal::StoreRefusal;
 use sqlite::{Connection, Error, ErrorCode, FileFrom, FileStore, Files, Leftover, Start};
 use sqlite_disk::{Disk, Tally};
 use sqlite_pager::Options;
@@ -48,23 +48,23 @@ pub(crate) fn open_pair<T: Start>(
     rt: &HostRuntime,
     path: &str,
     start: T,
-) -> Result<(Files<FileFrom<T>>, u64), Refusal>
-    ensures no_file { IsNoFileName path.now → IsErrAnd result (λ e. e ≡ Refusal.Device) }
-    ensures unopened { IfErr result (λ e. (e ≡ Refusal.Memory) ⊎ (e ≡ Refusal.Device)) }
+) -> Result<(Files<FileFrom<T>>, u64), StoreRefusal>
+    ensures no_file { IsNoFileName path.now → IsErrAnd result (λ e. e ≡ StoreRefusal.Device) }
+    ensures unopened { IfErr result (λ e. (e ≡ StoreRefusal.Memory) ⊎ (e ≡ StoreRefusal.Device)) }
     ensures log { IfOk result (λ it. IsTrue (file_is_usable T.Start it.0.log)) }
     ensures db { IfOk result (λ it. IsTrue (file_is_usable T.Start it.0.db)) }
     ensures fresh { IfOk result (λ it. IsFresh true it.0.log × IsFresh false it.0.db) }
 {
     if names_no_file(path) {
-        return Err(Refusal::Device);
+        return Err(StoreRefusal::Device);
     }
     match is_log_alone(rt, path) {
         Ok(false) => {}
-        Ok(true) => return Err(Refusal::Device),
+        Ok(true) => return Err(StoreRefusal::Device),
         Err(error) => return Err(path_refusal(OpenError::Io(error))),
     }
     let Ok(state) = RandomState::new(rt) else {
-        return Err(Refusal::Device);
+        return Err(StoreRefusal::Device);
     };
     match sqlite_std_file::open(rt, path, start) {
         Ok(files) => Ok((files, state.hash_one(&0u8))),
@@ -121,14 +121,14 @@ pub(crate) fn connect_files<D: Disk + Drop>(
     alloc: Global,
     mut files: Files<D>,
     seed: u64,
-) -> Result<Connection<FileStore<D>>, (Refusal, Leftover<D>)>
+) -> Result<Connection<FileStore<D>>, (StoreRefusal, Leftover<D>)>
     requires log { IsTrue (D.Disk.is_usable files.log) }
     requires db { IsTrue (D.Disk.is_usable files.db) }
     ensures opened { IfOk result (λ c. HasCleanDisk (file_state c) → IsOpened c) }
     ensures found { IfOk result (λ c. HasCleanDisk (file_state c) → FindsIn (image_of D.Disk files) (file_state c)) }
     ensures begun { IfOk result (λ c. HasCleanDisk (file_state c) → ¬ IsStray (image_of D.Disk files)) }
     ensures refused { IfErr result (λ e. IsOfOpening e.0) }
-    ensures bad { IfErr result (λ e. e.0 ≡ Refusal.BadSchema
+    ensures bad { IfErr result (λ e. e.0 ≡ StoreRefusal.BadSchema
         → IsCleanLeft e.1 → HoldsNoDatabase (image_of D.Disk files)) }
     ensures unharmed { IfErr result (λ e. IsCleanLeft e.1 → LeavesFiles files e.1) }
 {
@@ -151,33 +151,33 @@ pub(crate) fn connect_files<D: Disk + Drop>(
 ///
 /// Fails with `BadSchema` if the file has a single byte that is not the first of a start, with `Device` if the file is
 /// empty and its log has room for a frame, or if the disk failed, and with `Memory` if memory ran out.
-fn judge<D: Disk>(alloc: Global, files: &mut Files<D>) -> Result<(), Refusal>
+fn judge<D: Disk>(alloc: Global, files: &mut Files<D>) -> Result<(), StoreRefusal>
     requires log { IsTrue (D.Disk.is_usable files.old.log) }
     requires db { IsTrue (D.Disk.is_usable files.old.db) }
     ensures begun { OnOk result (AreClean D.Disk files.new.log files.new.db → ¬ IsStray (image_of D.Disk files.old)) }
-    ensures bad { IfErr result (λ e. e ≡ Refusal.BadSchema
+    ensures bad { IfErr result (λ e. e ≡ StoreRefusal.BadSchema
         → AreClean D.Disk files.new.log files.new.db → IsStray (image_of D.Disk files.old)) }
     ensures refused { IfErr result IsOfOpening }
     ensures log { OnlyReads D.Disk files.old.log files.new.log }
     ensures db { OnlyReads D.Disk files.old.db files.new.db }
 {
     let Ok(is_lost) = is_log_of_nothing(files) else {
-        return Err(Refusal::Device);
+        return Err(StoreRefusal::Device);
     };
     if is_lost {
-        return Err(Refusal::Device);
+        return Err(StoreRefusal::Device);
     }
     let Ok(is_odd) = is_odd_byte(&mut files.db) else {
-        return Err(Refusal::Device);
+        return Err(StoreRefusal::Device);
     };
     if !is_odd {
         return Ok(());
     }
     match probe_blank(alloc, files, PageSize::new(NEW_SIZE).unwrap(), false) {
-        Ok(true) => Err(Refusal::BadSchema),
+        Ok(true) => Err(StoreRefusal::BadSchema),
         Ok(false) => Ok(()),
-        Err(WalError::OutOfMemory) => Err(Refusal::Memory),
-        Err(_) => Err(Refusal::Device),
+        Err(WalError::OutOfMemory) => Err(StoreRefusal::Memory),
+        Err(_) => Err(StoreRefusal::Device),
     }
 }
 
@@ -215,13 +215,13 @@ fn connect_judged<D: Disk + Drop>(
     alloc: Global,
     files: Files<D>,
     options: Options,
-) -> Result<Connection<FileStore<D>>, (Refusal, Leftover<D>)>
+) -> Result<Connection<FileStore<D>>, (StoreRefusal, Leftover<D>)>
     requires log { IsTrue (D.Disk.is_usable files.log) }
     requires db { IsTrue (D.Disk.is_usable files.db) }
     ensures opened { IfOk result (λ c. HasCleanDisk (file_state c) → IsOpened c) }
     ensures found { IfOk result (λ c. HasCleanDisk (file_state c) → Finds files c) }
     ensures refused { IfErr result (λ e. IsOfOpening e.0) }
-    ensures bad { IfErr result (λ e. e.0 ≡ Refusal.BadSchema
+    ensures bad { IfErr result (λ e. e.0 ≡ StoreRefusal.BadSchema
         → IsCleanLeft e.1 → HoldsNoFile (image_of D.Disk files)) }
     ensures unharmed { IfErr result (λ e. IsCleanLeft e.1 → LeavesFiles files e.1) }
 {
@@ -248,36 +248,36 @@ fn tally_of<D: Disk>(left: &Leftover<D>) -> Tally
 
 /// Returns the refusal for a file that cannot be opened: `Memory` if memory ran out, and otherwise `Device`, for
 /// example if there is no permission or no such folder.
-fn path_refusal(error: OpenError) -> Refusal
-    ensures unopened { (result ≡ Refusal.Memory) ⊎ (result ≡ Refusal.Device) }
-    ensures memory { error ≡ OpenError.OutOfMemory → result ≡ Refusal.Memory }
-    ensures in_use { error ≡ OpenError.Busy → result ≡ Refusal.Device }
+fn path_refusal(error: OpenError) -> StoreRefusal
+    ensures unopened { (result ≡ StoreRefusal.Memory) ⊎ (result ≡ StoreRefusal.Device) }
+    ensures memory { error ≡ OpenError.OutOfMemory → result ≡ StoreRefusal.Memory }
+    ensures in_use { error ≡ OpenError.Busy → result ≡ StoreRefusal.Device }
 {
     match error {
-        OpenError::OutOfMemory => Refusal::Memory,
-        OpenError::Io(error) if error.kind() == ErrorKind::OutOfMemory => Refusal::Memory,
-        OpenError::Io(_) | OpenError::Busy | OpenError::HotJournal => Refusal::Device,
+        OpenError::OutOfMemory => StoreRefusal::Memory,
+        OpenError::Io(error) if error.kind() == ErrorKind::OutOfMemory => StoreRefusal::Memory,
+        OpenError::Io(_) | OpenError::Busy | OpenError::HotJournal => StoreRefusal::Device,
     }
 }
 
 /// Returns the refusal for opened files that cannot be read: `BadSchema` if they hold no database or a damaged one and
 /// each read passed the test of its digest, `Memory` if memory ran out, and otherwise `Device`.
-fn file_refusal(error: Error, is_caught: bool) -> Refusal
-    ensures bad { result ≡ Refusal.BadSchema
+fn file_refusal(error: Error, is_caught: bool) -> StoreRefusal
+    ensures bad { result ≡ StoreRefusal.BadSchema
         ↔ ((is_caught ≡ false) × ((error ≡ Error.SqliteFailure ErrorCode.NotADatabase)
         ⊎ (error ≡ Error.SqliteFailure ErrorCode.DatabaseCorrupt))) }
-    ensures memory { error ≡ Error.SqliteFailure ErrorCode.OutOfMemory → result ≡ Refusal.Memory }
+    ensures memory { error ≡ Error.SqliteFailure ErrorCode.OutOfMemory → result ≡ StoreRefusal.Memory }
     ensures opening { IsOfOpening result }
 {
     match error {
         Error::SqliteFailure(ErrorCode::NotADatabase | ErrorCode::DatabaseCorrupt) => {
             if is_caught {
-                Refusal::Device
+                StoreRefusal::Device
             } else {
-                Refusal::BadSchema
+                StoreRefusal::BadSchema
             }
         }
-        Error::SqliteFailure(ErrorCode::OutOfMemory) => Refusal::Memory,
-        _ => Refusal::Device,
+        Error::SqliteFailure(ErrorCode::OutOfMemory) => StoreRefusal::Memory,
+        _ => StoreRefusal::Device,
     }
 }

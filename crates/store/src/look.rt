@@ -11,7 +11,7 @@ ghost use Rattle.store.specs.Still.{AreStill};
 use crate::files::SHORTEST_LOG;
 use crate::open::open_over;
 use peek::Peek;
-use setup::refusal::Refusal;
+use setup::refusal::StoreRefusal;
 use sqlite::{Files, Leftover, Start};
 use sqlite_disk::Disk;
 use sqlite_wal::{checksum_of, probe_frames, probe_page_size};
@@ -43,11 +43,11 @@ pub(crate) fn look<D: Disk + Drop, T: Start>(
     alloc: Global,
     mut files: Files<D>,
     seed: u64,
-) -> Result<Files<D>, (Refusal, Option<Leftover<D>>)>
+) -> Result<Files<D>, (StoreRefusal, Option<Leftover<D>>)>
     requires still { AreStill D.Disk T.Start files }
     ensures still { IfOk result (λ files. AreStill D.Disk T.Start files) }
     ensures refused { IfErr result (λ e. IsOfOpening e.0) }
-    ensures bad { IfErr result (λ e. e.0 ≡ Refusal.BadSchema
+    ensures bad { IfErr result (λ e. e.0 ≡ StoreRefusal.BadSchema
         → IsSomeAnd e.1 (λ left. IsCleanLeft left → HoldsNoStore (image_at T.Start))) }
     ensures keeps { IfErr result (λ e. IfSome e.1 (λ left. IsCleanLeft left → Keeps (image_at T.Start) left)) }
 {
@@ -139,11 +139,11 @@ fn look_closely<D: Disk + Drop, T: Start>(
     alloc: Global,
     mut files: Files<D>,
     seed: u64,
-) -> Result<Files<D>, (Refusal, Option<Leftover<D>>)>
+) -> Result<Files<D>, (StoreRefusal, Option<Leftover<D>>)>
     requires still { AreStill D.Disk T.Start files }
     ensures still { IfOk result (λ files. AreStill D.Disk T.Start files) }
     ensures refused { IfErr result (λ e. IsOfOpening e.0) }
-    ensures bad { IfErr result (λ e. e.0 ≡ Refusal.BadSchema
+    ensures bad { IfErr result (λ e. e.0 ≡ StoreRefusal.BadSchema
         → IsSomeAnd e.1 (λ left. IsCleanLeft left → HoldsNoStore (image_at T.Start))) }
     ensures keeps { IfErr result (λ e. IfSome e.1 (λ left. IsCleanLeft left → Keeps (image_at T.Start) left)) }
 {
@@ -157,10 +157,10 @@ fn look_closely<D: Disk + Drop, T: Start>(
     };
     let (is_bad, shown) = is_no_store(alloc, shown, seed);
     let Some(files) = files_of(shown) else {
-        return Err((Refusal::Device, None));
+        return Err((StoreRefusal::Device, None));
     };
     if is_bad {
-        return Err((Refusal::BadSchema, Some(Leftover::Files(files))));
+        return Err((StoreRefusal::BadSchema, Some(Leftover::Files(files))));
     }
     Ok(files)
 }
@@ -175,7 +175,7 @@ fn is_no_store<D: Disk + Drop>(alloc: Global, files: Files<D>, seed: u64) -> (bo
 {
     match open_over(alloc, files, seed) {
         Ok(shelves) => (false, shelves.close().into_store().close()),
-        Err((Refusal::BadSchema, left)) => (true, left.into_files()),
+        Err((StoreRefusal::BadSchema, left)) => (true, left.into_files()),
         Err((_, left)) => (false, left.into_files()),
     }
 }

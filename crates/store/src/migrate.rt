@@ -12,7 +12,7 @@ use kept::kept::Kept;
 use migration::write::write_world;
 use older::schema::format_of;
 use setup::judge::is_blank;
-use setup::refusal::{Refusal, open_refusal};
+use setup::refusal::{StoreRefusal, open_refusal};
 use sqlite::{Alter, Connection, Error, ErrorCode};
 use statements::extract_rows::CopyError;
 use std::alloc::Global;
@@ -78,7 +78,7 @@ fn migrate_rows<S: Alter, F: Alter>(
 pub fn migrate<S: Alter, F: Alter>(
     old: &mut Connection<S>,
     fresh: &mut SqlShelves<F>,
-) -> Result<(), Refusal>
+) -> Result<(), StoreRefusal>
     ensures migrates { Migrates (state S.Store old.old) (state S.Store old.new)
         (shown_with (state F.Store fresh.old.conn) fresh.old.kept fresh.old.failures)
         (shown_with (state F.Store fresh.new.conn) fresh.new.kept fresh.new.failures) result }
@@ -88,8 +88,8 @@ pub fn migrate<S: Alter, F: Alter>(
     fresh.kept = Kept::new(fresh.alloc);
     match migrate_rows(fresh.alloc, old, &mut fresh.conn) {
         Ok(Migrated::Whole) => Ok(()),
-        Ok(Migrated::NotEmpty) => Err(Refusal::NotEmpty),
-        Ok(Migrated::BadSchema) => Err(Refusal::BadSchema),
+        Ok(Migrated::NotEmpty) => Err(StoreRefusal::NotEmpty),
+        Ok(Migrated::BadSchema) => Err(StoreRefusal::BadSchema),
         Err(CopyError::Source(error)) => Err(open_refusal(error)),
         Err(CopyError::Fresh(error)) => Err(refusal_of(fault(&mut fresh.failures, error))),
     }

@@ -12,7 +12,7 @@ ghost use Rattle.store.specs.Restart.{HoldsStore, HoldsNoStore, IsStray, Recover
 use crate::files::{connect_files, open_pair};
 use crate::look::look;
 use crate::store::SqlShelves;
-use setup::refusal::Refusal;
+use setup::refusal::StoreRefusal;
 use sqlite::{Alter, Connection, FileFrom, FileStore, Files, Leftover, Start};
 use sqlite_disk::Disk;
 use std::alloc::Global;
@@ -45,7 +45,7 @@ pub(crate) fn open_over<D: Disk + Drop>(
     alloc: Global,
     files: Files<D>,
     seed: u64,
-) -> Result<SqlShelves<FileStore<D>>, (Refusal, Leftover<D>)>
+) -> Result<SqlShelves<FileStore<D>>, (StoreRefusal, Leftover<D>)>
     requires log { IsTrue (D.Disk.is_usable files.log) }
     requires db { IsTrue (D.Disk.is_usable files.db) }
     requires settled { (it : _) → outcomes D.Disk files.log files.db it → it ≡ image_of D.Disk files }
@@ -55,7 +55,7 @@ pub(crate) fn open_over<D: Disk + Drop>(
         → HoldsStore (image_of D.Disk files) w → BeginsAt (shown_with (file_state s.conn) s.kept s.failures) w) }
     ensures begun { IfOk result (λ s. HasCleanDisk (file_state s.conn) → ¬ IsStray (image_of D.Disk files)) }
     ensures refused { IfErr result (λ e. IsOfOpening e.0) }
-    ensures bad { IfErr result (λ e. e.0 ≡ Refusal.BadSchema
+    ensures bad { IfErr result (λ e. e.0 ≡ StoreRefusal.BadSchema
         → IsCleanLeft e.1 → HoldsNoStore (image_of D.Disk files)) }
     ensures keeps { IfErr result (λ e. IsCleanLeft e.1 → Keeps (image_of D.Disk files) e.1) }
     ensures none_failed { IfOk result (λ s. s.failures ≡ 0) }
@@ -87,8 +87,8 @@ impl<T: Start> SqlShelves<FileStore<FileFrom<T>>> {
         rt: &HostRuntime,
         path: &str,
         start: T,
-    ) -> Result<FileShelves<T>, (Refusal, Option<Leftover<FileFrom<T>>>)>
-        ensures no_file { IsNoFileName path.now → IsErrAnd result (λ e. e.0 ≡ Refusal.Device) }
+    ) -> Result<FileShelves<T>, (StoreRefusal, Option<Leftover<FileFrom<T>>>)>
+        ensures no_file { IsNoFileName path.now → IsErrAnd result (λ e. e.0 ≡ StoreRefusal.Device) }
         ensures begins { IfOk result (λ s. HasCleanDisk (file_state s.conn) → (w : _)
             × BeginsAt (shown_with (file_state s.conn) s.kept s.failures) w × RecoversStore (image_at T.Start) w) }
         ensures found { IfOk result (λ s. HasCleanDisk (file_state s.conn) → (w : _)
@@ -96,7 +96,7 @@ impl<T: Start> SqlShelves<FileStore<FileFrom<T>>> {
         ensures begun { IfOk result (λ s. HasCleanDisk (file_state s.conn) → ¬ IsStray (image_at T.Start)) }
         ensures refused { IfErr result (λ e. IsOfOpening e.0) }
         // `BadSchema` says that the files hold no store, if the disk has returned what was written.
-        ensures bad { IfErr result (λ e. e.0 ≡ Refusal.BadSchema
+        ensures bad { IfErr result (λ e. e.0 ≡ StoreRefusal.BadSchema
             → IsSomeAnd e.1 (λ left. IsCleanLeft left → HoldsNoStore (image_at T.Start))) }
         ensures keeps { IfErr result (λ e. IfSome e.1 (λ left. IsCleanLeft left → Keeps (image_at T.Start) left)) }
         ensures none_failed { IfOk result (λ s. s.failures ≡ 0) }

@@ -10,7 +10,7 @@ ghost use Rattle.store.specs.Restart.{Keeps};
 ghost use Rattle.setup.specs.Opened.{IsOfOpening};
 
 use crate::files::{connect_files, open_pair};
-use setup::refusal::Refusal;
+use setup::refusal::StoreRefusal;
 use sqlite::{Connection, FileFrom, FileStore, Files, Leftover, Start};
 use sqlite_disk::Disk;
 use std::alloc::Global;
@@ -26,7 +26,7 @@ pub fn open_older<T: Start>(
     rt: &HostRuntime,
     path: &str,
     start: T,
-) -> Result<Connection<FileStore<FileFrom<T>>>, (Refusal, Option<Leftover<FileFrom<T>>>)>
+) -> Result<Connection<FileStore<FileFrom<T>>>, (StoreRefusal, Option<Leftover<FileFrom<T>>>)>
     ensures open { IfOk result (λ c. IsOpenIfHonest (file_state c)) }
     ensures found { IfOk result (λ c. FindsOlder (image_at T.Start) (file_state c)) }
     ensures shows { IfOk result (λ c. HasCleanDisk (file_state c)
@@ -49,7 +49,7 @@ fn older_over<D: Disk + Drop>(
     alloc: Global,
     files: Files<D>,
     seed: u64,
-) -> Result<Connection<FileStore<D>>, (Refusal, Leftover<D>)>
+) -> Result<Connection<FileStore<D>>, (StoreRefusal, Leftover<D>)>
     requires log { IsTrue (D.Disk.is_usable files.log) }
     requires db { IsTrue (D.Disk.is_usable files.db) }
     requires settled { (it : _) → outcomes D.Disk files.log files.db it → it ≡ image_of D.Disk files }

@@ -29,7 +29,7 @@ use modver::Version;
 use outline::outlines::{Outline, Outlines};
 use outline::seen::SeenHeading;
 use setup::adopt::open_tables;
-use setup::refusal::Refusal;
+use setup::refusal::StoreRefusal;
 use sqlite::{Alter, Connection, Error, ErrorCode};
 use statements::compare::find_standing;
 use statements::entries::{add_entry, count_entries, find_entry, find_seen};
@@ -42,7 +42,7 @@ use text::Text;
 use world::entry::{EntryRef, Heading, Holder, Right, Seen};
 use world::names::{is_key, is_team_name};
 use world::reading::gomod_in;
-use world::registry::{Registered, StoreFault};
+use world::registry::{RegistryReply, StoreFault};
 use world::shelves::Shelves;
 use world::standing::Standing;
 use world::text_set::TextSet;
@@ -223,9 +223,9 @@ impl<S: Alter> Shelves for SqlShelves<S> {
         Ok(())
     }
 
-    fn team_add(&mut self, name: &str, group: Option<&str>) -> Result<Registered, StoreFault> {
+    fn team_add(&mut self, name: &str, group: Option<&str>) -> Result<RegistryReply, StoreFault> {
         if !is_team_name(name) {
-            return Ok(Registered::Name);
+            return Ok(RegistryReply::Name);
         }
         // What was asked of this name before lacks what the group of the team has.
         self.kept.lists = Lists::no_lists();
@@ -234,16 +234,21 @@ impl<S: Alter> Shelves for SqlShelves<S> {
         counted(&mut self.failures, add_team(&mut self.conn, name, group))
     }
 
-    fn group_add(&mut self, name: &str) -> Result<Registered, StoreFault> {
+    fn group_add(&mut self, name: &str) -> Result<RegistryReply, StoreFault> {
         if !is_team_name(name) {
-            return Ok(Registered::Name);
+            return Ok(RegistryReply::Name);
         }
         counted(&mut self.failures, add_group(&mut self.conn, name))
     }
 
-    fn key_add(&mut self, shelf: &str, key: &str, right: Right) -> Result<Registered, StoreFault> {
+    fn key_add(
+        &mut self,
+        shelf: &str,
+        key: &str,
+        right: Right,
+    ) -> Result<RegistryReply, StoreFault> {
         if !is_key(key) {
-            return Ok(Registered::Name);
+            return Ok(RegistryReply::Name);
         }
         counted(
             &mut self.failures,
@@ -251,7 +256,7 @@ impl<S: Alter> Shelves for SqlShelves<S> {
         )
     }
 
-    fn key_revoke(&mut self, key: &str) -> Result<Registered, StoreFault> {
+    fn key_revoke(&mut self, key: &str) -> Result<RegistryReply, StoreFault> {
         self.kept.keys = Keys::no_keys();
         counted(&mut self.failures, revoke_key(&mut self.conn, key))
     }
@@ -284,7 +289,7 @@ impl<S: Alter> SqlShelves<S> {
     pub fn adopt(
         alloc: Global,
         mut conn: Connection<S>,
-    ) -> Result<SqlShelves<S>, (Refusal, Connection<S>)>
+    ) -> Result<SqlShelves<S>, (StoreRefusal, Connection<S>)>
         ensures clean { IfOk result (λ s. doubt (state S.Store conn).is_clean ≤ doubt (state S.Store s.conn).is_clean) }
         ensures was_clean { IfErr result (λ e.
             doubt (state S.Store conn).is_clean ≤ doubt (state S.Store e.1).is_clean) }
@@ -299,7 +304,7 @@ impl<S: Alter> SqlShelves<S> {
         ensures crash { IfErr result (λ e. Honestly (state S.Store conn) (state S.Store e.1) LeavesFirst) }
         ensures left { IfErr result (λ e. Honestly (state S.Store conn) (state S.Store e.1) LeavesCommitted) }
         ensures bad { IfErr result (λ e. Honestly (state S.Store conn) (state S.Store e.1) (λ old _.
-            e.0 ≡ Refusal.BadSchema → IsBad old.now)) }
+            e.0 ≡ StoreRefusal.BadSchema → IsBad old.now)) }
         // A refused connection is in a transaction exactly if it came in one, and its steps are limited as before.
         ensures mode { IfErr result (λ e. Honestly (state S.Store conn) (state S.Store e.1) (λ old new.
             new.in_transaction ≡ old.in_transaction)) }
@@ -307,7 +312,7 @@ impl<S: Alter> SqlShelves<S> {
             new.step_limit ≡ old.step_limit)) }
         // `Device` has one of these causes.
         ensures device { IfErr result (λ e. Honestly (state S.Store conn) (state S.Store e.1) (λ old new.
-            e.0 ≡ Refusal.Device → IsTrue old.in_transaction ⊎ (IsHindered old new ⊎ IsVast old.now))) }
+            e.0 ≡ StoreRefusal.Device → IsTrue old.in_transaction ⊎ (IsHindered old new ⊎ IsVast old.now))) }
     {
         match open_tables(alloc, &mut conn) {
             Ok(()) => Ok(SqlShelves {

@@ -8,7 +8,7 @@ use sqlite::{Alter, Connection, Files, Leftover, Options};
 use sqlite_disk::{Crash, Disk, Fuse, Memory};
 use std::alloc::Global;
 use std::test::Fail;
-use store::refusal::Refusal;
+use store::refusal::StoreRefusal;
 use store::store::SqlShelves;
 
 /// Opens the tables of a connection, does a job with their store, and closes it. Returns the connection, and the bits
@@ -24,7 +24,7 @@ fn on_tables<S: Alter>(
             let told = do_job(alloc, &mut shelves, job, chosen);
             (shelves.close(), told)
         }
-        Err((Refusal::Device, conn)) => (conn, Ok(0)),
+        Err((StoreRefusal::Device, conn)) => (conn, Ok(0)),
         Err((_, conn)) => (conn, Err(Fail::new("the tables are refused"))),
     }
 }

@@ -3,7 +3,7 @@ use crate::rows::{column, named, on_one_line};
 use modver::{Version, read_time};
 use std::alloc::{AllocError, Global};
 use std::test::Fail;
-use wire::{Fixed, Kind, encode_head, fixed, fixed_line, info_body};
+use wire::{Fixed, MediaType, encode_head, fixed, fixed_line, info_body};
 
 /// - `fixed` and `line`: a reply with a fixed body, and its bytes or its line.
 /// - `zip`: the head of a zip of no bytes.
@@ -115,7 +115,7 @@ pub fn given(alloc: Global, row: &str) -> Result<String, Fail> {
     match column(row, 0) {
         "info" => info(alloc, row),
         "zip" => {
-            let len = encode_head(Kind::Zip, 0, &mut buf);
+            let len = encode_head(MediaType::Zip, 0, &mut buf);
             on_one_line(alloc, &buf[..len])
         }
         "line" => {

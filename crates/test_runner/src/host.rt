@@ -12,7 +12,7 @@ use runner::looks::Looks;
 use runner::older_files::OlderFiles;
 use std::alloc::Global;
 use std::rt::HostRuntime;
-use store::refusal::Refusal;
+use store::refusal::StoreRefusal;
 use world::entry::Right;
 use world::map_shelves::MapShelves;
 use world::shelves::Shelves;
@@ -37,7 +37,7 @@ impl<'a> Looks for MemoryHost<'a> {
         name == other
     }
 
-    fn check_name(&self, _db: &str, _to: &str) -> Result<(), Refusal> {
+    fn check_name(&self, _db: &str, _to: &str) -> Result<(), StoreRefusal> {
         Ok(())
     }
 }
@@ -86,8 +86,8 @@ impl<'a> Host<MapShelves, MapShelves> for MemoryHost<'a> {
         _to: &str,
     ) -> Result<(), CommandRefusal>
     where
-        F: StoreFiles<MapShelves, MapShelves, Refusal>,
-        G: StoreFiles<MapShelves, MapShelves, Refusal>,
+        F: StoreFiles<MapShelves, MapShelves, StoreRefusal>,
+        G: StoreFiles<MapShelves, MapShelves, StoreRefusal>,
     {
         Err(CommandRefusal::NotEmpty)
     }
@@ -101,7 +101,7 @@ impl<'a> Host<MapShelves, MapShelves> for MemoryHost<'a> {
     ) -> Result<(), CommandRefusal>
     where
         Q: OlderFiles<MapShelves>,
-        G: StoreFiles<MapShelves, MapShelves, Refusal>,
+        G: StoreFiles<MapShelves, MapShelves, StoreRefusal>,
     {
         Err(CommandRefusal::NotEmpty)
     }

@@ -6,7 +6,7 @@ use files::files::{Deed, OpenFile, StoreFiles, Use};
 use files::record::Record;
 use runner::older_files::OlderFiles;
 use runner::unnamed::Unnamed;
-use store::refusal::Refusal;
+use store::refusal::StoreRefusal;
 use world::map_shelves::MapShelves;
 
 /// Files of which none holds an older store.
@@ -15,7 +15,7 @@ pub struct NoOlderFiles {
     pub noted: Record<Deed<MapShelves>>,
 }
 
-impl StoreFiles<MapShelves, MapShelves, Refusal> for NoOlderFiles {
+impl StoreFiles<MapShelves, MapShelves, StoreRefusal> for NoOlderFiles {
     ghost history = { λ f. f.noted.deeds };
 
     ghost begins = { λ _. Unit {0} };
@@ -26,9 +26,9 @@ impl StoreFiles<MapShelves, MapShelves, Refusal> for NoOlderFiles {
         &mut self,
         name: &'n str,
         _purpose: Use,
-    ) -> Result<OpenFile<'n, MapShelves>, Refusal> {
+    ) -> Result<OpenFile<'n, MapShelves>, StoreRefusal> {
         self.noted.note(name.as_bytes(), &Deed::Refused);
-        Err(Refusal::Device)
+        Err(StoreRefusal::Device)
     }
 
     fn close<'n>(&mut self, file: OpenFile<'n, MapShelves>)
@@ -41,9 +41,9 @@ impl StoreFiles<MapShelves, MapShelves, Refusal> for NoOlderFiles {
 }
 
 impl OlderFiles<MapShelves> for NoOlderFiles {
-    fn copy(&mut self, from: &str, _beside: &str) -> Result<Unnamed, Refusal> {
+    fn copy(&mut self, from: &str, _beside: &str) -> Result<Unnamed, StoreRefusal> {
         self.noted.note(from.as_bytes(), &Deed::Refused);
-        Err(Refusal::Device)
+        Err(StoreRefusal::Device)
     }
 
     fn unlink(&mut self, name: &str) {

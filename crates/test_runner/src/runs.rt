@@ -14,7 +14,7 @@ use runner::{Command, run};
 use std::alloc::Global;
 use std::rt::HostRuntime;
 use std::test::Fail;
-use store::refusal::Refusal;
+use store::refusal::StoreRefusal;
 use test_support::rows::cell;
 use world::entry::Right;
 use world::map_shelves::MapShelves;
@@ -101,8 +101,8 @@ fn wrong_row<S, C, H, F, G, Q>(
 ) -> &'static str
 where
     H: Host<S, C>,
-    F: StoreFiles<S, C, Refusal>,
-    G: StoreFiles<S, C, Refusal>,
+    F: StoreFiles<S, C, StoreRefusal>,
+    G: StoreFiles<S, C, StoreRefusal>,
     Q: OlderFiles<C>,
 {
     for row in RUNS.lines() {
@@ -129,11 +129,11 @@ fn commands_run_on_the_store_that_the_last_one_closed(rt: HostRuntime) -> Result
     let Ok(shelves) = MapShelves::new(rt.alloc()) else {
         return Err(Fail::from("no memory"));
     };
-    let mut files = MemoryStoreFiles::new("shelves.db", shelves, Refusal::Device);
+    let mut files = MemoryStoreFiles::new("shelves.db", shelves, StoreRefusal::Device);
     let Ok(none) = MapShelves::new(rt.alloc()) else {
         return Err(Fail::from("no memory"));
     };
-    let mut targets = MemoryStoreFiles::new("new.db", none, Refusal::Device);
+    let mut targets = MemoryStoreFiles::new("new.db", none, StoreRefusal::Device);
     let mut older = NoOlderFiles {
         noted: Record::new(),
     };

@@ -2,8 +2,8 @@
 use Rattle.std.specs.Prelude.{ℕ, List, [], ◌++◌, length, codes, decimal, unwrap_or, Option, Some, None}
 use Rattle.http.specs.StatusCode.{code_digits, reason_phrase}
 use Rattle.modver.specs.SemanticVersion.{SemanticVersion, version_text}
-use Rattle.wire.specs.declared.reply.Kind.{Kind}
-use Rattle.wire.specs.declared.reply.Kind.TheVariants as kind
+use Rattle.wire.specs.declared.reply.MediaType.{MediaType}
+use Rattle.wire.specs.declared.reply.MediaType.TheVariants as kind
 use Rattle.wire.specs.declared.reply.Fixed.{Fixed}
 use Rattle.wire.specs.declared.reply.Fixed.TheVariants as fixed
 
@@ -16,13 +16,13 @@ abbrev pub status_text : ℕ → List ℕ
 status_text code = code_digits code ++ codes " " ++ phrase code
 
 -- the value of `Content-Type` for a kind of body
-abbrev pub kind_text : Kind → List ℕ
+abbrev pub kind_text : MediaType → List ℕ
 kind_text kind.TextPlain = codes "text/plain; charset=utf-8"
 kind_text kind.Json = codes "application/json"
 kind_text kind.Zip = codes "application/zip"
 
 -- a head with this text as its length, with the empty line that ends it
-abbrev pub head_with : ℕ → Kind → List ℕ → List ℕ
+abbrev pub head_with : ℕ → MediaType → List ℕ → List ℕ
 head_with s k digits =
     codes "HTTP/1.1 " ++ status_text s
     ++ codes "\r\nContent-Type: " ++ kind_text k
@@ -30,11 +30,11 @@ head_with s k digits =
     ++ codes "\r\nConnection: close\r\n\r\n"
 
 -- the head of a reply whose body has that many bytes
-abbrev pub head_bytes : ℕ → Kind → ℕ → List ℕ
+abbrev pub head_bytes : ℕ → MediaType → ℕ → List ℕ
 head_bytes s k len = head_with s k (decimal len)
 
 -- a reply with that body
-abbrev pub reply_bytes : ℕ → Kind → List ℕ → List ℕ
+abbrev pub reply_bytes : ℕ → MediaType → List ℕ → List ℕ
 reply_bytes s k body = head_bytes s k (length body) ++ body
 
 -- the status of a fixed reply

@@ -2,14 +2,14 @@
 ghost use Rattle.std.specs.Prelude.{◌≡◌, ◌+◌, ◌≤◌, ◌++◌, length, take};
 ghost use Rattle.wire.specs.Reply.{phrase, head_with, head_bytes, fixed_text, fixed_bytes, line_bytes};
 
-use crate::reply::{Fixed, Kind, phrase_of};
+use crate::reply::{Fixed, MediaType, phrase_of};
 use http::StatusCode;
 use itoa::Buffer;
 
 /// Writes the head of a 200 whose body has `len` bytes, with the empty line that ends it (RFC 9112, sections 4 and 5), to
 /// the front of the buffer, and returns the length of the head.
 #[tactic(auto, unfolding(crate::specs::Reply::phrase))]
-pub fn encode_head(kind: Kind, len: usize, buf: &mut [u8; 160]) -> usize
+pub fn encode_head(kind: MediaType, len: usize, buf: &mut [u8; 160]) -> usize
     ensures text { take result buf.new ≡ head_bytes 200 kind len }
     ensures short { result ≤ 160 }
 {
@@ -28,7 +28,7 @@ pub fn fixed(answer: Fixed, buf: &mut [u8; 160]) -> usize
     let mut digits = Buffer::new();
     let at = encode_head_with(
         answer.status(),
-        Kind::TextPlain,
+        MediaType::TextPlain,
         digits.format(len as u8).as_bytes(),
         buf,
     );
@@ -58,7 +58,7 @@ fn append(buf: &mut [u8], at: usize, text: &[u8]) -> usize
 }
 
 /// Writes a head with these digits as the length to the front of the buffer, and returns the length of the head.
-fn encode_head_with(status: StatusCode, kind: Kind, digits: &[u8], buf: &mut [u8]) -> usize
+fn encode_head_with(status: StatusCode, kind: MediaType, digits: &[u8], buf: &mut [u8]) -> usize
     requires phrase { length (phrase status) ≤ 20 }
     requires room { 115 + length digits.now ≤ length buf.old }
     ensures text { take result buf.new ≡ head_with status kind digits.now }

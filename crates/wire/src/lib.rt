@@ -34,7 +34,7 @@ pub mod targets;
 pub use encode::{encode_head, fixed, fixed_line};
 pub use framing::{Bad, Framer, Memory, Message, Next, length_value};
 pub use info::info_body;
-pub use reply::{Fixed, Kind, StatusCode};
+pub use reply::{Fixed, MediaType, StatusCode};
 pub use request::{Resource, Target};
 pub use routes::RouteTable;
 pub use targets::target;

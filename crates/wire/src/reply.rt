@@ -14,7 +14,7 @@ pub(crate) fn phrase_of(status: StatusCode) -> &'static str
 
 /// The kind of a body: the value of `Content-Type`.
 #[derive(Clone, Copy, Debug, Drop, PartialEq, Eq)]
-pub enum Kind {
+pub enum MediaType {
     /// `text/plain; charset=utf-8`
     TextPlain,
     /// `application/json`
@@ -45,16 +45,16 @@ pub enum Fixed {
     Full,
 }
 
-impl Kind {
+impl MediaType {
     /// The value of `Content-Type`.
     pub(crate) fn text(self) -> &'static str
         ensures text { result.now ≡ kind_text self }
         ensures short { length result.now ≤ 25 }
     {
         match self {
-            Kind::TextPlain => "text/plain; charset=utf-8",
-            Kind::Json => "application/json",
-            Kind::Zip => "application/zip",
+            MediaType::TextPlain => "text/plain; charset=utf-8",
+            MediaType::Json => "application/json",
+            MediaType::Zip => "application/zip",
         }
     }
 }

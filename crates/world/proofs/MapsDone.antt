@@ -1,7 +1,7 @@
 -- A change of a store in memory, which stands for one world.
 use Rattle.std.proofs.Common.{◌≡◌, ◌⊎◌, ◌∙◌, ℕ, List, true, false, refl, Ok, inl, inr, Option, arith}
 use Rattle.std.specs.FinMap as map
-use Rattle.world.specs.declared.registry.Registered.TheVariants.{Done}
+use Rattle.world.specs.declared.registry.RegistryReply.TheVariants.{Done}
 use Rattle.world.specs.World.{World, IsWorld, is_team_name, is_key}
 use Rattle.world.specs.Registry.{lacks_group, team_added, group_added, key_added, key_revoked}
 use Rattle.world.specs.Store.{DoesAt, ReadsAt, HasCause}

@@ -13,8 +13,8 @@ use Rattle.world.specs.declared.entry.Place.{Place}
 use Rattle.world.specs.declared.entry.Entry.{Entry}
 use Rattle.world.specs.declared.entry.Holder.{Holder}
 use Rattle.world.specs.declared.entry.Right.{Right}
-use Rattle.world.specs.declared.registry.Registered.{Registered}
-use Rattle.world.specs.declared.registry.Registered.TheVariants.{Done, Name, Taken, NoTeam, NoGroup}
+use Rattle.world.specs.declared.registry.RegistryReply.{RegistryReply}
+use Rattle.world.specs.declared.registry.RegistryReply.TheVariants.{Done, Name, Taken, NoTeam, NoGroup}
 use Rattle.world.specs.World.{World, IsWorld, IsEntry, common, is_team_name, is_key, version_limit, text_cmp, count}
 use Rattle.world.specs.World.{with_entry, with_key, without_key, with_shelf}
 use Rattle.world.specs.Registry.{is_top, is_group, lacks_group, team_added, group_added, key_added, after_team_add}
@@ -194,7 +194,7 @@ key_gone w k is = record {
 
 -- ---- the registry
 
-is_done : Registered → Bool
+is_done : RegistryReply → Bool
 is_done Done = true
 is_done r = false
 
@@ -245,7 +245,7 @@ below_top w (Some g) is has =
 same_parent : (a g : List ℕ) → Some a ≡ Some g → a ≡ g
 same_parent a g e = cc e
 
-pub sound_team : (w : World) (t : List ℕ) (group : Option (List ℕ)) (r : Registered) → IsWorld w
+pub sound_team : (w : World) (t : List ℕ) (group : Option (List ℕ)) (r : RegistryReply) → IsWorld w
     → team_added w t group ≡ r → IsWorld (after_team_add w t group r)
 sound_team w t group Done is e =
     let new = new_team w t group e in
@@ -253,18 +253,18 @@ sound_team w t group Done is e =
     (λ g at. ap (map.get w.shelves) (sym (same_parent (unwrap_or group common) g at)) ∙ below_top w group is new.2)
 sound_team w t group r is e = is
 
-pub sound_group : (w : World) (g : List ℕ) (r : Registered) → IsWorld w → group_added w g ≡ r
+pub sound_group : (w : World) (g : List ℕ) (r : RegistryReply) → IsWorld w → group_added w g ≡ r
     → IsWorld (after_group_add w g r)
 sound_group w g Done is e = let new = new_group w g e in shelf_stands w g None new.1 is new.0 (λ p never. cc never)
 sound_group w g r is e = is
 
-pub sound_key : (w : World) (t k : List ℕ) (right : Right) (r : Registered) → IsWorld w → key_added w t k ≡ r
+pub sound_key : (w : World) (t k : List ℕ) (right : Right) (r : RegistryReply) → IsWorld w → key_added w t k ≡ r
     → IsWorld (after_key_add w t k right r)
 sound_key w t k right Done is e =
     let fit = key_is_fit (is_key k) (map.contains_key w.shelves t) (map.contains_key w.keys k) e in
     key_stands w k (record { shelf = t; right = right }) is fit.0 fit.1
 sound_key w t k right r is e = is
 
-pub sound_revoke : (w : World) (k : List ℕ) (r : Registered) → IsWorld w → IsWorld (after_key_revoke w k r)
+pub sound_revoke : (w : World) (k : List ℕ) (r : RegistryReply) → IsWorld w → IsWorld (after_key_revoke w k r)
 sound_revoke w k Done is = key_gone w k is
 sound_revoke w k r is = is

@@ -18,7 +18,7 @@ use crate::maps::entry_map::EntryMap;
 use crate::maps::text_map::TextMap;
 use crate::names::{COMMON, is_key, is_team_name};
 use crate::reading::gomod_in;
-use crate::registry::{Registered, StoreFault};
+use crate::registry::{RegistryReply, StoreFault};
 use crate::shelves::Shelves;
 use crate::standing::{Standing, standing_to};
 use crate::text_set::TextSet;
@@ -401,58 +401,63 @@ impl Shelves for MapShelves {
         Ok(())
     }
 
-    fn team_add(&mut self, name: &str, group: Option<&str>) -> Result<Registered, StoreFault> {
+    fn team_add(&mut self, name: &str, group: Option<&str>) -> Result<RegistryReply, StoreFault> {
         if !is_team_name(name) {
-            return Ok(Registered::Name);
+            return Ok(RegistryReply::Name);
         }
         if self.shelves.contains_key(name) {
-            return Ok(Registered::Taken);
+            return Ok(RegistryReply::Taken);
         }
         if self.lacks_group(group) {
-            return Ok(Registered::NoGroup);
+            return Ok(RegistryReply::NoGroup);
         }
         let parent = Text::copy_of(self.alloc, parent_of(group))?;
         self.add_shelf(name, Some(parent))?;
-        Ok(Registered::Done)
+        Ok(RegistryReply::Done)
     }
 
-    fn group_add(&mut self, name: &str) -> Result<Registered, StoreFault> {
+    fn group_add(&mut self, name: &str) -> Result<RegistryReply, StoreFault> {
         if !is_team_name(name) {
-            return Ok(Registered::Name);
+            return Ok(RegistryReply::Name);
         }
         if self.shelves.contains_key(name) {
-            return Ok(Registered::Taken);
+            return Ok(RegistryReply::Taken);
         }
         self.add_shelf(name, None)?;
-        Ok(Registered::Done)
+        Ok(RegistryReply::Done)
     }
 
-    fn key_add(&mut self, shelf: &str, key: &str, right: Right) -> Result<Registered, StoreFault> {
+    fn key_add(
+        &mut self,
+        shelf: &str,
+        key: &str,
+        right: Right,
+    ) -> Result<RegistryReply, StoreFault> {
         if !is_key(key) {
-            return Ok(Registered::Name);
+            return Ok(RegistryReply::Name);
         }
         if !self.shelves.contains_key(shelf) {
-            return Ok(Registered::NoTeam);
+            return Ok(RegistryReply::NoTeam);
         }
         if self.keys.contains_key(key) {
-            return Ok(Registered::Taken);
+            return Ok(RegistryReply::Taken);
         }
         let holder = Holder::new(self.alloc, shelf, right)?;
         let key = String::from_str(self.alloc, key)?;
         self.keys.insert(key, holder)?;
-        Ok(Registered::Done)
+        Ok(RegistryReply::Done)
     }
 
     /// Takes a key away. Returns `Done`, or `NoKey` if there is no such key. Never fails, and allocates nothing.
-    fn key_revoke(&mut self, key: &str) -> Result<Registered, StoreFault>
+    fn key_revoke(&mut self, key: &str) -> Result<RegistryReply, StoreFault>
         ensures does { Does (in_memory self.old) (in_memory self.new) result
             (λ w. key_revoked w key.now) (λ w. after_key_revoke w key.now (key_revoked w key.now)) }
         ensures answers { IsOk result }
     {
         if !self.keys.contains_key(key) {
-            return Ok(Registered::NoKey);
+            return Ok(RegistryReply::NoKey);
         }
         self.keys.remove(key);
-        Ok(Registered::Done)
+        Ok(RegistryReply::Done)
     }
 }

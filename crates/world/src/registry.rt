@@ -6,7 +6,7 @@ use std::alloc::AllocError;
 
 /// The outcome of a command of the registry.
 #[derive(Clone, Copy, Debug, PartialEq, Eq)]
-pub enum Registered {
+pub enum RegistryReply {
     Done,
     /// The name or the key is malformed.
     Name,

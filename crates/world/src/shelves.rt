@@ -1,6 +1,6 @@
 //! The trait of a store of shelves.
 use crate::entry::{EntryRef, Heading, Holder, Right, Seen};
-use crate::registry::{Registered, StoreFault};
+use crate::registry::{RegistryReply, StoreFault};
 use crate::standing::Standing;
 use crate::text_set::TextSet;
 use crate::version_list::Versions;
@@ -101,7 +101,7 @@ pub trait Shelves {
 
     /// Adds a team, as a member of a group if one is named. Returns `Done`, or why the team was not added: `Name` if
     /// the name is malformed, otherwise `Taken` if a shelf has it, otherwise `NoGroup` if the group does not exist.
-    fn team_add(&mut self, name: &str, group: Option<&str>) -> Result<Registered, StoreFault>
+    fn team_add(&mut self, name: &str, group: Option<&str>) -> Result<RegistryReply, StoreFault>
         ensures does { Does (shown self.old) (shown self.new) result
             (λ w. team_added w name.now (option_copied group.entry))
             (λ w. after_team_add w name.now (option_copied group.entry)
@@ -109,18 +109,18 @@ pub trait Shelves {
 
     /// Adds a group. Returns `Done`, or why the group was not added: `Name` if the name is malformed, otherwise `Taken`
     /// if a shelf has it.
-    fn group_add(&mut self, name: &str) -> Result<Registered, StoreFault>
+    fn group_add(&mut self, name: &str) -> Result<RegistryReply, StoreFault>
         ensures does { Does (shown self.old) (shown self.new) result (λ w. group_added w name.now)
             (λ w. after_group_add w name.now (group_added w name.now)) };
 
     /// Adds a key to a shelf. Returns `Done`, or why the key was not added: `Name` if the key is malformed, otherwise
     /// `NoTeam` if there is no such shelf, otherwise `Taken` if the key exists.
-    fn key_add(&mut self, shelf: &str, key: &str, right: Right) -> Result<Registered, StoreFault>
+    fn key_add(&mut self, shelf: &str, key: &str, right: Right) -> Result<RegistryReply, StoreFault>
         ensures does { Does (shown self.old) (shown self.new) result (λ w. key_added w shelf.now key.now)
             (λ w. after_key_add w shelf.now key.now right (key_added w shelf.now key.now)) };
 
     /// Takes a key away. Returns `Done`, or `NoKey` if there is no such key.
-    fn key_revoke(&mut self, key: &str) -> Result<Registered, StoreFault>
+    fn key_revoke(&mut self, key: &str) -> Result<RegistryReply, StoreFault>
         ensures does { Does (shown self.old) (shown self.new) result (λ w. key_revoked w key.now)
             (λ w. after_key_revoke w key.now (key_revoked w key.now)) };
 

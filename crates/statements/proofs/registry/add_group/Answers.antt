@@ -1,6 +1,6 @@
 use Rattle.std.proofs.Common.{◌≡◌, false, true, sym, subst, ◌∙◌, rules}
 use Rattle.sqlite.specs.Held.{state}
-use Rattle.world.specs.declared.registry.Registered.TheVariants.{Done}
+use Rattle.world.specs.declared.registry.RegistryReply.TheVariants.{Done}
 use Rattle.world.specs.Registry.{group_added}
 use Rattle.statements.specs.Calls.{ChangesAt, Changes}
 use Rattle.statements.specs.Views.{with_group_added}

@@ -1,7 +1,7 @@
 use Rattle.std.proofs.Common.{◌≡◌, ℕ, List, Bor, Option, Some, false, true, option_copied, unwrap_or, sym, ap, subst}
 use Rattle.std.proofs.Common.{◌∙◌, rules}
 use Rattle.sqlite.specs.Held.{state}
-use Rattle.world.specs.declared.registry.Registered.TheVariants.{Done}
+use Rattle.world.specs.declared.registry.RegistryReply.TheVariants.{Done}
 use Rattle.world.specs.World.{common, with_shelf}
 use Rattle.world.specs.Registry.{team_added}
 use Rattle.statements.specs.Calls.{ChangesAt, Changes}

@@ -4,7 +4,7 @@ use Rattle.tables.proofs.FailureLemmas.{was_clean}
 use Rattle.statements.specs.Calls.{ChangesAt}
 use Rattle.setup.specs.Parts.{IsJudged, IsThere, is_fit, is_written, wanted_part}
 use Rattle.setup.specs.declared.judge.Judged.{Judged}
-use Rattle.setup.specs.declared.refusal.Refusal.TheVariants as refusal
+use Rattle.setup.specs.declared.refusal.StoreRefusal.TheVariants as refusal
 use Rattle.store.proofs.ExtractedLemmas.{is_read, fills_at, wanted_is_world, fault_tells, done_is_fit, fault_is_fit}
 use Rattle.store.proofs.store.SqlShelves.fill_rows.Goals as goal
 

@@ -1,7 +1,7 @@
 use Rattle.std.proofs.Common.{◌≡◌, false, ap, refl, option_copied, rules}
 use Rattle.sqlite.specs.Held.{state}
-use Rattle.world.specs.declared.registry.Registered.{Registered}
-use Rattle.world.specs.declared.registry.Registered.TheVariants.{Name}
+use Rattle.world.specs.declared.registry.RegistryReply.{RegistryReply}
+use Rattle.world.specs.declared.registry.RegistryReply.TheVariants.{Name}
 use Rattle.world.specs.World.{is_team_name}
 use Rattle.world.specs.Registry.{after_team_add}
 use Rattle.world.proofs.Sound.{sound_team}
@@ -17,7 +17,7 @@ returns-then-not-is_team_name g c =
     record {
       does = refused (state g.S.Store c.args.self.now.conn) c.args.self.now.kept c.args.self.now.failures Name _ _
           (λ w. let named = misnamed_team w name group wrong in
-          (named, ap (λ (r : Registered). after_team_add w name group r) named));
+          (named, ap (λ (r : RegistryReply). after_team_add w name group r) named));
     }
 
 pub returns : goal.returns

@@ -1,7 +1,7 @@
 use Rattle.std.proofs.Common.{◌≡◌, ◌∙◌, ap, sym, refl, rules, true, false}
 use Rattle.std.specs.FinMap as map
-use Rattle.world.specs.declared.registry.Registered.{Registered}
-use Rattle.world.specs.declared.registry.Registered.TheVariants.{Done}
+use Rattle.world.specs.declared.registry.RegistryReply.{RegistryReply}
+use Rattle.world.specs.declared.registry.RegistryReply.TheVariants.{Done}
 use Rattle.world.specs.World.{World, with_group, is_team_name}
 use Rattle.world.specs.Registry.{group_added, after_group_add}
 use Rattle.world.proofs.Sound.{sound_group}
@@ -22,7 +22,7 @@ returns c = record {
         ∙ group_done m t named (ap (λ (x : World). map.contains_key x.shelves t) (sym c.self.view_is) ∙ free) in
         done _ _ w Done (group_added w t) (after_group_add w t (group_added w t)) (sym added)
         (c.in_ok-add_shelf.ensures.ok ∙ ap (λ x. with_group x t) is.0
-        ∙ ap (λ (r : Registered). after_group_add w t r) (sym added))
+        ∙ ap (λ (r : RegistryReply). after_group_add w t r) (sym added))
         (sound_group w t _ is.1 refl);
     cause = no_fault _ _ _;
   };

@@ -1,8 +1,8 @@
 use Rattle.std.proofs.Common.{◌≡◌, ◌∙◌, ap, sym, refl, rules, true, false}
 use Rattle.std.specs.FinMap as map
 use Rattle.world.specs.declared.entry.Holder.{Holder}
-use Rattle.world.specs.declared.registry.Registered.{Registered}
-use Rattle.world.specs.declared.registry.Registered.TheVariants.{Done}
+use Rattle.world.specs.declared.registry.RegistryReply.{RegistryReply}
+use Rattle.world.specs.declared.registry.RegistryReply.TheVariants.{Done}
 use Rattle.world.specs.World.{World, text_cmp, with_key, is_key}
 use Rattle.world.specs.Registry.{key_added, after_key_add}
 use Rattle.world.proofs.Sound.{sound_key}
@@ -29,7 +29,7 @@ returns c = record {
         (ap inside c.in_ok-insert.ensures.ok
         ∙ ap (λ x. with_key was x c.in_ok-holder.holder) c.in_ok-key.ensures.ok
         ∙ ap (λ (x : Holder). with_key was k x) c.in_ok-holder.ensures
-        ∙ ap (λ x. with_key x k h) same ∙ ap (λ (r : Registered). after_key_add w s k c.args.right r) (sym added))
+        ∙ ap (λ x. with_key x k h) same ∙ ap (λ (r : RegistryReply). after_key_add w s k c.args.right r) (sym added))
         (sound_key w s k c.args.right _ is.1 refl);
     cause = no_fault _ _ _;
   };

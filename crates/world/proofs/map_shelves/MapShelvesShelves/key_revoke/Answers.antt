@@ -1,8 +1,8 @@
 use Rattle.std.proofs.Common.{◌≡◌, ◌∙◌, ap, sym, rules, true}
 use Rattle.std.specs.FinMap as map
 use Rattle.world.specs.declared.entry.Holder.{Holder}
-use Rattle.world.specs.declared.registry.Registered.{Registered}
-use Rattle.world.specs.declared.registry.Registered.TheVariants.{Done}
+use Rattle.world.specs.declared.registry.RegistryReply.{RegistryReply}
+use Rattle.world.specs.declared.registry.RegistryReply.TheVariants.{Done}
 use Rattle.world.specs.World.{World, text_cmp, without_key}
 use Rattle.world.specs.Registry.{key_revoked, after_key_revoke}
 use Rattle.world.proofs.Sound.{sound_revoke}
@@ -22,7 +22,7 @@ returns-clause-does c = record {
       let gone : key_revoked w k ≡ Done = ap (λ x. key_revoked x k) (sym same) ∙ key_gone was k there in
       done _ _ w Done (key_revoked w k) (after_key_revoke w k (key_revoked w k)) (sym gone)
       (ap inside c.remove.ensures.rest ∙ ap (λ x. without_key x k) same
-      ∙ ap (λ (r : Registered). after_key_revoke w k r) (sym gone))
+      ∙ ap (λ (r : RegistryReply). after_key_revoke w k r) (sym gone))
       (sound_revoke w k _ is.1);
   cause = no_fault _ _ _;
 }

@@ -1,7 +1,7 @@
 use Rattle.std.proofs.Common.{◌≡◌, ◌∙◌, ap, sym, refl, rules, true, false, ℕ, List, Option, Some, option_copied}
 use Rattle.std.specs.FinMap as map
-use Rattle.world.specs.declared.registry.Registered.{Registered}
-use Rattle.world.specs.declared.registry.Registered.TheVariants.{Done}
+use Rattle.world.specs.declared.registry.RegistryReply.{RegistryReply}
+use Rattle.world.specs.declared.registry.RegistryReply.TheVariants.{Done}
 use Rattle.world.specs.World.{World, with_shelf, with_team, is_team_name}
 use Rattle.world.specs.Registry.{lacks_group, team_added, after_team_add}
 use Rattle.world.proofs.Sound.{sound_team}
@@ -26,7 +26,7 @@ returns c = record {
         done _ _ w Done (team_added w t g) (after_team_add w t g (team_added w t g)) (sym added)
         (c.in_ok-add_shelf.ensures.ok
         ∙ ap (λ (x : List ℕ). with_shelf m t (Some x)) (c.in_ok-parent.ensures ∙ c.parent_of.ensures)
-        ∙ ap (λ x. with_team x t g) is.0 ∙ ap (λ (r : Registered). after_team_add w t g r) (sym added))
+        ∙ ap (λ x. with_team x t g) is.0 ∙ ap (λ (r : RegistryReply). after_team_add w t g r) (sym added))
         (sound_team w t g _ is.1 refl);
     cause = no_fault _ _ _;
   };

@@ -6,13 +6,13 @@ use Rattle.std.proofs.Common.{inr, ⊎_elim}
 use Rattle.std.specs.List.{flat_map, list_all}
 use Rattle.std.proofs.lemmas.Bool.{cases_Bool, or_parts}
 use Rattle.gomod.specs.declared.keyword.Keyword.{Keyword}
-use Rattle.gomod.specs.declared.keyword.Keyword.TheVariants.{Module, Require, Retract}
+use Rattle.gomod.specs.declared.keyword.Keyword.TheVariants.{Module, Go, Require, Retract}
 use Rattle.gomod.specs.declared.fault.GoModFault.{GoModFault}
 use Rattle.modlex.specs.Lexer.{Lexeme}
 use Rattle.modlex.specs.Tokens.{AreTokens, AreTokensOf}
 use Rattle.modlex.specs.Symbols.{symbol_of}
 use Rattle.gomod.specs.Keywords.{Keywords, is_module}
-use Rattle.gomod.specs.Entries.{IsModuleEntry, IsPair}
+use Rattle.gomod.specs.Entries.{IsModuleEntry, IsGoEntry, IsPair}
 use Rattle.gomod.specs.Grammar.{Row, row, Directive, one, block, OpenBlock, keyword_of, keywords_in, Item, item}
 use Rattle.gomod.specs.Grammar.{items_of, items, is_keyword, entries_under, rows_of, rows_of_open, AreWritten}
 use Rattle.gomod.specs.Reads.{Pointwise, rows_of_tokens}
@@ -64,6 +64,8 @@ meant_join is js p q once h k = record {
       (sym (entries_under-append Module is js))
       (paths_join (entries_under Module is) (entries_under Module js) p.module_path q.module_path once h.paths
       k.paths);
+  go = subst (λ l. Pointwise (λ e v. IsGoEntry e.symbols v) l (p.go ++ q.go)) (sym (entries_under-append Go is js))
+      (pointwise-append (λ e v. IsGoEntry e.symbols v) (entries_under Go is) p.go (entries_under Go js) q.go h.go k.go);
   required = subst (λ l. Pointwise (λ e r. IsPair e.symbols r) l (p.required ++ q.required))
       (sym (entries_under-append Require is js))
       (pointwise-append (λ e r. IsPair e.symbols r) (entries_under Require is) p.required (entries_under Require js)
@@ -142,7 +144,7 @@ above_start known = record {
       entries = tt;
     };
   };
-  meant = record { paths = tt; required = tt; retractions = tt };
+  meant = record { paths = tt; go = tt; required = tt; retractions = tt };
   bare = refl;
 }
 

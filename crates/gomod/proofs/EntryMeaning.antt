@@ -14,7 +14,8 @@ use Rattle.gomod.specs.Reading.{interval_of, Contents, nothing, ◌>>=◌, versi
 use Rattle.gomod.specs.Reading.{fitting_word, pair, module_entry}
 use Rattle.gomod.specs.Reading.{go_entry, word_entry, pair_entry, replace_entry, interval, retract_entry}
 use Rattle.gomod.specs.Reading.{are_interval_kinds, entry}
-use Rattle.gomod.specs.Entries.{IsModuleEntry, IsPair, IsRetractEntry}
+use Rattle.gomod.specs.GoVersion.{is_go_version}
+use Rattle.gomod.specs.Entries.{IsModuleEntry, IsGoEntry, IsPair, IsRetractEntry}
 use Rattle.gomod.specs.Grammar.{Row, row, Item, item, entries_under}
 use Rattle.gomod.specs.Reads.{Pointwise}
 use Rattle.modlex.proofs.TokenSound.{chosen}
@@ -31,6 +32,7 @@ path_list (Some path) = path ∷ []
 -- these contents are the meaning of the entries
 pub record AreMeant (is : List Item) (p : Contents) : Type 0 where
   pub paths : Pointwise (λ e x. IsModuleEntry e.symbols x) (entries_under Module is) (path_list p.module_path)
+  pub go : Pointwise (λ e v. IsGoEntry e.symbols v) (entries_under Go is) p.go
   pub required : Pointwise (λ e r. IsPair e.symbols r) (entries_under Require is) p.required
   pub retractions : Pointwise IsRetractEntryAt (entries_under Retract is) p.retractions
 
@@ -58,6 +60,18 @@ unfolding module_entry
 module_means line (w ∷ []) path h =
     ⊎_elim (λ x. (w, refl, path_is line is_path w path x.1)) (λ x. (let e = x.1 in cc)) (chosen (is_word w) _ _ _ h)
 module_means line _ path h = cc
+
+go_means : (line : ℕ) (ts : List Symbol) (version : List ℕ) → go_entry line ts ≡ Ok version → IsGoEntry ts version
+unfolding go_entry
+go_means line (w ∷ []) version h =
+    ⊎_elim
+    (λ x. ⊎_elim
+    (λ y. let same = ok_same _ _ y.1 in (w, refl, same, subst (λ v. is_go_version v ≡ true) same y.0))
+    (λ y. (let e = y.1 in cc))
+    (chosen (is_go_version (value_of w)) _ _ _ x.1))
+    (λ x. (let e = x.1 in cc))
+    (chosen (is_word w) _ _ _ h)
+go_means line _ version h = cc
 
 pair_means : (line : ℕ) (p v : Symbol) (r : Requirement) → pair line p v ≡ Ok r → IsPair (p ∷ v ∷ []) r
 unfolding pair
@@ -143,37 +157,39 @@ pub entry_means : (line : ℕ) (k : Keyword) (ts : List Symbol) (q : Contents) �
 unfolding entry
 entry_means line Module ts q h =
     let b = bound (module_entry line ts)
-    (λ p. Ok (record { module_path = Some p; required = []; retractions = []; bare = true })) q h in
+    (λ p. Ok (record { module_path = Some p; go = []; required = []; retractions = []; bare = true })) q h in
     subst (Entry line Module ts) (ok_same _ q b.2)
-    (record { paths = (module_means line ts b.0 b.1, tt); required = tt; retractions = tt }, refl)
+    (record { paths = (module_means line ts b.0 b.1, tt); go = tt; required = tt; retractions = tt }, refl)
 entry_means line Go ts q h =
-    let b = bound (go_entry line ts) (λ o. Ok nothing) q h in
-    subst (Entry line Go ts) (ok_same _ q b.2) (record { paths = tt; required = tt; retractions = tt }, refl)
+    let b = bound (go_entry line ts)
+    (λ v. Ok (record { module_path = None; go = v ∷ []; required = []; retractions = []; bare = true })) q h in
+    subst (Entry line Go ts) (ok_same _ q b.2)
+    (record { paths = tt; go = (go_means line ts b.0 b.1, tt); required = tt; retractions = tt }, refl)
 entry_means line Toolchain ts q h =
     let b = bound (word_entry line ts) (λ o. Ok nothing) q h in
-    subst (Entry line Toolchain ts) (ok_same _ q b.2) (record { paths = tt; required = tt; retractions = tt }, refl)
+    subst (Entry line Toolchain ts) (ok_same _ q b.2) (record { paths = tt; go = tt; required = tt; retractions = tt }, refl)
 entry_means line Require ts q h =
     let b = bound (pair_entry line ts)
-    (λ r. Ok (record { module_path = None; required = r ∷ []; retractions = []; bare = true })) q h in
+    (λ r. Ok (record { module_path = None; go = []; required = r ∷ []; retractions = []; bare = true })) q h in
     subst (Entry line Require ts) (ok_same _ q b.2)
-    (record { paths = tt; required = (pair_entry_means line ts b.0 b.1, tt); retractions = tt }, refl)
+    (record { paths = tt; go = tt; required = (pair_entry_means line ts b.0 b.1, tt); retractions = tt }, refl)
 entry_means line Exclude ts q h =
     let b = bound (pair_entry line ts) (λ r. Ok nothing) q h in
-    subst (Entry line Exclude ts) (ok_same _ q b.2) (record { paths = tt; required = tt; retractions = tt }, refl)
+    subst (Entry line Exclude ts) (ok_same _ q b.2) (record { paths = tt; go = tt; required = tt; retractions = tt }, refl)
 entry_means line Replace ts q h =
     let b = bound (replace_entry line ts) (λ o. Ok nothing) q h in
-    subst (Entry line Replace ts) (ok_same _ q b.2) (record { paths = tt; required = tt; retractions = tt }, refl)
+    subst (Entry line Replace ts) (ok_same _ q b.2) (record { paths = tt; go = tt; required = tt; retractions = tt }, refl)
 entry_means line Retract ts q h =
     let b = bound (retract_entry line ts)
-    (λ r. Ok (record { module_path = None; required = []; retractions = r ∷ []; bare = true })) q h in
+    (λ r. Ok (record { module_path = None; go = []; required = []; retractions = r ∷ []; bare = true })) q h in
     subst (Entry line Retract ts) (ok_same _ q b.2)
-    (record { paths = tt; required = tt; retractions = (retract_means line ts b.0 b.1, tt) }, refl)
+    (record { paths = tt; go = tt; required = tt; retractions = (retract_means line ts b.0 b.1, tt) }, refl)
 entry_means line Tool ts q h =
     let b = bound (word_entry line ts) (λ o. Ok nothing) q h in
-    subst (Entry line Tool ts) (ok_same _ q b.2) (record { paths = tt; required = tt; retractions = tt }, refl)
+    subst (Entry line Tool ts) (ok_same _ q b.2) (record { paths = tt; go = tt; required = tt; retractions = tt }, refl)
 entry_means line Godebug ts q h =
     let b = bound (word_entry line ts) (λ o. Ok nothing) q h in
-    subst (Entry line Godebug ts) (ok_same _ q b.2) (record { paths = tt; required = tt; retractions = tt }, refl)
+    subst (Entry line Godebug ts) (ok_same _ q b.2) (record { paths = tt; go = tt; required = tt; retractions = tt }, refl)
 entry_means line Ignore ts q h =
     let b = bound (word_entry line ts) (λ o. Ok nothing) q h in
-    subst (Entry line Ignore ts) (ok_same _ q b.2) (record { paths = tt; required = tt; retractions = tt }, refl)
+    subst (Entry line Ignore ts) (ok_same _ q b.2) (record { paths = tt; go = tt; required = tt; retractions = tt }, refl)

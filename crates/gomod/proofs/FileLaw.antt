@@ -7,7 +7,7 @@ use Rattle.std.specs.List.{flat_map, list_all, AllByRecursion}
 use Rattle.std.proofs.lemmas.Bool.{cases_Bool, and_parts, and_from, both_ways, false_from_ne_true}
 use Rattle.std.proofs.lemmas.Str.{IsUtf8-from_is_utf8, is_utf8-from_IsUtf8}
 use Rattle.gomod.specs.declared.keyword.Keyword.{Keyword}
-use Rattle.gomod.specs.declared.keyword.Keyword.TheVariants.{Module, Require, Retract}
+use Rattle.gomod.specs.declared.keyword.Keyword.TheVariants.{Module, Go, Require, Retract}
 use Rattle.gomod.specs.declared.fault.GoModFault.{GoModFault}
 use Rattle.gomod.specs.declared.fault.GoModFault.TheVariants as faults
 use Rattle.gomod.specs.declared.entries.Requirement.{Requirement}
@@ -18,7 +18,7 @@ use Rattle.modlex.specs.Symbols.{Symbol}
 use Rattle.gomod.specs.Keywords.{Keywords, is_module}
 use Rattle.modlex.specs.Words.{value_of}
 use Rattle.gomod.specs.Module.{GoModule, Interval}
-use Rattle.gomod.specs.Entries.{IsModuleEntry, IsPair, IsRetractEntry, NamesVersion}
+use Rattle.gomod.specs.Entries.{IsModuleEntry, IsGoEntry, IsPair, IsRetractEntry, NamesVersion}
 use Rattle.gomod.specs.Grammar.{Row, Directive, OpenBlock, Item, items_of, keyword_of, keywords_in, items, is_keyword}
 use Rattle.gomod.specs.Grammar.{entries_under, AreWritten}
 use Rattle.gomod.specs.Reads.{Pointwise, FitsPath, Reads, rows_of_tokens}
@@ -43,6 +43,11 @@ tail_same a b xs ys h = (cc, cc)
 
 path_same : (ts : List Symbol) (p q : List ℕ) → IsModuleEntry ts p → IsModuleEntry ts q → p ≡ q
 path_same ts p q h k =
+    let same = tail_same h.0 k.0 [] [] (sym h.1 ∙ k.1) in
+    sym h.2 ∙ ap value_of same.0 ∙ k.2
+
+go_same : (ts : List Symbol) (u v : List ℕ) → IsGoEntry ts u → IsGoEntry ts v → u ≡ v
+go_same ts u v h k =
     let same = tail_same h.0 k.0 [] [] (sym h.1 ∙ k.1) in
     sym h.2 ∙ ap value_of same.0 ∙ k.2
 
@@ -286,6 +291,7 @@ reads_fitting known bytes ds p path m None utf8 a is unfit h =
       directives = ds;
       grammar = a.read.grammar;
       path = paths;
+      go = a.meant.go;
       required = a.meant.required;
       retractions = only_intervals (entries_under Retract (items ds None)) p.retractions a.meant.retractions;
       fitting = fits_all path p.retractions unfit;
@@ -364,6 +370,8 @@ reading-from_reads known bytes m r =
     let paths = pointwise_same (λ (e : Row) (x : List ℕ). IsModuleEntry e.symbols x)
     (λ e x y h k. path_same e.symbols x y h k) (entries_under Module is) (path_list c.contents.module_path)
     (m.path ∷ []) c.above.meant.paths r.path in
+    let go = pointwise_same (λ (e : Row) (x : List ℕ). IsGoEntry e.symbols x)
+    (λ e x y h k. go_same e.symbols x y h k) (entries_under Go is) c.contents.go m.go c.above.meant.go r.go in
     let required = pointwise_same (λ (e : Row) (x : Requirement). IsPair e.symbols x)
     (λ e x y h k. pair_same e.symbols x y h k) (entries_under Require is) c.contents.required m.required
     c.above.meant.required r.required in
@@ -383,7 +391,7 @@ reading-from_reads known bytes m r =
     ∙ closed_file (length (lines bytes)) r.directives c.contents
     ∙ ap (module_of c.contents) path
     ∙ ap (fitting_module m.path c.contents) fits
-    ∙ ap (λ x. Ok x) (λ i. record { path = m.path; required = required i; retractions = intervals i; bare = truth i })
+    ∙ ap (λ x. Ok x) (λ i. record { path = m.path; go = go i; required = required i; retractions = intervals i; bare = truth i })
 
 -- ---- faults
 

@@ -68,6 +68,7 @@ meant_behind : (k : Keyword) (is : List Item) (q : Contents) → AreMeant is q �
 meant_behind k is q m = record {
   paths = subst (λ p. Pointwise (λ e x. IsModuleEntry e.symbols x) (entries_under Module is) (path_list p))
       (sym (last_path-none q.module_path)) m.paths;
+  go = m.go;
   required = m.required;
   retractions = m.retractions;
 }
@@ -104,7 +105,7 @@ move_says (blank ds o line) alone =
     record {
       said = nothing;
       is_said = refl;
-      meant = record { paths = tt; required = tt; retractions = tt };
+      meant = record { paths = tt; go = tt; required = tt; retractions = tt };
       bare =
           refl;
     }
@@ -123,7 +124,7 @@ move_says {known = known} (single ds line k ts known_k fresh is_right) alone =
 move_says {known = known} (begins ds line k known_k fresh h) alone = record {
   said = header k;
   is_said = outside_is known line ds k (left ∷ []) known_k ∙ directive_begins line ds k fresh h;
-  meant = record { paths = tt; required = tt; retractions = tt };
+  meant = record { paths = tt; go = tt; required = tt; retractions = tt };
   bare = sym (and_one (is_module k));
 }
 move_says {known = known} (inside ds b line t ts room is_right) alone =
@@ -139,7 +140,7 @@ move_says {known = known} (inside ds b line t ts room is_right) alone =
 move_says {known = known} (closes ds b line filled) alone = record {
   said = nothing;
   is_said = inside_closes known line ds b alone filled;
-  meant = record { paths = tt; required = tt; retractions = tt };
+  meant = record { paths = tt; go = tt; required = tt; retractions = tt };
   bare = refl;
 }
 

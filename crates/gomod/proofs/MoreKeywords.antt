@@ -31,6 +31,7 @@ reads_more known more bytes m within r = record {
     entries = r.grammar.entries;
   };
   path = r.path;
+  go = r.go;
   required = r.required;
   retractions = r.retractions;
   fitting = r.fitting;

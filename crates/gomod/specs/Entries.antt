@@ -110,6 +110,10 @@ IsRight k ts = (demands : List Demand) × HasShape k ts demands × AllByRecursio
 abbrev pub IsModuleEntry : List Symbol → List ℕ → Type 0
 IsModuleEntry ts path = (w : Symbol) × (ts ≡ w ∷ []) × (value_of w ≡ path)
 
+-- an entry of go names this Go version
+abbrev pub IsGoEntry : List Symbol → List ℕ → Type 0
+IsGoEntry ts text = (w : Symbol) × (ts ≡ w ∷ []) × (value_of w ≡ text) × (is_go_version text ≡ true)
+
 -- an entry names this path and this version
 abbrev pub IsPair : List Symbol → Requirement → Type 0
 IsPair ts r = (p : Symbol) × (v : Symbol) × (ts ≡ p ∷ v ∷ []) × (value_of p ≡ r.path) × NamesVersion (value_of v) r.version

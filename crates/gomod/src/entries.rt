@@ -17,6 +17,7 @@ use modlex::{Kind, Token};
 use modpath::{LoosePath, ModulePath, PathError, Suffix, loose_suffix, suffix};
 use modver::{Bound, Version, VersionFault, compare_bounds, fits_suffix};
 use std::alloc::Global;
+use text::Text;
 
 /// A version of a module that another module requires. (Go Modules Reference, "require directive".)
 #[derive(Drop)]
@@ -128,16 +129,16 @@ pub(crate) fn module_entry(
     }
 }
 
-/// Checks an entry of `go`: a Go version.
+/// Reads an entry of `go`: a Go version.
 #[tactic(auto, unfolding(crate::specs::Reading::go_entry))]
-pub(crate) fn go_entry(alloc: Global, line: usize, tokens: &[Token]) -> Result<(), GoModFault>
-    ensures { Gives (λ o. o) result (go_entry line (symbols tokens.now)) }
+pub(crate) fn go_entry(alloc: Global, line: usize, tokens: &[Token]) -> Result<Text, GoModFault>
+    ensures { Gives (λ v. v) result (go_entry line (symbols tokens.now)) }
 {
     match tokens {
         [word] if word.is_word() => {
             let text = word.value(alloc)?;
             if is_go_version(text.as_bytes()) {
-                Ok(())
+                Ok(Text::copy_of(alloc, text.as_str())?)
             } else {
                 Err(GoModFault::GoVersion(line))
             }

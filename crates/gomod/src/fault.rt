@@ -1,7 +1,7 @@
 //! Why a go.mod file cannot be read.
 
 ghost use Rattle.std.specs.Prelude.{◌≡◌};
-ghost use Rattle.gomod.specs.Faults.{line_of};
+ghost use Rattle.gomod.specs.Faults.{faulty_line};
 
 use std::alloc::{AllocError, AllocFailed};
 use thiserror::Error;
@@ -47,7 +47,7 @@ pub enum GoModFault {
 impl GoModFault {
     /// Returns the line number of the fault, or 0 if it has none.
     pub fn line(&self) -> usize
-        ensures { result ≡ line_of self.now }
+        ensures { result ≡ faulty_line self.now }
     {
         match *self {
             GoModFault::Lex(line)

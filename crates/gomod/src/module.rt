@@ -1,10 +1,10 @@
 //! What a go.mod file says.
 
-ghost use Rattle.std.specs.Prelude.{◌≡◌, ◌↔◌, ◌&&◌, IfOk, IsTrue, IsUtf8, Err, map};
+ghost use Rattle.std.specs.Prelude.{◌≡◌, ◌↔◌, ◌&&◌, IfOk, IsTrue, IsUtf8, Err, map, option_copied};
 ghost use Rattle.gomod.specs.Keywords.{profile_in_force};
 ghost use Rattle.gomod.specs.Reading.{Gives, first_unfit, file_says, interval_of, text_says, reading};
 ghost use Rattle.std.specs.List.{list_any};
-ghost use Rattle.gomod.specs.Module.{IsRetracted, covers, is_retracted};
+ghost use Rattle.gomod.specs.Module.{IsRetracted, covers, go_version, is_retracted};
 ghost use Rattle.gomod.specs.State.{state_of};
 ghost use Rattle.modver.specs.Fits.{fits};
 
@@ -17,11 +17,13 @@ use modpath::{ModulePath, Suffix, suffix};
 use modver::{Bound, Version, fits_suffix};
 use std::alloc::{AllocError, Global};
 use std::marker::Model;
+use text::Text;
 
 /// What a go.mod file says. (Go Modules Reference, "go.mod files".)
 #[derive(Drop)]
 pub struct GoMod {
     path: ModulePath,
+    go: Vec<Text>,
     required: Vec<Requirement>,
     retractions: Vec<Retraction>,
     bare: bool,
@@ -36,6 +38,7 @@ impl Model for GoMod {
 
     ghost view = { λ m. record {
       path = m.path;
+      go = m.go.items;
       required = m.required.items;
       retractions = map interval_of m.retractions.items;
       bare = m.bare;
@@ -61,6 +64,14 @@ impl GoMod {
         ensures { result.now ≡ self.now.path }
     {
         &self.path
+    }
+
+    /// The Go version that the file names, or `None` if it has no `go` directive. (Go Modules Reference, "go
+    /// directive".)
+    pub fn go_version(&self) -> Option<&Text>
+        ensures { option_copied result ≡ go_version self.now }
+    {
+        self.go.first()
     }
 
     /// What the module requires, in the order of the file.
@@ -148,6 +159,7 @@ fn finish(reader: Reader, last: usize) -> Result<GoMod, GoModFault>
     let Reader {
         block,
         module,
+        go,
         once_only: _,
         required,
         retractions,
@@ -164,6 +176,7 @@ fn finish(reader: Reader, last: usize) -> Result<GoMod, GoModFault>
     }
     Ok(GoMod {
         path,
+        go,
         required,
         retractions,
         bare,

@@ -15,5 +15,5 @@ abbrev pub hash_of : List ℕ → List ℕ
 hash_of gomod = codes "h1:" ++ encode_of standard (sha256 (file_line gomod))
 
 -- the go.sum line: the path, a space, the version, `/go.mod`, a space and the hash
-abbrev pub line_of : List ℕ → List ℕ → List ℕ → List ℕ
-line_of path version gomod = path ++ (codes " " ++ (version ++ (codes "/go.mod " ++ hash_of gomod)))
+abbrev pub go_sum_line : List ℕ → List ℕ → List ℕ → List ℕ
+go_sum_line path version gomod = path ++ (codes " " ++ (version ++ (codes "/go.mod " ++ hash_of gomod)))

@@ -11,7 +11,7 @@
 
 ghost use Rattle.std.specs.Prelude.{◌≡◌, IfOk, string_bytes};
 ghost use Rattle.modver.specs.SemanticVersion.{version_text};
-ghost use Rattle.gosum.specs.Sum.{file_line, hash_of, line_of};
+ghost use Rattle.gosum.specs.Sum.{file_line, hash_of, go_sum_line};
 
 use base64::engine::general_purpose::STANDARD;
 use modpath::ModulePath;
@@ -48,7 +48,8 @@ pub fn sum_line(
     version: &Version,
     gomod: &[u8],
 ) -> Result<String, AllocError>
-    ensures value { IfOk result (λ line. string_bytes line ≡ line_of path.now (version_text version.now) gomod.now) }
+    ensures value { IfOk result (λ line.
+        string_bytes line ≡ go_sum_line path.now (version_text version.now) gomod.now) }
 {
     let hash = h1_of_mod(alloc, gomod)?;
     let mut line = String::from_str(alloc, path.as_str())?;

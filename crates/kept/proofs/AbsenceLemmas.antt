@@ -15,7 +15,7 @@ use Rattle.world.specs.Latest.{highest, latest_by, latest_of}
 use Rattle.world.specs.Versions.{versions_of}
 use Rattle.world.specs.World.{World, IsWorld, text_cmp, place, view, with_entry, with_group}
 use Rattle.world.proofs.Orders.{texts_total, texts_exact, text_same}
-use Rattle.world.proofs.KeptListLemmas.{versions_still}
+use Rattle.world.proofs.OtherPaths.{versions_still}
 use Rattle.kept.specs.Absences.{Lacking, shelves_at, AreAbsent, HasPairs}
 use Rattle.kept.proofs.GroupLemmas.{same_versions}
 use Rattle.kept.proofs.ListLemmas.{none_seen}

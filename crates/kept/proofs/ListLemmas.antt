@@ -12,7 +12,7 @@ use Rattle.world.specs.Versions.{versions_of}
 use Rattle.world.specs.Visible.{IsSeen}
 use Rattle.world.specs.World.{World, IsWorld, place, chain, view, without_zip, heading, with_entry, with_group}
 use Rattle.world.proofs.Orders.{text_same, text_apart}
-use Rattle.world.proofs.KeptListLemmas.{on_others, versions_still}
+use Rattle.world.proofs.OtherPaths.{on_others, versions_still}
 use Rattle.world.proofs.SeenVersions.{entry_at, seen_members}
 use Rattle.kept.specs.declared.lists.KeptList.{KeptList}
 use Rattle.kept.specs.Lists.{is_of, IsListIn, AreLists}

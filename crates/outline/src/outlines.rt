@@ -6,7 +6,6 @@ use modpath::ModulePath;
 use modver::{TimeText, Version};
 use text::Text;
 use world::entry::Seen;
-use world::map_shelves::MapShelves;
 use world::registry::StoreFault;
 use world::shelves::Shelves;
 
@@ -53,18 +52,4 @@ pub trait Outlines: Shelves {
     ) -> Result<Option<Outline>, StoreFault>
         ensures reads { Reads (Self.shown self.old) (Self.shown self.new) result
             (λ w. outline w shelf.now path.now (version_text version.now)) };
-}
-
-impl Outlines for MapShelves {
-    fn outline(
-        &mut self,
-        shelf: &str,
-        path: &ModulePath,
-        version: &Version,
-    ) -> Result<Option<Outline>, StoreFault> {
-        match self.entry(shelf, path, version)? {
-            None => Ok(None),
-            Some(seen) => Ok(Some(Outline::of(seen))),
-        }
-    }
 }

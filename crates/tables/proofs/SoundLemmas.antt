@@ -24,7 +24,7 @@ use Rattle.sqlite_catalog.specs.Listing.{IsSound}
 use Rattle.sqlite_rules.specs.Lists.{Has}
 use Rattle.sqlite_rules.proofs.ListLemmas.{some_has}
 use Rattle.sqlite_rules.proofs.RuleLemmas.{keeps_at}
-use Rattle.world.proofs.MapsPlaces.{is_tied}
+use Rattle.world.proofs.Ties.{is_tied}
 use Rattle.tables.specs.Schema.{store_schema, access_table, version_table, piece_table, given, refers}
 use Rattle.tables.specs.Means.{is_of}
 use Rattle.tables.specs.Fit.{text_in}

@@ -1,7 +1,7 @@
 //! Shelves to answer from.
+use memory_store::map_shelves::MapShelves;
 use std::alloc::Global;
 use world::entry::Right;
-use world::map_shelves::MapShelves;
 use world::registry::StoreFault;
 use world::shelves::Shelves;
 

@@ -1,13 +1,12 @@
 pub mod OnlyCommon
 pub mod Causes
-pub mod MapsDone
 pub mod MapsTexts
+pub mod MapsHeld
 pub mod MapsNested
-pub mod MapsPlaces
-pub mod MapsCounts
 pub mod MapsSets
-pub mod MapsSeen
+pub mod MoreTexts
 pub mod Orders
+pub mod Ties
 pub mod Named
 pub mod InOrder
 pub mod PathForm
@@ -23,7 +22,7 @@ pub mod Tops
 pub mod Newest
 pub mod Sound
 pub mod Counted
-pub mod KeptListLemmas
+pub mod OtherPaths
 pub mod Sees
 pub mod Parts
 pub mod Places

@@ -59,7 +59,7 @@ module _ {Y X : Type 0} where
       ∙ sym (map.get-remove texts_total (by_text m.entries) k t
       ∙ ap (cond (eq_by_cmp text_cmp t k) None) (get_text m t)))
 
-  absent : (k : String Y) (es : List (String Y × X))
+  pub absent : (k : String Y) (es : List (String Y × X))
       → AllByRecursion (λ y. eq_by_cmp string_cmp k y ≡ false) (keys_of es)
       → lookup (is_at (λ t. slice_cmp nat_cmp (string_bytes k) (string_bytes t))) es ≡ None
   absent k [] apart = refl

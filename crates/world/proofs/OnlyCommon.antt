@@ -9,7 +9,7 @@ use Rattle.std.proofs.lemmas.Map.Views.{tells_apart}
 use Rattle.world.specs.declared.entry.Place.{Place}
 use Rattle.world.specs.declared.entry.Entry.{Entry}
 use Rattle.world.specs.World.{IsWorld, only_common, common, text_cmp, place_cmp}
-use Rattle.world.proofs.MapsPlaces.{neither}
+use Rattle.world.proofs.Ties.{neither}
 use Rattle.world.proofs.Orders.{texts_total, texts_exact, places_total, places_exact, get_put}
 
 none_is_none : {X : Type 0} (x : X) → ◌≡◌ {A = Option X} None (Some x) → ⊥

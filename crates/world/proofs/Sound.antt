@@ -7,7 +7,7 @@ use Rattle.std.specs.declared.cmp.Ordering.{Ordering}
 use Rattle.std.specs.Cmp.{IsTotalOrder}
 use Rattle.std.specs.FinMap as map
 use Rattle.std.specs.FinSet as set
-use Rattle.std.proofs.lemmas.Bool.{true≢false, and_parts, not-false, or_cases, or_right}
+use Rattle.std.proofs.lemmas.Bool.{true≢false, and_parts, not-false, not-true, or_cases, or_right}
 use Rattle.std.proofs.lemmas.Map.Views.{tells_apart}
 use Rattle.world.specs.declared.entry.Place.{Place}
 use Rattle.world.specs.declared.entry.Entry.{Entry}
@@ -16,11 +16,12 @@ use Rattle.world.specs.declared.entry.Right.{Right}
 use Rattle.world.specs.declared.registry.RegistryReply.{RegistryReply}
 use Rattle.world.specs.declared.registry.RegistryReply.TheVariants.{Done, Name, Taken, NoTeam, NoGroup}
 use Rattle.world.specs.World.{World, IsWorld, IsEntry, common, is_team_name, is_key, version_limit, text_cmp, count}
-use Rattle.world.specs.World.{with_entry, with_key, without_key, with_shelf}
+use Rattle.world.specs.World.{with_entry, with_key, without_key, without_keys_on, is_held_on, with_shelf}
 use Rattle.world.specs.Registry.{is_top, is_group, lacks_group, team_added, group_added, key_added, after_team_add}
-use Rattle.world.specs.Registry.{after_group_add, after_key_add, after_key_revoke}
+use Rattle.world.specs.Registry.{after_group_add, after_key_add, after_key_revoke, after_keys_revoke}
 use Rattle.world.specs.Store.{IsRoomFor}
 use Rattle.world.proofs.Orders.{texts_total, texts_exact, places_total, places_exact, text_same, get_elsewhere}
+use Rattle.world.proofs.Parts.{text_alike, passed}
 use Rattle.world.proofs.Retained.{stays, goes}
 
 -- ---- one more
@@ -192,6 +193,33 @@ key_gone w k is = record {
   few = is.few;
 }
 
+-- what stands after the keys of a shelf are gone
+pub key_left_at : (w : World) (s j : List ℕ)
+    → map.get (without_keys_on w s).keys j ≡ cond (not (is_held_on s (map.get w.keys j))) (map.get w.keys j) None
+key_left_at w s j =
+    let test : List ℕ → Bool = λ k. not (is_held_on s (map.get w.keys k)) in
+    map.get-retain_keys w.keys test j (text_alike test j)
+
+-- a key that is left stood before, and is not of that shelf
+pub key_left : (w : World) (s j : List ℕ) (h : Holder) → map.get (without_keys_on w s).keys j ≡ Some h
+    → (map.get w.keys j ≡ Some h) × (bytes_eq h.shelf s ≡ false)
+key_left w s j h at =
+    let it = passed (not (is_held_on s (map.get w.keys j))) (map.get w.keys j) h (sym (key_left_at w s j) ∙ at) in
+    (it.1, not-true (bytes_eq h.shelf s) (sym (ap (λ o. not (is_held_on s o)) it.1) ∙ it.0))
+
+-- a world without the keys of a shelf is a world
+pub keys_gone : (w : World) (s : List ℕ) → IsWorld w → IsWorld (without_keys_on w s)
+keys_gone w s is = record {
+  has_common = is.has_common;
+  team_names = is.team_names;
+  parents = is.parents;
+  key_names = λ j h at. is.key_names j h (key_left w s j h at).0;
+  keys_stand = λ j h at. is.keys_stand j h (key_left w s j h at).0;
+  entries_fit = is.entries_fit;
+  entries_stand = is.entries_stand;
+  few = is.few;
+}
+
 -- ---- the registry
 
 is_done : RegistryReply → Bool
@@ -268,3 +296,7 @@ sound_key w t k right r is e = is
 pub sound_revoke : (w : World) (k : List ℕ) (r : RegistryReply) → IsWorld w → IsWorld (after_key_revoke w k r)
 sound_revoke w k Done is = key_gone w k is
 sound_revoke w k r is = is
+
+pub sound_keys_revoke : (w : World) (s : List ℕ) (r : RegistryReply) → IsWorld w → IsWorld (after_keys_revoke w s r)
+sound_keys_revoke w s Done is = keys_gone w s is
+sound_keys_revoke w s r is = is

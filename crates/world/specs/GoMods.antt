@@ -1,6 +1,6 @@
 -- What a go.mod says to a publish, and when it fits a path and a version.
 use Rattle.std.specs.Prelude.{ℕ, ◌≡◌, Bool, true, List, Option, Some, None, Result, Ok, Err}
-use Rattle.gomod.specs.Faults.{line_of}
+use Rattle.gomod.specs.Faults.{faulty_line}
 use Rattle.gomod.specs.Module.{GoModule}
 use Rattle.gomod.specs.Reading as gomod
 use Rattle.gomod.specs.Reads.{Reads}
@@ -16,7 +16,7 @@ Says bytes m = Reads profile_in_force bytes m
 -- the result of reading a file: what it says, or the line of its fault
 abbrev pub as_reading : Result GoModule GoModFault → Reading
 as_reading (Ok m) = Module m
-as_reading (Err f) = Fault (line_of f)
+as_reading (Err f) = Fault (faulty_line f)
 
 -- the result of reading a go.mod by these keywords
 abbrev pub reading_by : Keywords → List ℕ → Reading

@@ -1,6 +1,5 @@
 pub mod Bytes
 pub mod MapsLend
-pub mod InMemory
 pub mod Names
 pub mod Lines
 pub mod Forms
@@ -16,7 +15,6 @@ pub mod Latest
 pub mod Store
 pub mod FinMaps
 pub mod Counts
-pub mod KeptLists
 pub mod Part
 pub mod Places
 pub mod Profiles

@@ -4,7 +4,8 @@ use Rattle.std.specs.FinMap as map
 use Rattle.world.specs.declared.entry.Right.{Right}
 use Rattle.world.specs.declared.registry.RegistryReply.{RegistryReply}
 use Rattle.world.specs.declared.registry.RegistryReply.TheVariants.{Done, Name, Taken, NoTeam, NoKey, NoGroup}
-use Rattle.world.specs.World.{World, common, is_team_name, is_key, with_key, without_key, with_team, with_group}
+use Rattle.world.specs.World.{World, common, is_team_name, is_key, with_key, without_key, without_keys_on}
+use Rattle.world.specs.World.{with_team, with_group}
 
 -- whether a shelf exists and has no parent
 abbrev pub is_top : Option (Option (List ℕ)) → Bool
@@ -45,6 +46,10 @@ key_added w s k =
 abbrev pub key_revoked : World → List ℕ → RegistryReply
 key_revoked w k = if map.contains_key w.keys k then Done else NoKey
 
+-- the outcome of taking away all keys of a shelf, of which it may have none
+abbrev pub keys_revoked : World → List ℕ → RegistryReply
+keys_revoked w s = if map.contains_key w.shelves s then Done else NoTeam
+
 -- the world after adding a team with this outcome: one more team after `Done`, otherwise unchanged
 abbrev pub after_team_add : World → List ℕ → Option (List ℕ) → RegistryReply → World
 after_team_add w t group Done = with_team w t group
@@ -64,3 +69,8 @@ after_key_add w s k right r = w
 abbrev pub after_key_revoke : World → List ℕ → RegistryReply → World
 after_key_revoke w k Done = without_key w k
 after_key_revoke w k r = w
+
+-- the world after taking away all keys of a shelf with this outcome
+abbrev pub after_keys_revoke : World → List ℕ → RegistryReply → World
+after_keys_revoke w s Done = without_keys_on w s
+after_keys_revoke w s r = w

@@ -1,5 +1,5 @@
 -- Worlds: what stands on the shelves, whose the keys are, and what each shelf sees.
-use Rattle.std.specs.Prelude.{ℕ, List, [], ◌∷◌, Bool, true, ◌&&◌, if◌then◌else◌, Option, Some}
+use Rattle.std.specs.Prelude.{ℕ, List, [], ◌∷◌, Bool, true, false, not, ◌&&◌, if◌then◌else◌, Option, Some}
 use Rattle.std.specs.Prelude.{None, bytes_eq, ◌≡◌, ◌≤◌, ◌⊎◌, length, option_map, unwrap_or}
 use Rattle.std.specs.List.{list_any}
 use Rattle.std.specs.Option.{option_or}
@@ -103,7 +103,7 @@ on_shelf w s = map.retain_keys w.entries (λ q. bytes_eq q.shelf s)
 abbrev pub count : World → List ℕ → List ℕ → ℕ
 count w s p = map.len (map.retain_keys w.entries (λ q. bytes_eq q.shelf s && bytes_eq q.path p))
 
--- ---- one entry, key or shelf more, or one key less
+-- ---- one entry, key or shelf more, or keys less
 
 -- the world with an entry put at a place
 abbrev pub with_entry : World → Place → Entry → World
@@ -116,6 +116,19 @@ with_key w k h = record { keys = map.insert w.keys k h; shelves = w.shelves; ent
 -- the world without a key
 abbrev pub without_key : World → List ℕ → World
 without_key w k = record { keys = map.remove w.keys k; shelves = w.shelves; entries = w.entries }
+
+-- whether there is a holder and this is its shelf
+abbrev pub is_held_on : List ℕ → Option Holder → Bool
+is_held_on s None = false
+is_held_on s (Some h) = bytes_eq h.shelf s
+
+-- the world without the keys of a shelf
+abbrev pub without_keys_on : World → List ℕ → World
+without_keys_on w s = record {
+  keys = map.retain_keys w.keys (λ k. not (is_held_on s (map.get w.keys k)));
+  shelves = w.shelves;
+  entries = w.entries;
+}
 
 -- the world with a shelf added, with its parent
 abbrev pub with_shelf : World → List ℕ → Option (List ℕ) → World

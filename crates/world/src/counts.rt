@@ -5,7 +5,7 @@ ghost use Rattle.world.specs.World.{World, place, count, with_entry};
 ghost use Rattle.world.specs.FinMaps.{get_under, put_under};
 ghost use Rattle.world.specs.Counts.{AreCounts};
 
-use crate::maps::text_map::TextMap;
+use crate::text_map::TextMap;
 use std::alloc::Global;
 use std::marker::Model;
 

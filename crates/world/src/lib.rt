@@ -1,4 +1,4 @@
-//! The shelves, their entries and their keys; the trait of a store that keeps them; and a store in memory.
+//! The shelves, their entries and their keys, and the trait of a store that keeps them.
 //!
 //! There is the shelf `common`, and one shelf for each group and for each team. A team may be a member of one group,
 //! and stays in it. An entry stands at a shelf, a module path and a version. It holds the go.mod and the zip as they
@@ -23,11 +23,11 @@
 //! - [`standing`]: how an entry that is handed in compares with what is there.
 //! - [`versions`]: the order of versions, and the choice of the latest.
 //! - [`registry`]: the outcome of a registry command, and why a store fails.
-//! - [`shelves`]: the trait of a store. [`map_shelves::MapShelves`]: a store in ordered maps.
-//! - [`counts`] and [`kept_lists`]: answers that a store keeps so that it need not find them again.
+//! - [`shelves`]: the trait of a store.
+//! - [`counts`]: counts of versions that a store keeps so that it need not find them again.
 //! - [`laws`]: what holds of worlds, for instance that the test of an entry is exact.
 //!
-//! Contracts see the types of [`bytes`], [`version_list`] and [`text_set`] as lists and sets.
+//! Contracts see the types of [`bytes`], [`version_list`], [`text_set`] and [`text_map`] as lists, sets and maps.
 #![tactic(auto)]
 
 pub mod bytes;
@@ -35,15 +35,13 @@ pub mod counts;
 pub mod entry;
 pub mod entry_test;
 pub mod forms;
-pub mod kept_lists;
 pub mod laws;
-pub mod map_shelves;
-mod maps;
 pub mod names;
 pub mod reading;
 pub mod registry;
 pub mod shelves;
 pub mod standing;
+pub mod text_map;
 pub mod text_set;
 pub mod version_list;
 mod version_set;

@@ -18,6 +18,7 @@ pub trait Shelves {
     ghost use Rattle.world.specs.World.{World, IsWorld, place, view, heading, count, with_entry};
     ghost use Rattle.world.specs.Registry.{team_added, after_team_add, group_added, after_group_add};
     ghost use Rattle.world.specs.Registry.{key_added, after_key_add, key_revoked, after_key_revoke};
+    ghost use Rattle.world.specs.Registry.{keys_revoked, after_keys_revoke};
     ghost use Rattle.world.specs.Standing.{standing};
     ghost use Rattle.world.specs.Latest.{latest_of};
     ghost use Rattle.world.specs.Versions.{versions_of};
@@ -123,6 +124,12 @@ pub trait Shelves {
     fn key_revoke(&mut self, key: &str) -> Result<RegistryReply, StoreFault>
         ensures does { Does (shown self.old) (shown self.new) result (λ w. key_revoked w key.now)
             (λ w. after_key_revoke w key.now (key_revoked w key.now)) };
+
+    /// Takes all keys of a shelf away in one change. Returns `Done`, also if the shelf has no key, or `NoTeam` if there
+    /// is no such shelf.
+    fn keys_revoke(&mut self, shelf: &str) -> Result<RegistryReply, StoreFault>
+        ensures does { Does (shown self.old) (shown self.new) result (λ w. keys_revoked w shelf.now)
+            (λ w. after_keys_revoke w shelf.now (keys_revoked w shelf.now)) };
 
     // Each world that a store stands for is well formed.
     ghost sound: { (s : Self) (w : World) → (shown s).stands w → IsWorld w };

@@ -7,7 +7,7 @@ ghost use Rattle.world.specs.Lines.{in_order};
 ghost use Rattle.world.specs.Versions.{named, by_precedence};
 
 use crate::forms::version_of;
-use crate::maps::text_map::TextMap;
+use crate::text_map::TextMap;
 use crate::text_set::TextSet;
 use crate::version_list::Versions;
 use crate::version_set::VersionSet;

@@ -1,0 +1,3 @@
+pub mod InMemory
+pub mod KeptLists
+pub mod NestedMaps

@@ -1,0 +1,14 @@
+//! A store in memory: [`map_shelves::MapShelves`] keeps shelves in ordered maps.
+//!
+//! It implements the trait of a store, `world::shelves::Shelves`, and both traits over it, `outline::outlines::Outlines`
+//! and `keyring::Keyring`. Nothing of it is left when the program ends.
+//!
+//! - [`map_shelves`]: the store, which contracts see as its world. It keeps the lists of versions that it was asked for.
+//! - [`outlines`], [`named`]: the two traits over that of a store.
+#![tactic(auto)]
+
+mod entry_map;
+mod kept_lists;
+pub mod map_shelves;
+pub mod named;
+pub mod outlines;

@@ -3,9 +3,10 @@
 
 The shelves have 1,000, 10,000 and 100,000 paths with a version each, or with --versions V as many. Build the program
 first (`./goshelf --version`). With --program FILE it measures that program, with --zip BYTES each zip has this many
-(1,024), and with --paths N there is one store, of this many paths. Each line tells the bytes of the text, the processor
-time beside that of opening the store, and the peak of memory beside the opening's. With --count it also tells
-instructions by valgrind's count, less the opening's, for all but the largest store.
+(1,024), with --requires R each go.mod has as many requirements (none), and with --paths N there is one store, of this
+many paths. Each line tells the bytes of the text, the processor time beside that of opening the store, and the peak of
+memory beside the opening's. With --count it also tells instructions by valgrind's count, less the opening's, for all
+but the largest store.
 """
 
 import os
@@ -23,14 +24,21 @@ COUNTED = 10_000
 ROUNDS = 3
 
 
-def filled(file, paths, versions, zip_length):
+def requiring(path, at, paths, count):
+    """A go.mod that requires this many of the other paths, in a block as the go command writes it."""
+    them = ((at * 7 + it * 13 + 1) % paths for it in range(count))
+    lines = b"".join(b"\texample.com/team/module%d v1.0.0\n" % it for it in them)
+    return gomod(path) + (b"\ngo 1.21\n\nrequire (\n%s)\n" % lines if count else b"")
+
+
+def filled(file, paths, versions, zip_length, requires):
     """A store of this many paths, each with as many versions, made by sqlite3 in one transaction."""
     conn = made(file)
     conn.execute("BEGIN")
     zip = bytes(zip_length)
     for n in range(paths * versions):
         path, version = f"example.com/team/module{n // versions}", f"v1.{n % versions}.0"
-        row = ("alpha", path, version, gomod(path), *keys(version))
+        row = ("alpha", path, version, requiring(path, n // versions, paths, requires), *keys(version))
         number = conn.execute(
             "INSERT INTO version (shelf, path, version, mod, order_key, rank_key) VALUES (?, ?, ?, ?, ?, ?)", row
         ).lastrowid
@@ -84,11 +92,13 @@ def main():
     words = dict(zip(sys.argv[1:], sys.argv[2:]))
     program = os.path.abspath(words.get("--program", PROGRAM))
     zip_length, versions = int(words.get("--zip", 1_024)), int(words.get("--versions", 1))
+    requires = int(words.get("--requires", 0))
     with tempfile.TemporaryDirectory(prefix="goshelf-lists-") as folder:
         for paths in [int(words["--paths"])] if "--paths" in words else PATHS:
             file = os.path.join(folder, f"{paths}.db")
-            filled(file, paths, versions, zip_length)
-            print(f"{paths:,} paths, versions of each: {versions}, zips of {zip_length:,} bytes:", flush=True)
+            filled(file, paths, versions, zip_length, requires)
+            each = f"versions of each: {versions}, requirements of each: {requires}, zips of {zip_length:,} bytes"
+            print(f"{paths:,} paths, {each}:", flush=True)
             measured(program, file, "--count" in sys.argv and paths <= COUNTED)
             os.remove(file)
 

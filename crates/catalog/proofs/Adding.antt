@@ -1,5 +1,5 @@
 -- The lines of versions, added one after another.
-use Rattle.std.proofs.Common.{◌≡◌, ◌∙◌, ◌++◌, ℕ, List, [], ◌∷◌, Option, Some, None, Result, Ok, Err}
+use Rattle.std.proofs.Common.{◌≡◌, ◌∙◌, ◌++◌, ℕ, List, [], Option, Some, None, Result, Ok, Err}
 use Rattle.std.proofs.Common.{append-nil, arith, refl, sym, ap}
 use Rattle.std.specs.List.{flat_map}
 use Rattle.std.specs.Prelude.{IsErrAnd}
@@ -14,7 +14,7 @@ use Rattle.world.specs.World.{World, heading, view, without_zip}
 use Rattle.world.specs.declared.entry.Heading.{Heading}
 use Rattle.world.specs.declared.entry.Seen.{Seen}
 use Rattle.world.specs.declared.registry.StoreFault.{StoreFault}
-use Rattle.catalog.specs.Catalog.{line_at, line_of}
+use Rattle.catalog.specs.Catalog.{line_at, seen_line}
 use Rattle.catalog.specs.Line.{names, rest}
 use Rattle.catalog.specs.declared.line.Marks.{Marks}
 
@@ -52,12 +52,12 @@ module _ (s p : List ℕ) (v : SemanticVersion) (marks : Marks) where
   line_with (Some heading) None = []
   line_with None o = []
 
-  same_line : (seen : Option Seen) → line_with (without_zip seen) (in_outline seen) ≡ line_of s p v marks seen
+  same_line : (seen : Option Seen) → line_with (without_zip seen) (in_outline seen) ≡ seen_line s p v marks seen
   same_line None = refl
   same_line (Some seen) = refl
 
   -- without a go.mod there is none
-  no_line : (seen : Option Seen) → None ≡ without_zip seen → [] ≡ line_of s p v marks seen
+  no_line : (seen : Option Seen) → None ≡ without_zip seen → [] ≡ seen_line s p v marks seen
   no_line None none = refl
   no_line (Some seen) none = cc
 

@@ -1,5 +1,10 @@
-mod GoVersions
 mod Pushed
 mod Adding
 mod Ruled
 mod Printed
+mod Unescaped
+mod Hashes
+mod Numbers
+mod Modules
+mod Objects
+mod Lines

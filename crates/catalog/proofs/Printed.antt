@@ -1,5 +1,5 @@
 -- Lines that were printed one after another.
-use Rattle.std.proofs.Common.{◌≡◌, ◌≤◌, ◌∙◌, ◌++◌, ℕ, List, [], ◌∷◌, Option, Some, None}
+use Rattle.std.proofs.Common.{◌≡◌, ◌∙◌, ◌++◌, ℕ, List, [], ◌∷◌, Option, Some, None}
 use Rattle.std.proofs.Common.{Result, Ok, Err, refl, sym, ap, subst}
 use Rattle.std.proofs.Common.{append-nil, append_assoc, arith}
 use Rattle.std.proofs.KnownBytes.{Appends-nil, Appends-trans}
@@ -9,7 +9,7 @@ use Rattle.std.specs.List.{flat_map}
 use Rattle.std.specs.Prelude.{Bool, true, false, IsErrAnd, IsErrOf, MatchResult}
 use Rattle.keyring.proofs.Gathered.{HoldsThroughout}
 use Rattle.world.proofs.Causes.{grown_before}
-use Rattle.world.specs.Store.{Shown, GrewOrFull, HasCause, Reads}
+use Rattle.world.specs.Store.{Shown, Reads}
 use Rattle.world.specs.World.{World}
 use Rattle.world.specs.declared.entry.Holder.{Holder}
 use Rattle.world.specs.declared.registry.StoreFault.{StoreFault}

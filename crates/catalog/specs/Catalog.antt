@@ -1,5 +1,5 @@
 -- The lines of the versions that a shelf sees.
-use Rattle.std.specs.Prelude.{ℕ, Bool, false, List, [], ◌∷◌, Option, Some, None, bytes_eq}
+use Rattle.std.specs.Prelude.{ℕ, Bool, false, List, [], Option, Some, None, bytes_eq}
 use Rattle.std.specs.List.{flat_map}
 use Rattle.gomod.specs.Module.{GoModule, is_retracted}
 use Rattle.modver.specs.SemanticVersion.{SemanticVersion, version_text}
@@ -38,12 +38,12 @@ marks_of m latest v = record { is_retracted = is_retracted_by m v; is_latest = i
 -- ---- the lines
 
 -- the line of what is seen of a version; none if nothing is
-abbrev pub line_of : List ℕ → List ℕ → SemanticVersion → Marks → Option Seen → List ℕ
-line_of s p v marks None = []
-line_of s p v marks (Some seen) = line s p v marks seen
+abbrev pub seen_line : List ℕ → List ℕ → SemanticVersion → Marks → Option Seen → List ℕ
+seen_line s p v marks None = []
+seen_line s p v marks (Some seen) = line s p v marks seen
 
 abbrev pub line_at : World → List ℕ → List ℕ → SemanticVersion → Marks → List ℕ
-line_at w s p v marks = line_of s p v marks (view w s p (version_text v))
+line_at w s p v marks = seen_line s p v marks (view w s p (version_text v))
 
 -- the lines of these versions of a path, if this go.mod retracts and this is the latest
 abbrev pub lines_by : World → List ℕ → List ℕ → Option GoModule → Option SemanticVersion → List SemanticVersion → List ℕ

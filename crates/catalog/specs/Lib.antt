@@ -1,4 +1,5 @@
-pub mod GoVersion
+pub mod Json
 pub mod Line
 pub mod Catalog
+pub mod Laws
 pub mod Printing

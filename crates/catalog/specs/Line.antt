@@ -2,7 +2,7 @@
 use Rattle.std.specs.Prelude.{ℕ, Bool, true, false, List, [], ◌∷◌, ◌++◌, codes, decimal, if◌then◌else◌}
 use Rattle.std.specs.Prelude.{Option, Some, None, bytes_eq}
 use Rattle.std.specs.List.{flat_map}
-use Rattle.gomod.specs.Module.{GoModule}
+use Rattle.gomod.specs.Module.{GoModule, go_version}
 use Rattle.gomod.specs.declared.entries.Requirement.{Requirement}
 use Rattle.gosum.specs.Sum.{hash_of}
 use Rattle.modver.specs.SemanticVersion.{SemanticVersion, version_text}
@@ -12,7 +12,6 @@ use Rattle.outline.specs.declared.outlines.Outline.{Outline}
 use Rattle.world.specs.World.{common, heading_of}
 use Rattle.world.specs.declared.entry.Heading.{Heading}
 use Rattle.world.specs.declared.entry.Seen.{Seen}
-use Rattle.catalog.specs.GoVersion.{go_version}
 use Rattle.catalog.specs.declared.line.Marks.{Marks}
 
 -- a member behind others: a name and a text
@@ -42,7 +41,11 @@ abbrev pub requirements : List Requirement → List ℕ
 requirements [] = []
 requirements (r ∷ rs) = requirement r ++ more_requirements rs
 
--- what a go.mod requires; nothing if it does not read
+-- what a go.mod names and what it requires; nothing if it does not read
+abbrev pub go_version_in : Option GoModule → Option (List ℕ)
+go_version_in None = None
+go_version_in (Some m) = go_version m
+
 abbrev pub required_in : Option GoModule → List Requirement
 required_in None = []
 required_in (Some m) = m.required
@@ -59,10 +62,13 @@ names p v = codes "{\"Path\":\"" ++ (p ++ (codes "\"" ++ text_member (codes "Ver
 abbrev pub marks_text : Marks → List ℕ
 marks_text marks = flag_member (codes "Retracted") marks.is_retracted ++ flag_member (codes "Latest") marks.is_latest
 
+abbrev pub module_text : Option GoModule → List ℕ
+module_text m =
+    maybe_member (codes "GoVersion") (go_version_in m)
+    ++ (codes ",\"Require\":[" ++ (requirements (required_in m) ++ codes "]"))
+
 abbrev pub gomod_text : List ℕ → List ℕ
-gomod_text gomod =
-    maybe_member (codes "GoVersion") (go_version gomod)
-    ++ (codes ",\"Require\":[" ++ (requirements (required_in (module_in (reading_of gomod))) ++ codes "]"))
+gomod_text gomod = module_text (module_in (reading_of gomod))
 
 abbrev pub sums : List ℕ → List ℕ → ℕ → List ℕ
 sums owner gomod zip_bytes =

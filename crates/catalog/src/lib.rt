@@ -6,7 +6,7 @@
 //! after those of another.
 #![tactic(auto)]
 
-mod go_version;
+pub mod laws;
 mod line;
 mod path;
 mod print;

@@ -1,14 +1,12 @@
 //! The line of a version. Calls here fail only if memory runs out. (RFC 8259.)
 //!
 //! No text in a line needs an escape: paths, versions, times, Go versions and hashes have no quotation mark, no
-//! backslash and no control character.
-ghost use Rattle.std.specs.Prelude.{◌≡◌, ◌++◌, codes, decimal, OnOk};
+//! backslash and no control character. So each line is JSON ([`crate::laws::lines_are_json`]).
+ghost use Rattle.std.specs.Prelude.{◌≡◌, ◌++◌, Some, codes, decimal, option_copied, OnOk};
 ghost use Rattle.gosum.specs.Sum.{hash_of};
-ghost use Rattle.world.specs.GoMods.{module_in, reading_of};
 ghost use Rattle.catalog.specs.Line as spec;
 
-use crate::go_version::go_version;
-use gomod::Requirement;
+use gomod::{GoMod, Requirement};
 use gosum::h1_of_mod;
 use itoa::Buffer;
 use modpath::ModulePath;
@@ -90,35 +88,34 @@ pub(crate) fn push_marks(line: &mut Vec<u8>, marks: Marks) -> Result<(), AllocEr
     push_flag(line, "Latest", marks.is_latest)
 }
 
-/// Appends what the go.mod says.
+/// Appends what the go.mod says: nothing that it names or requires if it does not read.
 pub(crate) fn push_gomod(alloc: Global, line: &mut Vec<u8>, gomod: &[u8]) -> Result<(), AllocError>
     ensures { OnOk result (line.new.items ≡ line.old.items ++ spec.gomod_text gomod.now) }
 {
-    let version = go_version(alloc, gomod)?;
-    push_go_version(line, &version)?;
+    match Reading::of(alloc, gomod)? {
+        Reading::Module(module) => push_module(line, &module),
+        Reading::Fault(_) => push(line, ",\"Require\":[]"),
+    }
+}
+
+/// Appends the Go version of a go.mod, and what it requires, in its order.
+fn push_module(line: &mut Vec<u8>, gomod: &GoMod) -> Result<(), AllocError>
+    ensures { OnOk result (line.new.items ≡ line.old.items ++ spec.module_text (Some gomod.now)) }
+{
+    push_go_version(line, gomod.go_version())?;
     push(line, ",\"Require\":[")?;
-    push_required(alloc, line, gomod)?;
+    push_requirements(line, gomod.required())?;
     push(line, "]")
 }
 
 /// Appends the Go version, if there is one.
-fn push_go_version(line: &mut Vec<u8>, version: &Option<Text>) -> Result<(), AllocError>
-    ensures { OnOk result (line.new.items ≡ line.old.items ++ spec.maybe_member (codes "GoVersion") version.now) }
+fn push_go_version(line: &mut Vec<u8>, version: Option<&Text>) -> Result<(), AllocError>
+    ensures { OnOk result (line.new.items
+        ≡ line.old.items ++ spec.maybe_member (codes "GoVersion") (option_copied version.entry)) }
 {
     match version {
         Some(version) => push_text(line, "GoVersion", version.as_str()),
         None => Ok(()),
-    }
-}
-
-/// Appends what the go.mod requires, in its order; nothing if it does not read.
-fn push_required(alloc: Global, line: &mut Vec<u8>, gomod: &[u8]) -> Result<(), AllocError>
-    ensures { OnOk result (line.new.items
-        ≡ line.old.items ++ spec.requirements (spec.required_in (module_in (reading_of gomod.now)))) }
-{
-    match Reading::of(alloc, gomod)? {
-        Reading::Module(module) => push_requirements(line, module.required()),
-        Reading::Fault(_) => Ok(()),
     }
 }
 

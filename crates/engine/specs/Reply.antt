@@ -1,6 +1,6 @@
 -- The bytes and the status of an answer to a request.
 use Rattle.std.specs.Prelude.{◌≡◌, ℕ, List, ◌++◌, codes, Option, Some, None, map, Result, Ok, Err}
-use Rattle.gosum.specs.Sum.{line_of}
+use Rattle.gosum.specs.Sum.{go_sum_line}
 use Rattle.modver.specs.SemanticVersion.{SemanticVersion, version_text}
 use Rattle.framing.specs.Message.{Request}
 use Rattle.wire.specs.Reply.{reply_bytes, fixed_bytes, fixed_status, info_bytes}
@@ -46,7 +46,7 @@ fixed_of decision.Full = fixed.Full
 -- the body for a go.mod: the bytes that were received, or the go.sum line of this version and a newline
 abbrev pub gomod_body : Option (List ℕ × SemanticVersion) → List ℕ → List ℕ
 gomod_body None text = text
-gomod_body (Some (path, version)) text = line_of path (version_text version) text ++ codes "\n"
+gomod_body (Some (path, version)) text = go_sum_line path (version_text version) text ++ codes "\n"
 
 -- What is written for a reply to a request for the go.sum line of this version, or of none. The outcome of a command,
 -- which no request gets, is written as not found. A version is written as its info object, and versions and paths one a

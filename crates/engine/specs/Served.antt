@@ -56,12 +56,15 @@ IsBrokenOff exchanges rest out =
 
 -- How the call ended. A good end: all messages were answered, and the stream was closed. A failed read: each message
 -- that was read was answered, and what was read after them is no whole message. A failed write: as `IsBrokenOff` says.
-abbrev pub Ended : Option (List ℕ) → Option (List ℕ) → List Exchange → List ℕ → List ℕ → List ℕ → Result (Unit {0}) Io → Type 0
+abbrev pub Ended : Option (List ℕ) → Option (List ℕ) → List Exchange → List ℕ → List ℕ → List ℕ → Result (Unit {0}) Io
+    → Type 0
 Ended unread unread_new exchanges input rest out (Ok u) =
-    Tells unread input × ((closing : Option Fixed) × IsClosing rest closing × (out ≡ texts_of exchanges ++ closing_bytes closing))
+    IsKnownInput unread input
+    × ((closing : Option Fixed) × IsClosing rest closing × (out ≡ texts_of exchanges ++ closing_bytes closing))
 Ended unread unread_new exchanges input rest out (Err io.Read) =
     Consumes unread unread_new input × IsUnfinished rest × (out ≡ texts_of exchanges)
-Ended unread unread_new exchanges input rest out (Err io.Write) = Tells unread input × IsBrokenOff exchanges rest out
+Ended unread unread_new exchanges input rest out (Err io.Write) = IsKnownInput unread input
+    × IsBrokenOff exchanges rest out
 
 -- The messages at the front of the input were answered one after another, as the machine answers them, and then the
 -- call ended as `Ended` says.

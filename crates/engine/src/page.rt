@@ -7,7 +7,7 @@ ghost use Rattle.engine.specs.Reply.{IsComposed, IsSummed};
 use crate::ask::Asking;
 use gosum::sum_line;
 use machine::ask::{Ask, Query};
-use machine::reply::{Decision, Refusal, Reply};
+use machine::reply::{ContentRefusal, Decision, Reply};
 use modpath::ModulePath;
 use modver::Version;
 use std::alloc::Global;
@@ -98,7 +98,10 @@ pub(crate) fn page_of(alloc: Global, asking: &Asking, reply: Reply) -> Result<Pa
     match reply {
         Reply::NotFound | Reply::Registry(_) => Ok(Page::Fixed(Fixed::NotFound)),
         Reply::Decided(decision) => Ok(Page::Fixed(fixed_of(decision))),
-        Reply::GoMod(text) => Ok(Page::Body(Kind::TextPlain, gomod_body(alloc, asking, text)?)),
+        Reply::GoMod(text) => Ok(Page::Body(
+            MediaType::TextPlain,
+            gomod_body(alloc, asking, text)?,
+        )),
         Reply::Zip(zip) => Ok(Page::Body(MediaType::Zip, zip)),
         Reply::Info { version, time } => {
             let body = info_body(alloc, &version, time)?;

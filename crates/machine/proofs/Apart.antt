@@ -11,17 +11,17 @@ use Rattle.machine.specs.declared.ask.Query.{Query}
 use Rattle.machine.specs.declared.ask.Publish.{Publish}
 use Rattle.machine.specs.declared.ask.Ask.TheVariants.{Unreadable, Get, Put}
 use Rattle.machine.specs.declared.ask.Event.{Event}
-use Rattle.machine.specs.declared.ask.Event.TheVariants.{Asked, TeamAdd, GroupAdd, KeyAdd, KeyRevoke}
+use Rattle.machine.specs.declared.ask.Event.TheVariants.{Asked, TeamAdd, GroupAdd, KeyAdd, KeyRevoke, KeysRevoke}
 use Rattle.machine.specs.declared.reply.Decision.{Decision}
 use Rattle.machine.specs.declared.reply.Decision.TheVariants.{Published}
 use Rattle.world.specs.declared.registry.RegistryReply.{RegistryReply}
 use Rattle.world.specs.declared.registry.RegistryReply.TheVariants.{Done, Name, Taken, NoTeam, NoKey, NoGroup}
 use Rattle.machine.specs.declared.reply.Reply.{Reply}
 use Rattle.machine.specs.declared.reply.Reply.TheVariants as reply
-use Rattle.world.specs.World.{World, IsWorld, chain, common, place, is_team_name, is_key}
+use Rattle.world.specs.World.{World, IsWorld, chain, common, place, is_held_on, is_team_name, is_key}
 use Rattle.machine.specs.Machine.{decision, keyed_reply, after_decision, stored, offered, place_of, reply_to, after}
 use Rattle.world.specs.Registry.{is_top, lacks_group, team_added, group_added, key_added, key_revoked, after_team_add}
-use Rattle.world.specs.Registry.{after_group_add, after_key_add, after_key_revoke}
+use Rattle.world.specs.Registry.{after_group_add, after_key_add, after_key_revoke, keys_revoked, after_keys_revoke}
 use Rattle.machine.specs.Isolation.{is_among, is_near, is_remaining, Agree}
 use Rattle.world.proofs.Sees.{same_chain}
 use Rattle.world.proofs.Orders.{places_total, places_exact, get_put_both, get_elsewhere}
@@ -144,6 +144,16 @@ both_revoke w x ss k Done agree =
     record { keys = ap (λ m. map.remove m k) agree.keys; shelves = agree.shelves; seen = agree.seen }
 both_revoke w x ss k r agree = agree
 
+both_revoke_all : (w x : World) (ss : List (List ℕ)) (t : List ℕ) (r : RegistryReply) → Agree w x ss
+    → Agree (after_keys_revoke w t r) (after_keys_revoke x t r) ss
+both_revoke_all w x ss t Done agree =
+    record {
+      keys = ap (λ m. map.retain_keys m (λ k. not (is_held_on t (map.get m k)))) agree.keys;
+      shelves = agree.shelves;
+      seen = agree.seen;
+    }
+both_revoke_all w x ss t r agree = agree
+
 lacks_alike : (w x : World) (group : Option (List ℕ)) → w.shelves ≡ x.shelves
     → lacks_group w group ≡ lacks_group x group
 lacks_alike w x None e = refl
@@ -208,6 +218,14 @@ event_alike w x ss (KeyRevoke k) near is all agree =
       worlds = subst (λ r. Agree (after w (KeyRevoke k)) (after_key_revoke x k r) ss) same
           (both_revoke w x ss k (key_revoked w k) agree);
     }
+event_alike w x ss (KeysRevoke t) near is all agree =
+    let same : keys_revoked w t ≡ keys_revoked x t =
+    ap (λ m. if map.contains_key m t then Done else NoTeam) agree.shelves in
+    record {
+      reply = ap reply.Registry same;
+      worlds = subst (λ r. Agree (after w (KeysRevoke t)) (after_keys_revoke x t r) ss) same
+          (both_revoke_all w x ss t (keys_revoked w t) agree);
+    }
 
 -- worlds that agree leave the same events
 pub remaining_alike : (w x : World) (ss : List (List ℕ)) (e : Event) → Agree w x ss
@@ -234,3 +252,4 @@ event_far w x ss (TeamAdd t group) far agree = absurd (true≢false far)
 event_far w x ss (GroupAdd g) far agree = absurd (true≢false far)
 event_far w x ss (KeyAdd t k right) far agree = absurd (true≢false far)
 event_far w x ss (KeyRevoke k) far agree = absurd (true≢false far)
+event_far w x ss (KeysRevoke t) far agree = absurd (true≢false far)

@@ -9,7 +9,7 @@ use Rattle.world.specs.declared.entry.Holder.{Holder}
 use Rattle.machine.specs.declared.ask.Publish.{Publish}
 use Rattle.machine.specs.declared.ask.Ask.TheVariants.{Unreadable, Get, Put}
 use Rattle.machine.specs.declared.ask.Event.{Event}
-use Rattle.machine.specs.declared.ask.Event.TheVariants.{Asked, TeamAdd, GroupAdd, KeyAdd, KeyRevoke}
+use Rattle.machine.specs.declared.ask.Event.TheVariants.{Asked, TeamAdd, GroupAdd, KeyAdd, KeyRevoke, KeysRevoke}
 use Rattle.machine.specs.declared.reply.Decision.{Decision}
 use Rattle.machine.specs.declared.reply.Decision.TheVariants.{Published}
 use Rattle.world.specs.declared.registry.RegistryReply.{RegistryReply}
@@ -20,7 +20,7 @@ use Rattle.world.specs.World.{World, IsWorld, chain, common, with_shelf}
 use Rattle.machine.specs.Laws.{ChainsStay}
 use Rattle.machine.specs.Machine.{decision, stored, offered, place_of, after_decision, after, Run}
 use Rattle.world.specs.Registry.{team_added, group_added, key_added, key_revoked, after_team_add, after_group_add}
-use Rattle.world.specs.Registry.{after_key_add, after_key_revoke}
+use Rattle.world.specs.Registry.{after_key_add, after_key_revoke, keys_revoked, after_keys_revoke}
 use Rattle.machine.specs.Isolation.{sees, is_among}
 use Rattle.machine.proofs.Views.{sees_through}
 use Rattle.world.proofs.Sees.{same_chain}
@@ -64,7 +64,8 @@ stands_team w s t group Done e stands =
     stands_shelf w s t (Some (unwrap_or group common)) (new_team w t group e).1 stands
 stands_team w s t group r e stands = same_registry w w s stands refl
 
-stands_group : (w : World) (s g : List ℕ) (r : RegistryReply) → group_added w g ≡ r → map.contains_key w.shelves s ≡ true
+stands_group : (w : World) (s g : List ℕ) (r : RegistryReply) → group_added w g ≡ r
+    → map.contains_key w.shelves s ≡ true
     → Stands w (after_group_add w g r) s
 stands_group w s g Done e stands = stands_shelf w s g None (new_group w g e).1 stands
 stands_group w s g r e stands = same_registry w w s stands refl
@@ -79,6 +80,11 @@ stands_revoke : (w : World) (s k : List ℕ) (r : RegistryReply) → map.contain
 stands_revoke w s k Done stands = record { stands = stands; chains = refl }
 stands_revoke w s k r stands = same_registry w w s stands refl
 
+stands_revoke_all : (w : World) (s t : List ℕ) (r : RegistryReply) → map.contains_key w.shelves s ≡ true
+    → Stands w (after_keys_revoke w t r) s
+stands_revoke_all w s t Done stands = record { stands = stands; chains = refl }
+stands_revoke_all w s t r stands = same_registry w w s stands refl
+
 pub stands_after : (w : World) (s : List ℕ) (e : Event) → map.contains_key w.shelves s ≡ true → Stands w (after w e) s
 stands_after w s (Asked Unreadable) stands = same_registry w w s stands refl
 stands_after w s (Asked (Get k q)) stands = same_registry w w s stands refl
@@ -88,6 +94,7 @@ stands_after w s (TeamAdd t group) stands = stands_team w s t group (team_added 
 stands_after w s (GroupAdd g) stands = stands_group w s g (group_added w g) refl stands
 stands_after w s (KeyAdd t k right) stands = stands_key w s t k right (key_added w t k) stands
 stands_after w s (KeyRevoke k) stands = stands_revoke w s k (key_revoked w k) stands
+stands_after w s (KeysRevoke t) stands = stands_revoke_all w s t (keys_revoked w t) stands
 
 -- a run takes no shelf away, and leaves its chain
 pub stands_through : (w new : World) (s : List ℕ) (es : List Event) (answers : List Answer)

@@ -6,7 +6,7 @@ use Rattle.world.specs.declared.entry.Right.{Right}
 use Rattle.world.specs.declared.entry.Holder.{Holder}
 use Rattle.machine.specs.declared.ask.Publish.{Publish}
 use Rattle.machine.specs.declared.ask.Ask.TheVariants.{Unreadable, Get, Put}
-use Rattle.machine.specs.declared.ask.Event.TheVariants.{Asked, TeamAdd, GroupAdd, KeyAdd, KeyRevoke}
+use Rattle.machine.specs.declared.ask.Event.TheVariants.{Asked, TeamAdd, GroupAdd, KeyAdd, KeyRevoke, KeysRevoke}
 use Rattle.machine.specs.declared.reply.Decision.{Decision}
 use Rattle.machine.specs.declared.reply.Decision.TheVariants.{Published}
 use Rattle.world.specs.declared.registry.RegistryReply.{RegistryReply}
@@ -16,7 +16,7 @@ use Rattle.machine.specs.declared.reply.Answer.TheVariants.{Replied, Failed}
 use Rattle.world.specs.World.{World}
 use Rattle.machine.specs.Machine.{decision, after_decision, after}
 use Rattle.world.specs.Registry.{team_added, group_added, key_added, key_revoked, after_team_add, after_group_add}
-use Rattle.world.specs.Registry.{after_key_add, after_key_revoke}
+use Rattle.world.specs.Registry.{after_key_add, after_key_revoke, keys_revoked, after_keys_revoke}
 use Rattle.machine.specs.Laws.{BodiesChangeNothing, IsChange, OnlyChangesChange, RunsAreCut, RunsAreJoined}
 use Rattle.machine.proofs.Runs.{run_more}
 
@@ -45,9 +45,15 @@ key_changes : (w : World) (s k : List ℕ) (right : Right) (r : RegistryReply)
 key_changes w s k right Done = inl tt
 key_changes w s k right r = inr refl
 
-revoke_changes : (w : World) (k : List ℕ) (r : RegistryReply) → IsChange (reply.Registry r) ⊎ (after_key_revoke w k r ≡ w)
+revoke_changes : (w : World) (k : List ℕ) (r : RegistryReply)
+    → IsChange (reply.Registry r) ⊎ (after_key_revoke w k r ≡ w)
 revoke_changes w k Done = inl tt
 revoke_changes w k r = inr refl
+
+revoke_all_changes : (w : World) (s : List ℕ) (r : RegistryReply)
+    → IsChange (reply.Registry r) ⊎ (after_keys_revoke w s r ≡ w)
+revoke_all_changes w s Done = inl tt
+revoke_all_changes w s r = inr refl
 
 pub only_changes_change : OnlyChangesChange
 only_changes_change w (Asked Unreadable) = inr refl
@@ -57,6 +63,7 @@ only_changes_change w (TeamAdd t group) = team_changes w t group (team_added w t
 only_changes_change w (GroupAdd g) = group_changes w g (group_added w g)
 only_changes_change w (KeyAdd t k right) = key_changes w t k right (key_added w t k)
 only_changes_change w (KeyRevoke k) = revoke_changes w k (key_revoked w k)
+only_changes_change w (KeysRevoke s) = revoke_all_changes w s (keys_revoked w s)
 
 pub runs_are_cut : RunsAreCut
 runs_are_cut old new [] more [] last long run = (old, refl, run)

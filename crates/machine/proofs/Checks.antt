@@ -18,7 +18,7 @@ use Rattle.world.specs.declared.entry.Right.{Right}
 use Rattle.world.specs.declared.entry.Right.TheVariants.{Reads, Publishes}
 use Rattle.world.specs.declared.standing.Standing.{Standing}
 use Rattle.world.specs.declared.standing.Standing.TheVariants as standing
-use Rattle.world.specs.Standing.{same_entry, standing_to, entry_seen}
+use Rattle.world.specs.Standing.{same_entry, standing, standing_to, entry_seen}
 use Rattle.machine.specs.declared.ask.Body.{Body}
 use Rattle.machine.specs.declared.ask.Publish.{Publish}
 use Rattle.world.specs.declared.reading.Reading.{Reading}
@@ -30,7 +30,7 @@ use Rattle.world.specs.World.{World, IsEntry, group_of, above, seen_at, first_on
 use Rattle.machine.specs.Machine.{first_failing, is_readable, may_publish, is_too_large, entry_time, entry_of, gomod_of}
 use Rattle.machine.specs.Machine.{is_same, is_other, offered, request_checks}
 use Rattle.machine.specs.Machine.{gomod_checks, shelf_checks, decided_by_shelf, decided, own_refusal, standing_if}
-use Rattle.machine.specs.Machine.{standing_of, shelf_decision, decision, place_of}
+use Rattle.machine.specs.Machine.{standing_of, decision, after_decision, after_publish, place_of}
 use Rattle.world.specs.Store.{IsRoomFor}
 use Rattle.world.specs.EntryTest.{is_small, is_time_of}
 use Rattle.world.proofs.EntryTests.{gomod_so, small_so, time_so}
@@ -82,6 +82,19 @@ compared p right reading there n e f =
     ap (λ o. unwrap_or o Published)
     (judged p right reading there n e ∙ ap (λ o. option_or o (first_failing (shelf_checks there n))) f)
 
+-- ---- the entry that a publish hands in
+
+pub body_of : (p : Publish) (o : Option Body) (e : Entry) → option_map (entry_of p) o ≡ Some e
+    → (b : Body) × (o ≡ Some b) × (entry_of p b ≡ e)
+body_of p None e is = cc
+body_of p (Some b) e is = (b, refl, cc)
+
+-- the go.mod of a publish is that of its entry
+gomod_handed : (p : Publish) (e : Entry) → offered p ≡ Some e → gomod_of p ≡ Some (reading_of e.gomod)
+gomod_handed p e handed =
+    let it = body_of p p.body e handed in
+    ap (option_map (λ (b : Body). reading_of b.gomod)) it.1 ∙ ap (λ (x : Entry). Some (reading_of x.gomod)) it.2
+
 -- ---- what a publish is refused for by itself
 
 -- a check of the publish comes before those of its go.mod
@@ -90,10 +103,13 @@ pub refused_first : (p : Publish) (right : Right) (d : Decision)
 refused_first p right d e = failing_after (request_checks p (Some right)) (gomod_checks p (gomod_of p))
     ∙ ap (λ o. option_or o (first_failing (gomod_checks p (gomod_of p)))) e
 
-pub then_by_gomod : (p : Publish) (right : Right) → first_failing (request_checks p (Some right)) ≡ None
-    → own_refusal p right ≡ first_failing (gomod_checks p (gomod_of p))
-then_by_gomod p right e = failing_after (request_checks p (Some right)) (gomod_checks p (gomod_of p))
-    ∙ ap (λ o. option_or o (first_failing (gomod_checks p (gomod_of p)))) e
+pub then_by_gomod : (p : Publish) (right : Right) (e : Entry) (gomod : Reading)
+    → first_failing (request_checks p (Some right)) ≡ None → offered p ≡ Some e → gomod ≡ reading_of e.gomod
+    → own_refusal p right ≡ first_failing (gomod_checks p (Some gomod))
+then_by_gomod p right e gomod passes handed read =
+    failing_after (request_checks p (Some right)) (gomod_checks p (gomod_of p))
+    ∙ ap (λ o. option_or o (first_failing (gomod_checks p (gomod_of p)))) passes
+    ∙ ap (λ o. first_failing (gomod_checks p o)) (gomod_handed p e handed ∙ ap (λ (r : Reading). Some r) (sym read))
 
 -- a publish that is refused for itself or its go.mod is refused whatever stands
 pub refused_alone : (w : World) (h : Holder) (p : Publish) (d : Decision) → own_refusal p h.right ≡ Some d
@@ -104,14 +120,17 @@ refused_alone w h p d e =
     (failing_after (request_checks p (Some h.right) ++ gomod_checks p (gomod_of p)) checks
     ∙ ap (λ o. option_or o (first_failing checks)) e)
 
--- a publish that is not refused for itself or its go.mod is judged by what stands
-pub judged_by_shelf : (w : World) (h : Holder) (p : Publish) → own_refusal p h.right ≡ None
-    → decision w (Some h) p ≡ shelf_decision w h.shelf p
-judged_by_shelf w h p e =
+-- a publish that is not refused for itself or its go.mod is judged by how its entry compares with what stands
+pub judged_by_shelf : (w : World) (h : Holder) (p : Publish) (e : Entry) → own_refusal p h.right ≡ None
+    → offered p ≡ Some e → decision w (Some h) p
+    ≡ decided_by_shelf (standing w h.shelf p.path (version_text p.version) e) (count w h.shelf p.path)
+judged_by_shelf w h p e passes handed =
     let checks = shelf_checks (standing_of w h.shelf p) (count w h.shelf p.path) in
     ap (λ o. unwrap_or o Published)
     (failing_after (request_checks p (Some h.right) ++ gomod_checks p (gomod_of p)) checks
-    ∙ ap (λ o. option_or o (first_failing checks)) e)
+    ∙ ap (λ o. option_or o (first_failing checks)) passes)
+    ∙ ap (λ o. decided_by_shelf (standing_if (entry_seen w h.shelf p.path (version_text p.version)) o)
+    (count w h.shelf p.path)) handed
 
 -- ---- checks that were passed
 
@@ -143,6 +162,32 @@ is_published d = false
 abbrev pub is_same_answer : Decision → Bool
 is_same_answer Same = true
 is_same_answer d = false
+
+-- no check of a publish by itself has the answer `Published`
+pub not_published : (p : Publish) (right : Right) (d : Decision) → own_refusal p right ≡ Some d
+    → is_published d ≡ false
+not_published p right d =
+    none_has is_published (request_checks p (Some right) ++ gomod_checks p (gomod_of p)) d refl
+  where
+    none_has : (test : Decision → Bool) (cs : List (Bool × Decision)) (d : Decision)
+        → list_any (λ c. test c.1) cs ≡ false → first_failing cs ≡ Some d → test d ≡ false
+    none_has test [] d apart e = cc
+    none_has test (c ∷ cs) d apart e =
+        let halves = or_parts (test c.1) (list_any (λ x. test x.1) cs) apart in
+        elim c.0 as (λ b. cond b (Some c.1) (first_failing cs) ≡ Some d → test d ≡ false) [
+          | true ↦ λ here. sym (ap (λ o. test (unwrap_or o d)) here) ∙ halves.0
+          | false ↦ λ later. none_has test cs d halves.1 later
+        ] e
+
+-- a publish that is refused by itself changes nothing
+pub unchanged : (w : World) (h : Holder) (p : Publish) (d : Decision) → own_refusal p h.right ≡ Some d
+    → after_publish w (Some h) p ≡ w
+unchanged w h p d is =
+    ap (after_decision w (Some h) p) (refused_alone w h p d is) ∙ kept d (not_published p h.right d is)
+  where
+    kept : (d : Decision) → is_published d ≡ false → after_decision w (Some h) p d ≡ w
+    kept Published never = absurd (true≢false never)
+    kept d never = refl
 
 -- ---- a publish that passed the checks of itself and of its go.mod
 
@@ -244,11 +289,6 @@ unseen w h p e =
     let seen = entry_seen w h.shelf p.path (version_text p.version) in
     not_mapped _ _ (nothing_there seen (entry_of p body.0)
     (sym (ap (λ o. standing_if seen (option_map (entry_of p) o)) body.1) ∙ is.unseen))
-
-pub body_of : (p : Publish) (o : Option Body) (e : Entry) → option_map (entry_of p) o ≡ Some e
-    → (b : Body) × (o ≡ Some b) × (entry_of p b ≡ e)
-body_of p None e is = cc
-body_of p (Some b) e is = (b, refl, cc)
 
 -- if the decision on a publish to a shelf that exists is `Published`, there is room for its entry
 pub room_for : (w : World) (h : Holder) (p : Publish) (e : Entry) → map.contains_key w.shelves h.shelf ≡ true

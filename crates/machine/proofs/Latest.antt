@@ -20,7 +20,8 @@ use Rattle.world.specs.Versions.{versions_of}
 use Rattle.world.specs.Latest.{module_of, highest_left, latest_by, latest_of, AllOf, highest, unretracted}
 use Rattle.machine.specs.Machine.{latest_reply, info_reply, query_reply}
 use Rattle.world.specs.Visible.{IsSeen, seen_versions}
-use Rattle.machine.specs.PathLaws.{HighestSays, unretracted_versions, LatestIsTheTop, NoneIsLatest, HasTime, LatestIsTold}
+use Rattle.machine.specs.PathLaws.{HighestSays, unretracted_versions, LatestIsTheTop, NoneIsLatest, HasTime}
+use Rattle.machine.specs.PathLaws.{LatestIsTold}
 use Rattle.machine.specs.PathLaws.{LatestIsNotFound}
 use Rattle.world.specs.World.{World, IsWorld, view, without_zip, heading}
 use Rattle.world.proofs.Members.{no_member}
@@ -192,7 +193,8 @@ pub latest_is_told : LatestIsTold
 latest_is_told w s p v time is = (
   λ e. elim (latest_of w s p) as
       (λ o. latest_of w s p ≡ o → IsTop (unretracted_versions w s p) v × HasTime w s p v time) [
-        | None ↦ λ none. let never : reply.NotFound ≡ reply.Info v time = sym (ap (latest_reply w s p) none) ∙ e in cc never
+        | None ↦ λ none. let never : reply.NotFound ≡ reply.Info v time = sym (ap (latest_reply w s p) none)
+            ∙ e in cc never
         | Some u ↦ λ some.
             let told = told_some w is s p u some in
             let one : reply.Info u told.0.entry.time ≡ reply.Info v time = sym told.2 ∙ e in

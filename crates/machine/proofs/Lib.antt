@@ -1,7 +1,7 @@
 pub mod Checks
 pub mod Misfits
 pub mod Runs
-mod AfterRead
+pub mod AfterRead
 pub mod Needs
 pub mod Views
 pub mod Alike

@@ -1,18 +1,21 @@
 -- Needs that are met in turn.
 use Rattle.std.proofs.Common.{◌≡◌, ◌∙◌, List, [], ◌∷◌, ◌++◌, refl, sym, subst, Result, Ok, Err, Option, Some, None, inl}
 use Rattle.std.proofs.Common.{inr}
-use Rattle.std.specs.Prelude.{IsErrAnd}
+use Rattle.std.specs.Prelude.{IsErrAnd, false}
+use Rattle.std.proofs.lemmas.Bool.{true≢false}
 use Rattle.world.specs.declared.registry.StoreFault.{StoreFault}
 use Rattle.world.specs.declared.registry.StoreFault.TheVariants.{Memory}
-use Rattle.machine.specs.Calls.{Question, History, noted, fault_of}
+use Rattle.machine.specs.Calls.{Question, History, noted, fault_of, comparison, count_of}
+use Rattle.world.specs.declared.entry.Entry.{Entry}
 use Rattle.world.specs.declared.entry.Holder.{Holder}
 use Rattle.machine.specs.declared.ask.Publish.{Publish}
 use Rattle.machine.specs.declared.reply.Decision.{Decision}
+use Rattle.machine.specs.declared.reply.Decision.TheVariants.{Published}
 use Rattle.world.specs.World.{World}
-use Rattle.machine.specs.Machine.{decision, first_failing, own_refusal, request_checks}
+use Rattle.machine.specs.Machine.{decision, first_failing, offered, own_refusal, request_checks}
 use Rattle.machine.specs.Needs.{Need, Told, Room, Meets, check_needs, publish_needs, shelf_needs, store_needs}
-use Rattle.machine.specs.Needs.{unless_refused}
-use Rattle.machine.proofs.Checks.{refused_first}
+use Rattle.machine.specs.Needs.{unless_refused, for_entry}
+use Rattle.machine.proofs.Checks.{is_published, not_published, refused_alone as decided_alone, refused_first}
 
 -- one call: it is answered, or it meets its fault
 pub told_once : {T : Type 0} (old new : History) (q : Question) (result : Result T StoreFault)
@@ -58,8 +61,8 @@ pub no_room : (h : History) (holder : Holder) (p : Publish)
     → Meets h h (check_needs holder p) (Some Memory)
 no_room h holder p passes = rw passes (inr (refl, refl))
 
--- a publish that is refused by itself, or by its go.mod, asks nothing
-pub refused_alone : (h : History) (holder : Holder) (p : Publish) (d : Decision) → own_refusal p holder.right ≡ Some d
+-- the checks of a publish that is refused by itself, or by its go.mod, ask nothing
+refused_alone : (h : History) (holder : Holder) (p : Publish) (d : Decision) → own_refusal p holder.right ≡ Some d
     → Meets h h (check_needs holder p) None
 refused_alone h holder p d refused = go (first_failing (request_checks p (Some holder.right)))
   where
@@ -70,16 +73,22 @@ refused_alone h holder p d refused = go (first_failing (request_checks p (Some h
     go (Some e) = (refl, refl)
 
 -- any other asks what stands
-pub asks_on : (old new : History) (holder : Holder) (p : Publish) (met : Option StoreFault)
-    → own_refusal p holder.right ≡ None
-    → Meets old new (shelf_needs holder.shelf p) met → Meets old new (check_needs holder p) met
-asks_on old new holder p met passes rest = go (first_failing (request_checks p (Some holder.right))) refl
+pub asks_on : (old new : History) (holder : Holder) (p : Publish) (e : Entry) (met : Option StoreFault)
+    → own_refusal p holder.right ≡ None → offered p ≡ Some e
+    → Meets old new
+    (Told (comparison holder.shelf p.path p.version) ∷ Told (count_of holder.shelf p.path) ∷ []) met
+    → Meets old new (check_needs holder p) met
+asks_on old new holder p e met passes handed rest = go (first_failing (request_checks p (Some holder.right))) refl
   where
+    asked : Meets old new (shelf_needs holder.shelf p) met
+    asked = subst (λ o. Meets old new (for_entry o (Told (comparison holder.shelf p.path p.version))
+        ++ Told (count_of holder.shelf p.path) ∷ []) met) (sym handed) rest
+
     go : (o : Option Decision) → first_failing (request_checks p (Some holder.right)) ≡ o
         → Meets old new (unless_refused o
         (Room ∷ unless_refused (own_refusal p holder.right) (shelf_needs holder.shelf p))) met
-    go None is = inl (rw passes rest)
-    go (Some e) is = absurd (let never = sym passes ∙ refused_first p holder.right e is in cc)
+    go None is = inl (rw passes asked)
+    go (Some d) is = absurd (let never = sym passes ∙ refused_first p holder.right d is in cc)
 
 -- a publish that was decided and carried out
 pub publish_in_turn : (old mid new : History) (w : World) (holder : Holder) (p : Publish) (d : Decision)
@@ -90,3 +99,14 @@ pub publish_in_turn : (old mid new : History) (w : World) (holder : Holder) (p :
 publish_in_turn old mid new w holder p d met decided checked carried =
     in_turn old mid new (check_needs holder p) (store_needs holder p (decision w (Some holder) p)) met checked
     (subst (λ e. Meets mid new (store_needs holder p e) met) (sym decided) carried)
+
+-- a publish that is refused by itself, or by its go.mod, asks nothing and is not stored
+pub refused_in_turn : (h : History) (w : World) (holder : Holder) (p : Publish) (d : Decision)
+    → own_refusal p holder.right ≡ Some d → Meets h h (publish_needs w (Some holder) p) None
+refused_in_turn h w holder p d refused =
+    publish_in_turn h h h w holder p d None (decided_alone w holder p d refused) (refused_alone h holder p d refused)
+    (stores_nothing d (not_published p holder.right d refused))
+  where
+    stores_nothing : (d : Decision) → is_published d ≡ false → Meets h h (store_needs holder p d) None
+    stores_nothing Published never = absurd (true≢false never)
+    stores_nothing d never = (refl, refl)

@@ -8,7 +8,7 @@ use Rattle.machine.specs.declared.ask.Publish.{Publish}
 use Rattle.machine.specs.declared.ask.Ask.{Ask}
 use Rattle.machine.specs.declared.ask.Ask.TheVariants.{Unreadable, Get, Put}
 use Rattle.machine.specs.declared.ask.Event.{Event}
-use Rattle.machine.specs.declared.ask.Event.TheVariants.{Asked, TeamAdd, GroupAdd, KeyAdd, KeyRevoke}
+use Rattle.machine.specs.declared.ask.Event.TheVariants.{Asked, TeamAdd, GroupAdd, KeyAdd, KeyRevoke, KeysRevoke}
 use Rattle.machine.specs.declared.reply.Decision.{Decision}
 use Rattle.machine.specs.declared.reply.Decision.TheVariants.{Published}
 use Rattle.machine.specs.declared.reply.Reply.TheVariants as reply
@@ -85,6 +85,7 @@ own_blind w x s (TeamAdd t group) is_w is_x low own = absurd (no_key own.0 own.2
 own_blind w x s (GroupAdd g) is_w is_x low own = absurd (no_key own.0 own.2)
 own_blind w x s (KeyAdd t k right) is_w is_x low own = absurd (no_key own.0 own.2)
 own_blind w x s (KeyRevoke k) is_w is_x low own = absurd (no_key own.0 own.2)
+own_blind w x s (KeysRevoke t) is_w is_x low own = absurd (no_key own.0 own.2)
 
 pub blind_throughout : IsBlindThroughout
 blind_throughout w x s [] is_w is_x low own = (refl, low)
@@ -150,6 +151,7 @@ keys_through x (TeamAdd t group ∷ es) asked = absurd asked
 keys_through x (GroupAdd g ∷ es) asked = absurd asked
 keys_through x (KeyAdd t k right ∷ es) asked = absurd asked
 keys_through x (KeyRevoke k ∷ es) asked = absurd asked
+keys_through x (KeysRevoke t ∷ es) asked = absurd asked
 
 -- a run of requests alone leaves the shelves
 shelves_through : (w new : World) (es : List Event) (answers : List Answer) → AllAsked es → Run w es answers new
@@ -164,6 +166,7 @@ shelves_through w new (TeamAdd t group ∷ es) (a ∷ answers) asked run = absur
 shelves_through w new (GroupAdd g ∷ es) (a ∷ answers) asked run = absurd asked
 shelves_through w new (KeyAdd t k right ∷ es) (a ∷ answers) asked run = absurd asked
 shelves_through w new (KeyRevoke k ∷ es) (a ∷ answers) asked run = absurd asked
+shelves_through w new (KeysRevoke t ∷ es) (a ∷ answers) asked run = absurd asked
 
 -- a world later than the begin of a run of requests is later than its end
 pub later_than_asked : (w new later : World) (es : List Event) (answers : List Answer) → AllAsked es

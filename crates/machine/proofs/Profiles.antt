@@ -20,7 +20,7 @@ use Rattle.world.proofs.SeenVersions.{entry_by}
 use Rattle.machine.specs.declared.ask.Ask.TheVariants.{Unreadable, Get, Put}
 use Rattle.machine.specs.declared.ask.Body.{Body}
 use Rattle.machine.specs.declared.ask.Event.{Event}
-use Rattle.machine.specs.declared.ask.Event.TheVariants.{Asked, TeamAdd, GroupAdd, KeyAdd, KeyRevoke}
+use Rattle.machine.specs.declared.ask.Event.TheVariants.{Asked, TeamAdd, GroupAdd, KeyAdd, KeyRevoke, KeysRevoke}
 use Rattle.machine.specs.declared.ask.Publish.{Publish}
 use Rattle.machine.specs.declared.ask.Query.{Query}
 use Rattle.machine.specs.declared.ask.Query.TheVariants as query
@@ -77,6 +77,7 @@ in_force w (TeamAdd t group) = record { replies = refl; worlds = refl }
 in_force w (GroupAdd g) = record { replies = refl; worlds = refl }
 in_force w (KeyAdd s k right) = record { replies = refl; worlds = refl }
 in_force w (KeyRevoke k) = record { replies = refl; worlds = refl }
+in_force w (KeysRevoke s) = record { replies = refl; worlds = refl }
 
 -- ---- the first profile and the second
 
@@ -201,3 +202,4 @@ answers_alike w (TeamAdd t group) is = inl (record { replies = refl; worlds = re
 answers_alike w (GroupAdd g) is = inl (record { replies = refl; worlds = refl })
 answers_alike w (KeyAdd s k right) is = inl (record { replies = refl; worlds = refl })
 answers_alike w (KeyRevoke k) is = inl (record { replies = refl; worlds = refl })
+answers_alike w (KeysRevoke s) is = inl (record { replies = refl; worlds = refl })

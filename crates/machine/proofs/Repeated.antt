@@ -22,7 +22,8 @@ use Rattle.machine.specs.declared.reply.Answer.TheVariants.{Replied, Failed}
 use Rattle.world.specs.World.{World, IsWorld, count}
 use Rattle.world.specs.Standing.{same_time, same_entry}
 use Rattle.world.specs.declared.standing.Standing.TheVariants as standing
-use Rattle.machine.specs.Machine.{decision, gomod_of, offered, standing_if, standing_of, after_decision, stored, place_of}
+use Rattle.machine.specs.Machine.{decision, gomod_of, offered, standing_if, standing_of, after_decision, stored}
+use Rattle.machine.specs.Machine.{place_of}
 use Rattle.machine.specs.Machine.{after, Run}
 use Rattle.machine.specs.Isolation.{belongs}
 use Rattle.machine.specs.Immutability.{IsAccepted, IsAcceptance, AllAccepted, AllSameOrFailed, puts}

@@ -25,7 +25,8 @@ use Rattle.machine.specs.declared.reply.Answer.TheVariants.{Replied, Failed}
 use Rattle.world.specs.World.{World, IsWorld, group_of, above, seen_at, first_on, view, without_zip, heading}
 use Rattle.world.specs.Standing.{same_time, same_entry, standing_to, entry_seen}
 use Rattle.world.specs.declared.standing.Standing.TheVariants as standing
-use Rattle.machine.specs.Machine.{decision, gomod_of, offered, entry_of, standing_if, standing_of, gomod_reply, zip_reply}
+use Rattle.machine.specs.Machine.{decision, gomod_of, offered, entry_of, standing_if, standing_of, gomod_reply}
+use Rattle.machine.specs.Machine.{zip_reply}
 use Rattle.machine.specs.Machine.{info_reply, query_reply, keyed_reply, after_decision, stored, place_of, after, Run}
 use Rattle.machine.specs.Isolation.{belongs}
 use Rattle.machine.specs.Immutability.{IsOfVersion, IsFound, StaysServed, IsAccepted, asks_back, AcceptedIsServed}

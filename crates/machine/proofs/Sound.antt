@@ -5,12 +5,12 @@ use Rattle.world.specs.declared.entry.Place.{Place}
 use Rattle.world.specs.declared.entry.Entry.{Entry}
 use Rattle.world.specs.declared.entry.Holder.{Holder}
 use Rattle.world.specs.World.{World, IsWorld}
-use Rattle.world.specs.Registry.{team_added, group_added, key_added, key_revoked}
+use Rattle.world.specs.Registry.{team_added, group_added, key_added, key_revoked, keys_revoked}
 use Rattle.world.specs.Store.{IsRoomFor}
-use Rattle.world.proofs.Sound.{entry_added, sound_team, sound_group, sound_key, sound_revoke}
+use Rattle.world.proofs.Sound.{entry_added, sound_team, sound_group, sound_key, sound_revoke, sound_keys_revoke}
 use Rattle.machine.specs.declared.ask.Publish.{Publish}
 use Rattle.machine.specs.declared.ask.Ask.TheVariants.{Unreadable, Get, Put}
-use Rattle.machine.specs.declared.ask.Event.TheVariants.{Asked, TeamAdd, GroupAdd, KeyAdd, KeyRevoke}
+use Rattle.machine.specs.declared.ask.Event.TheVariants.{Asked, TeamAdd, GroupAdd, KeyAdd, KeyRevoke, KeysRevoke}
 use Rattle.machine.specs.declared.reply.Decision.{Decision}
 use Rattle.machine.specs.declared.reply.Decision.TheVariants.{Published}
 use Rattle.machine.specs.declared.reply.Answer.TheVariants.{Replied, Failed}
@@ -43,6 +43,7 @@ sound w (TeamAdd t group) is = sound_team w t group (team_added w t group) is re
 sound w (GroupAdd g) is = sound_group w g (group_added w g) is refl
 sound w (KeyAdd t k right) is = sound_key w t k right (key_added w t k) is refl
 sound w (KeyRevoke k) is = sound_revoke w k (key_revoked w k) is
+sound w (KeysRevoke t) is = sound_keys_revoke w t (keys_revoked w t) is
 
 pub world_through : RunsKeepWorlds
 world_through w new [] [] is run = subst IsWorld (sym run) is

@@ -13,7 +13,7 @@ use Rattle.world.specs.declared.entry.Right.{Right}
 use Rattle.machine.specs.declared.ask.Publish.{Publish}
 use Rattle.machine.specs.declared.ask.Ask.TheVariants.{Unreadable, Get, Put}
 use Rattle.machine.specs.declared.ask.Event.{Event}
-use Rattle.machine.specs.declared.ask.Event.TheVariants.{Asked, TeamAdd, GroupAdd, KeyAdd, KeyRevoke}
+use Rattle.machine.specs.declared.ask.Event.TheVariants.{Asked, TeamAdd, GroupAdd, KeyAdd, KeyRevoke, KeysRevoke}
 use Rattle.machine.specs.declared.reply.Decision.{Decision}
 use Rattle.machine.specs.declared.reply.Decision.TheVariants.{Published}
 use Rattle.world.specs.declared.registry.RegistryReply.{RegistryReply}
@@ -23,7 +23,7 @@ use Rattle.machine.specs.declared.reply.Answer.TheVariants.{Replied, Failed}
 use Rattle.world.specs.World.{World, chain, group_of, above, place, seen_at, first_on, view, with_entry}
 use Rattle.machine.specs.Machine.{decision, after_decision, stored, offered, place_of, after, Run}
 use Rattle.world.specs.Registry.{team_added, group_added, key_added, key_revoked, after_team_add, after_group_add}
-use Rattle.world.specs.Registry.{after_key_add, after_key_revoke}
+use Rattle.world.specs.Registry.{after_key_add, after_key_revoke, keys_revoked, after_keys_revoke}
 use Rattle.machine.specs.Isolation.{is_among, sees}
 use Rattle.world.proofs.Orders.{places_total, places_exact, get_elsewhere, text_self, text_same, text_apart}
 use Rattle.machine.proofs.Views.{sees_itself, sees_common, only_common, view_same}
@@ -191,6 +191,10 @@ entries_revoke : (w : World) (k : List ℕ) (r : RegistryReply) → w.entries �
 entries_revoke w k Done = refl
 entries_revoke w k r = refl
 
+entries_revoke_all : (w : World) (t : List ℕ) (r : RegistryReply) → w.entries ≡ (after_keys_revoke w t r).entries
+entries_revoke_all w t Done = refl
+entries_revoke_all w t r = refl
+
 -- what a shelf sees of a version it sees after any event
 pub stays_seen : (w : World) (s p v : List ℕ) (e : Event) (seen : Seen) → map.contains_key w.shelves s ≡ true
     → view w s p v ≡ Some seen → view (after w e) s p v ≡ Some seen
@@ -209,6 +213,9 @@ stays_seen w s p v (KeyAdd t k right) seen stands found =
 stays_seen w s p v (KeyRevoke k) seen stands found =
     stays_registry w (after w (KeyRevoke k)) s p v seen (entries_revoke w k (key_revoked w k))
     (stands_after w s (KeyRevoke k) stands).chains found
+stays_seen w s p v (KeysRevoke t) seen stands found =
+    stays_registry w (after w (KeysRevoke t)) s p v seen (entries_revoke_all w t (keys_revoked w t))
+    (stands_after w s (KeysRevoke t) stands).chains found
 
 -- ---- a run
 

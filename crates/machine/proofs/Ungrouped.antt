@@ -27,9 +27,9 @@ use Rattle.world.specs.Visible as visible
 use Rattle.world.specs.World.{World, IsWorld, common, is_team_name, is_key, place, text_cmp, chain, seen_at, first_on}
 use Rattle.world.specs.World.{without_zip, with_shelf}
 use Rattle.world.specs.World as world
-use Rattle.world.proofs.MapsPlaces.{or_none}
+use Rattle.world.proofs.Ties.{or_none}
 use Rattle.world.proofs.Groups.{sees_itself_and_common}
-use Rattle.world.proofs.MapsSeen.{none_put, has_keys}
+use Rattle.world.proofs.MoreTexts.{none_put, has_keys}
 use Rattle.world.proofs.Orders.{texts_total}
 use Rattle.world.proofs.Sound.{has_put}
 use Rattle.machine.specs.declared.ask.Ask.TheVariants.{Unreadable, Get, Put}
@@ -43,8 +43,8 @@ use Rattle.machine.specs.Machine.{decided, offered, gomod_of, place_of, standing
 use Rattle.machine.specs.Machine.{list_reply}
 use Rattle.machine.specs.Machine as machine
 use Rattle.machine.specs.Ungrouped as alone
-use Rattle.machine.specs.Ungrouped.{Ungrouped, Event, Asked, TeamAdd, KeyAdd, KeyRevoke, event_in, IsOf, EachIsOfOne}
-use Rattle.machine.specs.Ungrouped.{RepliesWithoutGroups, ListsWithoutGroups}
+use Rattle.machine.specs.Ungrouped.{Ungrouped, Event, Asked, TeamAdd, KeyAdd, KeyRevoke, KeysRevoke, event_in, IsOf}
+use Rattle.machine.specs.Ungrouped.{EachIsOfOne, RepliesWithoutGroups, ListsWithoutGroups}
 use Rattle.machine.proofs.Sound.{sound}
 
 -- the world as one without groups, with these names of its shelves
@@ -162,12 +162,20 @@ module _ (w : World) (is : IsWorld w) (none : HasNoGroup w) (names : set.FinSet 
     of_revoke k Done = record { keys = refl; names = are; entries = refl; none = none }
     of_revoke k r = is_of
 
+    of_revoke_all : (t : List ℕ) (r : RegistryReply)
+        → IsOf (alone.after_keys_revoke u t r) (registry.after_keys_revoke w t r)
+    of_revoke_all t Done = record { keys = refl; names = are; entries = refl; none = none }
+    of_revoke_all t r = is_of
+
     same_team : (t : List ℕ) → registry.team_added w t None ≡ alone.team_added u t
     same_team t = ap (λ b. if not (is_team_name t) then Name else if b then Taken else Done) (sym (are t))
 
     same_key : (t k : List ℕ) → registry.key_added w t k ≡ alone.key_added u t k
     same_key t k = ap (λ b. if not (is_key k) then Name else if not b then NoTeam else if map.contains_key w.keys k then
         Taken else Done) (sym (are t))
+
+    same_revoke_all : (t : List ℕ) → registry.keys_revoked w t ≡ alone.keys_revoked u t
+    same_revoke_all t = ap (λ b. if b then Done else NoTeam) (sym (are t))
 
     -- ---- each event
 
@@ -199,6 +207,12 @@ module _ (w : World) (is : IsWorld w) (none : HasNoGroup w) (names : set.FinSet 
               (registry.after_key_add w t k right r)) (sym same) (of_key t k right (alone.key_added u t k)),
         )
     as_alone (KeyRevoke k) = (refl, of_revoke k (registry.key_revoked w k))
+    as_alone (KeysRevoke t) =
+        let same = same_revoke_all t in (
+          ap (λ (r : RegistryReply). reply.Registry r) same,
+          subst (λ r. IsOf (alone.after_keys_revoke u t (alone.keys_revoked u t)) (registry.after_keys_revoke w t r))
+              (sym same) (of_revoke_all t (alone.keys_revoked u t)),
+        )
 
 -- ---- the laws
 

@@ -19,7 +19,7 @@ use Rattle.machine.specs.declared.ask.Publish.{Publish}
 use Rattle.machine.specs.declared.ask.Ask.{Ask}
 use Rattle.machine.specs.declared.ask.Ask.TheVariants.{Unreadable, Get, Put}
 use Rattle.machine.specs.declared.ask.Event.{Event}
-use Rattle.machine.specs.declared.ask.Event.TheVariants.{Asked, TeamAdd, GroupAdd, KeyAdd, KeyRevoke}
+use Rattle.machine.specs.declared.ask.Event.TheVariants.{Asked, TeamAdd, GroupAdd, KeyAdd, KeyRevoke, KeysRevoke}
 use Rattle.machine.specs.declared.reply.Decision.{Decision}
 use Rattle.machine.specs.declared.reply.Decision.TheVariants.{Published, Same, NotFound, Forbidden}
 use Rattle.machine.specs.declared.reply.Decision.TheVariants.{BadLength, TooLarge, Refused, Conflict, Full}
@@ -40,7 +40,7 @@ use Rattle.world.specs.EntryTest.{is_small, is_time_of, has_fault, fault_line, n
 use Rattle.world.specs.Forms.{is_path, has_text, is_time, fits, suffix_of}
 use Rattle.world.specs.GoMods.{reading_of}
 use Rattle.world.specs.Registry.{team_added, group_added, key_added, key_revoked, after_team_add}
-use Rattle.world.specs.Registry.{after_group_add, after_key_add, after_key_revoke}
+use Rattle.world.specs.Registry.{after_group_add, after_key_add, after_key_revoke, keys_revoked, after_keys_revoke}
 use Rattle.machine.specs.Listed.{listed}
 use Rattle.world.specs.declared.standing.Standing.{Standing}
 use Rattle.world.specs.declared.standing.Standing.TheVariants as standing
@@ -291,6 +291,7 @@ reply_to w (TeamAdd t group) = reply.Registry (team_added w t group)
 reply_to w (GroupAdd g) = reply.Registry (group_added w g)
 reply_to w (KeyAdd s k right) = reply.Registry (key_added w s k)
 reply_to w (KeyRevoke k) = reply.Registry (key_revoked w k)
+reply_to w (KeysRevoke s) = reply.Registry (keys_revoked w s)
 
 -- The world after an event.
 abbrev pub after : World → Event → World
@@ -299,6 +300,7 @@ after w (TeamAdd t group) = after_team_add w t group (team_added w t group)
 after w (GroupAdd g) = after_group_add w g (group_added w g)
 after w (KeyAdd s k right) = after_key_add w s k right (key_added w s k)
 after w (KeyRevoke k) = after_key_revoke w k (key_revoked w k)
+after w (KeysRevoke s) = after_keys_revoke w s (keys_revoked w s)
 
 -- ---- a list of events
 

@@ -1,6 +1,7 @@
 -- What a call over a store does with a publish.
 use Rattle.std.specs.Prelude.{ℕ, ◌≡◌, List, Result, Some, true}
-use Rattle.machine.specs.Machine.{put_decision, after_put, decision, after_publish, after_decision, stored, place_of, offered}
+use Rattle.machine.specs.Machine.{put_decision, after_put, decision, after_publish, after_decision, stored, place_of}
+use Rattle.machine.specs.Machine.{offered}
 use Rattle.machine.specs.declared.ask.Publish.{Publish}
 use Rattle.machine.specs.declared.reply.Decision.{Decision}
 use Rattle.machine.specs.declared.reply.Decision.TheVariants.{Published}
@@ -21,7 +22,8 @@ HasShelf h w = map.contains_key w.shelves h.shelf ≡ true
 -- If the shelf of the key exists, the call returns the decision on a publish by its holder, and stores what is
 -- published.
 abbrev pub PublishesTo : Shown → Shown → Result Decision StoreFault → Holder → Publish → Type 0
-PublishesTo old new result h p = DoesWhere (HasShelf h) old new result (λ w. decision w (Some h) p) (λ w. after_publish w (Some h) p)
+PublishesTo old new result h p =
+    DoesWhere (HasShelf h) old new result (λ w. decision w (Some h) p) (λ w. after_publish w (Some h) p)
 
 -- the shelf of the key exists, and this is the decision on a publish by its holder
 abbrev pub IsDecided : Holder → Publish → Decision → World → Type 0
@@ -29,8 +31,10 @@ IsDecided h p d w = HasShelf h w × (decision w (Some h) p ≡ d)
 
 -- If this is the decision on a publish, the call carries it out.
 abbrev pub CarriesOut : Shown → Shown → Result Unit StoreFault → Holder → Publish → Decision → Type 0
-CarriesOut old new result h p d = DoesWhere (IsDecided h p d) old new result (λ _. tt) (λ w. after_decision w (Some h) p d)
+CarriesOut old new result h p d =
+    DoesWhere (IsDecided h p d) old new result (λ _. tt) (λ w. after_decision w (Some h) p d)
 
 -- If a publish passes the checks, the call stores it.
 abbrev pub StoresFor : Shown → Shown → Result Unit StoreFault → Holder → Publish → Type 0
-StoresFor old new result h p = DoesWhere (IsDecided h p Published) old new result (λ _. tt) (λ w. stored w (place_of h.shelf p) (offered p))
+StoresFor old new result h p =
+    DoesWhere (IsDecided h p Published) old new result (λ _. tt) (λ w. stored w (place_of h.shelf p) (offered p))

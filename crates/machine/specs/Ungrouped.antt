@@ -1,7 +1,8 @@
 -- The machine that knows no groups: of each version a shelf sees its own entry if there is one, otherwise that of
 -- common. Each definition has the name of the one for worlds with groups, in Machine or in the crate `world`, and its
 -- meaning.
-use Rattle.std.specs.Prelude.{ℕ, ◌≡◌, List, [], ◌∷◌, ◌&&◌, not, if◌then◌else◌, Option, Some, None, bytes_eq, option_map, map as map_list}
+use Rattle.std.specs.Prelude.{ℕ, ◌≡◌, List, [], ◌∷◌, ◌&&◌, not, if◌then◌else◌, Option, Some, None, bytes_eq, option_map}
+use Rattle.std.specs.Prelude.{map as map_list}
 use Rattle.std.specs.Option.{option_or}
 use Rattle.std.specs.FinMap as map
 use Rattle.std.specs.FinSet as set
@@ -21,7 +22,8 @@ use Rattle.world.specs.Latest.{module_of, highest, highest_left}
 use Rattle.world.specs.Lines.{in_order}
 use Rattle.world.specs.Versions.{named, by_precedence}
 use Rattle.world.specs.Visible.{versions_among, paths_among}
-use Rattle.world.specs.World.{World, IsWorld, common, is_team_name, is_key, place, place_cmp, text_cmp, seen_at, without_zip}
+use Rattle.world.specs.World.{World, IsWorld, common, is_team_name, is_key, place, place_cmp, text_cmp, seen_at}
+use Rattle.world.specs.World.{is_held_on, without_zip}
 use Rattle.machine.specs.declared.ask.Ask.{Ask}
 use Rattle.machine.specs.declared.ask.Ask.TheVariants.{Unreadable, Get, Put}
 use Rattle.machine.specs.declared.ask.Event.{Event as WholeEvent}
@@ -33,7 +35,8 @@ use Rattle.machine.specs.declared.reply.Decision.{Decision}
 use Rattle.machine.specs.declared.reply.Decision.TheVariants.{Published}
 use Rattle.machine.specs.declared.reply.Reply.{Reply}
 use Rattle.machine.specs.declared.reply.Reply.TheVariants as reply
-use Rattle.machine.specs.Machine.{decided, offered, gomod_of, place_of, standing_if, gomod_reply, zip_reply, info_reply, list_reply}
+use Rattle.machine.specs.Machine.{decided, offered, gomod_of, place_of, standing_if, gomod_reply, zip_reply, info_reply}
+use Rattle.machine.specs.Machine.{list_reply}
 use Rattle.machine.specs.Machine as machine
 
 -- A world without groups: its keys with their shelf and right, the names of its shelves, and its entries.
@@ -45,7 +48,8 @@ pub record Ungrouped : Type 0 where
 -- ---- what a shelf sees
 
 abbrev pub view : Ungrouped → List ℕ → List ℕ → List ℕ → Option Seen
-view u s p v = option_or (seen_at (map.get u.entries (place s p v)) s) (seen_at (map.get u.entries (place common p v)) common)
+view u s p v = option_or (seen_at (map.get u.entries (place s p v)) s)
+    (seen_at (map.get u.entries (place common p v)) common)
 
 abbrev pub heading : Ungrouped → List ℕ → List ℕ → List ℕ → Option Heading
 heading u s p v = without_zip (view u s p v)
@@ -53,7 +57,8 @@ heading u s p v = without_zip (view u s p v)
 -- the versions of a path that a shelf sees, in ascending precedence
 abbrev pub versions_of : Ungrouped → List ℕ → List ℕ → List SemanticVersion
 versions_of u s p = in_order (by_precedence
-    (named (in_order (set.union (versions_among s p (map.entries u.entries)) (versions_among common p (map.entries u.entries))))))
+    (named (in_order (set.union (versions_among s p (map.entries u.entries))
+    (versions_among common p (map.entries u.entries))))))
 
 -- the highest version that the go.mod of this version, the highest, does not retract
 abbrev pub latest_by : Ungrouped → List ℕ → List ℕ → Option SemanticVersion → Option SemanticVersion
@@ -121,18 +126,34 @@ key_added u s k =
 abbrev pub key_revoked : Ungrouped → List ℕ → RegistryReply
 key_revoked u k = if map.contains_key u.keys k then Done else NoKey
 
+abbrev pub keys_revoked : Ungrouped → List ℕ → RegistryReply
+keys_revoked u s = if set.contains u.shelves s then Done else NoTeam
+
 abbrev pub after_team_add : Ungrouped → List ℕ → RegistryReply → Ungrouped
 after_team_add u t Done = record { keys = u.keys; shelves = set.insert u.shelves t; entries = u.entries }
 after_team_add u t r = u
 
 abbrev pub after_key_add : Ungrouped → List ℕ → List ℕ → Right → RegistryReply → Ungrouped
 after_key_add u s k right Done =
-    record { keys = map.insert u.keys k (record { shelf = s; right = right }); shelves = u.shelves; entries = u.entries }
+    record {
+      keys = map.insert u.keys k (record { shelf = s; right = right });
+      shelves = u.shelves;
+      entries =
+          u.entries;
+    }
 after_key_add u s k right r = u
 
 abbrev pub after_key_revoke : Ungrouped → List ℕ → RegistryReply → Ungrouped
 after_key_revoke u k Done = record { keys = map.remove u.keys k; shelves = u.shelves; entries = u.entries }
 after_key_revoke u k r = u
+
+abbrev pub after_keys_revoke : Ungrouped → List ℕ → RegistryReply → Ungrouped
+after_keys_revoke u s Done = record {
+  keys = map.retain_keys u.keys (λ k. not (is_held_on s (map.get u.keys k)));
+  shelves = u.shelves;
+  entries = u.entries;
+}
+after_keys_revoke u s r = u
 
 -- ---- events
 
@@ -142,6 +163,7 @@ pub data Event : Type 0 where
   TeamAdd : List ℕ → Event
   KeyAdd : List ℕ → List ℕ → Right → Event
   KeyRevoke : List ℕ → Event
+  KeysRevoke : List ℕ → Event
 
 -- the event as one of the machine with groups
 abbrev pub event_in : Event → WholeEvent
@@ -149,6 +171,7 @@ event_in (Asked a) = whole.Asked a
 event_in (TeamAdd t) = whole.TeamAdd t None
 event_in (KeyAdd s k right) = whole.KeyAdd s k right
 event_in (KeyRevoke k) = whole.KeyRevoke k
+event_in (KeysRevoke s) = whole.KeysRevoke s
 
 -- What this machine replies to an event.
 abbrev pub reply_to : Ungrouped → Event → Reply
@@ -158,6 +181,7 @@ reply_to u (Asked (Put k p)) = reply.Decided (decision u (map.get u.keys k) p)
 reply_to u (TeamAdd t) = reply.Registry (team_added u t)
 reply_to u (KeyAdd s k right) = reply.Registry (key_added u s k)
 reply_to u (KeyRevoke k) = reply.Registry (key_revoked u k)
+reply_to u (KeysRevoke s) = reply.Registry (keys_revoked u s)
 
 -- What stands after an event.
 abbrev pub after : Ungrouped → Event → Ungrouped
@@ -167,6 +191,7 @@ after u (Asked (Put k p)) = after_decision u (map.get u.keys k) p (decision u (m
 after u (TeamAdd t) = after_team_add u t (team_added u t)
 after u (KeyAdd s k right) = after_key_add u s k right (key_added u s k)
 after u (KeyRevoke k) = after_key_revoke u k (key_revoked u k)
+after u (KeysRevoke s) = after_keys_revoke u s (keys_revoked u s)
 
 abbrev pub replies : Ungrouped → List Event → List Reply
 replies u [] = []
@@ -201,4 +226,5 @@ RepliesWithoutGroups =
 abbrev pub ListsWithoutGroups : Type 0
 ListsWithoutGroups =
     (u : Ungrouped) (w : World) (es : List Event) → IsWorld w → IsOf u w
-    → (machine.replies w (map_list event_in es) ≡ replies u es) × IsOf (after_all u es) (machine.after_all w (map_list event_in es))
+    → (machine.replies w (map_list event_in es) ≡ replies u es)
+    × IsOf (after_all u es) (machine.after_all w (map_list event_in es))

@@ -87,6 +87,10 @@ pub enum Event {
     KeyRevoke {
         key: Text,
     },
+    /// Takes all keys of a shelf away.
+    KeysRevoke {
+        shelf: Text,
+    },
 }
 
 impl Publish {

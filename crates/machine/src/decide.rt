@@ -1,10 +1,11 @@
 //! The checks of a publish.
-ghost use Rattle.std.specs.Prelude.{◌≡◌, Some, true};
+ghost use Rattle.std.specs.Prelude.{◌≡◌, IfOk, Some, true};
+ghost use Rattle.std.specs.Result.{result_err};
 ghost use Rattle.machine.specs.Machine as spec;
 
 use crate::ask::{GivenTime, Publish};
-use crate::reply::{Decision, Refusal};
-use world::entry::{MAX_VERSIONS, Right};
+use crate::reply::{ContentRefusal, Decision};
+use world::entry::{EntryRef, MAX_VERSIONS, Right};
 use world::entry_test::{Misfit, module_misfit, own_misfit};
 use world::reading::Reading;
 use world::standing::Standing;
@@ -31,19 +32,18 @@ fn decision_of(misfit: Misfit) -> Decision
     }
 }
 
-/// Returns the answer of the first check that fails among those of the publish alone, or None if all pass. Allocates
-/// nothing. None of these checks looks at a store, so a publish by a reader reads no entry and no count.
-pub fn request_refusal(publish: &Publish, right: Option<Right>) -> Option<Decision>
-    ensures { result ≡ spec.first_failing (spec.request_checks publish.now right) }
+/// Returns the entry that a publish by a key with this right hands in. Fails with the answer of the first check of the
+/// publish alone that fails. Allocates nothing. None of these checks looks at a store, so a publish by a reader reads
+/// no entry and no count.
+pub fn allowed_entry(publish: &Publish, right: Right) -> Result<EntryRef, Decision>
+    ensures refusal { result_err result ≡ spec.first_failing (spec.request_checks publish.now (Some right)) }
+    ensures entry { IfOk result (λ e. spec.offered publish.now ≡ Some e) }
 {
     well_formed(publish);
-    let Some(right) = right else {
-        return Some(Decision::NotFound);
-    };
     if !may_publish(right) {
-        return Some(Decision::Forbidden);
+        return Err(Decision::Forbidden);
     }
-    entry_refusal(publish)
+    fitting_entry(publish)
 }
 
 /// Whether a key with this right may publish.
@@ -53,22 +53,24 @@ fn may_publish(right: Right) -> bool
     right == Right::Publishes
 }
 
-/// Returns the answer of the first check of the entry and of the given time that fails, or None if all pass.
-fn entry_refusal(publish: &Publish) -> Option<Decision>
-    ensures { result ≡ spec.first_failing (spec.entry_checks publish.now) }
+/// Returns the entry that a publish hands in. Fails with the answer of the first check of the entry and of the given
+/// time that fails.
+fn fitting_entry(publish: &Publish) -> Result<EntryRef, Decision>
+    ensures refusal { result_err result ≡ spec.first_failing (spec.entry_checks publish.now) }
+    ensures entry { IfOk result (λ e. spec.offered publish.now ≡ Some e) }
 {
     let Some(entry) = publish.entry() else {
-        return Some(Decision::BadLength);
+        return Err(Decision::BadLength);
     };
     // An entry whose given time is malformed has the time of its stamp, or none, so no check of its time fails.
     let is_bad = is_bad_time(publish.time);
     if let Some(misfit) = own_misfit(&publish.path, &publish.version, &entry) {
-        return Some(decision_of(misfit));
+        return Err(decision_of(misfit));
     }
     if is_bad {
-        return Some(Decision::Refused(Refusal::BadTime));
+        return Err(Decision::Refused(ContentRefusal::BadTime));
     }
-    None
+    Ok(entry)
 }
 
 /// Whether something is given that is no single well-formed time. A `TimeText` is always well formed; the definition

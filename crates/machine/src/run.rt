@@ -26,6 +26,7 @@ pub fn apply<S: Shelves>(alloc: Global, shelves: &mut S, event: &Event) -> Resul
         )?)),
         Event::GroupAdd { name } => Ok(Reply::Registry(shelves.group_add(name.as_str())?)),
         Event::KeyRevoke { key } => { Ok(Reply::Registry(shelves.key_revoke(key.as_str())?)) }
+        Event::KeysRevoke { shelf } => { Ok(Reply::Registry(shelves.keys_revoke(shelf.as_str())?)) }
         Event::KeyAdd { shelf, key, right } => Ok(Reply::Registry(shelves.key_add(
             shelf.as_str(),
             key.as_str(),

@@ -1,20 +1,20 @@
 //! The machine over any store.
 ghost use Rattle.std.specs.Prelude.{◌≡◌, ◌∷◌, Some};
 ghost use Rattle.std.specs.FinMap as map;
-ghost use Rattle.machine.specs.Machine.{ask_reply, after_ask};
+ghost use Rattle.machine.specs.Machine.{ask_reply, after_ask, offered};
 ghost use Rattle.machine.specs.Calls.{fault_of, of_key};
-ghost use Rattle.machine.specs.Needs.{Told, Meets, MeetsIn, for_entry, needs, publish_needs, store_needs};
+ghost use Rattle.machine.specs.Needs.{Told, Meets, MeetsIn, needs, publish_needs, store_needs};
 ghost use Rattle.machine.specs.Publishing.{AnswersPut, PublishesTo, CarriesOut, StoresFor};
 ghost use Rattle.world.specs.Store.{Does};
 
 use crate::ask::{Ask, Publish};
 use crate::asked::Asked;
 use crate::asking::Asking;
-use crate::judge::judge;
+use crate::judge::{checked, judge_by_shelf};
 use crate::queries::answer_query;
 use crate::reply::{Decision, Reply};
 use std::alloc::Global;
-use world::entry::Holder;
+use world::entry::{EntryRef, Holder};
 use world::registry::StoreFault;
 use world::shelves::Shelves;
 
@@ -80,43 +80,49 @@ fn publish_to<S: Asked>(
         (λ w. publish_needs w (Some holder.now) publish.now) (fault_of result) }
     ensures same { (S.asked shelves.new).source ≡ (S.asked shelves.old).source }
 {
-    let decision = judge(alloc, shelves, holder, publish)?;
-    carry_out(shelves, holder, publish, decision)?;
+    let entry = match checked(alloc, publish, holder.right)? {
+        Ok(entry) => entry,
+        Err(refused) => return Ok(refused),
+    };
+    let decision = judge_by_shelf(shelves, holder.shelf.as_str(), publish, &entry)?;
+    carry_out(shelves, holder, publish, &entry, decision)?;
     Ok(decision)
 }
 
-/// Stores the publish if the decision is `Published`, and does nothing otherwise. Fails only if the store fails.
+/// Stores the entry of the publish if the decision is `Published`, and does nothing otherwise. Fails only if the store
+/// fails.
 fn carry_out<S: Asked>(
     shelves: &mut S,
     holder: &Holder,
     publish: &Publish,
+    entry: &EntryRef,
     decision: Decision,
 ) -> Result<(), StoreFault>
+    requires { offered publish.now ≡ Some entry.now }
     ensures does { CarriesOut (S.shown shelves.old) (S.shown shelves.new) result holder.now publish.now decision }
     ensures needs { Meets (S.asked shelves.old) (S.asked shelves.new)
         (store_needs holder.now publish.now decision) (fault_of result) }
     ensures same { (S.asked shelves.new).source ≡ (S.asked shelves.old).source }
 {
     if decision == Decision::Published {
-        return store(shelves, holder, publish);
+        return store(shelves, holder, publish, entry);
     }
     Ok(())
 }
 
-/// Stores a publish that passed the checks. Fails only if the store fails.
-fn store<S: Asked>(shelves: &mut S, holder: &Holder, publish: &Publish) -> Result<(), StoreFault>
+/// Stores the entry of a publish that passed the checks. Fails only if the store fails.
+fn store<S: Asked>(
+    shelves: &mut S,
+    holder: &Holder,
+    publish: &Publish,
+    entry: &EntryRef,
+) -> Result<(), StoreFault>
+    requires { offered publish.now ≡ Some entry.now }
     ensures does { StoresFor (S.shown shelves.old) (S.shown shelves.new) result holder.now publish.now }
     ensures needs { Meets (S.asked shelves.old) (S.asked shelves.new)
         (store_needs holder.now publish.now Decision.Published) (fault_of result) }
     ensures same { (S.asked shelves.new).source ≡ (S.asked shelves.old).source }
 {
-    let Some(entry) = publish.entry() else {
-        return Ok(());
-    };
-    shelves.insert(
-        holder.shelf.as_str(),
-        &publish.path,
-        &publish.version,
-        &entry,
-    )
+    let shelf = holder.shelf.as_str();
+    shelves.insert(shelf, &publish.path, &publish.version, entry)
 }

@@ -1,5 +1,5 @@
-use Rattle.std.proofs.Common.{◌≡◌, ◌∙◌, sym, subst, Some}
-use Rattle.machine.specs.Machine.{stored, place_of, offered}
+use Rattle.std.proofs.Common.{sym, subst}
+use Rattle.machine.specs.Machine.{stored, place_of}
 use Rattle.world.specs.Store.{DoesAt}
 use Rattle.machine.proofs.Checks.{room_for}
 use Rattle.machine.proofs.Needs.{told_once}
@@ -10,18 +10,16 @@ returns-clause-does g c =
     let shown = g.S.Asked.shown in
     let h = c.args.holder.now in
     let p = c.args.publish.now in
-    let does = rw c.as_str.ensures at c.insert.ensures.does in
-    let handed : offered p ≡ Some c.in-Some.entry = sym c.entry.ensures ∙ c.in-Some.is in
+    let does = rw c.as_str-shelf.ensures at c.insert.ensures.does in
     record {
       honest = does.honest;
       at = λ honest w stands fits.
           subst (λ o. DoesAt (shown c.args.shelves.now) (shown c.insert.new.self) w c.insert.result tt
-          (stored w (place_of h.shelf p) o)) (sym handed)
-          (does.at honest w stands (room_for w h p _ fits.0 fits.1 handed));
+          (stored w (place_of h.shelf p) o)) (sym c.requires)
+          (does.at honest w stands (room_for w h p _ fits.0 fits.1 c.requires));
       cause = does.cause;
     }
 
 pub returns-clause-needs : goal.returns-clause-needs
 returns-clause-needs g c =
-    let handed : offered c.args.publish.now ≡ Some c.in-Some.entry = sym c.entry.ensures ∙ c.in-Some.is in
-    rw (handed, sym c.as_str.ensures) (told_once _ _ _ c.insert.result c.insert.ensures.asks)
+    rw (c.requires, sym c.as_str-shelf.ensures) (told_once _ _ _ c.insert.result c.insert.ensures.asks)

@@ -43,7 +43,8 @@ follows (Some bytes) end = end
 pub left_follows : (a : Account) → IsSound a → MayFollow a (left_of a.left)
 left_follows a sound over = follows a.left (sound over)
 
-tells_after : (old new : Option (List ℕ)) (bytes : List ℕ) → Consumes old new bytes → Tells old (bytes ++ left_of new)
+tells_after : (old new : Option (List ℕ)) (bytes : List ℕ) → Consumes old new bytes
+    → IsKnownInput old (bytes ++ left_of new)
 tells_after None new bytes x = tt
 tells_after (Some xs) None bytes x = absurd x
 tells_after (Some xs) (Some ys) bytes x = sym x

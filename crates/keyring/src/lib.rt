@@ -7,10 +7,8 @@
 //! - [`shelf_list`]: a line for each shelf.
 //! - [`revoke`]: takes a key away by its fingerprint.
 //! - [`made`]: makes a key of random bytes.
-//! - [`in_memory`]: the trait of a store in memory.
 #![tactic(auto)]
 
-pub mod in_memory;
 pub mod key_list;
 pub mod made;
 pub mod revoke;

@@ -14,7 +14,7 @@ use Rattle.world.specs.declared.entry.Holder.{Holder}
 use Rattle.world.specs.World.{World, IsWorld, common, chain, above, group_in, is_among, sees, place_cmp, count}
 use Rattle.world.specs.World.{version_limit}
 use Rattle.world.specs.Part.{part, IsTeam, is_held}
-use Rattle.world.proofs.MapsPlaces.{neither}
+use Rattle.world.proofs.Ties.{neither}
 use Rattle.world.proofs.Orders.{texts_total, texts_exact, places_total, places_exact, text_self, text_same, test_alike}
 use Rattle.world.proofs.Parts.{text_alike, some_left, passed, still, gone}
 use Rattle.world.proofs.Sees.{sees_common, sees_parent, sees_through, only_common}

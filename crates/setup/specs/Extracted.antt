@@ -42,13 +42,14 @@ IsUnfit result = (result ≡ Err refusal.NoTeam) ⊎ (result ≡ Err refusal.Not
 
 -- What a crash leaves of a fresh store after a call that leads it from the world x to the next one, wherever an earlier
 -- fault had left it. It covers a crash in the middle of the call too, as `AfterCrash` of a call on an open store does.
-pub record AfterFill (old new : Shown) (x : World) (result : Result (Unit {0}) Refusal) (next : World) : Type 0 where
-  -- if a crash before the call left only x, one after it leaves x or the next world
-  pub either : old.leaves x x → new.leaves x next
-  -- whatever a crash left before, after Ok it leaves only the next world
-  pub alone : OnOk result (new.leaves next next)
-  -- whatever a crash left before, after a failure it leaves x or the next world, or the call added nothing to it
-  pub failed : OnErr result (new.leaves x next ⊎ AddsNothing old new)
+pub record AfterFill (old new : Shown) (x : World) (result : Result (Unit {0}) StoreRefusal) (next : World) : Type 0
+  where
+    -- if a crash before the call left only x, one after it leaves x or the next world
+    pub either : old.leaves x x → new.leaves x next
+    -- whatever a crash left before, after Ok it leaves only the next world
+    pub alone : OnOk result (new.leaves next next)
+    -- whatever a crash left before, after a failure it leaves x or the next world, or the call added nothing to it
+    pub failed : OnErr result (new.leaves x next ⊎ AddsNothing old new)
 
 -- the call returns `Device` only if a device of one of the two stores failed in it, or a count of failures cannot grow
 pub record HasCauseInEither (before now before_too now_too : ℕ) (result : Result (Unit {0}) StoreRefusal) : Type 0 where

@@ -85,7 +85,8 @@ wanted_part wanted.All w = w
 -- the shelves, with `common`, are those that are wanted; None: what is wanted does not exist
 abbrev pub Chooses : World → Wanted → Option (List Shelf) → Type 0
 Chooses w it None = ¬ IsThere w it
-Chooses w it (Some shelves) = IsThere w it × AreShelves w shelves × (part_of w (common ∷ names_of shelves) ≡ wanted_part it w)
+Chooses w it (Some shelves) = IsThere w it × AreShelves w shelves
+    × (part_of w (common ∷ names_of shelves) ≡ wanted_part it w)
 
 -- the verdict on copying wanted shelves of w into a store of x
 abbrev pub IsJudged : World → World → Wanted → Judged → Type 0
@@ -111,7 +112,8 @@ is_written (Err e) = false
 -- and after.
 pub record Puts (Makes : Trees → Trees → Type 0) (fresh fresh_new : State) (done : Bool) : Type 0 where
   pub goes_on : GoesOn fresh fresh_new done
-  pub makes : HasCleanDisk fresh_new → Filling fresh → IsTrue done → Makes fresh.now.trees fresh_new.now.trees × Filling fresh_new
+  pub makes : HasCleanDisk fresh_new → Filling fresh → IsTrue done
+      → Makes fresh.now.trees fresh_new.now.trees × Filling fresh_new
 
 -- these shelves are put in, one after another
 abbrev pub PutsShelves : List Shelf → Trees → Trees → Type 0
@@ -135,18 +137,19 @@ MakesPart shelves source db after =
 
 -- What the result of copying shelves into a store of x says: it is done, or why it is refused, or memory ran out or a
 -- device failed. `NoTeam` comes before `NotEmpty`.
-abbrev pub Tells : Type 0 → World → Result (Unit {0}) Refusal → Type 0
-Tells There x (Ok u) = There × (x ≡ only_common)
-Tells There x (Err refusal.NoTeam) = ¬ There
-Tells There x (Err refusal.NotEmpty) = There × (x ≢ only_common)
-Tells There x (Err refusal.BadSchema) = ⊥
-Tells There x (Err refusal.Device) = Unit {0}
-Tells There x (Err refusal.Memory) = Unit {0}
+abbrev pub SaysOfCopy : Type 0 → World → Result (Unit {0}) StoreRefusal → Type 0
+SaysOfCopy There x (Ok u) = There × (x ≡ only_common)
+SaysOfCopy There x (Err refusal.NoTeam) = ¬ There
+SaysOfCopy There x (Err refusal.NotEmpty) = There × (x ≢ only_common)
+SaysOfCopy There x (Err refusal.BadSchema) = ⊥
+SaysOfCopy There x (Err refusal.Device) = Unit {0}
+SaysOfCopy There x (Err refusal.Memory) = Unit {0}
 
 -- The fresh store stands for the next world if the call returns Ok, and for what it stood for otherwise, and a crash
 -- may follow.
-pub record FillsAt (old new : Shown) (There : Type 0) (next x : World) (result : Result (Unit {0}) Refusal) : Type 0 where
-  pub tells : Tells There x result
+pub record FillsAt (old new : Shown) (There : Type 0) (next x : World) (result : Result (Unit {0}) StoreRefusal) : Type
+    0 where
+  pub tells : SaysOfCopy There x result
   pub ok : OnOk result (new.stands next)
   pub err : OnErr result (new.stands x)
   pub crash : AfterFill old new x result next

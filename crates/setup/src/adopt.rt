@@ -80,7 +80,8 @@ pub fn open_tables<S: Alter>(alloc: Global, conn: &mut Connection<S>) -> Result<
     ensures bad { Honestly (state S.Store conn.old) (state S.Store conn.new) (λ old _.
         IfErr result (λ e. e ≡ StoreRefusal.BadSchema → IsBad old.now)) }
     ensures device { Honestly (state S.Store conn.old) (state S.Store conn.new) (λ old new.
-        IfErr result (λ e. e ≡ Refusal.Device → IsTrue old.in_transaction ⊎ (IsHindered old new ⊎ IsVast old.now))) }
+        IfErr result (λ e. e ≡ StoreRefusal.Device
+        → IsTrue old.in_transaction ⊎ (IsHindered old new ⊎ IsVast old.now))) }
     ensures mode { Honestly (state S.Store conn.old) (state S.Store conn.new) (λ old new.
         new.in_transaction ≡ old.in_transaction) }
     ensures limit { Honestly (state S.Store conn.old) (state S.Store conn.new) (λ old new.

@@ -47,7 +47,7 @@ use Rattle.statements.proofs.AddKeyLemmas.{terms, added, key_params, key_means}
 
 -- ---- the query
 
-abbrev by_shelf : List Term
+abbrev pub by_shelf : List Term
 by_shelf = op2 (Compare Eq Binary) (col 1 2) (col 0 0) ∷ []
 
 abbrev shown : List Term

@@ -11,7 +11,7 @@ use Rattle.sqlite_rules.specs.Lists.{Has}
 use Rattle.sqlite_rules.proofs.ListLemmas.{has_left, has_right, has_either}
 use Rattle.world.specs.World.{World, common, is_among, text_cmp}
 use Rattle.world.proofs.Orders.{texts_total, text_self, text_same}
-use Rattle.world.proofs.MapsSeen.{or_turn}
+use Rattle.world.proofs.MoreTexts.{or_turn}
 use Rattle.sqlite.specs.Order.{Row, column}
 use Rattle.sqlite.specs.Term.{Term, col, eval_all}
 use Rattle.sqlite.specs.Query.{Query}

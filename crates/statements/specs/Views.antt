@@ -3,6 +3,7 @@ use Rattle.std.specs.Prelude.{ℕ, List, Option}
 use Rattle.world.specs.declared.entry.Right.{Right}
 use Rattle.world.specs.World.{World}
 use Rattle.world.specs.Registry.{key_added, after_key_add, key_revoked, after_key_revoke}
+use Rattle.world.specs.Registry.{keys_revoked, after_keys_revoke}
 use Rattle.world.specs.Registry.{team_added, after_team_add, group_added, after_group_add}
 
 -- the world after a command to add a key
@@ -12,6 +13,10 @@ with_key_added shelf key right w = after_key_add w shelf key right (key_added w 
 -- the world after a command to revoke a key
 abbrev pub with_key_revoked : List ℕ → World → World
 with_key_revoked key w = after_key_revoke w key (key_revoked w key)
+
+-- the world after a command to revoke all keys of a shelf
+abbrev pub with_keys_revoked : List ℕ → World → World
+with_keys_revoked shelf w = after_keys_revoke w shelf (keys_revoked w shelf)
 
 -- the world after a command to add a team, as a member of a group or of none
 abbrev pub with_team_added : List ℕ → Option (List ℕ) → World → World

@@ -24,6 +24,7 @@
 //! | `registry::add_group` | that of `find_shelf`, then write a row of `shelf` |
 //! | `registry::add_key` | those of `find_shelf` and `find_key`, then write a row of `access` |
 //! | `revoke::revoke_key` | that of `find_key`, then delete the row of `access` |
+//! | `revoke::revoke_keys` | that of `find_shelf`, then delete all rows of `access` that the shelf has |
 //! | `transaction::commit_if` | the end of a transaction |
 //! | `rows::put_shelf` | write a row of `shelf` |
 //! | `rows::put_entry` | write the rows of an entry |

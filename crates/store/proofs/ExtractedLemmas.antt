@@ -13,7 +13,7 @@ use Rattle.kept.specs.declared.kept.Kept.{Kept}
 use Rattle.kept.specs.Kept.{AreKept, IsNothing}
 use Rattle.kept.proofs.KeptLemmas.{nothing_kept}
 use Rattle.setup.specs.Extracted.{IsRead, IsUnfit, AfterFill}
-use Rattle.setup.specs.Parts.{AreTeams, wanted_part, Tells, FillsAt, FillsBy, Extracts, ExtractsTeams}
+use Rattle.setup.specs.Parts.{AreTeams, wanted_part, SaysOfCopy, FillsAt, FillsBy, Extracts, ExtractsTeams}
 use Rattle.setup.specs.declared.choice.Wanted.{Wanted}
 use Rattle.setup.specs.declared.choice.Wanted.TheVariants as wanted
 use Rattle.setup.proofs.PartLemmas.{chains_world, part_of_one, not_cons}
@@ -37,7 +37,7 @@ is_read a b spares = record {
 }
 
 pub fault_tells : (There : Type 0) (x : World) (r : StoreRefusal) → r ≢ refusal.BadSchema → r ≢ refusal.NotEmpty
-    → r ≢ refusal.NoTeam → Tells There x (Err r)
+    → r ≢ refusal.NoTeam → SaysOfCopy There x (Err r)
 fault_tells There x refusal.Device a b c = tt
 fault_tells There x refusal.Memory a b c = tt
 fault_tells There x refusal.BadSchema a b c = absurd (a refl)
@@ -79,7 +79,7 @@ fill_kept old new kept kept_new n n_new x next result after =
 -- caches
 pub fills_at : (old new : State) (There : Type 0) (next x : World) (result : Result (Unit {0}) StoreRefusal)
     → HasCleanDisk new → StandsFor old x → IsWorld next
-    → ChangesAt old new (is_ok result) x next → Tells There x result
+    → ChangesAt old new (is_ok result) x next → SaysOfCopy There x result
     → FillsAt (shown_of old) (shown_of new) There next x result
 fills_at old new There next x (Ok u) clean stands is change tells = record {
   tells = tells;
@@ -141,8 +141,8 @@ one_team w t is = (
       elim there [ inl same ↦ subst (IsTeam w) (sym same) is | inr none ↦ absurd none ],
 )
 
-one_tells : (w x : World) (t : List ℕ) (r : Result (Unit {0}) Refusal) → Tells (AreTeams w (t ∷ [])) x r
-    → Tells (IsTeam w t) x r
+one_tells : (w x : World) (t : List ℕ) (r : Result (Unit {0}) StoreRefusal) → SaysOfCopy (AreTeams w (t ∷ [])) x r
+    → SaysOfCopy (IsTeam w t) x r
 one_tells w x t (Ok u) h = (h.0.1 t (inl refl), h.1)
 one_tells w x t (Err refusal.NoTeam) h = λ is. h (one_team w t is)
 one_tells w x t (Err refusal.NotEmpty) h = (h.0.1 t (inl refl), h.1)

@@ -18,13 +18,13 @@ use Rattle.statements.specs.declared.extract_rows.CopyError.{CopyError}
 use Rattle.statements.specs.declared.extract_rows.CopyError.TheVariants.{Source, Fresh}
 use Rattle.statements.proofs.ChangeLemmas.{spares_at}
 use Rattle.statements.proofs.ExtractLemmas.{unchanged_itself}
-use Rattle.migration.specs.Causes.{HasReasonIf}
-use Rattle.migration.specs.Filled.{IsOfTables}
-use Rattle.migration.specs.Filled.{Migrates as WritesWorld}
+use Rattle.older_rows.specs.Causes.{HasReasonIf}
+use Rattle.older_rows.specs.Filled.{IsOfTables}
+use Rattle.older_rows.specs.Filled.{Migrates as WritesWorld}
 use Rattle.kept.specs.Kept.{IsNothing}
 use Rattle.store.specs.Shown.{shown_with}
 use Rattle.store.specs.Migrated.{IsForeign, IsVastOlder, IsOldOr, IsMigrated, is_whole, HasOlderReason, MigratesRows}
-use Rattle.store.specs.Migrated.{Tells, MigratesAt, Migrates, HasCauseInOne}
+use Rattle.store.specs.Migrated.{SaysOfMigration, MigratesAt, Migrates, HasCauseInOne}
 use Rattle.setup.specs.Opened.{IsOfOpening}
 use Rattle.kept.specs.declared.kept.Kept.{Kept}
 use Rattle.store.specs.declared.migrate.Migrated.{Migrated}
@@ -127,7 +127,7 @@ world_of db x w (inr rest) = absurd (true≢false rest.0)
 -- a change from x to w, done if the result is Ok, migrates the store as `MigratesAt` says, with nothing cached after
 at_end : (db : Database) (old new : State) (kept kept_new : Kept) (n n_new : ℕ) (x w : World)
     (r : Result (Unit {0}) StoreRefusal) → IsNothing kept_new → HasCleanDisk new → StandsFor old x
-    → IsOldOr db x (is_ok r) w → ChangesAt old new (is_ok r) x w → Tells x r
+    → IsOldOr db x (is_ok r) w → ChangesAt old new (is_ok r) x w → SaysOfMigration x r
     → MigratesAt db (shown_with old kept n) (shown_with new kept_new n_new) x r
 at_end db old new kept kept_new n n_new x w (Ok u) none clean stands was change tells = record {
   tells = tells;
@@ -150,7 +150,7 @@ at_end db old new kept kept_new n n_new x w (Err e) none clean stands was change
 module _ (s t f g : State) (kept kept_new : Kept) (n n_new : ℕ) (rows : Result Migrated CopyError)
     (r : Result (Unit {0}) StoreRefusal) (moved : MigratesRows s t f g rows) (none : IsNothing kept_new)
     (done : is_whole rows ≡ is_ok r) (full : r ≡ Err refusal.NotEmpty → rows ≡ Ok NotEmpty)
-    (tells : (x : World) → IfOk rows (IsMigrated x) → Tells x r) where
+    (tells : (x : World) → IfOk rows (IsMigrated x) → SaysOfMigration x r) where
   spared : (r ≡ Err refusal.NotEmpty) ⊎ IsForeign s.now → Spares f g
   spared unfit = moved.spares (elim unfit [ inl e ↦ inl (full e) | inr foreign ↦ inr foreign ])
 
@@ -173,17 +173,17 @@ module _ (s t f g : State) (kept kept_new : Kept) (n n_new : ℕ) (rows : Result
         (tells x (moved.says good x so.0));
   }
 
--- `Tells` holds of each refusal that is a fault
+-- `SaysOfMigration` holds of each refusal that is a fault
 pub fault_tells : (x : World) (e : StoreRefusal) → e ≢ refusal.BadSchema → e ≢ refusal.NotEmpty → e ≢ refusal.NoTeam
-    → Tells x (Err e)
+    → SaysOfMigration x (Err e)
 fault_tells x refusal.Device a b c = tt
 fault_tells x refusal.Memory a b c = tt
 fault_tells x refusal.BadSchema a b c = absurd (a refl)
 fault_tells x refusal.NotEmpty a b c = absurd (b refl)
 fault_tells x refusal.NoTeam a b c = absurd (c refl)
 
--- `Tells` holds of each refusal of an opening but `BadSchema`
-pub opening_tells : (x : World) (e : Refusal) → IsOfOpening e → e ≢ refusal.BadSchema → Tells x (Err e)
+-- `SaysOfMigration` holds of each refusal of an opening but `BadSchema`
+pub opening_tells : (x : World) (e : StoreRefusal) → IsOfOpening e → e ≢ refusal.BadSchema → SaysOfMigration x (Err e)
 opening_tells x refusal.Device of a = tt
 opening_tells x refusal.Memory of a = tt
 opening_tells x refusal.BadSchema of a = absurd (a refl)
@@ -214,7 +214,8 @@ pub no_device : (s t : State) (count : ℕ) (r : Result (Unit {0}) StoreRefusal)
 no_device s t count r other =
     record { no_fewer = omega arith; device = λ _ same. absurd (other same); once = omega arith; stays = λ _. refl }
 
-pub device_is : (r : Refusal) → ◌≡◌ {A = Result (Unit {0}) Refusal} (Err r) (Err refusal.Device) → r ≡ refusal.Device
+pub device_is : (r : StoreRefusal) → ◌≡◌ {A = Result (Unit {0}) StoreRefusal} (Err r) (Err refusal.Device)
+    → r ≡ refusal.Device
 device_is r same = cc
 
 pub older_device : (s t : State) (e : Error) (r : StoreRefusal) (count : ℕ)

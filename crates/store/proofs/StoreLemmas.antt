@@ -15,7 +15,7 @@ use Rattle.world.specs.declared.registry.RegistryReply.{RegistryReply}
 use Rattle.world.specs.declared.registry.RegistryReply.TheVariants.{Done, Name, Taken, NoTeam, NoKey, NoGroup}
 use Rattle.world.specs.declared.entry.Right.{Right}
 use Rattle.world.specs.Registry.{team_added, group_added, key_added, after_team_add, after_group_add, after_key_add}
-use Rattle.world.specs.Registry.{after_key_revoke}
+use Rattle.world.specs.Registry.{after_key_revoke, after_keys_revoke}
 use Rattle.world.proofs.Causes.{answers, lacks_memory, handed_on, in_turn}
 use Rattle.world.proofs.Sound.{new_team, new_group}
 use Rattle.tables.specs.Means.{Stands, StandsFor}
@@ -343,7 +343,7 @@ refused old kept count x value next same = record {
 }
 
 -- ---- the commands of the registry leave the cache as it is, except for lists, headings and absences when a team is
--- added, and for keys when one is revoked
+-- added, and for keys when one is revoked or all of a shelf are
 
 module _ (w : World) (kept : Kept) (right : AreKept w kept) where
   module _ (lists : Lists) (headings : Held KeptHeading) (absences : Lacking) (none : lists ≡ [])
@@ -412,3 +412,12 @@ module _ (w : World) (kept : Kept) (right : AreKept w kept) where
     kept_after_revoke key NoTeam = kept_but_keys
     kept_after_revoke key NoKey = kept_but_keys
     kept_after_revoke key NoGroup = kept_but_keys
+
+    pub kept_after_revoke_all : (shelf : List ℕ) (r : RegistryReply)
+        → AreKept (after_keys_revoke w shelf r) (record kept { keys = keys })
+    kept_after_revoke_all shelf Done = (right.0, right.1, right.2, (right.3.0, right.3.1, none_held _ keys none))
+    kept_after_revoke_all shelf Name = kept_but_keys
+    kept_after_revoke_all shelf Taken = kept_but_keys
+    kept_after_revoke_all shelf NoTeam = kept_but_keys
+    kept_after_revoke_all shelf NoKey = kept_but_keys
+    kept_after_revoke_all shelf NoGroup = kept_but_keys

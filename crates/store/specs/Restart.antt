@@ -89,5 +89,6 @@ KeepsImage image size now =
 module _ {D : Type 0} {g : Ghosts D} where
   abbrev pub Keeps : Image → Leftover D g → Type 0
   Keeps image (left.Files now) = (it : Image) → outcomes g now.log now.db it → it ≡ image
-  Keeps image (left.Unopened now) = (it : Image) → (state_of now).may_leave it → KeepsImage image (state_of now).page_size it
+  Keeps image (left.Unopened now) = (it : Image) → (state_of now).may_leave it
+      → KeepsImage image (state_of now).page_size it
   Keeps image (left.Store now) = (db : Trees) → recovers now db → KeepsTrees image db

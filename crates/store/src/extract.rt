@@ -20,7 +20,8 @@ use world::registry::StoreFault;
 pub(crate) fn refusal_of(fault: StoreFault) -> StoreRefusal
     ensures device { result ≡ StoreRefusal.Device → fault ≡ StoreFault.Device }
     ensures told { fault ≡ StoreFault.Device → result ≡ StoreRefusal.Device }
-    ensures named { (result ≢ Refusal.BadSchema) × (result ≢ Refusal.NotEmpty) × (result ≢ Refusal.NoTeam) }
+    ensures named { (result ≢ StoreRefusal.BadSchema) × (result ≢ StoreRefusal.NotEmpty)
+        × (result ≢ StoreRefusal.NoTeam) }
 {
     match fault {
         StoreFault::Device => StoreRefusal::Device,

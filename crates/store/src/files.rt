@@ -40,8 +40,8 @@ pub(crate) const SHORTEST_LOG: usize = 32 + 24;
 /// Opens the files at a path, which it creates if they do not exist, and returns them with a number that it drew at
 /// random.
 ///
-/// Fails with `Memory` if memory ran out, and with `Device` if the files cannot be opened (see [`Refusal::Device`]). If
-/// the database file is missing and its log is not, it creates nothing.
+/// Fails with `Memory` if memory ran out, and with `Device` if the files cannot be opened (see
+/// [`StoreRefusal::Device`]). If the database file is missing and its log is not, it creates nothing.
 ///
 /// It opens both files itself, because the kit's call for a path takes no number of pages.
 pub(crate) fn open_pair<T: Start>(

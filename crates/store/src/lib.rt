@@ -25,11 +25,11 @@
 //! | `versions_kept` | `statements::entries::count_versions`; then cached |
 //! | `insert` | `statements::entries::add_entry` |
 //! | `team_add`, `group_add`, `key_add` | `add_team`, `add_group`, `add_key` of `statements::registry` |
-//! | `key_revoke` | `statements::revoke::revoke_key` |
+//! | `key_revoke`, `keys_revoke` | `statements::revoke::revoke_key`, `revoke_keys` |
 //! | `extract`, `extract_teams`, `copy` | `setup::copy::copy_shelves`, which writes in one transaction |
 //! | `keys`, `shelves` | `keyring_rows::find_keys`, `find_shelf_names` |
 //! | `parent` | `statements::registry::find_shelf` |
-//! | `migrate` | `older::schema::format_of`, and `migration::write::write_world`, into a fresh store in one transaction |
+//! | `migrate` | `older::schema::format_of`, and `older_rows::write::write_world`, into a fresh store in one transaction |
 //!
 //! The chain of a shelf is its own shelf, its group if it has one, and `common`. `statements::registry::find_shelf`
 //! finds the group once, and the store caches it, because it never changes.

@@ -2,15 +2,15 @@
 
 ghost use Rattle.std.specs.Prelude.{◌≡◌, ◌≢◌, Ok, Err, IfErr};
 ghost use Rattle.sqlite.specs.Held.{state};
-ghost use Rattle.migration.specs.Visits.{is_done};
+ghost use Rattle.older_rows.specs.Visits.{is_done};
 ghost use Rattle.store.specs.Shown.{shown_with};
 ghost use Rattle.store.specs.Migrated.{MigratesRows, Migrates, HasCauseInOne, is_whole};
 
 use crate::extract::refusal_of;
 use crate::store::{SqlShelves, fault};
 use kept::kept::Kept;
-use migration::write::write_world;
 use older::schema::format_of;
+use older_rows::write::write_world;
 use setup::judge::is_blank;
 use setup::refusal::{StoreRefusal, open_refusal};
 use sqlite::{Alter, Connection, Error, ErrorCode};

@@ -20,8 +20,8 @@ use std::rt::HostRuntime;
 /// are those that the files hold, or none if the files hold no database yet.
 ///
 /// Fails with `BadSchema` if the files hold no database, with `Memory` if memory ran out, and with `Device` if the disk
-/// failed, the files cannot be opened (see [`Refusal::Device`]), or a log stands where its database file is missing or
-/// empty. The files then come back, if they were opened, and hold what they held.
+/// failed, the files cannot be opened (see [`StoreRefusal::Device`]), or a log stands where its database file is
+/// missing or empty. The files then come back, if they were opened, and hold what they held.
 pub fn open_older<T: Start>(
     rt: &HostRuntime,
     path: &str,

@@ -35,7 +35,7 @@ use statements::compare::find_standing;
 use statements::entries::{add_entry, count_entries, find_entry, find_seen};
 use statements::outlines::find_outline;
 use statements::registry::{add_group, add_key, add_team, find_key, find_shelf};
-use statements::revoke::revoke_key;
+use statements::revoke::{revoke_key, revoke_keys};
 use statements::visible::{find_paths, find_versions};
 use std::alloc::Global;
 use text::Text;
@@ -257,8 +257,13 @@ impl<S: Alter> Shelves for SqlShelves<S> {
     }
 
     fn key_revoke(&mut self, key: &str) -> Result<RegistryReply, StoreFault> {
-        self.kept.keys = Keys::no_keys();
+        self.kept.keys = Keys::no_keys(); // The key can be among them.
         counted(&mut self.failures, revoke_key(&mut self.conn, key))
+    }
+
+    fn keys_revoke(&mut self, shelf: &str) -> Result<RegistryReply, StoreFault> {
+        self.kept.keys = Keys::no_keys(); // Keys of the shelf can be among them.
+        counted(&mut self.failures, revoke_keys(&mut self.conn, shelf))
     }
 }
 

@@ -4,8 +4,9 @@ use Rattle.sqlite.specs.Held.{state}
 use Rattle.sqlite.specs.Listing.{understood}
 use Rattle.sqlite_tied.specs.Compute.{everything}
 use Rattle.world.specs.World.{without_key}
+use Rattle.statements.proofs.KeyLemmas.{by_token}
 use Rattle.statements.proofs.WriteLemmas.{deleting, done_changes, failed_changes}
-use Rattle.statements.proofs.RevokeLemmas.{keys_of, revoke_params, revoke_turns}
+use Rattle.statements.proofs.RevokeLemmas.{keys_by, revoke_params, revoke_turns}
 use Rattle.statements.proofs.revoke.delete_key.Goals as goal
 
 pub returns-in-Err-clause-changes : goal.returns-in-Err-clause-changes
@@ -15,7 +16,7 @@ returns-in-Err-clause-changes g c opened w =
     let new = state g.S.Store c.execute.new.self in
     let token = c.args.token.now in
     let ran = rw c.params-to_sql.ensures at c.in-Err.ensures in
-    failed_changes _ (revoke_params token) (Delete 2 keys_of) refl (refl, refl) (deleting 2 keys_of) old new
+    failed_changes _ (revoke_params token) (Delete 2 (keys_by by_token)) refl (refl, refl) (deleting 2 (keys_by by_token)) old new
     (g.met.S.Store.settled c.args.conn.now.store) opened w (without_key w token) (revoke_turns w token old) ran.survives
     c.in-Err.error ran.runs
 
@@ -26,6 +27,6 @@ returns-in-Ok-clause-changes g c opened w =
     let new = state g.S.Store c.execute.new.self in
     let token = c.args.token.now in
     let ran = rw c.params-to_sql.ensures at c.in-Ok.ensures in
-    done_changes _ (revoke_params token) (Delete 2 keys_of) refl (refl, refl) (deleting 2 keys_of) old new
+    done_changes _ (revoke_params token) (Delete 2 (keys_by by_token)) refl (refl, refl) (deleting 2 (keys_by by_token)) old new
     (g.met.S.Store.settled c.execute.new.self.store) opened w (without_key w token) (revoke_turns w token old)
     ran.survives c.in-Ok.field-0 ran.runs

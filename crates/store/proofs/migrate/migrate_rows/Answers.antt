@@ -1,7 +1,7 @@
 use Rattle.std.proofs.Common.{◌≡◌, Ok, Err, true≢false, sym, subst, ◌∙◌, refl, rules}
 use Rattle.sqlite.specs.Held.{state}
 use Rattle.older.specs.Schemas.{schema_of}
-use Rattle.migration.specs.Filled.{Migrates}
+use Rattle.older_rows.specs.Filled.{Migrates}
 use Rattle.store.specs.declared.migrate.Migrated.TheVariants.{NotEmpty, BadSchema}
 use Rattle.store.proofs.MigratedLemmas.{unwritten, written, written_cause}
 use Rattle.store.proofs.migrate.migrate_rows.Goals as goal

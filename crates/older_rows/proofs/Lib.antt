@@ -11,3 +11,5 @@ pub mod ZipLemmas
 pub mod EndLemmas
 pub mod PieceWalk
 pub mod Walkable
+pub mod FillLemmas
+pub mod WriteLemmas

@@ -3,3 +3,4 @@ pub mod Visits
 pub mod Registry
 pub mod Entries
 pub mod Entered
+pub mod Filled

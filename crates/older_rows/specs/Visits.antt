@@ -1,5 +1,5 @@
 -- Visits of the rows of an older store, each of which is put into a fresh store.
-use Rattle.std.specs.Prelude.{ℕ, ◌≡◌, ◌≤◌, Bool, false, List, [], ◌∷◌, Result, Ok, Err, is_ok, IsTrue}
+use Rattle.std.specs.Prelude.{ℕ, ◌≡◌, ◌≤◌, Bool, false, List, [], ◌∷◌, Result, Ok, Err, IsTrue}
 use Rattle.sqlite.specs.Effect.{Reads}
 use Rattle.sqlite.specs.Listing.{understood}
 use Rattle.sqlite.specs.Order.{Row}
@@ -35,11 +35,6 @@ IsReadyAs format s = HasCleanDisk s → IsTrue s.is_open × (s.now.schema ≡ sc
 abbrev pub is_done : {E : Type 0} → Result Bool E → Bool
 is_done (Ok all) = all
 is_done (Err e) = false
-
--- whether the fresh store took each row that was put in: the call returned no error of either store
-abbrev pub is_taken : {E : Type 0} → Result (Result Bool E) E → Bool
-is_taken (Ok visited) = is_ok visited
-is_taken (Err e) = false
 
 -- Rows of an older store, which is only read, are put into a fresh one inside a transaction of it. If the call is done,
 -- `Makes` relates the old tables, the fresh tables before, and the fresh tables after.

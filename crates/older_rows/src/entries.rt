@@ -228,7 +228,7 @@ fn put_without_zips<S: Alter, F: Alter>(
 
 /// Puts in each version with its go.mod, and in schema 1 with its zip. Returns false if one may not stand at its place.
 /// Fails with `Source` or `Fresh`, by the store that failed.
-pub fn put_entries<S: Alter, F: Alter>(
+pub(crate) fn put_entries<S: Alter, F: Alter>(
     alloc: Global,
     source: &mut Connection<S>,
     format: Format,

@@ -73,7 +73,7 @@ impl Visit for KeyRows {
 
 /// Puts in each key with its shelf and its right. Returns false if one is not well-formed.
 /// Fails with `Source` or `Fresh`, by the store that failed.
-pub fn put_keys<S: Alter, F: Alter>(
+pub(crate) fn put_keys<S: Alter, F: Alter>(
     source: &mut Connection<S>,
     format: Format,
     tx: &mut Transaction<'_, F>,

@@ -1,7 +1,10 @@
 //! The rows of a store of an older schema, each tested and put into a fresh store of today's schema.
 //!
-//! A call reads a table once, `version` and `piece` in the order of their index. It tests each row and puts it into the
-//! fresh store at once, so only one entry is in memory. A row that no world has ends the call.
+//! [`write::write_world`] puts them in, all in one transaction. It reads a table once, `version` and `piece` in the order
+//! of their index. It tests each row and puts it into the fresh store at once, so only one entry is in memory. A row
+//! that no world has ends the call, and the transaction is rolled back.
+//!
+//! `fill` makes these calls, one after another:
 //!
 //! | call | the rows |
 //! |---|---|
@@ -12,9 +15,11 @@
 //! | `pieces::put_zips` | the zips of schema 2, in pieces |
 #![tactic(auto)]
 
-pub mod entries;
-pub mod keys;
-pub mod meta;
-pub mod pieces;
-pub mod shelves;
+mod entries;
+mod fill;
+mod keys;
+mod meta;
+mod pieces;
+mod shelves;
 mod walk;
+pub mod write;

@@ -44,7 +44,7 @@ fn number_of(format: Format) -> i64
 }
 
 /// Reports whether `meta` names the format and nothing else. Fails with `Source` if the older store does.
-pub fn names_schema<S: Alter, F: Alter>(
+pub(crate) fn names_schema<S: Alter, F: Alter>(
     source: &mut Connection<S>,
     format: Format,
     tx: &mut Transaction<'_, F>,

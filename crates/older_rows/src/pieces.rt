@@ -60,7 +60,7 @@ fn put_pieces<S: Alter, F: Alter>(
 
 /// Puts in the zips. Returns false if their pieces are not those of zips. In schema 1 the zips came with their
 /// versions. Fails with `Source` or `Fresh`, by the store that failed.
-pub fn put_zips<S: Alter, F: Alter>(
+pub(crate) fn put_zips<S: Alter, F: Alter>(
     source: &mut Connection<S>,
     format: Format,
     tx: &mut Transaction<'_, F>,

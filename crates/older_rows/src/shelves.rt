@@ -49,7 +49,7 @@ impl Visit for ShelfRows {
 
 /// Makes each shelf but `common` a team without a group. Returns false if one may not stand, or `common` is not there.
 /// Fails with `Source` or `Fresh`, by the store that failed.
-pub fn put_shelves<S: Alter, F: Alter>(
+pub(crate) fn put_shelves<S: Alter, F: Alter>(
     alloc: Global,
     source: &mut Connection<S>,
     format: Format,

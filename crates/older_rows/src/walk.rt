@@ -1,6 +1,6 @@
 //! Puts rows of an older store into a fresh one, one after another.
 
-ghost use Rattle.std.specs.Prelude.{◌≡◌, ◌≤◌, false, OnOk, IfOk, IfErr, is_ok, IsTrue};
+ghost use Rattle.std.specs.Prelude.{◌≡◌, ◌≤◌, false, IfOk, is_ok, IsTrue};
 ghost use Rattle.sqlite.specs.Given.{IsPlain};
 ghost use Rattle.sqlite.specs.Held.{state};
 ghost use Rattle.sqlite.specs.Listing.{understood, reads_listing};
@@ -8,12 +8,12 @@ ghost use Rattle.sqlite.specs.Order.{Row as Shown};
 ghost use Rattle.sqlite.specs.State.{HasCleanDisk, Survives};
 ghost use Rattle.sqlite.specs.Tree.{Trees};
 ghost use Rattle.sqlite_trees.specs.View.{doubt};
-ghost use Rattle.tables.specs.Calls.{Honestly, HonestlyOver};
+ghost use Rattle.tables.specs.Calls.{Honestly};
 ghost use Rattle.older.specs.Schemas.{schema_of};
 ghost use Rattle.statements.specs.Extract.{IsReadBy};
 ghost use Rattle.statements.specs.Rows.{Filling, GoesOn};
-ghost use Rattle.older_rows.specs.Causes.{IsWalkableAs, HasReasonAs, FailsAs};
-ghost use Rattle.older_rows.specs.Visits.{IsFilledBy, is_taken};
+ghost use Rattle.older_rows.specs.Causes.{IsWalkableAs, FailsAs};
+ghost use Rattle.older_rows.specs.Visits.{IsFilledBy};
 
 use older::schema::Format;
 use sqlite::{Alter, Connection, Error, ErrorCode, Row, Transaction};
@@ -34,51 +34,8 @@ pub(crate) trait Visit {
 }
 
 /// Visits each row that a query shows of the tables of a format, while the query is read, so only one row is in memory.
-/// It returns what the visitor did: true after the last row, false at the first row that it refuses, and its error at
-/// the first row that the fresh store does not take. Fails if the older store does.
-fn visit_each<S: Alter, F: Alter, V: Visit>(
-    source: &mut Connection<S>,
-    format: Format,
-    sql: &str,
-    tx: &mut Transaction<'_, F>,
-    visitor: &mut V,
-) -> Result<Result<bool, Error>, Error>
-    requires plain { IsPlain (understood (schema_of format) sql.now) }
-    requires tables { reads_listing (schema_of format) sql.now ≡ false }
-    requires walkable { IsWalkableAs format sql.now }
-    ensures clean { doubt (state S.Store source.old).is_clean ≤ doubt (state S.Store source.new).is_clean }
-    ensures reads { (state S.Store source.old).now.schema ≡ schema_of format
-        → IsReadBy (state S.Store source.old) (state S.Store source.new) (is_ok result) }
-    ensures survives { (state S.Store source.old).now.schema ≡ schema_of format
-        → Survives (state S.Store source.old) (state S.Store source.new) (λ _. ⊥) }
-    ensures same_reference { tx.new.conn.ghost_name ≡ tx.old.conn.ghost_name }
-    ensures goes_on { GoesOn (state F.Store tx.old.conn.now) (state F.Store tx.new.conn.now) (is_taken result) }
-    ensures puts { HasCleanDisk (state S.Store source.new) → HasCleanDisk (state F.Store tx.new.conn.now)
-        → (state S.Store source.old).now.schema ≡ schema_of format → Filling (state F.Store tx.old.conn.now)
-        → IfOk result (λ visited. IfOk visited (λ all. IsTrue all → IsFilledBy format sql.now
-        (λ so_far row db next after. V.Puts so_far row db next after) (state S.Store source.old)
-        visitor.old (state F.Store tx.old.conn.now) visitor.new (state F.Store tx.new.conn.now))) }
-    ensures cause { HonestlyOver (schema_of format) (state S.Store source.old) (state S.Store source.new) (λ old new.
-        IfErr result (HasReasonAs format old new)) }
-{
-    let mut rows = source.query(sql, &[])?;
-    'rows: for _turn in 0..u128::MAX {
-        let Some(row) = rows.next()? else {
-            return Ok(Ok(true));
-        };
-        match visitor.visit(tx, row) {
-            Ok(true) => {}
-            Ok(false) => return Ok(Ok(false)),
-            Err(error) => return Ok(Err(error)),
-        }
-    }
-    // A query shows this many rows only if a table has a row for each rowid.
-    Err(Error::SqliteFailure(ErrorCode::TooBig))
-}
-
-/// Visits each row that a query shows of the tables of a format. Returns true after the last row, and false at the
-/// first row that the visitor refuses. Fails with `Source` if the older store does, and with `Fresh` if the fresh one
-/// does.
+/// Returns true after the last row, and false at the first row that the visitor refuses. Fails with `Source` if the
+/// older store does, and with `Fresh` if the fresh one does.
 pub(crate) fn visit_rows<S: Alter, F: Alter, V: Visit>(
     source: &mut Connection<S>,
     format: Format,
@@ -103,9 +60,22 @@ pub(crate) fn visit_rows<S: Alter, F: Alter, V: Visit>(
         visitor.old (state F.Store tx.old.conn.now) visitor.new (state F.Store tx.new.conn.now)) }
     ensures cause { FailsAs format (state S.Store source.old) (state S.Store source.new) result }
 {
-    match visit_each(source, format, sql, tx, visitor) {
-        Ok(Ok(all)) => Ok(all),
-        Ok(Err(error)) => Err(CopyError::Fresh(error)),
-        Err(error) => Err(CopyError::Source(error)),
+    let mut rows = match source.query(sql, &[]) {
+        Ok(rows) => rows,
+        Err(error) => return Err(CopyError::Source(error)),
+    };
+    'rows: for _turn in 0..u128::MAX {
+        let row = match rows.next() {
+            Ok(Some(row)) => row,
+            Ok(None) => return Ok(true),
+            Err(error) => return Err(CopyError::Source(error)),
+        };
+        match visitor.visit(tx, row) {
+            Ok(true) => {}
+            Ok(false) => return Ok(false),
+            Err(error) => return Err(CopyError::Fresh(error)),
+        }
     }
+    // A query shows this many rows only if a table has a row for each rowid.
+    Err(CopyError::Source(Error::SqliteFailure(ErrorCode::TooBig)))
 }

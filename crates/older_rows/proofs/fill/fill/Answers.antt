@@ -6,10 +6,10 @@ use Rattle.older_rows.specs.Entered.{PutsEntries, PutsZips}
 use Rattle.older_rows.specs.Registry.{IsNamed, PutsShelves, PutsKeys}
 use Rattle.older_rows.specs.Visits.{Moves, is_done}
 use Rattle.older_rows.proofs.CauseLemmas.{fails_then}
-use Rattle.migration.specs.Filled.{Fills}
-use Rattle.migration.proofs.FillLemmas.{InTurn, fills}
+use Rattle.older_rows.specs.Filled.{Fills}
+use Rattle.older_rows.proofs.FillLemmas.{InTurn, fills}
 use Rattle.older_rows.proofs.WalkLemmas.{moves_then, moves_weaker, moves_none, not_done}
-use Rattle.migration.proofs.fill.fill.Goals as goal
+use Rattle.older_rows.proofs.fill.fill.Goals as goal
 
 pub returns-clause-moves : goal.returns-clause-moves
 returns-clause-moves g c =

@@ -2,11 +2,11 @@ use Rattle.std.proofs.Common.{◌≡◌, true, false, refl, sym, subst, true≢f
 use Rattle.sqlite.specs.Held.{state}
 use Rattle.world.specs.World.{only_common}
 use Rattle.statements.proofs.TransactionEnds.{ended_by, failed_by}
-use Rattle.migration.specs.Filled.{Migrates}
+use Rattle.older_rows.specs.Filled.{Migrates}
 use Rattle.older_rows.specs.Visits.{is_done}
 use Rattle.older_rows.proofs.WalkLemmas.{read_not_done}
-use Rattle.migration.proofs.WriteLemmas.{migrates}
-use Rattle.migration.proofs.write.write_world.Goals as goal
+use Rattle.older_rows.proofs.WriteLemmas.{migrates}
+use Rattle.older_rows.proofs.write.write_world.Goals as goal
 
 pub returns-in-Ok-clause-migrates : goal.returns-in-Ok-clause-migrates
 returns-in-Ok-clause-migrates g c =

@@ -7,7 +7,7 @@ use Rattle.sqlite.specs.Given.{HasGiven}
 use Rattle.older.specs.Schemas.{schema_of}
 use Rattle.statements.specs.Rows.{Filling, GoesOn}
 use Rattle.older_rows.specs.Visits.{Visits}
-use Rattle.older_rows.proofs.walk.visit_each.Given as goal
+use Rattle.older_rows.proofs.walk.visit_rows.Given as goal
 
 abbrev pub invariant-rows : goal.invariant-rows
 invariant-rows g l =

@@ -15,7 +15,7 @@ use Rattle.statements.specs.Extract.{IsReadBy}
 use Rattle.statements.specs.Rows.{Writing}
 use Rattle.statements.proofs.RowLemmas.{filling_of}
 use Rattle.statements.proofs.TransactionEnds.{begins_writing}
-use Rattle.migration.specs.Filled.{Fills, Migrates, IsOfTables}
+use Rattle.older_rows.specs.Filled.{Fills, Migrates, IsOfTables}
 use Rattle.older_rows.specs.Visits.{Moves, IsReadyAs}
 
 -- a world that may be written, for which the connection stands inside the transaction if all was done

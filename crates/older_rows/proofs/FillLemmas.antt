@@ -5,7 +5,7 @@ use Rattle.world.specs.World.{only_common}
 use Rattle.tables.specs.Means.{StandFor}
 use Rattle.statements.specs.Extract.{Then}
 use Rattle.older.specs.declared.schema.Format.{Format}
-use Rattle.migration.specs.Filled.{Fills}
+use Rattle.older_rows.specs.Filled.{Fills}
 use Rattle.older_rows.specs.Entered.{PutsEntries, PutsZips}
 use Rattle.older_rows.specs.Registry.{IsNamed, PutsShelves, PutsKeys}
 

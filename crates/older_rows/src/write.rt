@@ -4,7 +4,7 @@ ghost use Rattle.std.specs.Prelude.{◌≡◌};
 ghost use Rattle.sqlite.specs.Held.{state};
 ghost use Rattle.older_rows.specs.Causes.{FailsAs};
 ghost use Rattle.older_rows.specs.Visits.{is_done};
-ghost use Rattle.migration.specs.Filled.{Migrates};
+ghost use Rattle.older_rows.specs.Filled.{Migrates};
 
 use crate::fill::fill;
 use older::schema::Format;

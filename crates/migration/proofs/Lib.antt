@@ -1,2 +1,0 @@
-pub mod FillLemmas
-pub mod WriteLemmas

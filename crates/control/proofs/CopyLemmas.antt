@@ -1,46 +1,24 @@
--- The line that orders a copy.
+-- The words that order a copy, and lines that are sent.
 use Rattle.std.proofs.Common.{◌≡◌, ℕ, List, Option, Some, None, Result, Ok, Err, MatchOption, sym, ap, subst}
 use Rattle.std.specs.Prelude.{option_copied, IfOk, IfErr}
 use denote.Ref.{Bor}
 use Rattle.control.specs.Asking.{AsksBy, IsUnwritten, Sends}
-use Rattle.control.specs.Line.{IsLine, IsSaid, IsNoCopy, CopiesNothing, SaysNoCopy, copy_words, longest_copy}
-use Rattle.control.specs.Order.{two}
-use Rattle.control.specs.Words.{Said, said, IsTextOf, HasNoWords}
+use Rattle.control.specs.Line.{IsSaid}
+use Rattle.control.specs.Order.{SaysNone, two}
+use Rattle.control.specs.Words.{Said, said}
 use Rattle.control.specs.declared.words.Words.{Words}
 use Rattle.control.specs.declared.client.Untold.{Untold}
 use Rattle.control.specs.declared.outcome.Outcome.{Outcome}
-use Rattle.control.proofs.LineLemmas.{one_line}
-use Rattle.control.proofs.WordLemmas.{one_saying}
 
--- ---- which words order a copy
+-- ---- lines of two words
 
-pub by_two : (w : Words) (r : Option (Bor (List ℕ))) → w.second ≡ None
-    → MatchOption r (SaysNoCopy (two w.verb.now w.first.now)) (λ p. two w.verb.now w.first.now ≡ copy_words p.now)
-    → MatchOption r (SaysNoCopy (said w)) (λ p. said w ≡ copy_words p.now)
-by_two w r none two_say =
+pub by_two : (verb : List ℕ) (w : Words) (r : Option (Bor (List ℕ))) → w.second ≡ None
+    → MatchOption r (SaysNone verb (two w.verb.now w.first.now)) (λ p. two w.verb.now w.first.now ≡ two verb p.now)
+    → MatchOption r (SaysNone verb (said w)) (λ p. said w ≡ two verb p.now)
+by_two verb w r none two_say =
     let same : two w.verb.now w.first.now ≡ said w =
     ap (λ o. record { verb = w.verb.now; first = w.first.now; second = option_copied o }) (sym none) in
-    subst (λ s. MatchOption r (SaysNoCopy s) (λ p. s ≡ copy_words p.now)) same two_say
-
--- ---- which lines order a copy
-
-pub no_words_copied : (line : List ℕ) → HasNoWords line → CopiesNothing line
-no_words_copied line none path = none (copy_words path)
-
-copies_nothing : (line : List ℕ) (s : Said) → IsTextOf line s → SaysNoCopy s → CopiesNothing line
-copies_nothing line s given none path says = none path (one_saying line s (copy_words path) given says)
-
-pub copy_read : (line : List ℕ) (s : Said) → IsTextOf line s → (r : Option (Bor (List ℕ)))
-    → MatchOption r (SaysNoCopy s) (λ p. s ≡ copy_words p.now)
-    → MatchOption r (CopiesNothing line) (λ p. IsTextOf line (copy_words p.now))
-copy_read line s given None none = copies_nothing line s given none
-copy_read line s given (Some p) same = subst (IsTextOf line) same given
-
--- ---- which bytes order a copy
-
-pub no_copy : (got line : List ℕ) → IsLine longest_copy got line → CopiesNothing line → IsNoCopy got
-no_copy got line holds nothing path says =
-    nothing path (subst (λ l. IsTextOf l (copy_words path)) (one_line got line says.line holds.is says.ends) says.says)
+    subst (λ s. MatchOption r (SaysNone verb s) (λ p. s ≡ two verb p.now)) same two_say
 
 -- ---- the line of equal words
 

@@ -2,6 +2,7 @@ pub mod WordLemmas
 pub mod OrderLemmas
 pub mod LineLemmas
 pub mod CopyLemmas
+pub mod OperatorLineLemmas
 pub mod OutcomeLemmas
 pub mod CrashLemmas
 pub mod TurnLemmas
@@ -9,7 +10,9 @@ pub mod HearingLemmas
 pub mod AskingLemmas
 pub mod PingLemmas
 pub mod ListingLemmas
+pub mod NamingLemmas
 pub mod StepLemmas
 pub mod TallyLemmas
+pub mod NoticeLemmas
 pub mod ServeLemmas
 pub mod IsolatedLemmas

@@ -10,7 +10,7 @@ use Rattle.std.specs.Cmp.Lexicographic.{pointwise}
 use Rattle.std.proofs.lemmas.Slice.Eq.{strip_suffix_is}
 use Rattle.std.specs.Str.{IsUtf8}
 use Rattle.std.proofs.lemmas.List.{append_cancel_right}
-use Rattle.control.specs.Line.{longest, IsLine, HoldsNoLine, IsNoOrder}
+use Rattle.control.specs.Line.{IsLine, HoldsNoLine}
 use Rattle.control.specs.Words.{line_end}
 
 -- ---- the end of a line is cut off
@@ -38,9 +38,6 @@ no_end most got none line holds = none line holds.is
 
 pub no_text : (most : ℕ) (got line : List ℕ) → got ≡ line ++ line_end ∷ [] → ¬ IsUtf8 line → HoldsNoLine most got
 no_text most got line is none other holds = none (subst IsUtf8 (one_line got line other is holds) holds.text)
-
-pub no_line : (got : List ℕ) → HoldsNoLine longest got → IsNoOrder got
-no_line got none order sent = none sent.line sent.ends
 
 -- a search finds a byte just if the bytes contain it
 pub has_byte : (x : ℕ) (bytes : List ℕ) (r : Bool) → IsAnyAnswer (λ y b. eqb y x ≡ b) bytes r

@@ -12,7 +12,7 @@ use Rattle.control.specs.declared.listing.Listing.TheVariants.{Keys, Shelves}
 use Rattle.control.specs.declared.told.Told.{Told}
 
 -- a read changes nothing
-only_read : {T : Type 0} (old new : Shown) (result : Result T StoreFault) (value : World → T)
+pub only_read : {T : Type 0} (old new : Shown) (result : Result T StoreFault) (value : World → T)
     → Reads old new result value → IsOnlyRead old new
 only_read old new result value reads = record {
   honest = reads.honest;

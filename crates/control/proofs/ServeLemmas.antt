@@ -20,8 +20,10 @@ use Rattle.engine.specs.declared.fault.Io.TheVariants as io
 use Rattle.socket.specs.Connections.{Come, exchanges_of}
 use Rattle.control.specs.Copying.{Turned, turns_in, has_read, AllRead, GoesOnRead, GoesThroughSteps}
 use Rattle.control.specs.Health.{Answered, AreBelow, tally_of, with_one}
-use Rattle.control.specs.Hearing.{Heard, Carried, Copied, Listed, Pinged, Stop, NoOrder, NoMemory, Obeys, WritesSome}
+use Rattle.control.specs.Hearing.{Heard, Carried, Copied, Listed, Pinged, Named, Stop, NoOrder, NoMemory}
+use Rattle.control.specs.Hearing.{Obeys, WritesSome}
 use Rattle.control.specs.Line.{most_tries}
+use Rattle.control.specs.Naming.{NamesOne, NamesNone, Unread}
 use Rattle.control.specs.Told.{bytes_told}
 use Rattle.control.specs.Turns.{Asked, messages, GoesOn}
 use Rattle.control.specs.Visits.{Call, OfPeer, OfOperator, Untaken, answered_with, callers_of, connections_of, steps_if}
@@ -37,7 +39,8 @@ use Rattle.control.specs.declared.told.Told.{Told}
 use Rattle.control.specs.declared.told.Told.TheVariants as spoken
 use Rattle.control.specs.declared.outcome.Outcome.TheVariants.{Stopping}
 use Rattle.control.proofs.StepLemmas.{messages_both, steps_last, steps_more, read_then, no_reads, read_heard}
-use Rattle.control.proofs.TallyLemmas.{answered_last, answered_peers, below_of, tallied_push, tally_push, tells_tally}
+use Rattle.control.proofs.TallyLemmas.{answered_last, answered_peers, below_of, since_told, tallied_push, tally_push}
+use Rattle.control.proofs.TallyLemmas.{tells_tally}
 use Rattle.control.proofs.TurnLemmas.{turns_none, turns_asked}
 
 -- ---- one connection
@@ -60,6 +63,9 @@ no_message (Some (Carried order told)) = refl
 no_message (Some (Copied path told)) = refl
 no_message (Some (Pinged told)) = refl
 no_message (Some (Listed listing told)) = refl
+no_message (Some (Named f (NamesOne key told))) = refl
+no_message (Some (Named f NamesNone)) = refl
+no_message (Some (Named f (Unread fault))) = refl
 no_message (Some Stop) = refl
 no_message (Some NoOrder) = refl
 no_message (Some NoMemory) = refl
@@ -432,10 +438,11 @@ module _ {P O : Type 0} where
 
       -- one run with the copies and the pings that were answered in it
       pub each_read : (waiting left : Option (List (Caller P O))) (old new : S) (n : ℕ) → Each waiting left old new n
-          → GoesOnRead shown copied counted old new n
+          → GoesOnRead shown copied counted old new since n
       each_read waiting left old new n all = record {
         steps = steps_with all.each.calls;
         few = omega (arith, one_each all.each.calls, all.each.few);
         through = all.each.through;
         reads = all.reads;
+        begun = since_told since [] all.each.calls all.tallies;
       }

@@ -5,10 +5,12 @@ use Rattle.std.proofs.Common.{Result, Ok, Err, append_assoc, append-nil}
 use Rattle.world.specs.World.{World}
 use Rattle.world.specs.Store.{Shown}
 use Rattle.engine.specs.Exchange.{Exchange}
-use Rattle.control.specs.Copying.{Step, Turned, Copied, Counted, Listed, turns_in, has_read, AllRead, GoesThroughSteps}
+use Rattle.control.specs.Copying.{Step, Turned, Copied, Counted, Listed, LookedUp, turns_in, has_read, AllRead}
+use Rattle.control.specs.Copying.{GoesThroughSteps}
 use Rattle.control.specs.Health.{IsPinged}
-use Rattle.control.specs.Hearing.{Heard, Carried, Pinged, Stop, NoOrder, NoMemory}
+use Rattle.control.specs.Hearing.{Heard, Carried, Pinged, Named, Stop, NoOrder, NoMemory}
 use Rattle.control.specs.Hearing as hearing
+use Rattle.control.specs.Naming.{NamesOne, NamesNone, Unread}
 use Rattle.control.specs.Turns.{Asked, messages, world_at}
 use Rattle.control.specs.Visits.{Call, CameIf, ListsIf, steps_if, steps_of, steps_with}
 use Rattle.control.specs.declared.copies.CopyRefusal.{CopyRefusal}
@@ -25,6 +27,7 @@ turns_append (Turned t ∷ xs) ys = ap (λ ts. t ∷ ts) (turns_append xs ys)
 turns_append (Copied path told ∷ xs) ys = turns_append xs ys
 turns_append (Counted told ∷ xs) ys = turns_append xs ys
 turns_append (Listed listing told ∷ xs) ys = turns_append xs ys
+turns_append (LookedUp f found ∷ xs) ys = turns_append xs ys
 
 read_append : (xs ys : List Step) → has_read (xs ++ ys) ≡ (has_read xs || has_read ys)
 read_append [] ys = refl
@@ -32,6 +35,7 @@ read_append (Turned t ∷ xs) ys = read_append xs ys
 read_append (Copied path told ∷ xs) ys = refl
 read_append (Counted told ∷ xs) ys = refl
 read_append (Listed listing told ∷ xs) ys = refl
+read_append (LookedUp f found ∷ xs) ys = refl
 
 -- a store that goes through some steps and then through more goes through all of them
 pub steps_more : (old mid new : Shown) (xs ys : List Step) → GoesThroughSteps old mid xs → GoesThroughSteps mid new ys
@@ -70,6 +74,8 @@ module _ {S : Type 0} (shown : S → Shown) (copied : S → S → List ℕ → R
   read_then w (Counted (Err fault) ∷ xs) ys all more = read_then w xs ys all more
   read_then w (Listed listing (Ok text) ∷ xs) ys all more = (all.0, read_then w xs ys all.1 more)
   read_then w (Listed listing (Err fault) ∷ xs) ys all more = read_then w xs ys all more
+  read_then w (LookedUp f (Ok found) ∷ xs) ys all more = (all.0, read_then w xs ys all.1 more)
+  read_then w (LookedUp f (Err fault) ∷ xs) ys all more = read_then w xs ys all more
 
   -- messages are none
   pub no_reads : (w : World) (xs : List Exchange) → AllRead shown copied counted w (map (λ x. Turned (Asked x)) xs)
@@ -92,6 +98,9 @@ module _ {S : Type 0} (shown : S → Shown) (copied : S → S → List ℕ → R
   read_heard tally old new h w stands (Some (hearing.Listed listing (Ok text))) came lists =
       (list_is (shown old) (shown new) w listing text lists h stands, tt)
   read_heard tally old new h w stands (Some (hearing.Listed listing (Err fault))) came lists = tt
+  read_heard tally old new h w stands (Some (Named f (NamesOne key told))) came lists = (lists h w stands, tt)
+  read_heard tally old new h w stands (Some (Named f NamesNone)) came lists = (lists h w stands, tt)
+  read_heard tally old new h w stands (Some (Named f (Unread fault))) came lists = tt
   read_heard tally old new h w stands (Some Stop) came lists = tt
   read_heard tally old new h w stands (Some NoOrder) came lists = tt
   read_heard tally old new h w stands (Some NoMemory) came lists = tt

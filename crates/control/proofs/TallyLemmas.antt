@@ -1,14 +1,21 @@
 -- The counts of those who came.
 use Rattle.std.proofs.Common.{◌≡◌, ℕ, ◌+◌, ◌<◌, List, [], ◌∷◌, ◌++◌, length, refl, sym, ap, subst, Option, Some, None}
-use Rattle.std.proofs.Common.{Result, Ok, Err, arith, append_assoc, append-nil}
+use Rattle.std.proofs.Common.{Result, Ok, Err, All, arith, append_assoc, append-nil, map, ◌∙◌}
 use Rattle.std.specs.Prelude.{Bool, cond, count_by}
 use Rattle.std.proofs.lemmas.List.{length-append}
+use Rattle.std.proofs.lemmas.List.Elements.{All-append, All-cons, All-nil}
 use Rattle.std.proofs.lemmas.List.Sums.{sum_by_push, count_by-le-length}
+use Rattle.engine.specs.Exchange.{Exchange}
+use Rattle.socket.specs.Connections.{exchanges_of}
+use Rattle.control.specs.Copying.{Step, Turned, Counted, LookedUp, TellsSince}
 use Rattle.control.specs.Health.{Answered, AreBelow, IsPinged, is_of_class, is_unanswered, one_if, tally_of, with_one}
-use Rattle.control.specs.Hearing.{Heard, Carried, Copied, Listed, Pinged, Stop, NoOrder, NoMemory}
+use Rattle.control.specs.Hearing.{Heard, Carried, Copied, Listed, Pinged, Named, Stop, NoOrder, NoMemory}
 use Rattle.control.specs.Visits.{Call, OfPeer, OfOperator, Untaken, AllTallied, CameIf, IsTallied, TellsTally}
-use Rattle.control.specs.Visits.{answered_with, peers}
+use Rattle.control.specs.Naming.{NamesOne, NamesNone, Unread}
+use Rattle.control.specs.Turns.{Asked, Ordered}
+use Rattle.control.specs.Visits.{answered_with, peers, steps_if, steps_with}
 use Rattle.control.specs.declared.copies.CopyRefusal.{CopyRefusal}
+use Rattle.control.specs.declared.order.Order.TheVariants.{KeyRevoke}
 use Rattle.control.specs.declared.tally.Tally.{Tally}
 
 -- ---- one connection more
@@ -82,6 +89,49 @@ tells_tally copied tally before now counted (Some (Copied path told)) came = tt
 tells_tally copied tally before now counted (Some (Pinged (Ok health))) came = came.0
 tells_tally copied tally before now counted (Some (Pinged (Err fault))) came = tt
 tells_tally copied tally before now counted (Some (Listed listing told)) came = tt
+tells_tally copied tally before now counted (Some (Named f naming)) came = tt
 tells_tally copied tally before now counted (Some Stop) came = tt
 tells_tally copied tally before now counted (Some NoOrder) came = tt
 tells_tally copied tally before now counted (Some NoMemory) came = tt
+
+-- ---- when the server began
+
+one_step : (since : List ℕ) (step : Step) → TellsSince since step → All (TellsSince since) (step ∷ [])
+one_step since step tells = All-cons (TellsSince since) step [] tells (All-nil (TellsSince since))
+
+-- a ping whose tally counts since this time was told so
+since_if : (since : List ℕ) (tally : Tally) (heard : Option Heard) → tally.since ≡ since → TellsTally tally heard
+    → All (TellsSince since) (steps_if heard)
+since_if since tally None is told = All-nil (TellsSince since)
+since_if since tally (Some (Carried order done)) is told = one_step since _ tt
+since_if since tally (Some (Copied path done)) is told = one_step since _ tt
+since_if since tally (Some (Pinged (Ok health))) is told =
+    one_step since (Counted (Ok health)) (ap (λ t. t.since) told ∙ is)
+since_if since tally (Some (Pinged (Err fault))) is told = one_step since _ tt
+since_if since tally (Some (Listed listing done)) is told = one_step since _ tt
+since_if since tally (Some (Named f (NamesOne key done))) is told =
+    All-cons (TellsSince since) (LookedUp f (Ok (Some key.now))) (Turned (Ordered (KeyRevoke key) done) ∷ []) tt
+    (one_step since (Turned (Ordered (KeyRevoke key) done)) tt)
+since_if since tally (Some (Named f NamesNone)) is told = one_step since _ tt
+since_if since tally (Some (Named f (Unread fault))) is told = one_step since _ tt
+since_if since tally (Some Stop) is told = All-nil (TellsSince since)
+since_if since tally (Some NoOrder) is told = All-nil (TellsSince since)
+since_if since tally (Some NoMemory) is told = All-nil (TellsSince since)
+
+since_asked : (since : List ℕ) (xs : List Exchange) → All (TellsSince since) (map (λ x. Turned (Asked x)) xs)
+since_asked since [] = All-nil (TellsSince since)
+since_asked since (x ∷ xs) = All-cons (TellsSince since) (Turned (Asked x)) _ tt (since_asked since xs)
+
+module _ {P O : Type 0} where
+  -- so was each ping
+  pub since_told : (since : List ℕ) (before calls : List (Call P O)) → AllTallied since before calls
+      → All (TellsSince since) (steps_with calls)
+  since_told since before [] all = All-nil (TellsSince since)
+  since_told since before (OfPeer visit answered ∷ calls) all =
+      All-append (TellsSince since) _ _ (since_asked since (exchanges_of visit.first))
+      (since_told since (before ++ OfPeer visit answered ∷ []) calls all.1)
+  since_told since before (OfOperator audience ∷ calls) all =
+      All-append (TellsSince since) _ _
+      (since_if since (tally_of since (answered_with before)) audience.heard refl all.0)
+      (since_told since (before ++ OfOperator audience ∷ []) calls all.1)
+  since_told since before (Untaken ∷ calls) all = since_told since (before ++ Untaken ∷ []) calls all.1

@@ -20,7 +20,7 @@ use Rattle.control.specs.Order.{event_of, outcome_in}
 use Rattle.control.specs.Turns.{Turn, Asked, Ordered, turn_event, turn_answer, messages, AllCalm, LeavesTwo, StandsIf}
 use Rattle.control.specs.Turns.{world_at, GoesThroughTurns}
 use Rattle.control.specs.declared.order.Order.{Order}
-use Rattle.control.specs.declared.order.Order.TheVariants.{TeamAdd, GroupAdd, KeyAdd, KeyRevoke}
+use Rattle.control.specs.declared.order.Order.TheVariants.{TeamAdd, GroupAdd, KeyAdd, KeyRevoke, KeysRevoke}
 use Rattle.control.proofs.CrashLemmas.{leaves_still, leaves_more, world_step}
 
 -- ---- none
@@ -121,6 +121,7 @@ module _ (old new : Shown) (w : World) where
   by_event (GroupAdd name) told does = (_, refl, does)
   by_event (KeyAdd shelf key right) told does = (_, refl, does)
   by_event (KeyRevoke key) told does = (_, refl, does)
+  by_event (KeysRevoke shelf) told does = (_, refl, does)
 
   -- an order that was done got the machine's reply to its event
   pub replied : (o : Order) (r : RegistryReply) → DoesAt old new w (Ok r) (outcome_in w o) (after w (event_of o))

@@ -4,7 +4,7 @@ use Rattle.std.specs.Io.KnownBytes.{Consumes, Appends, Keeps}
 use Rattle.engine.specs.Written.{WritesBeginning}
 use Rattle.control.specs.Health.{IsHealthLine}
 use Rattle.control.specs.Listing.{IsReplyOf, line_for}
-use Rattle.control.specs.Line.{IsSaid, IsSent, IsCopyTo, longest, ping_line, stop_line}
+use Rattle.control.specs.Line.{IsNaming, IsSaid, IsSent, IsCopyTo, longest, ping_line, stop_line}
 use Rattle.control.specs.Order.{said_in}
 use Rattle.control.specs.Outcome.{line_of}
 use Rattle.control.specs.Told.{bytes_told}
@@ -66,6 +66,12 @@ abbrev pub AsksToCopy :
     Option (List ℕ) → Option (List ℕ) → Option (List ℕ) → Option (List ℕ) → List ℕ → Result Outcome Untold → Type 0
 AsksToCopy unread unread_new written written_new path told =
     AsksBy (λ sent. IsCopyTo sent path) unread unread_new written written_new told
+
+-- so it was with the line that orders to revoke the key with the fingerprint
+abbrev pub AsksToRevoke :
+    Option (List ℕ) → Option (List ℕ) → Option (List ℕ) → Option (List ℕ) → List ℕ → Result Outcome Untold → Type 0
+AsksToRevoke unread unread_new written written_new f told =
+    AsksBy (λ sent. IsNaming sent f) unread unread_new written written_new told
 
 -- the line that ends the server was sent as `Sends` says
 abbrev pub AsksToStop :

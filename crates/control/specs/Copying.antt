@@ -1,5 +1,7 @@
--- What is read of a store that is served: copies, counts of its versions, and lists.
-use Rattle.std.specs.Prelude.{ℕ, ◌≡◌, ◌≤◌, Bool, true, false, List, [], ◌∷◌, Result, Ok, Err}
+-- What is read of a store that is served: copies, counts of its versions, lists, and keys by fingerprints.
+use Rattle.std.specs.Prelude.{ℕ, ◌≡◌, ◌≤◌, Bool, true, false, List, [], ◌∷◌, All, Option, Result, Ok, Err}
+use Rattle.keyring.specs.Named.{keys_in}
+use Rattle.keyring.specs.Revoke.{only_with}
 use Rattle.world.specs.World.{World}
 use Rattle.world.specs.Store.{Shown}
 use Rattle.world.specs.declared.registry.StoreFault.{StoreFault}
@@ -17,12 +19,14 @@ pub record IsOnlyRead (old new : Shown) : Type 0 where
   pub left : new.is_honest → (w x y : World) → old.stands w → old.leaves x y → new.leaves x y
   pub no_fewer : old.failures ≤ new.failures
 
--- what happened to a store that is served: a turn of the machine; or a copy to a path, a ping or a list, which is none
+-- what happened to a store that is served: a turn of the machine; or a copy to a path, a ping, a list, or a look for
+-- the key with a fingerprint, which is none
 pub data Step : Type 0 where
   Turned : Turn → Step
   Copied : List ℕ → Result (Unit {0}) CopyRefusal → Step
   Counted : Result Health StoreFault → Step
   Listed : Listing → Result (List ℕ) StoreFault → Step
+  LookedUp : List ℕ → Result (Option (List ℕ)) StoreFault → Step
 
 -- the turns among them
 abbrev pub turns_in : List Step → List Turn
@@ -31,6 +35,7 @@ turns_in (Turned t ∷ steps) = t ∷ turns_in steps
 turns_in (Copied path told ∷ steps) = turns_in steps
 turns_in (Counted told ∷ steps) = turns_in steps
 turns_in (Listed listing told ∷ steps) = turns_in steps
+turns_in (LookedUp f found ∷ steps) = turns_in steps
 
 -- whether the store was read in one of them
 abbrev pub has_read : List Step → Bool
@@ -39,6 +44,12 @@ has_read (Turned t ∷ steps) = has_read steps
 has_read (Copied path told ∷ steps) = true
 has_read (Counted told ∷ steps) = true
 has_read (Listed listing told ∷ steps) = true
+has_read (LookedUp f found ∷ steps) = true
+
+-- a ping was told that the server began at this time
+abbrev pub TellsSince : List ℕ → Step → Type 0
+TellsSince since (Counted (Ok health)) = health.tally.since ≡ since
+TellsSince since other = Unit {0}
 
 -- from old to new the store went through the turns among the steps, and was read if one of them reads it
 abbrev pub GoesThroughSteps : Shown → Shown → List Step → Type 0
@@ -63,7 +74,7 @@ module _ {S : Type 0} (shown : S → Shown) (copied : S → S → List ℕ → R
     pub failures_now : health.store_failures ≡ (shown source_new).failures
     pub came : counted source source_new health.versions
 
-  -- so it is of each copy, each ping and each list, with the machine's world at its moment
+  -- so it is of each copy, each ping, each list and each look for a key, with the machine's world at its moment
   abbrev pub AllRead : World → List Step → Type 0
   AllRead w [] = Unit {0}
   AllRead w (Turned t ∷ steps) = AllRead (world_at w (t ∷ [])) steps
@@ -72,10 +83,14 @@ module _ {S : Type 0} (shown : S → Shown) (copied : S → S → List ℕ → R
   AllRead w (Counted (Err fault) ∷ steps) = AllRead w steps
   AllRead w (Listed listing (Ok text) ∷ steps) = IsList listing w text × AllRead w steps
   AllRead w (Listed listing (Err fault) ∷ steps) = AllRead w steps
+  AllRead w (LookedUp f (Ok found) ∷ steps) = (found ≡ only_with (keys_in w) f) × AllRead w steps
+  AllRead w (LookedUp f (Err fault) ∷ steps) = AllRead w steps
 
-  -- The store went through these steps, with so many messages at most.
-  pub record GoesOnRead (old new : S) (most : ℕ) : Type 0 where
+  -- The store went through these steps, with so many messages at most, and each ping was told that the server began at
+  -- this time.
+  pub record GoesOnRead (old new : S) (since : List ℕ) (most : ℕ) : Type 0 where
     pub steps : List Step
     pub few : messages (turns_in steps) ≤ most
     pub through : GoesThroughSteps (shown old) (shown new) steps
     pub reads : (shown new).is_honest → (w : World) → (shown old).stands w → AllRead w steps
+    pub begun : All (TellsSince since) steps

@@ -1,5 +1,5 @@
 -- What an operator's line orders, and the outcome that the operator gets.
-use Rattle.std.specs.Prelude.{ℕ, ◌≡◌, ◌≢◌, ◌⊎◌, List, [], ◌∷◌, Option, Result, Ok, Err}
+use Rattle.std.specs.Prelude.{ℕ, ◌≡◌, ◌⊎◌, List, [], ◌∷◌, Option, Result, Ok, Err}
 use Rattle.std.specs.Io.KnownBytes.{Appends, Keeps}
 use Rattle.histories.specs.Account.{Account}
 use Rattle.world.specs.Store.{Shown}
@@ -12,8 +12,10 @@ use Rattle.engine.specs.declared.fault.Io.TheVariants as io
 use Rattle.control.specs.Copying.{Step, Turned, Counted, GoesThroughSteps}
 use Rattle.control.specs.Copying as copying
 use Rattle.control.specs.Health.{IsPinged, line_of}
-use Rattle.control.specs.Line.{ReadsLine, IsSent, IsNoOrder, IsCopyTo, IsNoCopy, ping_line, stop_line}
-use Rattle.control.specs.Listing.{AsksForNone, ReadsList, line_for, told_of_list}
+use Rattle.control.specs.Line.{ReadsLine, IsNaming, IsSent, IsCopyTo, ping_line, stop_line}
+use Rattle.control.specs.Listing.{ReadsList, line_for, told_of_list}
+use Rattle.control.specs.Naming.{Finds, Naming, named_result, named_steps}
+use Rattle.control.specs.OperatorLine.{AreNoLine}
 use Rattle.control.specs.Outcome.{outcome_of, outcome_of_copy}
 use Rattle.control.specs.Told.{bytes_told}
 use Rattle.control.specs.Turns.{Ordered}
@@ -36,6 +38,8 @@ pub data Heard : Type 0 where
   Pinged : Result Health StoreFault → Heard
   -- a list was asked for, and this was told
   Listed : Listing → Result (List ℕ) StoreFault → Heard
+  -- the key with a fingerprint was to be revoked, and this came of it
+  Named : List ℕ → Naming → Heard
   -- the server was to end
   Stop : Heard
   -- it was no order
@@ -53,16 +57,18 @@ told_heard (Carried order told) = spoken.Outcome (outcome_of told)
 told_heard (Copied path told) = spoken.Outcome (outcome_of_copy told)
 told_heard (Pinged told) = told_of_ping told
 told_heard (Listed listing told) = told_of_list told
+told_heard (Named f naming) = spoken.Outcome (outcome_of (named_result naming))
 told_heard Stop = spoken.Outcome Stopping
 told_heard NoOrder = spoken.Outcome Bad
 told_heard NoMemory = spoken.Outcome (Failed Memory)
 
--- the steps of it: one for an order, a copy, a ping or a list, and otherwise none
+-- the steps of it: one for an order, a copy, a ping or a list, one or two for a fingerprint, and otherwise none
 abbrev pub steps_heard : Heard → List Step
 steps_heard (Carried order told) = Turned (Ordered order told) ∷ []
 steps_heard (Copied path told) = copying.Copied path told ∷ []
 steps_heard (Pinged told) = Counted told ∷ []
 steps_heard (Listed listing told) = copying.Listed listing told ∷ []
+steps_heard (Named f naming) = named_steps f naming
 steps_heard Stop = []
 steps_heard NoOrder = []
 steps_heard NoMemory = []
@@ -73,8 +79,9 @@ IsHeardIn got (Carried order told) = IsSent got order
 IsHeardIn got (Copied path told) = IsCopyTo got path
 IsHeardIn got (Pinged told) = got ≡ ping_line
 IsHeardIn got (Listed listing told) = got ≡ line_for listing
+IsHeardIn got (Named f naming) = IsNaming got f
 IsHeardIn got Stop = got ≡ stop_line
-IsHeardIn got NoOrder = IsNoOrder got × (got ≢ stop_line) × (got ≢ ping_line) × IsNoCopy got × AsksForNone got
+IsHeardIn got NoOrder = AreNoLine got
 IsHeardIn got NoMemory = ⊥
 
 -- the bytes that ordered it were read, unless memory ran out before
@@ -91,9 +98,10 @@ abbrev pub TellsLine : Option (List ℕ) → Option (List ℕ) → List ℕ → 
 TellsLine written written_new line (Ok u) = Appends written written_new line
 TellsLine written written_new line (Err e) = (e ≡ io.Write) × WritesSome written written_new line
 
--- where an operator asked for a list, it was read
+-- where an operator asked for a list, it was read; where one named a key by its fingerprint, the key was looked up
 abbrev pub ListsBy : Shown → Shown → Heard → Type 0
 ListsBy old new (Listed listing told) = ReadsList old new listing told
+ListsBy old new (Named f naming) = Finds old new f naming
 ListsBy old new other = Unit {0}
 
 module _ (copied : List ℕ → Result (Unit {0}) CopyRefusal → Type 0) (pinged : Result Health StoreFault → Type 0) where
@@ -103,6 +111,7 @@ module _ (copied : List ℕ → Result (Unit {0}) CopyRefusal → Type 0) (pinge
   CameOf (Copied path told) = copied path told
   CameOf (Pinged told) = pinged told
   CameOf (Listed listing told) = Unit {0}
+  CameOf (Named f naming) = Unit {0}
   CameOf Stop = Unit {0}
   CameOf NoOrder = Unit {0}
   CameOf NoMemory = Unit {0}

@@ -6,6 +6,9 @@ pub mod Isolated
 pub mod Laws
 pub mod Line
 pub mod Listing
+pub mod OperatorLine
+pub mod Naming
+pub mod Notices
 pub mod Order
 pub mod Outcome
 pub mod Pace

@@ -51,13 +51,17 @@ IsCopyTo got path = IsSaid longest_copy got (copy_words path)
 abbrev pub IsNoCopy : List ℕ → Type 0
 IsNoCopy got = (path : List ℕ) → ¬ IsCopyTo got path
 
--- a line orders no copy
-abbrev pub CopiesNothing : List ℕ → Type 0
-CopiesNothing line = (path : List ℕ) → ¬ IsTextOf line (copy_words path)
+-- the words that order to revoke the key with a fingerprint
+abbrev pub named_words : List ℕ → Said
+named_words f = two (codes "revoke-fingerprint") f
 
--- these words order no copy
-abbrev pub SaysNoCopy : Said → Type 0
-SaysNoCopy s = (path : List ℕ) → s ≢ copy_words path
+-- the bytes are the line that orders to revoke the key with this fingerprint
+abbrev pub IsNaming : List ℕ → List ℕ → Type 0
+IsNaming got f = IsSaid longest got (named_words f)
+
+-- the bytes name no key
+abbrev pub IsNoNaming : List ℕ → Type 0
+IsNoNaming got = (f : List ℕ) → ¬ IsNaming got f
 
 -- the line that ends the server
 abbrev pub stop_line : List ℕ

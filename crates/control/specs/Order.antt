@@ -3,13 +3,13 @@ use Rattle.std.specs.Prelude.{ℕ, ◌≢◌, List, codes, Some, None, option_co
 use Rattle.machine.specs.declared.ask.Event.{Event}
 use Rattle.machine.specs.declared.ask.Event.TheVariants as event
 use Rattle.world.specs.World.{World}
-use Rattle.world.specs.Registry.{team_added, group_added, key_added, key_revoked}
+use Rattle.world.specs.Registry.{team_added, group_added, key_added, key_revoked, keys_revoked}
 use Rattle.world.specs.declared.entry.Right.{Right}
 use Rattle.world.specs.declared.entry.Right.TheVariants.{Reads, Publishes}
 use Rattle.world.specs.declared.registry.RegistryReply.{RegistryReply}
 use Rattle.control.specs.Words.{Said, text_of, IsTextOf}
 use Rattle.control.specs.declared.order.Order.{Order}
-use Rattle.control.specs.declared.order.Order.TheVariants.{TeamAdd, GroupAdd, KeyAdd, KeyRevoke}
+use Rattle.control.specs.declared.order.Order.TheVariants.{TeamAdd, GroupAdd, KeyAdd, KeyRevoke, KeysRevoke}
 
 -- the word that adds a key with this right
 abbrev pub add_word : Right → List ℕ
@@ -23,12 +23,17 @@ two verb first = record { verb = verb; first = first; second = None }
 abbrev pub three : List ℕ → List ℕ → List ℕ → Said
 three verb first second = record { verb = verb; first = first; second = Some second }
 
+-- these words are no two of which the first is this one
+abbrev pub SaysNone : List ℕ → Said → Type 0
+SaysNone verb s = (word : List ℕ) → s ≢ two verb word
+
 -- the words of an order
 abbrev pub said_in : Order → Said
 said_in (TeamAdd name group) = record { verb = codes "team-add"; first = name.now; second = option_copied group }
 said_in (GroupAdd name) = two (codes "group-add") name.now
 said_in (KeyAdd shelf key right) = three (add_word right) shelf.now key.now
 said_in (KeyRevoke key) = two (codes "key-revoke") key.now
+said_in (KeysRevoke shelf) = two (codes "keys-revoke") shelf.now
 
 -- these words say no order
 abbrev pub SaysNoOrder : Said → Type 0
@@ -39,16 +44,12 @@ abbrev pub AddsNoKey : List ℕ → Type 0
 AddsNoKey verb = (right : Right) → verb ≢ add_word right
 
 -- the line of an order, without its end
-abbrev pub line_of : Order → List ℕ
-line_of order = text_of (said_in order)
+abbrev pub order_line : Order → List ℕ
+order_line order = text_of (said_in order)
 
 -- The line is the order's, and each of its words has no space and no end of a line.
 abbrev pub Orders : List ℕ → Order → Type 0
 Orders line order = IsTextOf line (said_in order)
-
--- the line is no order's
-abbrev pub OrdersNothing : List ℕ → Type 0
-OrdersNothing line = (order : Order) → ¬ Orders line order
 
 -- the machine's event
 abbrev pub event_of : Order → Event
@@ -56,6 +57,7 @@ event_of (TeamAdd name group) = event.TeamAdd name.now (option_copied group)
 event_of (GroupAdd name) = event.GroupAdd name.now
 event_of (KeyAdd shelf key right) = event.KeyAdd shelf.now key.now right
 event_of (KeyRevoke key) = event.KeyRevoke key.now
+event_of (KeysRevoke shelf) = event.KeysRevoke shelf.now
 
 -- the machine's reply to the order in a world
 abbrev pub outcome_in : World → Order → RegistryReply
@@ -63,3 +65,4 @@ outcome_in w (TeamAdd name group) = team_added w name.now (option_copied group)
 outcome_in w (GroupAdd name) = group_added w name.now
 outcome_in w (KeyAdd shelf key right) = key_added w shelf.now key.now
 outcome_in w (KeyRevoke key) = key_revoked w key.now
+outcome_in w (KeysRevoke shelf) = keys_revoked w shelf.now

@@ -55,18 +55,18 @@ module _ {P O : Type 0} (came : P → Account) (written : P → Option (List ℕ
   IsUnheard (Peer peer) = IsUnused (came peer) (written peer)
   IsUnheard (Operator operator) = IsUnused (heeded operator) (told operator)
 
--- the steps of what an operator ordered: one for an order, a copy, a ping or a list, and otherwise none
+-- the steps of what an operator ordered, or none if no line was read
 abbrev pub steps_if : Option Heard → List Step
 steps_if None = []
 steps_if (Some heard) = steps_heard heard
 
--- the steps of one caller: at most one
+-- the steps of one caller: at most two
 abbrev pub steps_of : {P O : Type 0} → Call P O → List Step
 steps_of (OfPeer visit answered) = map (λ x. Turned (Asked x)) (exchanges_of visit.first)
 steps_of (OfOperator audience) = steps_if audience.heard
 steps_of Untaken = []
 
--- the messages, the orders, the copies, the pings and the lists, as they came
+-- the messages, the orders, the copies, the pings, the lists and the looks for keys, as they came
 abbrev pub steps_with : {P O : Type 0} → List (Call P O) → List Step
 steps_with [] = []
 steps_with (call ∷ calls) = steps_of call ++ steps_with calls
@@ -114,7 +114,7 @@ abbrev pub CameIf : (List ℕ → Result (Unit {0}) CopyRefusal → Type 0) → 
 CameIf copied pinged None = Unit {0}
 CameIf copied pinged (Some heard) = CameOf copied pinged heard
 
--- where an operator asked for a list, it was read
+-- where an operator asked for a list, it was read; where one named a key by its fingerprint, the key was looked up
 abbrev pub ListsIf : Shown → Shown → Option Heard → Type 0
 ListsIf old new None = Unit {0}
 ListsIf old new (Some heard) = ListsBy old new heard

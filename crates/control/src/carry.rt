@@ -18,5 +18,6 @@ pub fn carry_out<S: Shelves>(shelves: &mut S, order: &Order) -> Result<RegistryR
         Order::GroupAdd { name } => shelves.group_add(name),
         Order::KeyAdd { shelf, key, right } => shelves.key_add(shelf, key, *right),
         Order::KeyRevoke { key } => shelves.key_revoke(key),
+        Order::KeysRevoke { shelf } => shelves.keys_revoke(shelf),
     }
 }

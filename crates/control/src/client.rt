@@ -1,15 +1,15 @@
 //! The operator's side.
 ghost use Rattle.std.specs.Prelude.{◌≡◌, ◌++◌, ◌∷◌, [], IfOk, IfErr, IfSome, OnOk, option_copied};
-ghost use Rattle.control.specs.Asking.{Asks, AsksForHealth, AsksForList, AsksToCopy, AsksToStop};
+ghost use Rattle.control.specs.Asking.{Asks, AsksForHealth, AsksForList, AsksToCopy, AsksToRevoke, AsksToStop};
 ghost use Rattle.control.specs.Asking.{IsUnwritten, Sends, TellsOutcome, TellsHealth, TellsList, IsTold, TellsBytes};
-ghost use Rattle.control.specs.Line.{IsCopyTo, IsSaid, IsSent, copy_words, longest, longest_copy};
+ghost use Rattle.control.specs.Line.{IsCopyTo, IsNaming, IsSaid, IsSent};
+ghost use Rattle.control.specs.Line.{copy_words, longest, longest_copy, named_words};
 ghost use Rattle.control.specs.Order as spec;
 ghost use Rattle.control.specs.Order.{said_in};
 ghost use Rattle.control.specs.Outcome.{line_of};
 ghost use Rattle.control.specs.Told.{bytes_told};
 ghost use Rattle.control.specs.Words.{said, text_of, behind, line_end};
 
-use crate::copy_line::words_to_copy;
 use crate::health::health_line_in;
 use crate::line::{
     LONGEST, LONGEST_COPY, PING_LINE, STOP_LINE, line_in, read_all, read_line, read_to,
@@ -18,6 +18,7 @@ use crate::listing::{Listing, list_in};
 use crate::order::Order;
 use crate::outcome::Outcome;
 use crate::told::Told;
+use crate::two_words::two_words;
 use crate::words::{Words, are_words};
 use engine::write::write_bytes;
 use histories::{Hear, Tell};
@@ -82,6 +83,24 @@ pub fn ask_to_copy<R: Hear, W: Tell>(
         (W.contents writer.old) (W.contents writer.new) path.now result }
 {
     let line = copy_to_send(alloc, path)?;
+    send(alloc, reader, writer, &line)
+}
+
+/// Orders to revoke the key that has a fingerprint, and returns the outcome: that of `RegistryReply::NoKey` if no key has
+/// it or several have.
+///
+/// `Untold::Words`: no line can carry the fingerprint, and so no key has it. `Untold::Memory`: memory ran out for the
+/// line. In both cases nothing was sent. `Untold::Io`: the line was not sent whole, or no outcome was read.
+pub fn ask_to_revoke<R: Hear, W: Tell>(
+    alloc: Global,
+    reader: &mut R,
+    writer: &mut W,
+    fingerprint: &str,
+) -> Result<Outcome, Untold>
+    ensures { AsksToRevoke (R.remaining reader.old) (R.remaining reader.new)
+        (W.contents writer.old) (W.contents writer.new) fingerprint.now result }
+{
+    let line = naming_to_send(alloc, fingerprint)?;
     send(alloc, reader, writer, &line)
 }
 
@@ -162,8 +181,17 @@ fn copy_to_send(alloc: Global, path: &str) -> Result<Vec<u8>, Untold>
     ensures ok { IfOk result (λ line. IsCopyTo line.items path.now) }
     ensures err { IfErr result (λ why. IsUnwritten longest_copy (copy_words path.now) why) }
 {
-    let words = words_to_copy(path);
+    let words = two_words("copy", path);
     line_saying(alloc, &words, LONGEST_COPY)
+}
+
+/// The line that orders to revoke the key with a fingerprint, with its end.
+fn naming_to_send(alloc: Global, fingerprint: &str) -> Result<Vec<u8>, Untold>
+    ensures ok { IfOk result (λ line. IsNaming line.items fingerprint.now) }
+    ensures err { IfErr result (λ why. IsUnwritten longest (named_words fingerprint.now) why) }
+{
+    let words = two_words("revoke-fingerprint", fingerprint);
+    line_saying(alloc, &words, LONGEST)
 }
 
 /// The line that says words, with its end, if it has at most so many bytes without that.
@@ -204,6 +232,11 @@ fn words_in<'a>(order: &Order<'a>) -> Words<'a>
         Order::KeyRevoke { key } => Words {
             verb: "key-revoke",
             first: key,
+            second: None,
+        },
+        Order::KeysRevoke { shelf } => Words {
+            verb: "keys-revoke",
+            first: shelf,
             second: None,
         },
     }

@@ -26,6 +26,9 @@ pub trait Copies<S: Shelves> {
     /// What a count says, by the served store before and after it, and the number.
     ghost counted: { S → S → ℕ → Type 0 };
 
+    /// Returns the name of the file of the served store, for those who read it.
+    fn served(&self) -> &str;
+
     /// Makes the store of a file, with this path, one of the served store as it is at this moment. The served store is
     /// only read.
     ///

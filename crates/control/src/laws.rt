@@ -1,6 +1,7 @@
 //! What lines mean, and what the callers of one run learn about each other.
 ghost use Rattle.control.specs.Isolated.{TurnsAreAnsweredAlike};
 ghost use Rattle.control.specs.Laws.{OneEventALine, OneOutcomeALine};
+ghost use Rattle.control.specs.Notices.{NoneIsRefusal};
 
 use world::shelves::Shelves;
 
@@ -12,6 +13,11 @@ pub fn line_orders_one_thing()
 /// Each outcome has a line of its own.
 pub fn outcome_has_a_line_of_its_own()
     ensures { OneOutcomeALine }
+{}
+
+/// What `serve` writes on standard error while it serves has no line that begins with `goshelf:`, as a refusal's does.
+pub fn no_notice_is_a_refusal()
+    ensures { NoneIsRefusal }
 {}
 
 /// Isolation also holds between two calls of [`serve_both`](crate::serve_both), over any two stores whose worlds agree

@@ -3,15 +3,16 @@
 //!
 //! | what | where |
 //! |---|---|
-//! | the orders, and the line of each | [`Order`], [`order_of`] |
-//! | the order to copy the store, and what carries it out | [`copy_path_of`], [`Copies`] |
+//! | the lines of operators, and which one some bytes are | [`Line`], [`line_of_bytes`] |
+//! | the orders that change a store, and what makes a copy of it | [`Order`], [`Copies`] |
 //! | what a ping is told: how connections were answered, and more that an operator watches | [`Tally`], [`Health`] |
 //! | the lists of keys and of shelves | [`Listing`] |
 //! | what came of an order, and the line that tells it | [`Outcome`], [`Told`] |
 //! | taking an operator's line, and carrying its order out | [`obey`], [`carry_out`] |
 //! | peers of a port and operators of a socket, one after another | [`serve_both`], [`Callers`], [`Doors`] |
+//! | what happened, in lines without a key, for standard error | [`Notice`], [`opened`], [`ended`], [`tell`] |
 //! | the socket | [`operators_at`], [`remove_socket`] |
-//! | the operator's side | [`server_at`], [`ask`], [`ask_to_copy`], [`ask_to_stop`] |
+//! | the operator's side | [`server_at`], [`ask`], [`ask_to_copy`], [`ask_to_revoke`], [`ask_to_stop`] |
 //! | what it asks to be told | [`ask_for_health`], [`ask_for_list`] |
 #![tactic(auto)]
 
@@ -19,12 +20,16 @@ mod callers;
 mod carry;
 mod client;
 mod copies;
-mod copy_line;
+mod errand;
+mod faults;
 mod health;
 pub mod laws;
 mod line;
 mod listing;
+mod naming;
+mod notice;
 mod obeying;
+mod operator_line;
 mod order;
 mod outcome;
 mod patience;
@@ -32,20 +37,27 @@ mod pinging;
 mod serve;
 mod socket_file;
 mod tally;
+mod telling;
 mod told;
+mod two_words;
+mod watched;
 mod words;
 
 pub use callers::{Caller, Callers, Doors, Obeyed, Operator, SystemCaller};
 pub use carry::carry_out;
-pub use client::{Untold, ask, ask_for_health, ask_for_list, ask_to_copy, ask_to_stop};
+pub use client::{
+    Untold, ask, ask_for_health, ask_for_list, ask_to_copy, ask_to_revoke, ask_to_stop,
+};
 pub use copies::{Copies, CopyRefusal};
-pub use copy_line::copy_path_of;
 pub use health::Health;
 pub use listing::Listing;
+pub use notice::{Notice, ended, opened};
 pub use obeying::obey;
-pub use order::{Order, order_of};
+pub use operator_line::{Line, line_of_bytes};
+pub use order::Order;
 pub use outcome::Outcome;
 pub use serve::serve_both;
 pub use socket_file::{operators_at, remove_socket, server_at};
 pub use tally::Tally;
+pub use telling::tell;
 pub use told::Told;

@@ -1,10 +1,9 @@
-//! Reading lines, and telling what they order.
+//! Reading lines.
 ghost use Rattle.std.specs.Prelude.{◌≡◌, ◌<◌, ◌↔◌, MatchOption, IfOk, IfErr, IsTrue};
 ghost use Rattle.histories.specs.Account.{Gives};
 ghost use Rattle.engine.specs.Causes.{IsUnreadable};
 ghost use Rattle.control.specs.Line as spec;
 
-use crate::order::{Order, order_of};
 use histories::Hear;
 use std::alloc::{AllocError, Global};
 use std::io::ErrorKind;
@@ -148,26 +147,4 @@ pub(crate) fn line_in(got: &[u8], most: usize) -> Option<&str>
         Ok(line) => Some(line),
         Err(_) => None,
     }
-}
-
-/// Whether the bytes are `STOP_LINE`.
-pub(crate) fn is_stop(got: &[u8]) -> bool
-    ensures { IsTrue result ↔ (got.now ≡ spec.stop_line) }
-{
-    got == STOP_LINE
-}
-
-/// Whether the bytes are `PING_LINE`.
-pub(crate) fn is_ping(got: &[u8]) -> bool
-    ensures { IsTrue result ↔ (got.now ≡ spec.ping_line) }
-{
-    got == PING_LINE
-}
-
-/// Returns the order whose line the bytes are, or None if they are no order's.
-pub(crate) fn order_in(got: &[u8]) -> Option<Order<'_>>
-    ensures { MatchOption result (spec.IsNoOrder got.now) (λ order. spec.IsSent got.now order) }
-{
-    let line = line_in(got, LONGEST)?;
-    order_of(line)
 }

@@ -41,19 +41,6 @@ impl Listing {
     }
 }
 
-/// Returns which list the bytes ask for, or None if they ask for none.
-pub(crate) fn listing_in(got: &[u8]) -> Option<Listing>
-    ensures { MatchOption result (spec.AsksForNone got.now) (λ listing. got.now ≡ spec.line_for listing) }
-{
-    if got == KEYS_LINE {
-        Some(Listing::Keys)
-    } else if got == SHELVES_LINE {
-        Some(Listing::Shelves)
-    } else {
-        None
-    }
-}
-
 /// Reads a list of the store, and returns what the operator gets: the list and its last line. Returns `Outcome::Failed`
 /// if the store meets a fault or memory runs out.
 pub(crate) fn list<S: Keyring>(alloc: Global, shelves: &mut S, listing: Listing) -> Told

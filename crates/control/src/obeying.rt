@@ -6,9 +6,10 @@ ghost use Rattle.control.specs.Line.{most_tries};
 
 use crate::carry::carry_out;
 use crate::copies::Copies;
-use crate::copy_line::copy_in;
-use crate::line::{Unread, is_ping, is_stop, order_in, read_line};
-use crate::listing::{list, listing_in};
+use crate::line::{Unread, read_line};
+use crate::listing::list;
+use crate::naming::revoke_named;
+use crate::operator_line::{Line, line_of_bytes};
 use crate::outcome::{Outcome, outcome_of, outcome_of_copy};
 use crate::pinging::ping;
 use crate::tally::Tally;
@@ -98,20 +99,17 @@ fn heed<S: Keyring, K: Copies<S>>(
 ) -> Told
     ensures { HeedsBy S.shown K.copied K.counted tally.now shelves.old shelves.new got.now result }
 {
-    if is_stop(got) {
-        return Told::Outcome(Outcome::Stopping);
-    }
-    if is_ping(got) {
-        return ping(alloc, tally, shelves, copies);
-    }
-    if let Some(path) = copy_in(got) {
-        return Told::Outcome(outcome_of_copy(copies.copy(shelves, path)));
-    }
-    if let Some(listing) = listing_in(got) {
-        return list(alloc, shelves, listing);
-    }
-    match order_in(got) {
-        Some(order) => Told::Outcome(outcome_of(carry_out(shelves, &order))),
+    match line_of_bytes(got) {
+        Some(Line::Stop) => Told::Outcome(Outcome::Stopping),
+        Some(Line::Ping) => ping(alloc, tally, shelves, copies),
+        Some(Line::Copy(path)) => Told::Outcome(outcome_of_copy(copies.copy(shelves, path))),
+        Some(Line::List(listing)) => list(alloc, shelves, listing),
+        Some(Line::RevokeNamed(fingerprint)) => Told::Outcome(revoke_named(
+            alloc,
+            shelves,
+            fingerprint,
+        )),
+        Some(Line::Order(order)) => Told::Outcome(outcome_of(carry_out(shelves, &order))),
         None => Told::Outcome(Outcome::Bad),
     }
 }

@@ -1,9 +1,9 @@
-//! Orders, and the line of each.
+//! Orders, and the words of each.
 ghost use Rattle.std.specs.Prelude.{◌≡◌, MatchOption};
 ghost use Rattle.control.specs.Order as spec;
 ghost use Rattle.control.specs.Words.{said};
 
-use crate::words::{Words, words_of};
+use crate::words::Words;
 use world::entry::Right;
 
 /// A registry command that an operator orders.
@@ -28,19 +28,15 @@ pub enum Order<'a> {
     KeyRevoke {
         key: &'a str,
     },
+    /// `keys-revoke SHELF`: revokes all keys of a shelf.
+    KeysRevoke {
+        shelf: &'a str,
+    },
 }
 
-/// Returns the order of a line without its end, or None if it is no order's line. It does not check the rules of names
-/// and keys: the store does, when the order is carried out.
-pub fn order_of<'a>(line: &'a str) -> Option<Order<'a>>
-    ensures { MatchOption result (spec.OrdersNothing line.now) (λ order. spec.Orders line.now order) }
-{
-    let words = words_of(line)?;
-    order_of_words(&words)
-}
-
-/// Returns the order that the words say, or None if they say none.
-fn order_of_words<'a>(words: &Words<'a>) -> Option<Order<'a>>
+/// Returns the order that the words say, or None if they say none. It does not check the rules of names and keys: the
+/// store does, when the order is carried out.
+pub(crate) fn order_of_words<'a>(words: &Words<'a>) -> Option<Order<'a>>
     ensures { MatchOption result (spec.SaysNoOrder (said words.now)) (λ order. said words.now ≡ spec.said_in order) }
 {
     match words.second {
@@ -90,6 +86,8 @@ fn shorter<'a>(verb: &'a str, name: &'a str) -> Option<Order<'a>>
         Some(Order::GroupAdd { name })
     } else if verb == "key-revoke" {
         Some(Order::KeyRevoke { key: name })
+    } else if verb == "keys-revoke" {
+        Some(Order::KeysRevoke { shelf: name })
     } else {
         None
     }

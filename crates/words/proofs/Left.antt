@@ -6,7 +6,7 @@ use Rattle.clap.specs.Simple.{has_plain_fields}
 use Rattle.clap.specs.declared.builder.command.Command.{Command}
 use Rattle.clap.specs.declared.builder.command.Command.TheViews.{out-Command}
 use Rattle.clap.specs.Words.{App, Shape, Rule, shape_of, with_rule, with_subcommand}
-use Rattle.words.specs.Table.{Follows, Line, Opt, bare_command, line_of, nothing, number, option_of, rule_of_option}
+use Rattle.words.specs.Table.{Follows, Line, Opt, bare_command, table_line, nothing, number, option_of, rule_of_option}
 use Rattle.words.specs.Table.{shape_of_line, text, texts_each}
 use Rattle.words.specs.declared.arguments.CommandRow.{CommandRow}
 use Rattle.words.specs.declared.options.OptionRow.{OptionRow}
@@ -18,9 +18,9 @@ pub option_added : (old new total : App) (rows : List OptionRow) (i : ℕ) (d : 
 option_added old new total rows i d lt e h = rw (e, add-one) (rw (drop-cons rows i d lt) at h)
 
 pub command_added : (old new total : App) (rows : List CommandRow) (i : ℕ) (d : CommandRow) → i < length rows
-    → new ≡ with_subcommand old (shape_of_line (line_of (slice_index_or rows i d)))
-    → fold with_subcommand old (map shape_of_line (map line_of (drop i rows))) ≡ total
-    → fold with_subcommand new (map shape_of_line (map line_of (drop (i + 1) rows))) ≡ total
+    → new ≡ with_subcommand old (shape_of_line (table_line (slice_index_or rows i d)))
+    → fold with_subcommand old (map shape_of_line (map table_line (drop i rows))) ≡ total
+    → fold with_subcommand new (map shape_of_line (map table_line (drop (i + 1) rows))) ≡ total
 command_added old new total rows i d lt e h = rw (e, add-one) (rw (drop-cons rows i d lt) at h)
 
 pub last_of : (a b : Bool) → (a && b) ≡ true → b ≡ true
@@ -66,7 +66,7 @@ fields_are_local fields plain =
 
 -- the command of a row has no global option
 pub row_is_local : (made : Command) (rows : List CommandRow) (i : ℕ) (d : CommandRow)
-    → shape_of made ≡ shape_of_line (line_of (slice_index_or rows i d)) → (out-Command made).has_globals ≡ false
+    → shape_of made ≡ shape_of_line (table_line (slice_index_or rows i d)) → (out-Command made).has_globals ≡ false
 row_is_local made rows i d is =
     fields_are_local (out-Command made)
-    (ap (λ (s : Shape). s.is_plain) is ∙ line_is_plain (line_of (slice_index_or rows i d)))
+    (ap (λ (s : Shape). s.is_plain) is ∙ line_is_plain (table_line (slice_index_or rows i d)))

@@ -91,8 +91,8 @@ follows_of (value.Number name most) = number most
 abbrev pub option_of : OptionRow → Opt
 option_of row = record { name = row.name.now; follows = follows_of row.value; is_required = row.is_required }
 
-abbrev pub line_of : CommandRow → Line
-line_of row = record { name = row.name.now; options = map option_of row.options.now; has_forms = is_some row.forms }
+abbrev pub table_line : CommandRow → Line
+table_line row = record { name = row.name.now; options = map option_of row.options.now; has_forms = is_some row.forms }
 
 -- ---- the lines in the words of clap
 

@@ -188,7 +188,9 @@ const KEY_REVOKE_FORMS: &str = "\
 goshelf key-revoke --db <F> --key <K>
        goshelf key-revoke --db <F> --fingerprint <X>
        goshelf key-revoke --db <F> --shelf <S> --all
-       goshelf key-revoke --control <S> --key <K>";
+       goshelf key-revoke --control <S> --key <K>
+       goshelf key-revoke --control <S> --fingerprint <X>
+       goshelf key-revoke --control <S> --shelf <S> --all";
 
 const KEY_LIST_FORMS: &str = "goshelf key-list --db <F>\n       goshelf key-list --control <S>";
 
@@ -233,14 +235,14 @@ pub fn parser<'a>(alloc: Global, version: &'a str) -> Result<Command<'a>, AllocE
 /// Returns the first table. Each table has a function of its own, because the prover reads all texts of a table
 /// at once.
 fn store_commands() -> &'static [CommandRow]
-    ensures { map spec.line_of result.now ≡ spec.store_lines }
+    ensures { map spec.table_line result.now ≡ spec.store_lines }
 {
     STORE_COMMANDS.as_slice()
 }
 
 /// Returns the second table.
 fn other_commands() -> &'static [CommandRow]
-    ensures { map spec.line_of result.now ≡ spec.other_lines }
+    ensures { map spec.table_line result.now ≡ spec.other_lines }
 {
     OTHER_COMMANDS.as_slice()
 }
@@ -253,7 +255,7 @@ fn with_commands<'a>(
     rows: &[CommandRow],
 ) -> Result<Command<'a>, AllocError>
     ensures { IfOk result (λ made.
-        app_of made ≡ spec.with_lines (app_of program.entry) (map spec.line_of rows.now)) }
+        app_of made ≡ spec.with_lines (app_of program.entry) (map spec.table_line rows.now)) }
 {
     let mut program = program;
     for row in rows {
@@ -284,7 +286,7 @@ fn described<'a>(alloc: Global, version: &'a str) -> Command<'a>
 /// Returns a command without its options, as help shows it. A command with forms shows its help, as bad usage, if no
 /// option follows.
 fn bare<'a>(alloc: Global, row: &CommandRow) -> Command<'a>
-    ensures { app_of result ≡ spec.bare_command (spec.line_of row.now) }
+    ensures { app_of result ≡ spec.bare_command (spec.table_line row.now) }
 {
     let command = Command::new(alloc, row.name)
         .about(row.about)
@@ -318,7 +320,7 @@ fn row_of(rows: &'static [CommandRow], name: &str) -> Option<&'static CommandRow
 
 /// Returns a command with its options.
 fn command<'a>(alloc: Global, row: &CommandRow) -> Result<Command<'a>, AllocError>
-    ensures { IfOk result (λ made. shape_of made ≡ spec.shape_of_line (spec.line_of row.now)) }
+    ensures { IfOk result (λ made. shape_of made ≡ spec.shape_of_line (spec.table_line row.now)) }
 {
     let mut command = bare(alloc, row);
     for option in row.options {

@@ -1,0 +1,52 @@
+-- Revoking the key that has a fingerprint.
+use Rattle.std.proofs.Common.{◌≡◌, ℕ, List, [], ◌∷◌, true, false, Some, None, Result, Ok, Err, refl}
+use Rattle.std.specs.Borrow.{Bor}
+use Rattle.keyring.specs.Named.{keys_in}
+use Rattle.keyring.specs.Revoke.{only_with}
+use Rattle.machine.specs.Machine.{after}
+use Rattle.world.specs.Store.{Shown, Does, Reads}
+use Rattle.world.specs.declared.registry.RegistryReply.{RegistryReply}
+use Rattle.world.specs.declared.registry.RegistryReply.TheVariants.{NoKey}
+use Rattle.world.specs.declared.registry.StoreFault.{StoreFault}
+use Rattle.control.specs.Naming.{NamesOne, NamesNone, Unread, RevokesNamed}
+use Rattle.control.specs.Order.{event_of, outcome_in}
+use Rattle.control.specs.Outcome.{outcome_of}
+use Rattle.control.specs.Turns.{Ordered}
+use Rattle.control.specs.declared.order.Order.TheVariants.{KeyRevoke}
+use Rattle.control.specs.declared.outcome.Outcome.{Outcome}
+use Rattle.control.proofs.ListingLemmas.{only_read}
+use Rattle.control.proofs.TurnLemmas.{turns_more, turns_ordered, turns_read}
+
+module _ (old mid new : Shown) (f : List ℕ) where
+  -- one key was found, and then revoked
+  pub one_named : (key : Bor (List ℕ)) (told : Result RegistryReply StoreFault) (outcome : Outcome)
+      → Reads old mid (Ok (Some key.now)) (λ w. only_with (keys_in w) f)
+      → Does mid new told (λ w. outcome_in w (KeyRevoke key)) (λ w. after w (event_of (KeyRevoke key)))
+      → outcome ≡ outcome_of told → RevokesNamed old new f outcome
+  one_named key told outcome reads does tells = record {
+    naming = NamesOne key told;
+    through = turns_more old mid new [] true (turns_read old mid (only_read old mid _ _ reads))
+        (Ordered (KeyRevoke key) told ∷ []) false (turns_ordered mid new (KeyRevoke key) told does);
+    finds = λ h w stands. (reads.at (does.honest h) w stands).answer;
+    tells = tells;
+  }
+
+module _ (old new : Shown) (f : List ℕ) where
+  -- no key was found, or several
+  pub none_named : Reads old new (Ok None) (λ w. only_with (keys_in w) f) → RevokesNamed old new f (outcome_of (Ok NoKey))
+  none_named reads = record {
+    naming = NamesNone;
+    through = turns_read old new (only_read old new _ _ reads);
+    finds = λ h w stands. (reads.at h w stands).answer;
+    tells = refl;
+  }
+
+  -- the look met a fault
+  pub unread_named : (fault : StoreFault) → Reads old new (Err fault) (λ w. only_with (keys_in w) f)
+      → RevokesNamed old new f (outcome_of (Err fault))
+  unread_named fault reads = record {
+    naming = Unread fault;
+    through = turns_read old new (only_read old new _ _ reads);
+    finds = tt;
+    tells = refl;
+  }

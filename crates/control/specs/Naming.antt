@@ -1,0 +1,53 @@
+-- A key that an operator names by its fingerprint, to revoke it.
+use Rattle.std.specs.Prelude.{ℕ, ◌≡◌, List, [], ◌∷◌, Option, Some, None, Result, Ok, Err}
+use Rattle.std.specs.Borrow.{Bor}
+use Rattle.keyring.specs.Named.{keys_in}
+use Rattle.keyring.specs.Revoke.{only_with}
+use Rattle.world.specs.Store.{Shown}
+use Rattle.world.specs.World.{World}
+use Rattle.world.specs.declared.registry.RegistryReply.{RegistryReply}
+use Rattle.world.specs.declared.registry.RegistryReply.TheVariants.{NoKey}
+use Rattle.world.specs.declared.registry.StoreFault.{StoreFault}
+use Rattle.control.specs.Copying.{Step, LookedUp, Turned, GoesThroughSteps}
+use Rattle.control.specs.Outcome.{outcome_of}
+use Rattle.control.specs.Turns.{Ordered}
+use Rattle.control.specs.declared.order.Order.TheVariants.{KeyRevoke}
+use Rattle.control.specs.declared.outcome.Outcome.{Outcome}
+
+-- what came of a fingerprint
+pub data Naming : Type 0 where
+  -- one key has it, and the order that revokes this key was carried out, with this result
+  NamesOne : Bor (List ℕ) → Result RegistryReply StoreFault → Naming
+  -- no key has it, or several have
+  NamesNone : Naming
+  -- the look for the key met a fault
+  Unread : StoreFault → Naming
+
+-- the result of the whole
+abbrev pub named_result : Naming → Result RegistryReply StoreFault
+named_result (NamesOne key told) = told
+named_result NamesNone = Ok NoKey
+named_result (Unread fault) = Err fault
+
+-- the steps of it: the look, which only reads, and the order if one key was found
+abbrev pub named_steps : List ℕ → Naming → List Step
+named_steps f (NamesOne key told) = LookedUp f (Ok (Some key.now)) ∷ Turned (Ordered (KeyRevoke key) told) ∷ []
+named_steps f NamesNone = LookedUp f (Ok None) ∷ []
+named_steps f (Unread fault) = LookedUp f (Err fault) ∷ []
+
+-- on an honest disk this was found of the keys of each world that the store stood for
+abbrev pub IsFound : Shown → Shown → List ℕ → Option (List ℕ) → Type 0
+IsFound old new f found = new.is_honest → (w : World) → old.stands w → found ≡ only_with (keys_in w) f
+
+-- so it is, unless the look met a fault
+abbrev pub Finds : Shown → Shown → List ℕ → Naming → Type 0
+Finds old new f (NamesOne key told) = IsFound old new f (Some key.now)
+Finds old new f NamesNone = IsFound old new f None
+Finds old new f (Unread fault) = Unit {0}
+
+-- From old to new the key with this fingerprint was looked up, and revoked if it was found, and this came of it.
+pub record RevokesNamed (old new : Shown) (f : List ℕ) (outcome : Outcome) : Type 0 where
+  pub naming : Naming
+  pub through : GoesThroughSteps old new (named_steps f naming)
+  pub finds : Finds old new f naming
+  pub tells : outcome ≡ outcome_of (named_result naming)

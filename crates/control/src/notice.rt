@@ -1,0 +1,219 @@
+//! The lines that `serve` writes on standard error.
+ghost use Rattle.std.specs.Prelude.{◌≡◌, ◌++◌, codes, string_bytes, option_copied, IfOk};
+ghost use Rattle.std.specs.List.{list_all};
+ghost use Rattle.control.specs.Notices as spec;
+ghost use Rattle.control.specs.Notices.{Answered, Copied, Ended, Met, Opened, Ordered, Uncounted};
+ghost use Rattle.keyring.specs.KeyList as keys;
+
+use crate::copies::CopyRefusal;
+use crate::errand::{Errand, two};
+use crate::order::Order;
+use crate::outcome::{Outcome, outcome_of, outcome_of_copy};
+use keyring::key_list::fingerprint;
+use std::alloc::{AllocError, Global};
+use text::Text;
+use world::entry::Right;
+use world::registry::{RegistryReply, StoreFault};
+
+/// What stands in the place of a text with a control character.
+const UNPRINTABLE: &str = "?";
+
+/// A line that says what happened, with its end. No key stands in it.
+#[derive(Drop)]
+pub struct Notice {
+    text: Text,
+    /// Whether it tells of a fault of the store.
+    is_fault: bool,
+    ghost is: { spec.IsNotice text },
+}
+
+impl Notice {
+    /// The line, with its end.
+    pub fn as_str(&self) -> &str
+        ensures { result.now ≡ self.now.text }
+    {
+        self.text.as_str()
+    }
+
+    /// Whether it tells of a fault of the store.
+    pub(crate) fn is_fault(&self) -> bool {
+        self.is_fault
+    }
+
+    /// Returns the notice of a line.
+    fn of(line: String, is_fault: bool) -> Notice
+        requires { spec.IsNotice (string_bytes line) }
+        ensures { result.text ≡ string_bytes line }
+    {
+        Notice {
+            text: Text::new(line),
+            is_fault,
+        }
+    }
+}
+
+/// Says that the store of a file was opened, and how many versions it has, or why they can't be counted. Fails only if
+/// memory runs out.
+pub fn opened(
+    alloc: Global,
+    file: &str,
+    versions: Result<u64, StoreFault>,
+) -> Result<Notice, AllocError>
+    ensures { IfOk result (λ notice. notice.text ≡ spec.line_of (spec.opened file.now versions)) }
+{
+    match versions {
+        Ok(number) => opened_with(alloc, file, number),
+        Err(fault) => uncounted(alloc, file, fault),
+    }
+}
+
+/// Says that the store of a file was opened, and how many versions it has. Fails only if memory runs out.
+fn opened_with(alloc: Global, file: &str, versions: u64) -> Result<Notice, AllocError>
+    ensures { IfOk result (λ notice. notice.text ≡ spec.line_of (Opened file.now versions)) }
+{
+    let text = format!(in alloc; "{}: {} versions", file, versions)?;
+    let line = format!(in alloc; "opened: {}\n", plain(text.as_str()))?;
+    Ok(Notice::of(line, false))
+}
+
+/// Says that the store of a file was opened, and by which fault its versions can't be counted. Fails only if memory
+/// runs out.
+fn uncounted(alloc: Global, file: &str, fault: StoreFault) -> Result<Notice, AllocError>
+    ensures { IfOk result (λ notice. notice.text ≡ spec.line_of (Uncounted file.now fault)) }
+{
+    let line = outcome_line(alloc, "opened: ", file, Outcome::Failed(fault))?;
+    Ok(Notice::of(line, false))
+}
+
+/// Says that the store of a file is no longer served. Fails only if memory runs out.
+pub fn ended(alloc: Global, file: &str) -> Result<Notice, AllocError>
+    ensures { IfOk result (λ notice. notice.text ≡ spec.line_of (Ended file.now)) }
+{
+    let line = format!(in alloc; "ended: {}\n", plain(file))?;
+    Ok(Notice::of(line, false))
+}
+
+/// Says what came of an order that was carried out, with the fingerprint of the key in its place. Fails only if memory
+/// runs out.
+pub(crate) fn ordered(
+    alloc: Global,
+    order: &Order,
+    told: Result<RegistryReply, StoreFault>,
+) -> Result<Notice, AllocError>
+    ensures { IfOk result (λ notice. notice.text ≡ spec.line_of (Ordered order.now told)) }
+{
+    let words = shown_words(alloc, order)?;
+    let line = outcome_line(alloc, "order: ", words.as_str(), outcome_of(told))?;
+    Ok(Notice::of(line, false))
+}
+
+/// Says what came of a copy. Fails only if memory runs out.
+pub(crate) fn copied(
+    alloc: Global,
+    path: &str,
+    told: Result<(), CopyRefusal>,
+) -> Result<Notice, AllocError>
+    ensures { IfOk result (λ notice. notice.text ≡ spec.line_of (Copied path.now told)) }
+{
+    let words = two(alloc, "copy ", path)?;
+    let line = outcome_line(alloc, "order: ", words.as_str(), outcome_of_copy(told))?;
+    Ok(Notice::of(line, false))
+}
+
+/// Says what an operator was told whose order did nothing. Fails only if memory runs out.
+pub(crate) fn answered(alloc: Global, told: Outcome) -> Result<Notice, AllocError>
+    ensures { IfOk result (λ notice. notice.text ≡ spec.line_of (Answered told)) }
+{
+    let line = two(alloc, "order: ", told.line())?;
+    Ok(Notice::of(line, false))
+}
+
+/// Says which fault a store met, and at what. Fails only if memory runs out.
+pub(crate) fn met(alloc: Global, errand: &Errand, fault: StoreFault) -> Result<Notice, AllocError>
+    ensures { IfOk result (λ notice. notice.text ≡ spec.line_of (Met errand.now fault)) }
+{
+    let words = errand.words(alloc)?;
+    let line = outcome_line(alloc, "fault: ", words.as_str(), Outcome::Failed(fault))?;
+    Ok(Notice::of(line, true))
+}
+
+/// Returns a line of a word, a text and an outcome. Fails only if memory runs out.
+fn outcome_line(alloc: Global, kind: &str, text: &str, told: Outcome) -> Result<String, AllocError>
+    ensures { IfOk result (λ line. string_bytes line ≡ spec.outcome_line kind.now text.now told) }
+{
+    let mut line = String::from_str(alloc, kind)?;
+    line.push_str(plain(text))?;
+    line.push_str(": ")?;
+    line.push_str(told.line())?;
+    Ok(line)
+}
+
+/// Returns the words of an order, with the fingerprint of the key in its place. Fails only if memory runs out.
+fn shown_words(alloc: Global, order: &Order) -> Result<String, AllocError>
+    ensures { IfOk result (λ words. string_bytes words ≡ spec.shown_words order.now) }
+{
+    match order {
+        Order::TeamAdd { name, group } => team_words(alloc, name, *group),
+        Order::GroupAdd { name } => two(alloc, "group-add ", name),
+        Order::KeyAdd { shelf, key, right } => key_words(alloc, shelf, key, *right),
+        Order::KeyRevoke { key } => {
+            let named = fingerprint(alloc, key)?;
+            two(alloc, "key-revoke ", named.as_str())
+        }
+        Order::KeysRevoke { shelf } => two(alloc, "keys-revoke ", shelf),
+    }
+}
+
+/// Returns the words that add a team. Fails only if memory runs out.
+fn team_words(alloc: Global, name: &str, group: Option<&str>) -> Result<String, AllocError>
+    ensures { IfOk result (λ words. string_bytes words
+        ≡ codes "team-add " ++ (name.now ++ spec.behind_team (option_copied group.entry))) }
+{
+    let mut words = two(alloc, "team-add ", name)?;
+    if let Some(group) = group {
+        words.push_str(" ")?;
+        words.push_str(group)?;
+    }
+    Ok(words)
+}
+
+/// Returns the words that add a key, with its fingerprint in its place. Fails only if memory runs out.
+fn key_words(alloc: Global, shelf: &str, key: &str, right: Right) -> Result<String, AllocError>
+    ensures { IfOk result (λ words. string_bytes words
+        ≡ codes "key-add " ++ (shelf.now ++ (spec.right_words right ++ keys.fingerprint key.now))) }
+{
+    let named = fingerprint(alloc, key)?;
+    let mut words = two(alloc, "key-add ", shelf)?;
+    words.push_str(right_words(right))?;
+    words.push_str(named.as_str())?;
+    Ok(words)
+}
+
+/// Returns what stands between a shelf and a key.
+fn right_words(right: Right) -> &'static str
+    ensures { result.now ≡ spec.right_words right }
+{
+    match right {
+        Right::Reads => " read-only ",
+        Right::Publishes => " ",
+    }
+}
+
+/// Returns the text, or `UNPRINTABLE` if it has a control character of ASCII.
+fn plain(text: &str) -> &str
+    ensures { result.now ≡ spec.plain text.now }
+{
+    if is_plain(text) { text } else { UNPRINTABLE }
+}
+
+fn is_plain(text: &str) -> bool
+    ensures { result ≡ list_all spec.is_plain_byte text.now }
+{
+    text.as_bytes().iter().all(|b| is_plain_byte(*b))
+}
+
+fn is_plain_byte(byte: u8) -> bool
+    ensures { result ≡ spec.is_plain_byte byte }
+{
+    byte >= 32 && byte != 127
+}

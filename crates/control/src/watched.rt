@@ -1,0 +1,296 @@
+//! A store that is served, with what has to be said of it.
+ghost use Rattle.std.specs.Prelude.{◌≡◌, IfErr, IfSome};
+ghost use Rattle.control.specs.Notices.{Copied, Met, Ordered, line_of};
+
+use crate::copies::{Copies, CopyRefusal};
+use crate::errand::Errand;
+use crate::notice::{Notice, answered, copied, met, ordered};
+use crate::order::Order;
+use crate::told::Told;
+use engine::Io;
+use keyring::Keyring;
+use modpath::ModulePath;
+use modver::Version;
+use std::alloc::Global;
+use std::marker::{Brand, PhantomData};
+use text::Text;
+use world::entry::{EntryRef, Heading, Holder, Right, Seen};
+use world::registry::{RegistryReply, StoreFault};
+use world::shelves::Shelves;
+use world::standing::Standing;
+use world::text_set::TextSet;
+use world::version_list::Versions;
+
+/// The loan of a store. Only proofs read its name, and the caller picks it.
+pub(crate) trait Loan {
+    ghost use Rattle.std.specs.Prelude.{ℕ};
+
+    /// This loan.
+    ghost name: { ℕ };
+}
+
+impl Loan for Brand {
+    ghost name = { 0 };
+}
+
+/// A store that is lent, and the notice of the last order that it carried out, or of the last fault that it met for a
+/// request. It answers as the store inside does.
+#[derive(Drop)]
+pub(crate) struct Watched<'a, N: Loan, S: Shelves> {
+    alloc: Global,
+    inner: &'a mut S,
+    notice: Option<Notice>,
+    loan: PhantomData<N>,
+    ghost same: { inner.ghost_name ≡ N.name },
+}
+
+impl<'a, N: Loan, S: Shelves> Watched<'a, N, S> {
+    /// Returns the store, of which nothing has to be said so far.
+    pub(crate) fn new(alloc: Global, inner: &'a mut S) -> Watched<'a, N, S>
+        requires { inner.ghost_name ≡ N.name }
+        ensures same { result.inner.ghost_name ≡ inner.entry.ghost_name }
+        ensures value { result.inner.now ≡ inner.old }
+    {
+        Watched {
+            alloc,
+            inner,
+            notice: None,
+            loan: PhantomData,
+        }
+    }
+
+    /// Returns the store inside.
+    pub(crate) fn into_inner(self) -> &'a mut S
+        ensures same { result.ghost_name ≡ self.entry.inner.ghost_name }
+        ensures value { result.now ≡ self.entry.inner.now }
+    {
+        self.inner
+    }
+
+    /// Returns the notice, if there is one, and forgets it.
+    pub(crate) fn take(&mut self) -> Option<Notice>
+        ensures { self.new.inner ≡ self.old.inner }
+    {
+        self.notice.take()
+    }
+
+    /// Notes what an operator was told, unless the order that did it is noted. A list and the line of a ping are not
+    /// noted: they change nothing.
+    pub(crate) fn note_told(&mut self, told: &Result<Told, Io>)
+        ensures { self.new.inner ≡ self.old.inner }
+    {
+        if self.notice.is_some() {
+            return;
+        }
+        if let Ok(Told::Outcome(outcome)) = told {
+            self.notice = answered(self.alloc, *outcome).ok();
+        }
+    }
+
+    /// Notes the fault of a call, if it met one.
+    fn note_fault<T>(&mut self, errand: &Errand, told: &Result<T, StoreFault>)
+        ensures same { self.new.inner ≡ self.old.inner }
+        ensures noted { IfErr told.now (λ fault. IfSome self.new.notice (λ n. n.text ≡ line_of (Met errand.now fault))) }
+    {
+        if let Err(fault) = told {
+            self.notice = met(self.alloc, errand, *fault).ok();
+        }
+    }
+
+    /// Notes an order that was carried out.
+    fn note_order(&mut self, order: &Order, told: Result<RegistryReply, StoreFault>)
+        ensures same { self.new.inner ≡ self.old.inner }
+        ensures noted { IfSome self.new.notice (λ n. n.text ≡ line_of (Ordered order.now told)) }
+    {
+        self.notice = ordered(self.alloc, order, told).ok();
+    }
+
+    /// Notes a copy that was ordered.
+    fn note_copy(&mut self, path: &str, told: Result<(), CopyRefusal>)
+        ensures same { self.new.inner ≡ self.old.inner }
+        ensures noted { IfSome self.new.notice (λ n. n.text ≡ line_of (Copied path.now told)) }
+    {
+        self.notice = copied(self.alloc, path, told).ok();
+    }
+}
+
+impl<'a, N: Loan, S: Shelves> Shelves for Watched<'a, N, S> {
+    ghost shown = { λ w. S.shown w.inner.now };
+
+    fn failures(&self) -> u64 {
+        self.inner.failures()
+    }
+
+    fn key(&mut self, key: &str) -> Result<Option<Holder>, StoreFault> {
+        let told = self.inner.key(key);
+        self.note_fault(&Errand::Key, &told);
+        told
+    }
+
+    fn entry(
+        &mut self,
+        shelf: &str,
+        path: &ModulePath,
+        version: &Version,
+    ) -> Result<Option<Seen>, StoreFault> {
+        let told = self.inner.entry(shelf, path, version);
+        self.note_fault(&fetch_of(path, version), &told);
+        told
+    }
+
+    fn heading(
+        &mut self,
+        shelf: &str,
+        path: &ModulePath,
+        version: &Version,
+    ) -> Result<Option<Heading>, StoreFault> {
+        let told = self.inner.heading(shelf, path, version);
+        self.note_fault(&fetch_of(path, version), &told);
+        told
+    }
+
+    fn compare(
+        &mut self,
+        shelf: &str,
+        path: &ModulePath,
+        version: &Version,
+        entry: &EntryRef,
+    ) -> Result<Standing, StoreFault> {
+        let told = self.inner.compare(shelf, path, version, entry);
+        self.note_fault(&publish_of(path, version), &told);
+        told
+    }
+
+    fn versions(&mut self, shelf: &str, path: &ModulePath) -> Result<Versions, StoreFault> {
+        let told = self.inner.versions(shelf, path);
+        let path = path.as_str();
+        self.note_fault(&Errand::Fetch { path }, &told);
+        told
+    }
+
+    fn latest(&mut self, shelf: &str, path: &ModulePath) -> Result<Option<Version>, StoreFault> {
+        let told = self.inner.latest(shelf, path);
+        let path = path.as_str();
+        self.note_fault(&Errand::Fetch { path }, &told);
+        told
+    }
+
+    fn paths(&mut self, shelf: &str) -> Result<TextSet, StoreFault> {
+        let told = self.inner.paths(shelf);
+        self.note_fault(&Errand::Modules, &told);
+        told
+    }
+
+    fn count(&mut self, shelf: &str, path: &ModulePath) -> Result<u64, StoreFault> {
+        let told = self.inner.count(shelf, path);
+        let path = path.as_str();
+        self.note_fault(&Errand::Publish { path }, &told);
+        told
+    }
+
+    fn insert(
+        &mut self,
+        shelf: &str,
+        path: &ModulePath,
+        version: &Version,
+        entry: &EntryRef,
+    ) -> Result<(), StoreFault> {
+        let told = self.inner.insert(shelf, path, version, entry);
+        self.note_fault(&publish_of(path, version), &told);
+        told
+    }
+
+    fn team_add(&mut self, name: &str, group: Option<&str>) -> Result<RegistryReply, StoreFault> {
+        let told = self.inner.team_add(name, group);
+        self.note_order(&Order::TeamAdd { name, group }, told);
+        told
+    }
+
+    fn group_add(&mut self, name: &str) -> Result<RegistryReply, StoreFault> {
+        let told = self.inner.group_add(name);
+        self.note_order(&Order::GroupAdd { name }, told);
+        told
+    }
+
+    fn key_add(
+        &mut self,
+        shelf: &str,
+        key: &str,
+        right: Right,
+    ) -> Result<RegistryReply, StoreFault> {
+        let told = self.inner.key_add(shelf, key, right);
+        self.note_order(&Order::KeyAdd { shelf, key, right }, told);
+        told
+    }
+
+    fn key_revoke(&mut self, key: &str) -> Result<RegistryReply, StoreFault> {
+        let told = self.inner.key_revoke(key);
+        self.note_order(&Order::KeyRevoke { key }, told);
+        told
+    }
+
+    fn keys_revoke(&mut self, shelf: &str) -> Result<RegistryReply, StoreFault> {
+        let told = self.inner.keys_revoke(shelf);
+        self.note_order(&Order::KeysRevoke { shelf }, told);
+        told
+    }
+
+    ghost sound = { λ w. S.sound w.inner.now };
+
+    ghost wider = { λ w. S.wider w.inner.now };
+}
+
+impl<'a, N: Loan, S: Keyring> Keyring for Watched<'a, N, S> {
+    fn keys(&mut self) -> Result<TextSet, StoreFault> {
+        self.inner.keys()
+    }
+
+    fn shelves(&mut self) -> Result<TextSet, StoreFault> {
+        self.inner.shelves()
+    }
+
+    fn parent(&mut self, alloc: Global, shelf: &str) -> Result<Option<Option<Text>>, StoreFault> {
+        self.inner.parent(alloc, shelf)
+    }
+}
+
+/// What makes copies of a store, lent for copies of the store when it is watched.
+#[derive(Drop)]
+pub(crate) struct CopiesOfWatched<'b, K> {
+    pub(crate) inner: &'b mut K,
+}
+
+impl<'a, 'b, N: Loan, S: Shelves, K: Copies<S>> Copies<Watched<'a, N, S>>
+    for CopiesOfWatched<'b, K> {
+    ghost copied = { λ old new path told. K.copied old.inner.now new.inner.now path told };
+
+    ghost counted = { λ old new n. K.counted old.inner.now new.inner.now n };
+
+    fn copy(&mut self, shelves: &mut Watched<'a, N, S>, path: &str) -> Result<(), CopyRefusal> {
+        let told = self.inner.copy(shelves.inner, path);
+        shelves.note_copy(path, told);
+        told
+    }
+
+    fn versions(&mut self, shelves: &mut Watched<'a, N, S>) -> Result<u64, StoreFault> {
+        self.inner.versions(shelves.inner)
+    }
+
+    fn served(&self) -> &str {
+        self.inner.served()
+    }
+}
+
+fn fetch_of<'b>(path: &'b ModulePath, version: &'b Version) -> Errand<'b> {
+    Errand::FetchVersion {
+        path: path.as_str(),
+        version: version.as_str(),
+    }
+}
+
+fn publish_of<'b>(path: &'b ModulePath, version: &'b Version) -> Errand<'b> {
+    Errand::PublishVersion {
+        path: path.as_str(),
+        version: version.as_str(),
+    }
+}

@@ -14,10 +14,10 @@ use Rattle.machine.specs.declared.reply.Reply.{Reply}
 use Rattle.machine.specs.declared.reply.Reply.TheVariants.{Registry}
 use Rattle.control.specs.Asking.{Asks}
 use Rattle.control.specs.Copying.{GoesThroughSteps}
-use Rattle.control.specs.Hearing.{Heard, Carried, Copied, Listed, Pinged, Stop, NoOrder, NoMemory}
+use Rattle.control.specs.Hearing.{Heard, Carried, Copied, Listed, Pinged, Named, Stop, NoOrder, NoMemory}
 use Rattle.control.specs.Hearing.{IsHeardIn, steps_heard}
 use Rattle.control.specs.Hearing.{told_heard}
-use Rattle.control.specs.Line.{IsSent, IsCopyTo, copy_words}
+use Rattle.control.specs.Line.{IsSaid, IsSent, IsCopyTo, copy_words, named_words}
 use Rattle.control.specs.Order.{Orders, said_in, event_of, outcome_in}
 use Rattle.control.specs.Outcome.{outcome_of}
 use Rattle.control.specs.Words.{Said, IsTextOf, space, is_word, is_word_byte, behind, line_end}
@@ -29,24 +29,30 @@ use Rattle.control.specs.declared.told.Told.{Told}
 use Rattle.control.specs.declared.told.Told.TheVariants as spoken
 use Rattle.control.specs.declared.listing.Listing.TheVariants.{Keys, Shelves}
 use Rattle.control.specs.declared.order.Order.{Order}
-use Rattle.control.specs.declared.order.Order.TheVariants.{TeamAdd, GroupAdd, KeyAdd, KeyRevoke}
+use Rattle.control.specs.declared.order.Order.TheVariants.{TeamAdd, GroupAdd, KeyAdd, KeyRevoke, KeysRevoke}
 use Rattle.control.proofs.LineLemmas.{one_line}
 use Rattle.control.proofs.OrderLemmas.{one_event}
 use Rattle.control.proofs.WordLemmas.{false_after, one_saying}
 use Rattle.commands.specs.Controlled.{EndsAt, EndsAsOnTheStore}
-use Rattle.commands.specs.Order.{ComeToTheSame, told_ending}
+use Rattle.commands.specs.Order.{ComeToTheSame, told_ending, unsayable}
 use Rattle.commands.specs.declared.refusal.CommandRefusal.{CommandRefusal}
 
--- ---- the line of an order is not one word, as that which ends a server, or asks for its health
+-- ---- the line of two words or three is not one word, as that which ends a server, or asks for its health
 
-no_word : (word : List ℕ) → is_word word ≡ true → (order : Order) → ¬ IsSent (word ++ line_end ∷ []) order
-no_word word passes order sent =
-    let said = said_in order in
+pub no_word : (word : List ℕ) → is_word word ≡ true → {most : ℕ} (said : Said)
+    → ¬ IsSaid most (word ++ line_end ∷ []) said
+no_word word passes said sent =
     let line = one_line (word ++ line_end ∷ []) word sent.line refl sent.ends in
     let words : is_word (said.verb ++ space ∷ (said.first ++ behind said.second)) ≡ true =
     ap is_word (sym sent.says.is ∙ line) ∙ passes in
     false_after (is_word said.verb)
     (sym (list_all-append is_word_byte said.verb (space ∷ (said.first ++ behind said.second))) ∙ words)
+
+-- bytes say one thing
+pub same_said : {most more : ℕ} (sent : List ℕ) (s t : Said) → IsSaid most sent s → IsSaid more sent t → s ≡ t
+same_said sent s t one two =
+    let line = one_line sent one.line two.line one.ends.is two.ends in
+    one_saying one.line s t one.says (subst (λ l. IsTextOf l t) line two.says)
 
 -- ---- nor one that orders a copy
 
@@ -59,13 +65,24 @@ no_copy_words path (GroupAdd name) e = true≢false (ap says_copy e)
 no_copy_words path (KeyAdd shelf key Publishes) e = true≢false (ap says_copy e)
 no_copy_words path (KeyAdd shelf key Reads) e = true≢false (ap says_copy e)
 no_copy_words path (KeyRevoke key) e = true≢false (ap says_copy e)
+no_copy_words path (KeysRevoke shelf) e = true≢false (ap says_copy e)
 
 no_copy : (sent path : List ℕ) (order : Order) → IsSent sent order → ¬ IsCopyTo sent path
 no_copy sent path order orders copies =
-    let line = one_line sent orders.line copies.line orders.ends.is copies.ends in
-    no_copy_words path order
-    (one_saying orders.line (copy_words path) (said_in order)
-    (subst (λ l. IsTextOf l (copy_words path)) line copies.says) orders.says)
+    no_copy_words path order (same_said sent (copy_words path) (said_in order) copies orders)
+
+-- nor one that names a key
+
+abbrev says_named : Said → Bool
+says_named s = bytes_eq s.verb (codes "revoke-fingerprint")
+
+pub no_named_words : (f : List ℕ) (order : Order) → ¬ (named_words f ≡ said_in order)
+no_named_words f (TeamAdd name group) e = true≢false (ap says_named e)
+no_named_words f (GroupAdd name) e = true≢false (ap says_named e)
+no_named_words f (KeyAdd shelf key Publishes) e = true≢false (ap says_named e)
+no_named_words f (KeyAdd shelf key Reads) e = true≢false (ap says_named e)
+no_named_words f (KeyRevoke key) e = true≢false (ap says_named e)
+no_named_words f (KeysRevoke shelf) e = true≢false (ap says_named e)
 
 -- ---- one order
 
@@ -75,17 +92,18 @@ same_event got one two first second =
     one_event first.line one two first.says
     (subst (λ l. Orders l two) (one_line got first.line second.line first.ends.is second.ends) second.says)
 
-abbrev registered_in : Reply → RegistryReply
+abbrev pub registered_in : Reply → RegistryReply
 registered_in (Registry r) = r
 registered_in reply = Done
 
-replied : (w : World) (o : Order) → registered_in (reply_to w (event_of o)) ≡ outcome_in w o
+pub replied : (w : World) (o : Order) → registered_in (reply_to w (event_of o)) ≡ outcome_in w o
 replied w (TeamAdd name group) = refl
 replied w (GroupAdd name) = refl
 replied w (KeyAdd shelf key right) = refl
 replied w (KeyRevoke key) = refl
+replied w (KeysRevoke shelf) = refl
 
-abbrev outcome_in_told : Told → Outcome
+abbrev pub outcome_in_told : Told → Outcome
 outcome_in_told (spoken.Outcome outcome) = outcome
 outcome_in_told (spoken.Health line) = outcome.Bad
 outcome_in_told (spoken.List lines) = outcome.Bad
@@ -94,14 +112,14 @@ module _ (old new : Shown) (sent : List ℕ) (order asked : Order) (result : Res
   where
     carried : new.is_honest → old.stands w → IsWorld w → ComeToTheSame asked order → IsSent sent asked → (other : Order)
         → IsSent sent other
-        → (told : Result RegistryReply StoreFault) → result ≡ told_ending asked (Ok (outcome_of told))
+        → (told : Result RegistryReply StoreFault) → result ≡ told_ending (unsayable asked) (Ok (outcome_of told))
         → GoesThroughSteps old new (steps_heard (Carried other told)) → EndsAt new w order result
     carried honest stands is same asks other heard (Ok r) ends through =
         let run = through.runs.at honest w stands in
         let event = same_event sent asked other asks heard in
         let outcome = ap registered_in (run.run.0 ∙ ap (reply_to w) (sym event)) ∙ replied w asked ∙ (same w is).0 in
         inl (
-          ends ∙ ap (λ r. told_ending asked (Ok (outcome_of (Ok r)))) outcome,
+          ends ∙ ap (λ r. told_ending (unsayable asked) (Ok (outcome_of (Ok r)))) outcome,
           subst new.stands (ap (after w) (sym event) ∙ (same w is).1) run.ends,
         )
     carried honest stands is same asks other heard (Err fault) ends through =
@@ -109,22 +127,24 @@ module _ (old new : Shown) (sent : List ℕ) (order asked : Order) (result : Res
 
     heard_so : new.is_honest → old.stands w → IsWorld w → ComeToTheSame asked order → IsSent sent asked
         → (heard : Heard) → IsHeardIn sent heard
-        → (outcome : Outcome) → spoken.Outcome outcome ≡ told_heard heard → result ≡ told_ending asked (Ok outcome)
+        → (outcome : Outcome) → spoken.Outcome outcome ≡ told_heard heard → result ≡ told_ending (unsayable asked) (Ok outcome)
         → GoesThroughSteps old new (steps_heard heard)
         → EndsAt new w order result
     heard_so honest stands is same asks (Carried other told) from outcome tells ends through =
         carried honest stands is same asks other from told
-        (ends ∙ ap (λ o. told_ending asked (Ok o)) (ap outcome_in_told tells)) through
+        (ends ∙ ap (λ o. told_ending (unsayable asked) (Ok o)) (ap outcome_in_told tells)) through
     heard_so honest stands is same asks (Copied path told) from outcome tells ends through =
         absurd (no_copy sent path asked asks from)
     heard_so honest stands is same asks (Pinged told) from outcome tells ends through =
-        absurd (no_word (codes "ping") refl asked (subst (λ got. IsSent got asked) from asks))
+        absurd (no_word (codes "ping") refl (said_in asked) (subst (λ got. IsSent got asked) from asks))
     heard_so honest stands is same asks (Listed Keys told) from outcome tells ends through =
-        absurd (no_word (codes "key-list") refl asked (subst (λ got. IsSent got asked) from asks))
+        absurd (no_word (codes "key-list") refl (said_in asked) (subst (λ got. IsSent got asked) from asks))
     heard_so honest stands is same asks (Listed Shelves told) from outcome tells ends through =
-        absurd (no_word (codes "shelf-list") refl asked (subst (λ got. IsSent got asked) from asks))
+        absurd (no_word (codes "shelf-list") refl (said_in asked) (subst (λ got. IsSent got asked) from asks))
+    heard_so honest stands is same asks (Named f naming) from outcome tells ends through =
+        absurd (no_named_words f asked (same_said sent (named_words f) (said_in asked) from asks))
     heard_so honest stands is same asks Stop from outcome tells ends through =
-        absurd (no_word (codes "stop") refl asked (subst (λ got. IsSent got asked) from asks))
+        absurd (no_word (codes "stop") refl (said_in asked) (subst (λ got. IsSent got asked) from asks))
     heard_so honest stands is same asks NoOrder from outcome tells ends through = absurd (from.0 asked asks)
     heard_so honest stands is same asks NoMemory from outcome tells ends through = absurd from
 
@@ -138,4 +158,4 @@ ends_as_on_the_store copied pinged old new sound order result w two honest stand
     let sends : IsSent two.sent asked = subst (λ got. IsSent got asked) (sym asks.2) asks.1 in
     heard_so old new two.sent order asked result w honest stands (sound w stands) two.command.same sends
     two.server.heard two.server.from
-    two.told two.server.tells (two.command.ends ∙ ap (told_ending asked) two.heard) two.server.through
+    two.told two.server.tells (two.command.ends ∙ ap (told_ending (unsayable asked)) two.heard) two.server.through

@@ -181,7 +181,7 @@ module _ (files : List ℕ → Option (Option (List ℕ))) (key : List ℕ) wher
     pub broken_off : (mid : Shown) (n : ℕ) (t : DoneRow) (e : Io) → spec.AreFirst list (done_rows ++ t ∷ [])
         → GoesThrough old mid files key done_rows → GoesThrough mid new files key (t ∷ [])
         → Appends w0 w1 (spec.lines_from 1 done_rows) → n ≡ length done_rows + 1 → e ≡ io.Write
-        → PrintsFront w1 w2 (spec.line_of n t) → Imports old new files key list w0 w2 (Err e)
+        → PrintsFront w1 w2 (spec.done_line n t) → Imports old new files key list w0 w2 (Err e)
     broken_off mid n t e first far next printed count is front = record {
       done_rows = done_rows ++ t ∷ [];
       first = first;
@@ -193,7 +193,7 @@ module _ (files : List ℕ → Option (Option (List ℕ))) (key : List ℕ) wher
           t,
           front.0,
           refl,
-          subst (λ k. IsFront front.0 (spec.line_of k t)) count front.1,
+          subst (λ k. IsFront front.0 (spec.done_line k t)) count front.1,
           Appends-trans w0 w1 w2 _ _ printed front.2,
         ),
       );
@@ -225,23 +225,23 @@ rows_more done_rows t = ap (λ l. header ∷ l)
     (sym (map-append (λ (u : DoneRow). fields_of_line u.line) done_rows (t ∷ [])))
 
 lines_after : (n : ℕ) (done_rows : List DoneRow) (t : DoneRow)
-    → spec.lines_from n (done_rows ++ t ∷ []) ≡ spec.lines_from n done_rows ++ spec.line_of (n + length done_rows) t
-lines_after n [] t = append-nil (spec.line_of n t) ∙ ap (λ k. spec.line_of k t) (omega arith)
+    → spec.lines_from n (done_rows ++ t ∷ []) ≡ spec.lines_from n done_rows ++ spec.done_line (n + length done_rows) t
+lines_after n [] t = append-nil (spec.done_line n t) ∙ ap (λ k. spec.done_line k t) (omega arith)
 lines_after n (u ∷ done_rows) t =
     let same : n + 1 + length done_rows ≡ n + length (u ∷ done_rows) = omega arith in
-    ap (λ l. spec.line_of n u ++ l) (lines_after (n + 1) done_rows t)
-    ∙ sym (append_assoc (spec.line_of n u) (spec.lines_from (n + 1) done_rows)
-    (spec.line_of (n + 1 + length done_rows) t))
-    ∙ ap (λ k. (spec.line_of n u ++ spec.lines_from (n + 1) done_rows) ++ spec.line_of k t) same
+    ap (λ l. spec.done_line n u ++ l) (lines_after (n + 1) done_rows t)
+    ∙ sym (append_assoc (spec.done_line n u) (spec.lines_from (n + 1) done_rows)
+    (spec.done_line (n + 1 + length done_rows) t))
+    ∙ ap (λ k. (spec.done_line n u ++ spec.lines_from (n + 1) done_rows) ++ spec.done_line k t) same
 
 -- printing the line of one more row prints the lines of all
 pub lines_more : (a b c : Option (List ℕ)) (n : ℕ) (done_rows : List DoneRow) (t : DoneRow) → n ≡ length done_rows + 1
     → Appends a b (spec.lines_from 1 done_rows)
-    → Appends b c (spec.line_of n t) → Appends a c (spec.lines_from 1 (done_rows ++ t ∷ []))
+    → Appends b c (spec.done_line n t) → Appends a c (spec.lines_from 1 (done_rows ++ t ∷ []))
 lines_more a b c n done_rows t count printed more =
     let same : n ≡ 1 + length done_rows = omega (arith, count) in
     subst (λ l. Appends a c l) (sym (lines_after 1 done_rows t))
-    (Appends-trans a b c _ _ printed (subst (λ k. Appends b c (spec.line_of k t)) same more))
+    (Appends-trans a b c _ _ printed (subst (λ k. Appends b c (spec.done_line k t)) same more))
 
 and_true : (b : Bool) → b && true ≡ b
 and_true true = refl

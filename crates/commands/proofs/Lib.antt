@@ -9,4 +9,7 @@ mod Written
 mod Rows
 mod Sayable
 mod Controlled
+mod ControlledNamed
+mod Fingerprints
 mod NewKeys
+mod Served

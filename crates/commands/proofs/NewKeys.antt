@@ -1,36 +1,20 @@
 -- A key that is added after its shelf was looked up.
-use Rattle.std.proofs.Common.{◌≡◌, ℕ, List, Some, None, Result, Ok, Err, inl, inr}
+use Rattle.std.proofs.Common.{◌≡◌, ◌∙◌, ap, sym, ℕ, List, Some, None, Result, Ok, Err, inl, inr}
 use Rattle.std.specs.FinMap as map
 use Rattle.keyring.specs.Made.{key_of}
 use Rattle.world.proofs.Causes.{in_turn}
 use Rattle.world.specs.World.{World}
-use Rattle.world.specs.Store.{Shown, AddsNothing, AfterCrash, Reads}
+use Rattle.world.specs.Store.{Shown, Reads}
+use Rattle.world.specs.declared.registry.RegistryReply.{RegistryReply}
+use Rattle.world.specs.declared.registry.RegistryReply.TheVariants as registered
 use Rattle.world.specs.declared.registry.StoreFault.{StoreFault}
 use Rattle.world.specs.declared.registry.StoreFault.TheVariants as fault
+use Rattle.machine.proofs.AfterRead.{crash_after}
 use Rattle.control.specs.declared.order.Order.{Order}
-use Rattle.commands.specs.Ending.{Registers}
-use Rattle.commands.specs.NewKey.{Found, Makes}
+use Rattle.commands.specs.Ending.{Registers, ending}
+use Rattle.commands.specs.NewKey.{Found, HasCause, Makes}
 use Rattle.commands.specs.declared.refusal.CommandRefusal.{CommandRefusal}
-
--- what a crash leaves after a change behind what adds nothing
-crash_after : {T : Type 0} (old mid new : Shown) (w : World) (result : Result T StoreFault) (next : World)
-    → AddsNothing old mid
-    → AfterCrash mid new w result next → AfterCrash old new w result next
-crash_after old mid new w (Ok x) next adds crash = record {
-  either = λ was. crash.either (adds w w was);
-  alone = λ was. crash.alone (adds w w was);
-  settled = elim crash.settled [
-    | inl alone ↦ inl alone
-    | inr same ↦ inr (same.0, λ x y was. same.1 x y (adds x y was))
-  ];
-  failed = tt;
-}
-crash_after old mid new w (Err fault) next adds crash = record {
-  either = λ was. crash.either (adds w w was);
-  alone = λ was. crash.alone (adds w w was);
-  settled = tt;
-  failed = elim crash.failed [ inl two ↦ inl two | inr none ↦ inr (λ x y was. none x y (adds x y was)) ];
-}
+use Rattle.commands.specs.declared.refusal.CommandRefusal.TheVariants.{Io}
 
 -- an order that is carried out after the store was read
 pub registers_after : {T : Type 0} (old mid new : Shown) (found : T) (value : World → T) (order : Order)
@@ -70,3 +54,33 @@ registers_made old mid new shelf bytes key (Ok parent) order result made reads r
     registers_after old mid new parent (λ w. map.get w.shelves shelf) order result reads registers
 registers_made old mid new shelf bytes key (Err fault.Device) order result made reads registers = cc
 registers_made old mid new shelf bytes key (Err fault.Memory) order result made reads registers = cc
+
+-- ---- why a command ends with `Io`
+
+never_io : (told : Result RegistryReply StoreFault) → Err Io ≡ ending told → ⊥
+never_io (Ok registered.Done) is = cc
+never_io (Ok registered.Name) is = cc
+never_io (Ok registered.Taken) is = cc
+never_io (Ok registered.NoTeam) is = cc
+never_io (Ok registered.NoKey) is = cc
+never_io (Ok registered.NoGroup) is = cc
+never_io (Err fault.Device) is = cc
+never_io (Err fault.Memory) is = cc
+
+-- a registry command does not
+pub registers_cause : (old new : Shown) (order : Order) (result : Result (Unit {0}) CommandRefusal) (cause : Type 0)
+    → Registers old new order result → HasCause result cause
+registers_cause old new order (Ok u) cause registers = tt
+registers_cause old new order (Err e) cause registers =
+    λ is. absurd (never_io registers.told (ap Err (sym is) ∙ registers.ends))
+
+-- a command of which each cause is another has that
+pub cause_map : (result : Result (Unit {0}) CommandRefusal) (cause other : Type 0) → (cause → other)
+    → HasCause result cause → HasCause result other
+cause_map (Ok u) cause other map has = tt
+cause_map (Err e) cause other map has = λ is. map (has is)
+
+-- what is so is a cause of any end
+pub cause_of : (result : Result (Unit {0}) CommandRefusal) (cause : Type 0) → cause → HasCause result cause
+cause_of (Ok u) cause is = tt
+cause_of (Err e) cause is = λ io. is

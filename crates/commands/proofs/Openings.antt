@@ -4,14 +4,14 @@ use Rattle.std.proofs.Common.{true≢false}
 use Rattle.std.specs.Prelude.{is_some}
 use Rattle.std.specs.FinMap as map
 use Rattle.std.proofs.lemmas.Bool.{false_from_ne_true}
-use Rattle.world.specs.InMemory.{in_memory}
+use Rattle.memory_store.specs.InMemory.{in_memory}
 use Rattle.world.specs.Registry.{team_added, after_team_add, key_added, after_key_add}
 use Rattle.world.specs.Store.{Does}
 use Rattle.world.specs.World.{World, IsWorld, only_common, with_team, is_team_name, is_key, common, text_cmp}
 use Rattle.world.specs.declared.entry.Right.TheVariants.{Publishes}
 use Rattle.world.specs.declared.registry.RegistryReply.{RegistryReply}
 use Rattle.world.specs.declared.registry.RegistryReply.TheVariants.{Done}
-use Rattle.world.proofs.MapsDone.{team_done, key_done}
+use Rattle.memory_store.proofs.MapsDone.{team_done, key_done}
 use Rattle.world.proofs.OnlyCommon.{only_common_stands, has_nothing_else}
 use Rattle.machine.proofs.Sound.{sound}
 use Rattle.machine.specs.declared.ask.Event.TheVariants.{TeamAdd}

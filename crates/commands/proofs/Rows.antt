@@ -24,7 +24,7 @@ use Rattle.world.specs.Versions.{by_precedence, named, version_cmp, versions_of,
 use Rattle.world.specs.Visible.{IsSeen, paths_seen, versions_seen}
 use Rattle.world.specs.World.{World, IsWorld, text_cmp, view}
 use Rattle.world.proofs.InOrder.{first, second}
-use Rattle.world.proofs.MapsPlaces.{is_apart}
+use Rattle.world.proofs.Ties.{is_apart}
 use Rattle.world.proofs.Members.{no_member, first_member, later_member, member_cases, in_order_of}
 use Rattle.world.proofs.Orders.{texts_total, texts_exact, text_self, text_same}
 use Rattle.world.proofs.Places.{seen_places_read}

@@ -24,12 +24,12 @@ use Rattle.world.specs.World.{World, IsWorld, common, is_team_name, is_key}
 use Rattle.world.proofs.Orders.{text_self}
 use Rattle.machine.specs.Machine.{after}
 use Rattle.control.specs.Asking.{IsUnsayable, Asks}
-use Rattle.control.specs.Line.{IsSent}
-use Rattle.control.specs.Order.{add_word, said_in, line_of, event_of, outcome_in}
-use Rattle.control.specs.Words.{space, line_end, is_word, is_word_byte, is_word_if, behind}
+use Rattle.control.specs.Line.{IsSaid, longest}
+use Rattle.control.specs.Order.{add_word, said_in, event_of, outcome_in}
+use Rattle.control.specs.Words.{Said, space, line_end, is_word, is_word_byte, is_word_if, behind, text_of}
 use Rattle.control.specs.declared.client.Untold.{Untold}
 use Rattle.control.specs.declared.order.Order.{Order}
-use Rattle.control.specs.declared.order.Order.TheVariants.{TeamAdd, GroupAdd, KeyAdd, KeyRevoke}
+use Rattle.control.specs.declared.order.Order.TheVariants.{TeamAdd, GroupAdd, KeyAdd, KeyRevoke, KeysRevoke}
 use Rattle.control.specs.declared.outcome.Outcome.{Outcome}
 use Rattle.commands.specs.Ending.{ending}
 use Rattle.commands.specs.Order.{group_sent, IsSentFor, ComeToTheSame, refusal_by, unsayable, told_ending, OrdersOver}
@@ -39,10 +39,10 @@ use Rattle.commands.specs.declared.refusal.CommandRefusal.TheVariants.{NoTeam}
 -- ---- words that a line can carry
 
 -- a word of ASCII with at most this many bytes
-record Fits (most : ℕ) (word : List ℕ) : Type 0 where
-  says : is_word word ≡ true
-  ascii : IsAscii word
-  few : length word ≤ most
+pub record Fits (most : ℕ) (word : List ℕ) : Type 0 where
+  pub says : is_word word ≡ true
+  pub ascii : IsAscii word
+  pub few : length word ≤ most
 
 says_by : (p : ℕ → Bool) → ((b : ℕ) → p b ≡ true → is_word_byte b ≡ true) → (t : List ℕ) → list_all p t ≡ true
     → is_word t ≡ true
@@ -86,7 +86,7 @@ key_fits k h =
     }
 
 -- a literal word fits if these tests hold
-word_fits : (most : ℕ) (word : List ℕ) → is_word word ≡ true → list_all (λ b. nat_lt b 128) word ≡ true
+pub word_fits : (most : ℕ) (word : List ℕ) → is_word word ≡ true → list_all (λ b. nat_lt b 128) word ≡ true
     → nat_le (length word) most ≡ true → Fits most word
 word_fits most word says ascii few =
     record { says = says; ascii = ascii_by (λ b. nat_lt b 128) small word ascii; few = leb-true (length word) most few }
@@ -101,7 +101,7 @@ add_fits Reads = word_fits 10 (codes "reader-add") refl refl refl
 
 -- ---- a line of such words
 
-abbrev FitsIf : ℕ → Option (List ℕ) → Type 0
+abbrev pub FitsIf : ℕ → Option (List ℕ) → Type 0
 FitsIf most None = Unit {0}
 FitsIf most (Some word) = Fits most word
 
@@ -117,12 +117,10 @@ behind_few : (most : ℕ) (o : Option (List ℕ)) → FitsIf most o → length (
 behind_few most None fits = omega arith
 behind_few most (Some word) fits = let few = fits.few in omega (arith, few)
 
--- an order whose words fit into 127 bytes has a line
-carried : (a b c : ℕ) (order : Order) → Fits a (said_in order).verb → Fits b (said_in order).first
-    → FitsIf c (said_in order).second → a + b + c + 2 ≤ 127
-    → (sent : List ℕ) × IsSent sent order
-carried a b c order verb first second room =
-    let s = said_in order in
+-- words that fit into 127 bytes have a line
+pub carried : (a b c : ℕ) (s : Said) → Fits a s.verb → Fits b s.first → FitsIf c s.second → a + b + c + 2 ≤ 127
+    → (sent : List ℕ) × IsSaid longest sent s
+carried a b c s verb first second room =
     let rest : List ℕ = s.first ++ behind s.second in
     let counted = length-append s.verb (space ∷ rest) in
     let rest_counted = length-append s.first (behind s.second) in
@@ -132,13 +130,13 @@ carried a b c order verb first second room =
     let ascii = IsAscii-append s.verb (space ∷ rest) verb.ascii
     (IsAscii-cons space rest (omega arith)
     (IsAscii-append s.first (behind s.second) first.ascii (behind_ascii c s.second second))) in (
-      line_of order ++ line_end ∷ [],
+      text_of s ++ line_end ∷ [],
       record {
-        line = line_of order;
+        line = text_of s;
         ends = record {
           is = refl;
           few = omega (arith, counted, rest_counted, few_verb, few_first, few_second, room);
-          text = IsUtf8-from_ascii (line_of order) ascii;
+          text = IsUtf8-from_ascii (text_of s) ascii;
         };
         says = record {
           is = refl;
@@ -227,6 +225,7 @@ comes_to_the_same (TeamAdd name group) sent (other, is, same) w world =
 comes_to_the_same (GroupAdd name) sent is w world = (ap (outcome_in w) is, ap (λ o. after w (event_of o)) is)
 comes_to_the_same (KeyAdd shelf key right) sent is w world = (ap (outcome_in w) is, ap (λ o. after w (event_of o)) is)
 comes_to_the_same (KeyRevoke key) sent is w world = (ap (outcome_in w) is, ap (λ o. after w (event_of o)) is)
+comes_to_the_same (KeysRevoke shelf) sent is w world = (ap (outcome_in w) is, ap (λ o. after w (event_of o)) is)
 
 -- ---- how an order that no line carries ends
 
@@ -242,7 +241,7 @@ team_unsaid name group sayable unsaid w = go (is_team_name name.now) refl
         ending (Ok (if not b then registered.Name else if map.contains_key w.shelves name.now then registered.Taken
         else if lacks_group w (option_copied group) then registered.NoGroup else registered.Done))) unnamed
     go true named =
-        let it = carried 8 32 32 (TeamAdd name group) (word_fits 8 (codes "team-add") refl refl refl)
+        let it = carried 8 32 32 (said_in (TeamAdd name group)) (word_fits 8 (codes "team-add") refl refl refl)
         (team_fits name.now named)
         (group_fits (option_copied group) sayable) (omega arith) in absurd (unsaid it.0 it.1)
 
@@ -256,7 +255,7 @@ group_unsaid name unsaid w = go (is_team_name name.now) refl
         ending (Ok (if not b then registered.Name else if map.contains_key w.shelves name.now then registered.Taken
         else registered.Done))) unnamed
     go true named =
-        let it = carried 9 32 0 (GroupAdd name) (word_fits 9 (codes "group-add") refl refl refl)
+        let it = carried 9 32 0 (said_in (GroupAdd name)) (word_fits 9 (codes "group-add") refl refl refl)
         (team_fits name.now named) tt (omega arith) in
         absurd (unsaid it.0 it.1)
 
@@ -284,7 +283,7 @@ key_unsaid shelf key right unsaid w is = go (is_key key.now) (map.contains_key w
         named
         ∙ ap (λ b. ending (Ok (key_told true b (map.contains_key w.keys key.now)))) at ∙ sym (ap key_word named)
     go true true named at =
-        let it = carried 10 32 64 (KeyAdd shelf key right) (add_fits right)
+        let it = carried 10 32 64 (said_in (KeyAdd shelf key right)) (add_fits right)
         (shelf_fits shelf.now (is.team_names shelf.now at)) (key_fits key.now named) (omega arith) in
         absurd (unsaid it.0 it.1)
 
@@ -296,8 +295,20 @@ revoke_unsaid key unsaid w is = go (map.get w.keys key.now) refl
         → ending (Ok (outcome_in w (KeyRevoke key))) ≡ Err (unsayable (KeyRevoke key))
     go None at = ap (λ o. ending (Ok (if is_some o then registered.Done else registered.NoKey))) at
     go (Some h) at =
-        let it = carried 10 64 0 (KeyRevoke key) (word_fits 10 (codes "key-revoke") refl refl refl)
+        let it = carried 10 64 0 (said_in (KeyRevoke key)) (word_fits 10 (codes "key-revoke") refl refl refl)
         (key_fits key.now (is.key_names key.now h at)) tt (omega arith) in
+        absurd (unsaid it.0 it.1)
+
+revoke_all_unsaid : (shelf : Bor (List ℕ)) → IsUnsayable (KeysRevoke shelf) → (w : World) → IsWorld w
+    → ending (Ok (outcome_in w (KeysRevoke shelf))) ≡ Err (unsayable (KeysRevoke shelf))
+revoke_all_unsaid shelf unsaid w is = go (map.contains_key w.shelves shelf.now) refl
+  where
+    go : (there : Bool) → map.contains_key w.shelves shelf.now ≡ there
+        → ending (Ok (outcome_in w (KeysRevoke shelf))) ≡ Err (unsayable (KeysRevoke shelf))
+    go false at = ap (λ b. ending (Ok (if b then registered.Done else registered.NoTeam))) at
+    go true at =
+        let it = carried 11 32 0 (said_in (KeysRevoke shelf)) (word_fits 11 (codes "keys-revoke") refl refl refl)
+        (shelf_fits shelf.now (is.team_names shelf.now at)) tt (omega arith) in
         absurd (unsaid it.0 it.1)
 
 -- an order that no line carries ends in each world as the command says, also if another is sent for it
@@ -316,13 +327,15 @@ unsent_ends (KeyAdd shelf key right) sent is unsaid w world = ap (λ o. Err (uns
     ∙ sym (key_unsaid shelf key right (subst IsUnsayable is unsaid) w world)
 unsent_ends (KeyRevoke key) sent is unsaid w world = ap (λ o. Err (unsayable o)) is
     ∙ sym (revoke_unsaid key (subst IsUnsayable is unsaid) w world)
+unsent_ends (KeysRevoke shelf) sent is unsaid w world = ap (λ o. Err (unsayable o)) is
+    ∙ sym (revoke_all_unsaid shelf (subst IsUnsayable is unsaid) w world)
 
 -- ---- the command
 
 -- a command that sends the order for its own, and ends by the result, does as `OrdersOver` says
 pub orders_over : (unread unread_new written written_new : Option (List ℕ)) (order asked : Order)
     (told : Result Outcome Untold) (result : Result (Unit {0}) CommandRefusal)
-    → IsSentFor order asked → Asks unread unread_new written written_new asked told → result ≡ told_ending asked told
+    → IsSentFor order asked → Asks unread unread_new written written_new asked told → result ≡ told_ending (unsayable asked) told
     → OrdersOver unread unread_new written written_new order result
 orders_over unread unread_new written written_new order asked told result sends asks ends = record {
   asked = asked;
@@ -332,5 +345,5 @@ orders_over unread unread_new written written_new order asked told result sends 
   ends = ends;
   unsent = λ is w world.
       let unsaid = (subst (Asks unread unread_new written written_new asked) is asks).0 in
-      ends ∙ ap (told_ending asked) is ∙ unsent_ends order asked sends unsaid w world;
+      ends ∙ ap (told_ending (unsayable asked)) is ∙ unsent_ends order asked sends unsaid w world;
 }

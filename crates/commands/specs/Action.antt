@@ -1,15 +1,16 @@
 -- What an action does on a store.
 use Rattle.std.specs.Borrow.{Bor}
-use Rattle.std.specs.Prelude.{ℕ, List, ◌≡◌, true, Bool, Option, option_copied, Result, Ok, Err}
+use Rattle.std.specs.Prelude.{ℕ, List, [], ◌≡◌, true, Bool, Option, option_copied, Result, Ok, Err}
 use Rattle.histories.specs.Account.{Account}
 use Rattle.world.specs.Store.{Shown}
 use Rattle.world.specs.declared.entry.Right.{Right}
 use Rattle.control.specs.declared.order.Order.{Order}
-use Rattle.commands.specs.Ending.{Registers, RevokesNamed, RevokesShelf}
+use Rattle.commands.specs.Ending.{Registers, RevokesNamed}
 use Rattle.commands.specs.ImportFile.{ImportsFile}
 use Rattle.commands.specs.NewKey.{AddsNew}
 use Rattle.commands.specs.Opening.{AnswersAll}
 use Rattle.commands.specs.Publish.{asked_by, PublishesFiles}
+use Rattle.commands.specs.RandomBytes.{Drawn, no_draws}
 use Rattle.commands.specs.Report.{PrintsCatalogOf, PrintsInventory, PrintsKeys, PrintsRequirements, PrintsShelves}
 use Rattle.commands.specs.Serve.{Copied, Counted, ListensAs}
 use Rattle.commands.specs.declared.refusal.CommandRefusal.{CommandRefusal}
@@ -41,10 +42,11 @@ module _ {S : Type 0} (shown : S → Shown) (copied : Copied S) (counted : Count
     pub told : result ≡ acceptance ended
     pub streams : KeepsStreams old new
 
-  -- a key was made, printed and added, and nothing was read from the input
+  -- a key was made of the bytes that were drawn, printed and added, and nothing was read from the input
   pub record AddsNewAlone (shelf : Bor (List ℕ)) (right : Right) (result : Result Bool CommandRefusal) : Type 0 where
+    pub drawn : Drawn
     pub ended : Result (Unit {0}) CommandRefusal
-    pub adds : AddsNew shown old.store new.store shelf right old.written new.written ended
+    pub adds : AddsNew shown no_draws drawn old.store new.store shelf right old.written new.written ended
     pub told : result ≡ acceptance ended
     pub came : new.came ≡ old.came
 
@@ -55,37 +57,31 @@ module _ {S : Type 0} (shown : S → Shown) (copied : Copied S) (counted : Count
     pub told : result ≡ acceptance ended
     pub streams : KeepsStreams old new
 
-  -- all keys of this shelf were revoked, and nothing was read or written
-  pub record RevokesShelfAlone (shelf : List ℕ) (result : Result Bool CommandRefusal) : Type 0 where
-    pub ended : Result (Unit {0}) CommandRefusal
-    pub revokes : RevokesShelf (shown old.store) (shown new.store) shelf ended
-    pub told : result ≡ acceptance ended
-    pub streams : KeepsStreams old new
-
   -- the requests of the input were answered from the store
   pub record AnswersFrom (result : Result Bool CommandRefusal) : Type 0 where
     pub ended : Result (Unit {0}) CommandRefusal
     pub answers : AnswersAll (shown old.store) (shown new.store) old.came new.came old.written new.written ended
     pub told : result ≡ acceptance ended
 
-  -- connections were served from the store, and nothing was read from the input
+  -- connections were served from the store, by these times of a calendar, and nothing was read from the input
   pub record ServesConnections
       (entrance : Entrance) (connections : ℕ) (control : Option (List ℕ)) (result : Result Bool CommandRefusal) : Type 0 where
+    pub times : List (List ℕ)
     pub ended : Result (Unit {0}) CommandRefusal
-    pub serves : ListensAs shown copied counted old.store new.store entrance connections control old.written new.written ended
+    pub serves : ListensAs shown copied counted [] times old.store new.store entrance connections control
+        old.written new.written ended
     pub told : result ≡ acceptance ended
     pub came : new.came ≡ old.came
 
   -- What is done by the kind of action: nothing, one command of the registry, a key that is made is added, the key of a
-  -- fingerprint is revoked, or all of a shelf, one publish, those of a list, an inventory, a catalog, the requirements
-  -- of a version, or a list of the keys or of the shelves is printed, all requests of the input are answered, or no
-  -- more requests than there are connections, and orders, copies and pings between them.
+  -- fingerprint is revoked, one publish, those of a list, an inventory, a catalog, the requirements of a version, or a
+  -- list of the keys or of the shelves is printed, all requests of the input are answered, or no more requests than
+  -- there are connections, and orders, copies and pings between them.
   abbrev pub Acts : Result Bool CommandRefusal → Action → Type 0
   Acts result action.Open = (new ≡ old) × (result ≡ Ok true)
   Acts result (action.Register order) = RegistersAlone order result
   Acts result (action.AddNew shelf right) = AddsNewAlone shelf right result
   Acts result (action.RevokeNamed fingerprint) = RevokesNamedAlone fingerprint.now result
-  Acts result (action.RevokeAll shelf) = RevokesShelfAlone shelf.now result
   Acts result (action.Publish words files) =
       PublishesFiles shown old.store new.store (asked_by words) old.written new.written result × (new.came ≡ old.came)
   Acts result (action.Import key list) =

@@ -4,6 +4,7 @@ use Rattle.world.specs.Store.{Shown}
 use Rattle.world.specs.World.{World}
 use Rattle.world.specs.declared.registry.StoreFault.{StoreFault}
 use Rattle.machine.specs.Machine.{after}
+use Rattle.keyring.specs.Revoke.{after_revoke_with, revoked_with}
 use Rattle.control.specs.Hearing.{Heeds}
 use Rattle.control.specs.Order.{event_of, outcome_in}
 use Rattle.control.specs.declared.copies.CopyRefusal.{CopyRefusal}
@@ -12,7 +13,7 @@ use Rattle.control.specs.declared.order.Order.{Order}
 use Rattle.control.specs.declared.outcome.Outcome.{Outcome}
 use Rattle.control.specs.declared.told.Told.TheVariants as spoken
 use Rattle.commands.specs.Ending.{ending}
-use Rattle.commands.specs.Order.{OrdersOver}
+use Rattle.commands.specs.Order.{OrdersOver, RevokesOver}
 use Rattle.commands.specs.declared.refusal.CommandRefusal.{CommandRefusal}
 
 -- The command wrote these bytes, the server did what they order, and the command got its outcome.
@@ -39,3 +40,31 @@ abbrev pub EndsAsOnTheStore :
 EndsAsOnTheStore copied pinged old new =
     (order : Order) (result : Result (Unit {0}) CommandRefusal) (w : World)
     → AreConnected copied pinged old new order result → new.is_honest → old.stands w → EndsAt new w order result
+
+-- ---- a key that is named by its fingerprint
+
+-- The command wrote these bytes, the server did what they order, and the command got its outcome.
+pub record AreConnectedToRevoke
+    (copied : List ℕ → Result (Unit {0}) CopyRefusal → Type 0) (pinged : Result Health StoreFault → Type 0)
+    (old new : Shown) (f : List ℕ) (result : Result (Unit {0}) CommandRefusal) : Type 0 where
+  pub unread : Option (List ℕ)
+  pub unread_new : Option (List ℕ)
+  pub sent : List ℕ
+  pub told : Outcome
+  pub command : RevokesOver unread unread_new (Some []) (Some sent) f result
+  pub heard : command.told ≡ Ok told
+  pub server : Heeds copied pinged old new sent (spoken.Outcome told)
+
+-- The command ends by the outcome of revoking the key that has this fingerprint in this world, and the store stands for
+-- the world after that. Or it ends by a fault of the store, which still stands for this world.
+abbrev pub RevokesAt : Shown → World → List ℕ → Result (Unit {0}) CommandRefusal → Type 0
+RevokesAt new w f result =
+    ((result ≡ ending (Ok (revoked_with w f))) × new.stands (after_revoke_with w f))
+    ⊎ ((fault : StoreFault) × (result ≡ ending (Err fault)) × new.stands w)
+
+-- On an honest disk, the command ends so in each world that the store stood for.
+abbrev pub RevokesAsOnTheStore :
+    (List ℕ → Result (Unit {0}) CopyRefusal → Type 0) → (Result Health StoreFault → Type 0) → Shown → Shown → Type 0
+RevokesAsOnTheStore copied pinged old new =
+    (f : List ℕ) (result : Result (Unit {0}) CommandRefusal) (w : World)
+    → AreConnectedToRevoke copied pinged old new f result → new.is_honest → old.stands w → RevokesAt new w f result

@@ -8,7 +8,6 @@ use Rattle.world.specs.declared.registry.StoreFault.TheVariants as fault
 use Rattle.machine.specs.Machine.{after}
 use Rattle.control.specs.Order.{event_of, outcome_in}
 use Rattle.control.specs.declared.order.Order.{Order}
-use Rattle.revocation.specs.All.{RevokesAll}
 use Rattle.keyring.specs.Revoke.{revoked_with, after_revoke_with}
 use Rattle.commands.specs.declared.refusal.CommandRefusal.{CommandRefusal}
 use Rattle.commands.specs.declared.refusal.CommandRefusal.TheVariants as refusal
@@ -51,10 +50,4 @@ pub record RevokesNamed (old new : Shown) (fingerprint : List ℕ) (result : Res
     : Type 0 where
   pub told : Result RegistryReply StoreFault
   pub does : Does old new told (λ w. revoked_with w fingerprint) (λ w. after_revoke_with w fingerprint)
-  pub ends : result ≡ ending told
-
--- From old to new all keys of a shelf were revoked, if there is such a shelf; and the command ends by that.
-pub record RevokesShelf (old new : Shown) (shelf : List ℕ) (result : Result (Unit {0}) CommandRefusal) : Type 0 where
-  pub told : Result RegistryReply StoreFault
-  pub revokes : RevokesAll old new told shelf
   pub ends : result ≡ ending told

@@ -21,8 +21,8 @@ status_of (Refused why) = 1
 status_of BadUsage = 2
 
 -- the line that says why a command was refused
-abbrev pub line_of : CommandRefusal → List ℕ
-line_of why = codes "goshelf: " ++ (word why ++ codes "\n")
+abbrev pub refusal_line : CommandRefusal → List ℕ
+refusal_line why = codes "goshelf: " ++ (word why ++ codes "\n")
 
 module _ (errors errors_new : Option (List ℕ)) where
   -- nothing was written to the errors, except the parser's text about bad usage
@@ -33,5 +33,5 @@ module _ (errors errors_new : Option (List ℕ)) where
   -- If the command was refused, a beginning of the line of its word was written to the errors: all of it, unless a
   -- write failed. Otherwise nothing was.
   abbrev pub Says : Exit → Type 0
-  Says (Refused why) = PrintsFront errors errors_new (line_of why)
+  Says (Refused why) = PrintsFront errors errors_new (refusal_line why)
   Says other = errors_new ≡ errors

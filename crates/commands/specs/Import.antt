@@ -97,13 +97,13 @@ module _ (files : List ℕ → Option (Option (List ℕ))) (key : List ℕ) wher
 
 -- ---- what is printed
 
-abbrev pub line_of : ℕ → DoneRow → List ℕ
-line_of n t = numbered n (outcome_text (outcome_of t.done))
+abbrev pub done_line : ℕ → DoneRow → List ℕ
+done_line n t = numbered n (outcome_text (outcome_of t.done))
 
 -- a line for each row, with its number
 abbrev pub lines_from : ℕ → List DoneRow → List ℕ
 lines_from n [] = []
-lines_from n (t ∷ ts) = line_of n t ++ lines_from (n + 1) ts
+lines_from n (t ∷ ts) = done_line n t ++ lines_from (n + 1) ts
 
 abbrev pub is_accepted : DoneRow → Bool
 is_accepted t = accepts_outcome (outcome_of t.done)
@@ -178,7 +178,7 @@ pub record GoesThrough
 abbrev pub BreaksOff : Option (List ℕ) → Option (List ℕ) → Option (List ℕ) → List DoneRow → Type 0
 BreaksOff list written written_new done_rows =
     ((first : List DoneRow) × (last : DoneRow) × (front : List ℕ) × (done_rows ≡ first ++ last ∷ [])
-    × IsFront front (line_of (length first + 1) last) × Appends written written_new (lines_from 1 first ++ front))
+    × IsFront front (done_line (length first + 1) last) × Appends written written_new (lines_from 1 first ++ front))
     ⊎ ((n : ℕ) × (why : Closing) × (front : List ℕ) × IsOver list done_rows n why
     × IsFront front (closing_line n why) × Appends written written_new (lines_from 1 done_rows ++ front))
 
@@ -250,6 +250,6 @@ module _ {R : Type 0} (remaining : R → Option (List ℕ)) where
     -- the next row was done and its line printed, or no row is done; or the output broke off in its line
     abbrev pub StepIs : Result Step Io → Type 0
     StepIs (Ok (step.Row accepted)) =
-        (t : DoneRow) × DoesNextRow t × (accepted ≡ is_accepted t) × Appends written written_new (line_of n t)
+        (t : DoneRow) × DoesNextRow t × (accepted ≡ is_accepted t) × Appends written written_new (done_line n t)
     StepIs (Ok (step.Over why)) = IsIdle why
-    StepIs (Err e) = (t : DoneRow) × DoesNextRow t × (e ≡ io.Write) × PrintsFront written written_new (line_of n t)
+    StepIs (Err e) = (t : DoneRow) × DoesNextRow t × (e ≡ io.Write) × PrintsFront written written_new (done_line n t)

@@ -10,12 +10,14 @@ pub mod Inventory
 pub mod Rows
 pub mod Lines
 pub mod Listing
+pub mod Moment
 pub mod NewKey
 pub mod Opening
 pub mod Order
 pub mod Ping
 pub mod Printed
 pub mod Publish
+pub mod RandomBytes
 pub mod Repetition
 pub mod Report
 pub mod Requirements

@@ -5,7 +5,7 @@ use Rattle.histories.specs.Calls.{Reads, Writes}
 use Rattle.engine.specs.Causes.{IsCaused}
 use Rattle.engine.specs.Served.{ServesAllHeard}
 use Rattle.engine.specs.declared.fault.Io.{Io as Failure}
-use Rattle.world.specs.InMemory.{in_memory}
+use Rattle.memory_store.specs.InMemory.{in_memory}
 use Rattle.world.specs.Store.{Shown}
 use Rattle.world.specs.World.{World, only_common, with_team, with_key, is_team_name, is_key}
 use Rattle.world.specs.declared.entry.Right.TheVariants.{Publishes}

@@ -3,11 +3,12 @@ use Rattle.std.specs.Prelude.{ℕ, ◌≡◌, ◌⊎◌, if◌then◌else◌, Bo
 use Rattle.std.specs.Borrow.{Bor}
 use Rattle.world.specs.World.{World, IsWorld, common, is_team_name, is_key}
 use Rattle.machine.specs.Machine.{after}
-use Rattle.control.specs.Asking.{Asks, AsksToCopy, AsksToStop}
+use Rattle.keyring.specs.Revoke.{revoked_with}
+use Rattle.control.specs.Asking.{Asks, AsksToCopy, AsksToRevoke, AsksToStop}
 use Rattle.control.specs.declared.client.Untold.{Untold}
 use Rattle.control.specs.declared.client.Untold.TheVariants as untold
 use Rattle.control.specs.declared.order.Order.{Order}
-use Rattle.control.specs.declared.order.Order.TheVariants.{TeamAdd, GroupAdd, KeyAdd, KeyRevoke}
+use Rattle.control.specs.declared.order.Order.TheVariants.{TeamAdd, GroupAdd, KeyAdd, KeyRevoke, KeysRevoke}
 use Rattle.control.specs.Order.{event_of, outcome_in}
 use Rattle.control.specs.declared.outcome.Outcome.{Outcome}
 use Rattle.control.specs.declared.outcome.Outcome.TheVariants as outcome
@@ -45,17 +46,18 @@ unsayable (TeamAdd name group) = Name
 unsayable (GroupAdd name) = Name
 unsayable (KeyAdd shelf key right) = refusal_by (is_key key.now) NoTeam
 unsayable (KeyRevoke key) = NoKey
+unsayable (KeysRevoke shelf) = NoTeam
 
--- how a command ends, by the result of sending its order
-abbrev pub told_ending : Order → Result Outcome Untold → Result (Unit {0}) CommandRefusal
-told_ending order (Ok (outcome.RegistryReply registered)) = ending (Ok registered)
-told_ending order (Ok (outcome.Failed fault)) = ending (Err fault)
-told_ending order (Ok outcome.NotEmpty) = Err Io
-told_ending order (Ok outcome.Stopping) = Err Io
-told_ending order (Ok outcome.Bad) = Err Io
-told_ending order (Err untold.Words) = Err (unsayable order)
-told_ending order (Err untold.Memory) = Err Memory
-told_ending order (Err untold.Io) = Err Io
+-- how a command ends, by the result of sending its order, and by why an order is refused that no line can carry
+abbrev pub told_ending : CommandRefusal → Result Outcome Untold → Result (Unit {0}) CommandRefusal
+told_ending unsaid (Ok (outcome.RegistryReply registered)) = ending (Ok registered)
+told_ending unsaid (Ok (outcome.Failed fault)) = ending (Err fault)
+told_ending unsaid (Ok outcome.NotEmpty) = Err Io
+told_ending unsaid (Ok outcome.Stopping) = Err Io
+told_ending unsaid (Ok outcome.Bad) = Err Io
+told_ending unsaid (Err untold.Words) = Err unsaid
+told_ending unsaid (Err untold.Memory) = Err Memory
+told_ending unsaid (Err untold.Io) = Err Io
 
 -- in each world, the command ends as the order does there
 abbrev pub EndsInEach : Order → Result (Unit {0}) CommandRefusal → Type 0
@@ -69,13 +71,32 @@ pub record OrdersOver
   pub same : ComeToTheSame asked order
   pub told : Result Outcome Untold
   pub asks : Asks unread unread_new written written_new asked told
-  pub ends : result ≡ told_ending asked told
+  pub ends : result ≡ told_ending (unsayable asked) told
   pub unsent : told ≡ Err untold.Words → EndsInEach order result
 
 -- so it was over a connection, or there was none
 abbrev pub OrdersThere : Order → Result (Unit {0}) CommandRefusal → Type 0
 OrdersThere order result =
     ((unread unread_new written written_new : Option (List ℕ)) × OrdersOver unread unread_new written written_new order result)
+    ⊎ (result ≡ Err Device)
+
+-- in each world, the command ends as the revocation of the key with this fingerprint does there
+abbrev pub EndsNamedInEach : List ℕ → Result (Unit {0}) CommandRefusal → Type 0
+EndsNamedInEach f result = (w : World) → result ≡ ending (Ok (revoked_with w f))
+
+-- The line that orders to revoke the key with this fingerprint was sent as `AsksToRevoke` says, and the command ends by
+-- the result. If there is no such line, the command ends as the revocation does in each world.
+pub record RevokesOver (unread unread_new written written_new : Option (List ℕ)) (f : List ℕ)
+    (result : Result (Unit {0}) CommandRefusal) : Type 0 where
+  pub told : Result Outcome Untold
+  pub asks : AsksToRevoke unread unread_new written written_new f told
+  pub ends : result ≡ told_ending NoKey told
+  pub unsent : told ≡ Err untold.Words → EndsNamedInEach f result
+
+-- so it was over a connection, or there was none
+abbrev pub RevokesThere : List ℕ → Result (Unit {0}) CommandRefusal → Type 0
+RevokesThere f result =
+    ((unread unread_new written written_new : Option (List ℕ)) × RevokesOver unread unread_new written written_new f result)
     ⊎ (result ≡ Err Device)
 
 -- how `copy` ends, by the result of sending its order; a path that no line can carry counts as a name that breaks its

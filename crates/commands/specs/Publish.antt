@@ -1,5 +1,6 @@
 -- A publish of files, by the words of a command line or a list.
-use Rattle.std.specs.Prelude.{ℕ, List, ◌≡◌, ◌==◌, ◌||◌, ◌++◌, codes, Bool, Option, Some, None, Result, Ok, Err, MatchResult}
+use Rattle.std.specs.Prelude.{ℕ, List, ◌≡◌, ◌==◌, ◌||◌, ◌++◌, codes, Bool, Option, Some, None, Result, Ok, Err}
+use Rattle.std.specs.Prelude.{MatchResult}
 use Rattle.std.specs.Option.{option_copied}
 use Rattle.std.specs.Io.KnownBytes.{Appends}
 use Rattle.modver.specs.Reading.{version_of}
@@ -34,7 +35,8 @@ given_time (Some text) = time_in text
 
 -- a publish of the files at a path and a version, if both are valid, and otherwise an unreadable request
 abbrev pub asked_at : List ℕ → Option (List ℕ) → Option SemanticVersion → GivenTime → Body → Ask
-asked_at key (Some path) (Some version) time body = Put key (record { path = path; version = version; body = Some body; time = time })
+asked_at key (Some path) (Some version) time body =
+    Put key (record { path = path; version = version; body = Some body; time = time })
 asked_at key path version time body = Unreadable
 
 -- what a publish asks of the machine, with a path and a version that are not escaped
@@ -61,8 +63,8 @@ answer_line answer = line_bytes answer ++ codes "\n"
 
 -- the line of the answer was printed, and the result is whether it accepts; or the output failed and a beginning of it
 -- was printed
-abbrev pub Tells : Fixed → Option (List ℕ) → Option (List ℕ) → Result Bool CommandRefusal → Type 0
-Tells answer written written_new result =
+abbrev pub PrintsAnswer : Fixed → Option (List ℕ) → Option (List ℕ) → Result Bool CommandRefusal → Type 0
+PrintsAnswer answer written written_new result =
     MatchResult result
     (λ accepted. (accepted ≡ accepts (fixed_status answer)) × Appends written written_new (answer_line answer))
     (λ e. (e ≡ Io) × PrintsFront written written_new (answer_line answer))
@@ -70,10 +72,11 @@ Tells answer written written_new result =
 -- From old to new the store did what was asked, as the machine does in each world that it stood for, or met a fault (or
 -- memory ran out before that) and changed nothing; and the line of the answer was printed.
 pub record PublishesAndTells
-    (old new : Shown) (ask : Ask) (written written_new : Option (List ℕ)) (result : Result Bool CommandRefusal) : Type 0 where
-  pub told : Result Reply StoreFault
-  pub does : Does old new told (λ w. ask_reply w ask) (λ w. after_ask w ask)
-  pub tells : Tells (answer_of told) written written_new result
+    (old new : Shown) (ask : Ask) (written written_new : Option (List ℕ)) (result : Result Bool CommandRefusal) : Type 0
+  where
+    pub told : Result Reply StoreFault
+    pub does : Does old new told (λ w. ask_reply w ask) (λ w. after_ask w ask)
+    pub tells : PrintsAnswer (answer_of told) written written_new result
 
 module _ {S : Type 0} (shown : S → Shown) (old new : S) (ask : Body → Ask) where
   -- How a publish ends, by how its two files were read. If they were, they are published, and the outcome is printed.
@@ -81,7 +84,8 @@ module _ {S : Type 0} (shown : S → Shown) (old new : S) (ask : Body → Ask) w
   abbrev pub EndsBy : Option (List ℕ) → Option (List ℕ) → Result Bool CommandRefusal → Result Body FileFault → Type 0
   EndsBy written written_new result (Ok body) =
       PublishesAndTells (shown old) (shown new) (ask body) written written_new result
-  EndsBy written written_new result (Err file.Memory) = (new ≡ old) × Tells fixed.Unavailable written written_new result
+  EndsBy written written_new result (Err file.Memory) = (new ≡ old)
+      × PrintsAnswer fixed.Unavailable written written_new result
   EndsBy written written_new result (Err file.Io) = (new ≡ old) × (written_new ≡ written) × (result ≡ Err Io)
 
   -- two files were read or not, and the publish ended by that

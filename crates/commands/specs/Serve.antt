@@ -5,6 +5,7 @@ use Rattle.world.specs.Store.{Shown}
 use Rattle.socket.specs.Connections.{GoesThroughMost}
 use Rattle.control.specs.Copying.{GoesOnRead}
 use Rattle.control.specs.declared.copies.CopyRefusal.{CopyRefusal}
+use Rattle.commands.specs.Moment.{Shows}
 use Rattle.commands.specs.Printed.{PrintsFront}
 use Rattle.commands.specs.declared.refusal.CommandRefusal.{CommandRefusal}
 use Rattle.commands.specs.declared.refusal.CommandRefusal.TheVariants.{Io}
@@ -56,23 +57,31 @@ Copied S = S → S → List ℕ → Result (Unit {0}) CopyRefusal → Type 0
 abbrev pub Counted : Type 0 → Type 1
 Counted S = S → S → ℕ → Type 0
 
--- The entrance was printed, and the store went through at most as many requests as there are connections, with orders
--- between them, and copies of the machine's world at that moment, and versions counted in it. Or it ended before it
--- served, because the entrance or the socket can't be opened, the clock can't be read, the output failed or memory ran
--- out, and a beginning of the line was printed, and the store stays as it was.
+-- The calendar showed one time more, and each ping was told that the server began then. The store went through at most
+-- as many requests as there are connections, with orders between them, and copies of the machine's world at that moment,
+-- and versions counted in it.
+pub record ServesSince {S : Type 0} (shown : S → Shown) (copied : Copied S) (counted : Counted S)
+    (times times_new : List (List ℕ)) (old new : S) (connections : ℕ) : Type 0 where
+  pub since : List ℕ
+  pub shows : Shows times times_new (Some since)
+  pub goes : GoesOnRead shown copied counted old new since connections
+
+-- The entrance was printed, and the store was served so. Or it ended before it served, because the entrance or the
+-- socket can't be opened, the clock can't be read, the output failed or memory ran out, and a beginning of the line was
+-- printed, and the store stays as it was.
 abbrev pub ListensToBoth :
-    {S : Type 0} → (S → Shown) → Copied S → Counted S → S → S → Entrance → ℕ
+    {S : Type 0} → (S → Shown) → Copied S → Counted S → List (List ℕ) → List (List ℕ) → S → S → Entrance → ℕ
     → Option (List ℕ) → Option (List ℕ) → Result (Unit {0}) CommandRefusal → Type 0
-ListensToBoth shown copied counted old new entrance connections written written_new result =
+ListensToBoth shown copied counted times times_new old new entrance connections written written_new result =
     MatchResult result
-    (λ _. Announces entrance written written_new × GoesOnRead shown copied counted old new connections)
+    (λ _. Announces entrance written written_new × ServesSince shown copied counted times times_new old new connections)
     (λ e. (e ≡ Io) × (new ≡ old) × AnnouncesFront entrance written written_new)
 
 -- serving without a socket of operators, or with one
 abbrev pub ListensAs :
-    {S : Type 0} → (S → Shown) → Copied S → Counted S → S → S → Entrance → ℕ
+    {S : Type 0} → (S → Shown) → Copied S → Counted S → List (List ℕ) → List (List ℕ) → S → S → Entrance → ℕ
     → Option (List ℕ) → Option (List ℕ) → Option (List ℕ) → Result (Unit {0}) CommandRefusal → Type 0
-ListensAs shown copied counted old new entrance connections None written written_new result =
+ListensAs shown copied counted times times_new old new entrance connections None written written_new result =
     Listens shown old new entrance connections written written_new result
-ListensAs shown copied counted old new entrance connections (Some path) written written_new result =
-    ListensToBoth shown copied counted old new entrance connections written written_new result
+ListensAs shown copied counted times times_new old new entrance connections (Some path) written written_new result =
+    ListensToBoth shown copied counted times times_new old new entrance connections written written_new result

@@ -4,16 +4,18 @@ ghost use Rattle.commands.specs.Action as spec;
 
 use crate::answer::answer_input;
 use crate::import_file::import_file;
+use crate::moment::SystemCalendar;
 use crate::new_key::add_new;
 use crate::publish::{Files, Words, publish};
+use crate::random_bytes::SystemRandomBytes;
 use crate::refusal::CommandRefusal;
-use crate::registry::{register, revoke_named, revoke_shelf};
+use crate::registry::{register, revoke_named};
 use crate::report::{
     Named, print_catalog, print_inventory, print_keys, print_requirements, print_shelves,
 };
 use crate::serve::{Entrance, serve};
 use control::{Copies, Order};
-use histories::{Hear, Tell};
+use histories::{Hear, Tell, Telling};
 use keyring::Keyring;
 use outline::outlines::Outlines;
 use std::rt::HostRuntime;
@@ -36,10 +38,6 @@ pub enum Action<'a> {
     /// `key-revoke --fingerprint X`: revokes the key that has a fingerprint.
     RevokeNamed {
         fingerprint: &'a str,
-    },
-    /// `key-revoke --shelf T --all`: revokes all keys of a shelf.
-    RevokeAll {
-        shelf: &'a str,
     },
     /// `publish`: publishes a version from files.
     Publish {
@@ -80,6 +78,7 @@ pub enum Action<'a> {
 
 /// Does one action on a store and returns whether it was accepted; only a publish and an import can be done and not
 /// accepted. `copies` makes the copies that are ordered while the store is served, and counts its versions for a ping.
+/// `serve` tells on standard error what happens.
 /// Fails as the function of the action does.
 pub fn act_on<S: Outlines + Keyring, K: Copies<S>, I: Hear, O: Tell>(
     rt: &HostRuntime,
@@ -97,11 +96,17 @@ pub fn act_on<S: Outlines + Keyring, K: Copies<S>, I: Hear, O: Tell>(
     match action {
         Action::Open => Ok(true),
         Action::Register { order } => acceptance(register(shelves, order)),
-        Action::AddNew { shelf, right } => acceptance(add_new(rt, shelves, shelf, *right, output)),
+        Action::AddNew { shelf, right } => acceptance(add_new(
+            rt.alloc(),
+            &mut SystemRandomBytes::new(rt),
+            shelves,
+            shelf,
+            *right,
+            output,
+        )),
         Action::RevokeNamed { fingerprint } => {
             acceptance(revoke_named(rt.alloc(), shelves, fingerprint))
         }
-        Action::RevokeAll { shelf } => acceptance(revoke_shelf(rt.alloc(), shelves, shelf)),
         Action::Publish { words, files } => publish(rt, shelves, words, files, output),
         Action::Import { key, list } => import_file(rt, shelves, key, list, output),
         Action::Inventory { key } => print_inventory(rt.alloc(), shelves, key, output),
@@ -116,12 +121,14 @@ pub fn act_on<S: Outlines + Keyring, K: Copies<S>, I: Hear, O: Tell>(
             control,
         } => acceptance(serve(
             rt,
+            &mut SystemCalendar::new(rt),
             shelves,
             copies,
             *entrance,
             *connections,
             *control,
             output,
+            &mut Telling::new(rt.stderr()),
         )),
     }
 }

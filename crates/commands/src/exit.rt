@@ -57,7 +57,7 @@ impl Exit {
 
 /// Writes the line `goshelf: <word>`. `Io::Write` if a write fails: then a beginning of it is written, and not all.
 fn write_line<E: Tell>(refusal: CommandRefusal, errors: &mut E) -> Result<(), Io>
-    ensures { Writes (E.contents errors.old) (E.contents errors.new) (spec.line_of refusal) result }
+    ensures { Writes (E.contents errors.old) (E.contents errors.new) (spec.refusal_line refusal) result }
 {
     write_bytes(errors, b"goshelf: ")?;
     write_both(errors, refusal.word().as_bytes(), b"\n")

@@ -3,8 +3,7 @@
 //! | command | what it does | where |
 //! |---|---|---|
 //! | `team-add`, `group-add`, `key-add`, `key-revoke` | does one registry command, as the machine does | [`registry`] |
-//! | `key-add --new` | makes a key, prints it, and adds it | [`new_key`] |
-//! | `key-revoke --shelf --all` | revokes all keys of a shelf | [`registry`] |
+//! | `key-add --new` | makes a key of random bytes, prints it, and adds it | [`new_key`], [`random_bytes`] |
 //! | `key-revoke --fingerprint` | revokes the key that has a fingerprint | [`registry`] |
 //! | `publish` | asks the machine to publish two files, and prints the line of its outcome | [`publish`] |
 //! | `import` | asks the machine to publish each row of a list, with a line for each | [`import`], [`import_file`] |
@@ -37,14 +36,16 @@ pub mod import_list;
 pub mod inventory;
 mod inventory_text;
 pub mod laws;
+pub mod ledger;
 pub mod listing;
 pub mod memory;
-mod moment;
+pub mod moment;
 pub mod new_key;
 pub mod order;
 pub mod ping;
 mod printing;
 pub mod publish;
+pub mod random_bytes;
 pub mod refusal;
 pub mod registry;
 pub mod report;

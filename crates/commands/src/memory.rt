@@ -6,9 +6,9 @@ ghost use Rattle.commands.specs.Opening.{AnsweredFor, AreNames, Breaks, ServedFr
 use crate::refusal::CommandRefusal;
 use engine::answer_all;
 use histories::{Hear, Tell};
+use memory_store::map_shelves::MapShelves;
 use std::alloc::Global;
 use world::entry::Right;
-use world::map_shelves::MapShelves;
 use world::names::{is_key, is_team_name};
 use world::shelves::Shelves;
 

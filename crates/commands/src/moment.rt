@@ -1,11 +1,56 @@
-//! The time of the system clock.
+//! The time, and what shows it.
+ghost use Rattle.std.specs.Prelude.{◌≡◌, []};
+
+use crate::ledger::Ledger;
 use jiff::Timestamp;
 use modver::{TimeText, read_time};
 use std::rt::HostRuntime;
 
+/// What shows the time, and keeps account of what it showed.
+pub trait Calendar {
+    ghost use Rattle.std.specs.Prelude.{ℕ, List};
+    ghost use Rattle.commands.specs.Moment.{Shows};
+
+    /// The times that it showed so far, the oldest first.
+    ghost shown: { Self → List (List ℕ) };
+
+    /// Returns the time in UTC, to the second. None if it can't be read.
+    fn time_now(&mut self) -> Option<TimeText>
+        ensures { Shows (shown self.old) (shown self.new) result };
+}
+
+/// The clock of the system.
+#[derive(Drop)]
+pub struct SystemCalendar<'a> {
+    rt: &'a HostRuntime,
+    noted: Ledger,
+}
+
+impl<'a> SystemCalendar<'a> {
+    /// Returns the clock of the system, which has shown no time so far.
+    pub(crate) fn new(rt: &'a HostRuntime) -> SystemCalendar<'a>
+        ensures { ⟦<SystemCalendar<'a> as Calendar>⟧.shown result ≡ [] }
+    {
+        SystemCalendar {
+            rt,
+            noted: Ledger::new(),
+        }
+    }
+}
+
+impl<'a> Calendar for SystemCalendar<'a> {
+    ghost shown = { λ c. c.noted.entries };
+
+    fn time_now(&mut self) -> Option<TimeText> {
+        let time = system_time(self.rt)?;
+        self.noted.note(time.as_str().as_bytes());
+        Some(time)
+    }
+}
+
 /// Returns the system clock's time in UTC, to the second. None if the clock can't be read, its year does not have four
 /// digits, or memory runs out.
-pub(crate) fn time_now(rt: &HostRuntime) -> Option<TimeText> {
+fn system_time(rt: &HostRuntime) -> Option<TimeText> {
     let Ok(now) = Timestamp::now(rt) else {
         return None;
     };

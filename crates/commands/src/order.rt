@@ -3,7 +3,7 @@ ghost use Rattle.std.specs.Prelude.{◌≡◌, option_copied};
 ghost use Rattle.commands.specs.Order as spec;
 
 use crate::refusal::{CommandRefusal, ending};
-use control::{Order, Outcome, Untold, ask, ask_to_copy, ask_to_stop, server_at};
+use control::{Order, Outcome, Untold, ask, ask_to_copy, ask_to_revoke, ask_to_stop, server_at};
 use histories::{Hear, Hearing, Tell, Telling};
 use std::alloc::Global;
 use std::io::{self, Write};
@@ -43,7 +43,7 @@ pub fn order_over<R: Hear, W: Tell>(
 {
     let asked = order_to_send(order);
     let told = ask(alloc, reader, writer, &asked);
-    told_ending(told, &asked)
+    told_ending(told, unsayable(&asked))
 }
 
 /// Returns the order to send for another: one that is equivalent in every world, and whose group can stand in a line.
@@ -69,15 +69,18 @@ fn group_to_send<'a>(group: Option<&'a str>) -> Option<&'a str>
     }
 }
 
-/// How a command ends, by what was told of its order.
-fn told_ending(told: Result<Outcome, Untold>, order: &Order) -> Result<(), CommandRefusal>
-    ensures { result ≡ spec.told_ending order.now told }
+/// How a command ends, by what was told of its order, or by this refusal if no line can carry that.
+fn told_ending(
+    told: Result<Outcome, Untold>,
+    unsayable: CommandRefusal,
+) -> Result<(), CommandRefusal>
+    ensures { result ≡ spec.told_ending unsayable told }
 {
     match told {
         Ok(Outcome::RegistryReply(registered)) => ending(Ok(registered)),
         Ok(Outcome::Failed(fault)) => ending(Err(fault)),
         Ok(Outcome::NotEmpty | Outcome::Stopping | Outcome::Bad) => Err(CommandRefusal::Io),
-        Err(Untold::Words) => Err(unsayable(order)),
+        Err(Untold::Words) => Err(unsayable),
         Err(Untold::Memory) => Err(CommandRefusal::Memory),
         Err(Untold::Io) => Err(CommandRefusal::Io),
     }
@@ -92,6 +95,7 @@ fn unsayable(order: &Order) -> CommandRefusal
         Order::TeamAdd { .. } | Order::GroupAdd { .. } => CommandRefusal::Name,
         Order::KeyAdd { key, .. } => refusal_by(is_key(key), CommandRefusal::NoTeam),
         Order::KeyRevoke { .. } => CommandRefusal::NoKey,
+        Order::KeysRevoke { .. } => CommandRefusal::NoTeam,
     }
 }
 
@@ -100,6 +104,38 @@ fn refusal_by(keeps: bool, refusal: CommandRefusal) -> CommandRefusal
     ensures { result ≡ spec.refusal_by keeps refusal }
 {
     if keeps { refusal } else { CommandRefusal::Name }
+}
+
+/// Has the `serve` that listens at a socket revoke the key that has a fingerprint, and ends as the same command does on
+/// the store of a file. `NoKey` if no key has it or several have. Fails as `order_at` does otherwise.
+pub fn revoke_at(rt: &HostRuntime, path: &str, fingerprint: &str) -> Result<(), CommandRefusal>
+    ensures { spec.RevokesThere fingerprint.now result }
+{
+    match server_at(rt, path) {
+        Ok(server) => revoke_over(
+            rt.alloc(),
+            &mut Hearing::new(&server),
+            &mut Telling::new(&server),
+            fingerprint,
+        ),
+        Err(_) => Err(CommandRefusal::Device),
+    }
+}
+
+/// Writes the line that revokes the key of a fingerprint, reads the line of its outcome, and ends by it as the same
+/// command does on the store of a file. A fingerprint that no line can carry is no key's: the command ends with
+/// `NoKey`, and nothing is sent. Fails as `revoke_at` does once it is connected.
+pub fn revoke_over<R: Hear, W: Tell>(
+    alloc: Global,
+    reader: &mut R,
+    writer: &mut W,
+    fingerprint: &str,
+) -> Result<(), CommandRefusal>
+    ensures { spec.RevokesOver (R.remaining reader.old) (R.remaining reader.new)
+        (W.contents writer.old) (W.contents writer.new) fingerprint.now result }
+{
+    let told = ask_to_revoke(alloc, reader, writer, fingerprint);
+    told_ending(told, CommandRefusal::NoKey)
 }
 
 /// Has the `serve` that listens at a socket copy its store into the file of a path, as that server sees it, and waits

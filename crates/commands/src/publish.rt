@@ -176,7 +176,7 @@ pub(crate) fn answer_of(told: Result<Reply, StoreFault>) -> Fixed
 
 /// Prints an answer as a line, and returns whether it accepts the publish. `Io` if the output fails.
 fn tell<O: Tell>(answer: Fixed, output: &mut O) -> Result<bool, CommandRefusal>
-    ensures tells { spec.Tells answer (O.contents output.old) (O.contents output.new) result }
+    ensures tells { spec.PrintsAnswer answer (O.contents output.old) (O.contents output.new) result }
     ensures cause { IfErr result (λ _. HasFailed (O.writes output.old) (O.writes output.new)) }
     ensures flushed { OnOk result ((O.writes output.new).unflushed ≡ []) }
 {

@@ -1,17 +1,16 @@
 //! The registry commands: teams, groups and keys.
-ghost use Rattle.commands.specs.Ending.{Registers, RevokesNamed, RevokesShelf};
+ghost use Rattle.commands.specs.Ending.{Registers, RevokesNamed};
 
 use crate::refusal::{CommandRefusal, ending};
 use control::{Order, carry_out};
 use keyring::Keyring;
 use keyring::revoke::revoke_with;
-use revocation::revoke_all;
 use std::alloc::Global;
 use world::shelves::Shelves;
 
 /// Carries out a registry command as the machine does. Adding a team fails with `Name`, `Taken` or `NoGroup`, a group
-/// with `Name` or `Taken`, and a key with `Name`, `NoTeam` or `Taken`; revoking a key fails with `NoKey`; and each with
-/// a fault of the store. A command that fails changes nothing.
+/// with `Name` or `Taken`, and a key with `Name`, `NoTeam` or `Taken`; revoking a key fails with `NoKey`, and all keys of
+/// a shelf with `NoTeam`; and each with a fault of the store. A command that fails changes nothing.
 pub fn register<S: Shelves>(shelves: &mut S, order: &Order) -> Result<(), CommandRefusal>
     ensures { Registers (S.shown shelves.old) (S.shown shelves.new) order.now result }
 {
@@ -29,18 +28,5 @@ pub fn revoke_named<S: Keyring>(
     ensures { RevokesNamed (S.shown shelves.old) (S.shown shelves.new) fingerprint.now result }
 {
     let told = revoke_with(alloc, shelves, fingerprint);
-    ending(told)
-}
-
-/// Revokes all keys of a shelf, one after another. Fails with `NoTeam` if no shelf has this name, and then changes
-/// nothing; and with a fault of the store, and then has revoked some of them, or none.
-pub fn revoke_shelf<S: Keyring>(
-    alloc: Global,
-    shelves: &mut S,
-    shelf: &str,
-) -> Result<(), CommandRefusal>
-    ensures { RevokesShelf (S.shown shelves.old) (S.shown shelves.new) shelf.now result }
-{
-    let told = revoke_all(alloc, shelves, shelf);
     ending(told)
 }

@@ -1,13 +1,15 @@
 //! `serve`: one request on each of some connections, and the orders of operators between them.
 ghost use Rattle.std.specs.Prelude.{◌≡◌, ◌≢◌, [], option_copied, OnErr, OnOk};
+ghost use Rattle.control.specs.Copying.{GoesOnRead};
+ghost use Rattle.control.specs.Notices.{WritesNotices};
 ghost use Rattle.commands.specs.Printed.{PrintsText};
 ghost use Rattle.commands.specs.Serve.{Announces, AnnouncesFront, ListensToBoth, ListensAs};
 ghost use Rattle.commands.specs.Serve.{PrintsPort, PrintsPortFront, input_line, port_line};
 
-use crate::moment::time_now;
+use crate::moment::Calendar;
 use crate::printing::{print_both, print_one};
 use crate::refusal::CommandRefusal;
-use control::{Copies, Doors, operators_at, remove_socket, serve_both};
+use control::{Copies, Doors, ended, opened, operators_at, remove_socket, serve_both, tell};
 use engine::Io;
 use engine::write::write_bytes;
 use histories::Tell;
@@ -15,6 +17,7 @@ use itoa::Buffer;
 use keyring::Keyring;
 use mio::unix::SourceFd;
 use mio::{Events, Interest, Poll, Token};
+use modver::TimeText;
 use socket::serve_on;
 use std::io::{self, ErrorKind};
 use std::net::{Ipv4Addr, TcpListener, TcpStream};
@@ -34,23 +37,30 @@ pub enum Entrance {
 
 /// Prints the line of the entrance, and serves the connections that come in: the store goes through at most as many
 /// requests as there are connections. If a socket `control` is named, the orders of operators who connect to it are
-/// carried out between them, copies by `copies`, and do not count; a ping is told the versions that `copies` counts.
+/// carried out between them, copies by `copies`, and do not count; a ping is told the versions that `copies` counts, and
+/// when the server began: the time that `calendar` shows before the socket is made. What happens is then told on
+/// `errors`, in lines without a key; if that fails, nothing else changes.
 /// `Io` if the entrance or the socket can't be opened, the clock can't be read for the start time, the output fails, or
 /// memory runs out before it serves: then nothing of the line is printed, a beginning or all of it, and the store stays
 /// as it was. A connection that fails only counts.
-pub fn serve<S: Keyring, K: Copies<S>, O: Tell>(
+pub fn serve<D: Calendar, S: Keyring, K: Copies<S>, O: Tell, E: Tell>(
     rt: &HostRuntime,
+    calendar: &mut D,
     shelves: &mut S,
     copies: &mut K,
     entrance: Entrance,
     connections: u32,
     control: Option<&str>,
     output: &mut O,
+    errors: &mut E,
 ) -> Result<(), CommandRefusal>
-    ensures serves { ListensAs S.shown K.copied K.counted shelves.old shelves.new entrance connections
-        (option_copied control.entry) (O.contents output.old) (O.contents output.new) result }
+    ensures serves { ListensAs S.shown K.copied K.counted (D.shown calendar.old) (D.shown calendar.new)
+        shelves.old shelves.new entrance connections (option_copied control.entry)
+        (O.contents output.old) (O.contents output.new) result }
     // What was printed is flushed.
     ensures flushed { OnOk result ((O.writes output.new).unflushed ≡ []) }
+    // Only notices are written to `errors`.
+    ensures notes { WritesNotices (E.contents errors.old) (E.contents errors.new) }
 {
     match control {
         None => {
@@ -60,25 +70,38 @@ pub fn serve<S: Keyring, K: Copies<S>, O: Tell>(
             serve_on(rt.alloc(), rt, &mut &listener, shelves, connections);
             Ok(())
         }
-        Some(path) => serve_operators(rt, shelves, copies, entrance, connections, path, output),
+        Some(path) => serve_operators(
+            rt,
+            calendar,
+            shelves,
+            copies,
+            entrance,
+            connections,
+            path,
+            output,
+            errors,
+        ),
     }
 }
 
 /// Serves the connections of peers, and the operators of a socket, which is made first and taken away at the end.
-fn serve_operators<S: Keyring, K: Copies<S>, O: Tell>(
+fn serve_operators<D: Calendar, S: Keyring, K: Copies<S>, O: Tell, E: Tell>(
     rt: &HostRuntime,
+    calendar: &mut D,
     shelves: &mut S,
     copies: &mut K,
     entrance: Entrance,
     connections: u32,
     path: &str,
     output: &mut O,
+    errors: &mut E,
 ) -> Result<(), CommandRefusal>
-    ensures serves { ListensToBoth S.shown K.copied K.counted shelves.old shelves.new entrance connections
-        (O.contents output.old) (O.contents output.new) result }
+    ensures serves { ListensToBoth S.shown K.copied K.counted (D.shown calendar.old) (D.shown calendar.new)
+        shelves.old shelves.new entrance connections (O.contents output.old) (O.contents output.new) result }
     ensures flushed { OnOk result ((O.writes output.new).unflushed ≡ []) }
+    ensures notes { WritesNotices (E.contents errors.old) (E.contents errors.new) }
 {
-    let Some(since) = time_now(rt) else {
+    let Some(since) = calendar.time_now() else {
         return Err(CommandRefusal::Io);
     };
     let Ok(operators) = operators_at(rt, path) else {
@@ -86,15 +109,7 @@ fn serve_operators<S: Keyring, K: Copies<S>, O: Tell>(
     };
     match open_doors(rt, entrance, operators, output) {
         Ok(mut doors) => {
-            serve_both(
-                rt.alloc(),
-                rt,
-                &mut doors,
-                shelves,
-                copies,
-                since,
-                connections,
-            );
+            serve_told(rt, &mut doors, shelves, copies, since, connections, errors);
             remove_socket(rt, path);
             Ok(())
         }
@@ -103,6 +118,35 @@ fn serve_operators<S: Keyring, K: Copies<S>, O: Tell>(
             Err(CommandRefusal::Io)
         }
     }
+}
+
+/// Serves the callers of both doors, and tells before that what was opened, and after it that it ended.
+fn serve_told<S: Keyring, K: Copies<S>, E: Tell>(
+    rt: &HostRuntime,
+    doors: &mut Doors,
+    shelves: &mut S,
+    copies: &mut K,
+    since: TimeText,
+    connections: u32,
+    errors: &mut E,
+)
+    ensures goes { GoesOnRead S.shown K.copied K.counted shelves.old shelves.new since connections }
+    ensures notes { WritesNotices (E.contents errors.old) (E.contents errors.new) }
+{
+    let alloc = rt.alloc();
+    let versions = copies.versions(shelves);
+    tell(opened(alloc, copies.served(), versions), errors);
+    serve_both(
+        alloc,
+        rt,
+        doors,
+        shelves,
+        copies,
+        since,
+        connections,
+        errors,
+    );
+    tell(ended(alloc, copies.served()), errors);
 }
 
 /// What takes the connections of both.

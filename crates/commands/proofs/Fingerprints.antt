@@ -1,0 +1,59 @@
+-- How a fingerprint that no line can carry ends in each world.
+use Rattle.std.proofs.Common.{◌≡◌, ℕ, List, [], ◌∷◌, Bool, true, false, Option, Result, Ok, Err, refl, ◌∙◌, sym, ap}
+use Rattle.std.proofs.Common.{subst, arith}
+use Rattle.std.specs.Prelude.{codes, cond, filter}
+use Rattle.std.specs.Cmp.Lexicographic.{bytes_decides}
+use Rattle.keyring.specs.KeyList.{fingerprint}
+use Rattle.keyring.specs.Named.{keys_in}
+use Rattle.keyring.specs.Revoke.{has, only, revoked, revoked_with}
+use Rattle.keyring.proofs.FingerprintLemmas.{fingerprint_ascii, fingerprint_few, fingerprint_word}
+use Rattle.world.specs.Lines.{in_order}
+use Rattle.world.specs.World.{World}
+use Rattle.control.specs.Asking.{AsksToRevoke}
+use Rattle.control.specs.Line.{IsNaming, named_words}
+use Rattle.control.specs.declared.client.Untold.{Untold}
+use Rattle.control.specs.declared.outcome.Outcome.{Outcome}
+use Rattle.commands.specs.Ending.{ending}
+use Rattle.commands.specs.Order.{RevokesOver, told_ending}
+use Rattle.commands.specs.declared.refusal.CommandRefusal.{CommandRefusal}
+use Rattle.commands.specs.declared.refusal.CommandRefusal.TheVariants.{NoKey}
+use Rattle.commands.proofs.Sayable.{carried, word_fits}
+
+-- the fingerprint of a key has a line
+has_line : (k : List ℕ) → (sent : List ℕ) × IsNaming sent (fingerprint k)
+has_line k =
+    carried 18 16 0 (named_words (fingerprint k)) (word_fits 18 (codes "revoke-fingerprint") refl refl refl)
+    (record { says = fingerprint_word k; ascii = fingerprint_ascii k; few = fingerprint_few k }) tt (omega arith)
+
+module _ (f : List ℕ) (unsaid : (sent : List ℕ) → ¬ IsNaming sent f) where
+  -- so no key has one that has none
+  no_key_has : (k : List ℕ) → has k f ≡ false
+  no_key_has k = go (has k f) refl
+    where
+      go : (b : Bool) → has k f ≡ b → has k f ≡ false
+      go false is = is
+      go true is =
+          let it = has_line k in
+          absurd (unsaid it.0 (subst (IsNaming it.0) ((bytes_decides (fingerprint k) f).0 is) it.1))
+
+  none_of : (ks : List (List ℕ)) → filter (λ k. has k f) ks ≡ []
+  none_of [] = refl
+  none_of (k ∷ ks) =
+      ap (λ b. cond b (k ∷ filter (λ x. has x f) ks) (filter (λ x. has x f) ks)) (no_key_has k) ∙ none_of ks
+
+  none_revoked : (w : World) → Err NoKey ≡ ending (Ok (revoked_with w f))
+  none_revoked w = ap (λ ks. ending (Ok (revoked w (only ks)))) (sym (none_of (in_order (keys_in w))))
+
+-- a command that sends the line of its fingerprint, and ends by the result, does as `RevokesOver` says
+pub revokes_over : (unread unread_new written written_new : Option (List ℕ)) (f : List ℕ) (told : Result Outcome Untold)
+    (result : Result (Unit {0}) CommandRefusal)
+    → AsksToRevoke unread unread_new written written_new f told → result ≡ told_ending NoKey told
+    → RevokesOver unread unread_new written written_new f result
+revokes_over unread unread_new written written_new f told result asks ends = record {
+  told = told;
+  asks = asks;
+  ends = ends;
+  unsent = λ is w.
+      let unsaid = (subst (AsksToRevoke unread unread_new written written_new f) is asks).0 in
+      ends ∙ ap (told_ending NoKey) is ∙ none_revoked f unsaid w;
+}

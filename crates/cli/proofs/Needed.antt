@@ -14,7 +14,7 @@ use Rattle.control.specs.declared.order.Order.{Order}
 use Rattle.runner.specs.declared.Command.{Command}
 use Rattle.runner.specs.declared.Command.TheVariants as command
 use Rattle.cli.specs.Asks.{AsksAction, AsksCommand, AsksConnections, AsksEntrance, AsksOrder, AsksUnordered}
-use Rattle.cli.specs.Asks.{Finds, Is, ReadsNumber}
+use Rattle.cli.specs.Asks.{Finds, Is, Lacks, ReadsNumber}
 use Rattle.std.specs.Str.{bytes_eq}
 use Rattle.clap.specs.Words.{Row, Text, matched_of, rows_of}
 use Rattle.clap.specs.Facts.{Entry}
@@ -101,7 +101,6 @@ no_serve rows none (action.Register order) asks = asks
 no_serve rows none action.Answer asks = asks
 no_serve rows none (action.AddNew shelf right) asks = cc
 no_serve rows none (action.RevokeNamed fingerprint) asks = cc
-no_serve rows none (action.RevokeAll shelf) asks = cc
 no_serve rows none (action.Publish words files) asks = cc
 no_serve rows none (action.Import key list) asks = cc
 no_serve rows none (action.Inventory key) asks = cc
@@ -117,6 +116,8 @@ pub no_unordered : (rows : List Row) (word db : Text) → Is rows (codes "db") d
 no_unordered rows word db is acts (command.OnStore name a) asks = acts a asks.1
 no_unordered rows word db is acts (command.OrderNew control shelf right) asks =
     let bad : None ≡ Some db = sym asks.1 ∙ is in cc
+no_unordered rows word db is acts (command.OrderNamed control fingerprint) asks =
+    let bad : None ≡ Some db = sym asks.1 ∙ is in cc
 no_unordered rows word db is acts (command.Init name) asks = asks
 no_unordered rows word db is acts (command.AnswerInMemory team key) asks = asks
 no_unordered rows word db is acts (command.Extract name teams to) asks = asks
@@ -126,6 +127,22 @@ no_unordered rows word db is acts (command.Copy control to) asks = asks
 no_unordered rows word db is acts (command.Ping control) asks = asks
 no_unordered rows word db is acts (command.List control listing) asks = asks
 no_unordered rows word db is acts (command.Stop control) asks = asks
+
+-- where no file is named, these two words alone ask for a command that names no order
+pub no_sent : (rows : List Row) (word : Text) → Lacks rows (codes "db") → (word ≡ codes "key-add" → ⊥)
+    → (word ≡ codes "key-revoke" → ⊥) → (asked : Command) → AsksUnordered rows word asked → ⊥
+no_sent rows word lacks add revoke (command.OnStore db a) asks = let bad : None ≡ Some db.now = sym lacks ∙ asks.0 in cc
+no_sent rows word lacks add revoke (command.OrderNew control shelf right) asks = add asks.0
+no_sent rows word lacks add revoke (command.OrderNamed control fingerprint) asks = revoke asks.0
+no_sent rows word lacks add revoke (command.Init name) asks = asks
+no_sent rows word lacks add revoke (command.AnswerInMemory team key) asks = asks
+no_sent rows word lacks add revoke (command.Extract name teams to) asks = asks
+no_sent rows word lacks add revoke (command.Migrate from to) asks = asks
+no_sent rows word lacks add revoke (command.Order control o) asks = asks
+no_sent rows word lacks add revoke (command.Copy control to) asks = asks
+no_sent rows word lacks add revoke (command.Ping control) asks = asks
+no_sent rows word lacks add revoke (command.List control listing) asks = asks
+no_sent rows word lacks add revoke (command.Stop control) asks = asks
 
 -- a word asks for no command that is none of these, and asks for no order, and for nothing that is none
 pub no_command : (rows : List Row) (word : Text) → (word ≡ codes "init" → ⊥) → (word ≡ codes "answer" → ⊥)
@@ -141,7 +158,6 @@ no_command rows word init answer extract migrate copy ping keys shelves stop ord
     on_store db (action.Register o) asks = order o asks.2
     on_store db action.Answer asks = answer asks.0
     on_store db (action.AddNew shelf right) asks = acts (command.OnStore db (action.AddNew shelf right)) asks
-    on_store db (action.RevokeAll shelf) asks = acts (command.OnStore db (action.RevokeAll shelf)) asks
     on_store db (action.RevokeNamed fingerprint) asks = acts (command.OnStore db (action.RevokeNamed fingerprint)) asks
     on_store db (action.Publish words files) asks = acts (command.OnStore db (action.Publish words files)) asks
     on_store db (action.Import key list) asks = acts (command.OnStore db (action.Import key list)) asks
@@ -161,6 +177,7 @@ no_command rows word init answer extract migrate copy ping keys shelves stop ord
     go (command.Migrate from to) asks = migrate asks.0
     go (command.Order control o) asks = order o asks.2
     go (command.OrderNew control shelf right) asks = acts (command.OrderNew control shelf right) asks
+    go (command.OrderNamed control fingerprint) asks = acts (command.OrderNamed control fingerprint) asks
     go (command.Copy control to) asks = copy asks.0
     go (command.Ping control) asks = ping asks.0
     go (command.List control Keys) asks = keys asks.0
@@ -176,7 +193,6 @@ is_command rows word (command.OnStore db action.KeyList) asks = absurd asks.1
 is_command rows word (command.OnStore db action.ShelfList) asks = absurd asks.1
 is_command rows word (command.OnStore db (action.AddNew shelf right)) asks = asks
 is_command rows word (command.OnStore db (action.RevokeNamed fingerprint)) asks = asks
-is_command rows word (command.OnStore db (action.RevokeAll shelf)) asks = asks
 is_command rows word (command.OnStore db (action.Publish words files)) asks = asks
 is_command rows word (command.OnStore db (action.Import key list)) asks = asks
 is_command rows word (command.OnStore db (action.Inventory key)) asks = asks
@@ -184,6 +200,7 @@ is_command rows word (command.OnStore db (action.Catalog key)) asks = asks
 is_command rows word (command.OnStore db (action.Requires version)) asks = asks
 is_command rows word (command.OnStore db (action.Serve entrance connections control)) asks = asks
 is_command rows word (command.OrderNew control shelf right) asks = asks
+is_command rows word (command.OrderNamed control fingerprint) asks = asks
 is_command rows word (command.Init db) asks = absurd asks
 is_command rows word (command.AnswerInMemory team key) asks = absurd asks
 is_command rows word (command.Extract db teams to) asks = absurd asks

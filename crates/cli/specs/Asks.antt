@@ -16,7 +16,7 @@ use Rattle.commands.specs.declared.serve.Entrance.TheVariants.{Input, Port}
 use Rattle.control.specs.declared.listing.Listing.{Listing}
 use Rattle.control.specs.declared.listing.Listing.TheVariants.{Keys, Shelves}
 use Rattle.control.specs.declared.order.Order.{Order}
-use Rattle.control.specs.declared.order.Order.TheVariants.{GroupAdd, KeyAdd, KeyRevoke, TeamAdd}
+use Rattle.control.specs.declared.order.Order.TheVariants.{GroupAdd, KeyAdd, KeyRevoke, KeysRevoke, TeamAdd}
 use Rattle.runner.specs.declared.Command.{Command}
 use Rattle.runner.specs.declared.Command.TheVariants as command
 use Rattle.words.specs.Table.{faults, given}
@@ -79,6 +79,8 @@ module _ (rows : List Row) where
       × (is_flagged (codes "new") ≡ false) × (right ≡ (if is_flagged (codes "read-only") then Reads else Publishes))
   AsksOrder word (KeyRevoke key) = (word ≡ codes "key-revoke") × Is (codes "key") key.now × Lacks (codes "fingerprint")
       × Lacks (codes "shelf") × (is_flagged (codes "all") ≡ false)
+  AsksOrder word (KeysRevoke shelf) = (word ≡ codes "key-revoke") × Lacks (codes "key") × Lacks (codes "fingerprint")
+      × Is (codes "shelf") shelf.now × (is_flagged (codes "all") ≡ true)
 
   -- where the connections of `serve` come in: at the port, or at standard input in its place
   abbrev pub AsksEntrance : Entrance → Type 0
@@ -102,9 +104,6 @@ module _ (rows : List Row) where
   AsksAction word (action.RevokeNamed fingerprint) = (word ≡ codes "key-revoke")
       × Is (codes "fingerprint") fingerprint.now × Lacks (codes "shelf") × (is_flagged (codes "all") ≡ false)
       × Lacks (codes "key") × Lacks (codes "control")
-  AsksAction word (action.RevokeAll shelf) = (word ≡ codes "key-revoke")
-      × Is (codes "shelf") shelf.now × (is_flagged (codes "all") ≡ true) × Lacks (codes "fingerprint")
-      × Lacks (codes "key") × Lacks (codes "control")
   AsksAction word (action.Publish words files) = (word ≡ codes "publish")
       × Is (codes "key") words.key.now × Is (codes "module") words.path.now × Is (codes "version") words.version.now
       × MayBe (codes "time") words.time × Is (codes "mod") files.gomod.now × Is (codes "zip") files.zip.now
@@ -116,12 +115,16 @@ module _ (rows : List Row) where
   AsksAction word (action.Serve entrance connections control) = (word ≡ codes "serve")
       × AsksEntrance entrance × AsksConnections connections × MayBe (codes "control") control
 
-  -- a command that names no order: an action on the store of a file, or a key that is made for a running server
+  -- a command that names no order: an action on the store of a file, a key that is made for a running server, or a
+  -- fingerprint whose key that server is to revoke
   abbrev pub AsksUnordered : Text → Command → Type 0
   AsksUnordered word (command.OnStore db action) = Is (codes "db") db.now × AsksAction word action
   AsksUnordered word (command.OrderNew control shelf right) = (word ≡ codes "key-add") × Lacks (codes "db")
       × Is (codes "control") control.now × Is (codes "shelf") shelf.now × (is_flagged (codes "new") ≡ true)
       × Lacks (codes "key") × (right ≡ (if is_flagged (codes "read-only") then Reads else Publishes))
+  AsksUnordered word (command.OrderNamed control fingerprint) = (word ≡ codes "key-revoke") × Lacks (codes "db")
+      × Is (codes "control") control.now × Is (codes "fingerprint") fingerprint.now × Lacks (codes "shelf")
+      × (is_flagged (codes "all") ≡ false) × Lacks (codes "key")
   AsksUnordered word other = ⊥
 
   abbrev pub AsksListing : Text → Listing → Type 0
@@ -142,6 +145,7 @@ module _ (rows : List Row) where
       × Is (codes "db") db.now × Lacks (codes "control")
   AsksCommand word (command.OnStore db action) = AsksUnordered word (command.OnStore db action)
   AsksCommand word (command.OrderNew control shelf right) = AsksUnordered word (command.OrderNew control shelf right)
+  AsksCommand word (command.OrderNamed control fingerprint) = AsksUnordered word (command.OrderNamed control fingerprint)
   AsksCommand word (command.Extract db teams to) = (word ≡ codes "extract")
       × Is (codes "db") db.now × Are (codes "team") teams.now × Is (codes "to") to.now
   AsksCommand word (command.Migrate from to) = (word ≡ codes "migrate") × Is (codes "from") from.now × Is (codes "to") to.now

@@ -7,7 +7,7 @@ use Rattle.commands.specs.declared.refusal.CommandRefusal.{CommandRefusal}
 use Rattle.commands.specs.declared.refusal.CommandRefusal.TheVariants.{Io, Memory}
 use Rattle.commands.specs.Exit.{exit_of, status_of, IsSilent, Says}
 use Rattle.commands.specs.ImportLine.{PrintsFront}
-use Rattle.commands.specs.declared.action.Action.TheVariants.{AddNew, Import, Publish, Register, RevokeAll}
+use Rattle.commands.specs.declared.action.Action.TheVariants.{AddNew, Import, Publish, Register}
 use Rattle.commands.specs.declared.action.Action.TheVariants.{RevokeNamed, Serve}
 use Rattle.commands.specs.declared.exit.Exit.{Exit}
 use Rattle.commands.specs.declared.exit.Exit.TheVariants.{Done, Refused, BadUsage}
@@ -48,15 +48,14 @@ MayPrint errors errors_new line = (errors_new ≡ errors) ⊎ PrintsFront errors
 
 -- Before a command, nothing was written to the errors, but perhaps the line that its store is new: if it serves the
 -- store, or if it carries out a registry command, publishes or imports.
-abbrev pub Tells : Option (List ℕ) → Option (List ℕ) → Command → Type 0
-Tells errors errors_new (OnStore db (Serve entrance connections control)) = MayPrint errors errors_new new_store_line
-Tells errors errors_new (OnStore db (Register order)) = MayPrint errors errors_new new_file_line
-Tells errors errors_new (OnStore db (AddNew shelf right)) = MayPrint errors errors_new new_file_line
-Tells errors errors_new (OnStore db (RevokeNamed fingerprint)) = MayPrint errors errors_new new_file_line
-Tells errors errors_new (OnStore db (RevokeAll shelf)) = MayPrint errors errors_new new_file_line
-Tells errors errors_new (OnStore db (Publish words files)) = MayPrint errors errors_new new_file_line
-Tells errors errors_new (OnStore db (Import key list)) = MayPrint errors errors_new new_file_line
-Tells errors errors_new other = errors_new ≡ errors
+abbrev pub MayWarn : Option (List ℕ) → Option (List ℕ) → Command → Type 0
+MayWarn errors errors_new (OnStore db (Serve entrance connections control)) = MayPrint errors errors_new new_store_line
+MayWarn errors errors_new (OnStore db (Register order)) = MayPrint errors errors_new new_file_line
+MayWarn errors errors_new (OnStore db (AddNew shelf right)) = MayPrint errors errors_new new_file_line
+MayWarn errors errors_new (OnStore db (RevokeNamed fingerprint)) = MayPrint errors errors_new new_file_line
+MayWarn errors errors_new (OnStore db (Publish words files)) = MayPrint errors errors_new new_file_line
+MayWarn errors errors_new (OnStore db (Import key list)) = MayPrint errors errors_new new_file_line
+MayWarn errors errors_new other = errors_new ≡ errors
 
 -- `words` are the words after the name of the program
 module _ {P : Type 0} (ran : Ran P) (words : List (List ℕ)) (old new : P) (came came_new : Account) (written written_new : Option (List ℕ)) where
@@ -65,7 +64,7 @@ module _ {P : Type 0} (ran : Ran P) (words : List (List ℕ)) (old new : P) (cam
     pub command : Command
     pub asks : Asks words command
     pub told : Result Bool CommandRefusal
-    pub tells : Tells errors errors_new command
+    pub tells : MayWarn errors errors_new command
     pub runs : ran old new came came_new written written_new told command
     pub ends : ended ≡ exit_of told
 

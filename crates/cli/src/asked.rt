@@ -62,8 +62,8 @@ fn command_of_word<'m, 'a>(word: &str, options: &'m ArgMatches<'a>) -> Option<Co
     }
 }
 
-/// Returns the command of a word and options that name no order: an action on the store of a file, or a key that is
-/// made and sent to a running server.
+/// Returns the command of a word and options that name no order: an action on the store of a file, a key that is made
+/// and sent to a running server, or a fingerprint that is.
 fn unordered_command<'a>(word: &str, options: &ArgMatches<'a>) -> Option<Command<'a>>
     ensures { Finds result (AsksUnordered (rows_of (found_of options.now)) word.now) }
 {
@@ -72,23 +72,46 @@ fn unordered_command<'a>(word: &str, options: &ArgMatches<'a>) -> Option<Command
             db,
             action: action_of(word, options)?,
         }),
-        None => new_order_of(word, options),
+        None => match word {
+            "key-add" => new_order_of(options),
+            "key-revoke" => named_order_of(options),
+            _ => None,
+        },
     }
 }
 
-/// Returns the command `key-add --control S --new`, or None if the words are another command's.
-fn new_order_of<'a>(word: &str, options: &ArgMatches<'a>) -> Option<Command<'a>>
+/// Returns the command `key-revoke --control S --fingerprint X`, or None if the options are those of another form.
+fn named_order_of<'a>(options: &ArgMatches<'a>) -> Option<Command<'a>>
     requires { Lacks (rows_of (found_of options.now)) (codes "db") }
-    ensures { Finds result (AsksUnordered (rows_of (found_of options.now)) word.now) }
+    ensures { Finds result (AsksUnordered (rows_of (found_of options.now)) (codes "key-revoke")) }
 {
     match (
-        word == "key-add",
+        text(options, "control"),
+        text(options, "fingerprint"),
+        text(options, "shelf"),
+        is_flagged(options, "all"),
+        text(options, "key"),
+    ) {
+        (Some(control), Some(fingerprint), None, false, None) => Some(Command::OrderNamed {
+            control,
+            fingerprint,
+        }),
+        _ => None,
+    }
+}
+
+/// Returns the command `key-add --control S --new`, or None if the options are those of another form.
+fn new_order_of<'a>(options: &ArgMatches<'a>) -> Option<Command<'a>>
+    requires { Lacks (rows_of (found_of options.now)) (codes "db") }
+    ensures { Finds result (AsksUnordered (rows_of (found_of options.now)) (codes "key-add")) }
+{
+    match (
         text(options, "control"),
         text(options, "shelf"),
         is_flagged(options, "new"),
         text(options, "key"),
     ) {
-        (true, Some(control), Some(shelf), true, None) => {
+        (Some(control), Some(shelf), true, None) => {
             let right = right_of(is_flagged(options, "read-only"));
             Some(Command::OrderNew {
                 control,
@@ -208,7 +231,8 @@ fn key_add_of<'a>(options: &ArgMatches<'a>) -> Option<Order<'a>>
     }
 }
 
-/// Returns the order of `key-revoke` with a key, or None if a fingerprint or a shelf is named in its place, or nothing.
+/// Returns the order of `key-revoke` with a key, or with a shelf whose keys are all revoked, or None if a fingerprint is
+/// named in their place, or nothing.
 fn key_revoke_of<'a>(options: &ArgMatches<'a>) -> Option<Order<'a>>
     ensures { Finds result (AsksOrder (rows_of (found_of options.now)) (codes "key-revoke")) }
 {
@@ -219,6 +243,7 @@ fn key_revoke_of<'a>(options: &ArgMatches<'a>) -> Option<Order<'a>>
         is_flagged(options, "all"),
     ) {
         (Some(key), None, None, false) => Some(Order::KeyRevoke { key }),
+        (None, None, Some(shelf), true) => Some(Order::KeysRevoke { shelf }),
         _ => None,
     }
 }
@@ -276,8 +301,7 @@ fn add_new_of<'a>(options: &ArgMatches<'a>) -> Option<Action<'a>>
     }
 }
 
-/// Returns the action of `key-revoke` with a fingerprint, or with a shelf, or None if the options are those of another
-/// form.
+/// Returns the action of `key-revoke` with a fingerprint, or None if the options are those of another form.
 fn revoke_of<'a>(options: &ArgMatches<'a>) -> Option<Action<'a>>
     ensures { Finds result (AsksAction (rows_of (found_of options.now)) (codes "key-revoke")) }
 {
@@ -289,7 +313,6 @@ fn revoke_of<'a>(options: &ArgMatches<'a>) -> Option<Action<'a>>
         text(options, "control"),
     ) {
         (Some(fingerprint), None, false, None, None) => Some(Action::RevokeNamed { fingerprint }),
-        (None, Some(shelf), true, None, None) => Some(Action::RevokeAll { shelf }),
         _ => None,
     }
 }

@@ -4,7 +4,7 @@ ghost use Rattle.clap.specs.Values.{kind_of};
 ghost use Rattle.commands.specs.Exit.{IsSilent, Says, status_of};
 ghost use Rattle.commands.specs.ImportLine.{PrintsFront};
 ghost use Rattle.words.specs.Table.{texts};
-ghost use Rattle.cli.specs.Run.{EndsShown, Exits, RefusesWords, SparesOutput, Tells, new_file_line, new_store_line};
+ghost use Rattle.cli.specs.Run.{EndsShown, Exits, RefusesWords, SparesOutput, MayWarn, new_file_line, new_store_line};
 
 use crate::asked::command_of;
 use crate::system::{Runner, SystemStores};
@@ -82,7 +82,7 @@ fn end<E: Tell>(ended: Exit, errors: &mut E) -> u8
 /// Writes a line on `errors` if the store of the command is new, as that of a mistyped name is: if it is served,
 /// because it answers 404 to everybody, and if the command writes to it and somebody sees `errors`.
 fn tell_new_store<P: Runner, E: Tell>(runner: &P, command: &Command, errors: &mut E)
-    ensures { Tells (E.contents errors.old) (E.contents errors.new) command.now }
+    ensures { MayWarn (E.contents errors.old) (E.contents errors.new) command.now }
 {
     match command {
         Command::OnStore {
@@ -94,7 +94,6 @@ fn tell_new_store<P: Runner, E: Tell>(runner: &P, command: &Command, errors: &mu
             action: Action::Register { .. }
             | Action::AddNew { .. }
             | Action::RevokeNamed { .. }
-            | Action::RevokeAll { .. }
             | Action::Publish { .. }
             | Action::Import { .. },
         } if runner.is_watched() && runner.is_new(db) => write_new_file(errors),

@@ -2,7 +2,7 @@
 use Rattle.std.specs.Prelude.{ℕ, List, ◌≡◌, ◌⊎◌, Bool, Option, Result, Ok, Err}
 use Rattle.files.specs.History.{Span, IsIdle, Refuses, Opens}
 use Rattle.histories.specs.Account.{Account}
-use Rattle.setup.specs.declared.refusal.Refusal.{Refusal as Unopened}
+use Rattle.setup.specs.declared.refusal.StoreRefusal.{StoreRefusal}
 use Rattle.commands.specs.Action.{Moment}
 use Rattle.commands.specs.declared.refusal.CommandRefusal.{CommandRefusal}
 use Rattle.commands.specs.declared.refusal.CommandRefusal.TheVariants.{NotEmpty}
@@ -36,7 +36,7 @@ module _ {S C : Type 0} (acts : Deeds S) (files : Span S C) (name : List ℕ)
     (came came_new : Account) (written written_new : Option (List ℕ)) where
   -- the store of this file was to be opened, and was not, the result says why, and nothing was read or written
   pub record ActsOnNone (result : Result Bool CommandRefusal) : Type 0 where
-    pub why : Unopened
+    pub why : StoreRefusal
     pub tells : TellsAlone came came_new written written_new result (Err (unopened why))
     pub done : Refuses files name
 

@@ -1,11 +1,11 @@
 -- Why a command is refused whose store is not opened.
-use Rattle.setup.specs.declared.refusal.Refusal.{Refusal as Unopened}
+use Rattle.setup.specs.declared.refusal.StoreRefusal.{StoreRefusal}
 use Rattle.setup.specs.declared.refusal.StoreRefusal.TheVariants as store
 use Rattle.commands.specs.declared.refusal.CommandRefusal.{CommandRefusal}
 use Rattle.commands.specs.declared.refusal.CommandRefusal.TheVariants as refusal
 
 -- the refusal of the command, by that of the store
-abbrev pub unopened : Unopened → CommandRefusal
+abbrev pub unopened : StoreRefusal → CommandRefusal
 unopened store.Device = refusal.Device
 unopened store.Memory = refusal.Memory
 unopened store.BadSchema = refusal.BadSchema

@@ -15,7 +15,7 @@ use commands::action::Action;
 use commands::refusal::CommandRefusal;
 use files::files::{StoreFiles, Use};
 use histories::{Hear, Tell};
-use setup::refusal::Refusal as Unopened;
+use setup::refusal::StoreRefusal;
 
 /// Makes a store with the shelf `common` alone, and returns true. Fails with `NotEmpty` if the file has bytes, and
 /// otherwise as `on_file` does. It reads one byte. If the file can't be read, opening the store says what is wrong.
@@ -28,7 +28,7 @@ pub fn init<S, C, H, F, I, W>(
 ) -> Result<bool, CommandRefusal>
 where
     H: ActionHost<S>,
-    F: StoreFiles<S, C, Unopened>,
+    F: StoreFiles<S, C, StoreRefusal>,
     I: Hear,
     W: Tell,
     ensures { Inits H.acts
@@ -71,7 +71,7 @@ pub fn on_file<S, C, H, F, I, W>(
 ) -> Result<bool, CommandRefusal>
 where
     H: ActionHost<S>,
-    F: StoreFiles<S, C, Unopened>,
+    F: StoreFiles<S, C, StoreRefusal>,
     I: Hear,
     W: Tell,
     ensures { ActsOnFile H.acts

@@ -3,18 +3,18 @@ ghost use Rattle.std.specs.Prelude.{◌≡◌};
 ghost use Rattle.file_action.specs.Refusal as spec;
 
 use commands::refusal::CommandRefusal;
-use setup::refusal::Refusal as Unopened;
+use setup::refusal::StoreRefusal;
 
 /// Returns the refusal of a command, by that of the store.
-pub fn command_refusal(unopened: Unopened) -> CommandRefusal
+pub fn command_refusal(unopened: StoreRefusal) -> CommandRefusal
     ensures { result ≡ spec.unopened unopened }
 {
     match unopened {
-        Unopened::Device => CommandRefusal::Device,
-        Unopened::Memory => CommandRefusal::Memory,
-        Unopened::BadSchema => CommandRefusal::BadSchema,
-        Unopened::NotEmpty => CommandRefusal::NotEmpty,
-        Unopened::NoTeam => CommandRefusal::NoTeam,
+        StoreRefusal::Device => CommandRefusal::Device,
+        StoreRefusal::Memory => CommandRefusal::Memory,
+        StoreRefusal::BadSchema => CommandRefusal::BadSchema,
+        StoreRefusal::NotEmpty => CommandRefusal::NotEmpty,
+        StoreRefusal::NoTeam => CommandRefusal::NoTeam,
     }
 }
 

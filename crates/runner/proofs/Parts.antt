@@ -10,7 +10,7 @@ use Rattle.world.proofs.Sees.{sees_itself, sees_common, same_chain}
 use Rattle.machine.specs.declared.ask.Ask.{Ask}
 use Rattle.machine.specs.declared.ask.Ask.TheVariants.{Unreadable, Get, Put}
 use Rattle.machine.specs.declared.ask.Event.{Event}
-use Rattle.machine.specs.declared.ask.Event.TheVariants.{Asked, TeamAdd, GroupAdd, KeyAdd, KeyRevoke}
+use Rattle.machine.specs.declared.ask.Event.TheVariants.{Asked, TeamAdd, GroupAdd, KeyAdd, KeyRevoke, KeysRevoke}
 use Rattle.machine.specs.Machine.{decision, after_decision, ask_reply, after_ask, after_all, replies, answered}
 use Rattle.machine.specs.Isolation.{key_of, Low}
 use Rattle.machine.proofs.Blind.{blind, same_whole, low_decided, no_key}
@@ -118,6 +118,7 @@ module _ (ts : List (List ℕ)) where
   all_blind w x (GroupAdd g ∷ es) is_w is_x are low of = absurd (no_key of.0.0 of.0.2)
   all_blind w x (KeyAdd t k right ∷ es) is_w is_x are low of = absurd (no_key of.0.0 of.0.2)
   all_blind w x (KeyRevoke k ∷ es) is_w is_x are low of = absurd (no_key of.0.0 of.0.2)
+  all_blind w x (KeysRevoke t ∷ es) is_w is_x are low of = absurd (no_key of.0.0 of.0.2)
 
 pub teams_are_told_the_same : TeamsAreToldTheSame
 teams_are_told_the_same w new other ts first second told heard is are run again same of =

@@ -7,7 +7,7 @@ use Rattle.histories.specs.Account.{Account}
 use Rattle.world.specs.Store.{Shown}
 use Rattle.world.specs.declared.entry.Right.{Right}
 use Rattle.commands.specs.Opening.{AnsweredFor}
-use Rattle.commands.specs.Order.{CopiesThere, OrdersThere, StopsThere}
+use Rattle.commands.specs.Order.{CopiesThere, OrdersThere, RevokesThere, StopsThere}
 use Rattle.commands.specs.Listing.{ListsThere}
 use Rattle.commands.specs.NewKey.{OrdersNew}
 use Rattle.commands.specs.Ping.{PingsThere}
@@ -66,7 +66,7 @@ module _ {S C : Type 0} (acts : Deeds S) (state_of : C → State) (shown : S →
   IsOnNone = IsIdle files × IsIdle targets × IsIdle older
 
   -- What each kind of command does, and to which files of stores: those of the command, the new one, and the older one.
-  -- The last six open no store: they send a line to a running `serve`, or can't.
+  -- The last seven open no store: they send a line to a running `serve`, or can't.
   abbrev pub Runs : Command → Type 0
   Runs (command.Init db) = Inits acts files db.now came came_new written written_new result × IsOnFiles
   Runs (command.AnswerInMemory team key) =
@@ -79,6 +79,7 @@ module _ {S C : Type 0} (acts : Deeds S) (state_of : C → State) (shown : S →
   Runs (command.Order control order) = Alone (OrdersThere order) × IsOnNone
   Runs (command.OrderNew control shelf right) =
       OrdersNewAlone came came_new written written_new result shelf right × IsOnNone
+  Runs (command.OrderNamed control fingerprint) = Alone (RevokesThere fingerprint.now) × IsOnNone
   Runs (command.Copy control to) = Alone (CopiesThere to.now) × IsOnNone
   Runs (command.Ping control) = PingsAlone came came_new written written_new result × IsOnNone
   Runs (command.List control listing) = ListsAlone came came_new written written_new result listing × IsOnNone

@@ -6,7 +6,7 @@ use Rattle.world.specs.World.{World}
 use Rattle.statements.specs.Counted.{versions_in}
 use Rattle.store.specs.Extracted.{HasCauseInEither}
 use Rattle.store.specs.Parts.{CopiesAll}
-use Rattle.store.specs.declared.refusal.Refusal.{Refusal as Unopened}
+use Rattle.store.specs.declared.refusal.StoreRefusal.{StoreRefusal}
 use Rattle.store.specs.declared.refusal.StoreRefusal.TheVariants as store
 use Rattle.control.specs.declared.copies.CopyRefusal.{CopyRefusal}
 use Rattle.control.specs.declared.copies.CopyRefusal.TheVariants as copy
@@ -14,7 +14,7 @@ use Rattle.runner.specs.Opened.{OnOpened}
 
 -- why no copy was made, by why the store was not opened or copied; other tables than a store's are bytes too, and
 -- `NoTeam` never comes
-abbrev pub uncopied : Unopened → CopyRefusal
+abbrev pub uncopied : StoreRefusal → CopyRefusal
 uncopied store.Device = copy.Device
 uncopied store.Memory = copy.Memory
 uncopied store.BadSchema = copy.NotEmpty
@@ -22,7 +22,7 @@ uncopied store.NotEmpty = copy.NotEmpty
 uncopied store.NoTeam = copy.Device
 
 -- the result of a copy, by that of the store
-abbrev pub copied : Result (Unit {0}) Unopened → Result (Unit {0}) CopyRefusal
+abbrev pub copied : Result (Unit {0}) StoreRefusal → Result (Unit {0}) CopyRefusal
 copied (Ok u) = Ok tt
 copied (Err why) = Err (uncopied why)
 
@@ -33,7 +33,7 @@ CountsIn shown old new count = (shown new).is_honest → (w : World) → (shown 
 module _ {S F : Type 0} (shown : S → Shown) (shown_too : F → Shown) where
   -- an open store was made a copy of the served one, or it was not, and the result says why
   pub record CopiesInto (source source_new : S) (fresh fresh_new : F) (result : Result (Unit {0}) CopyRefusal) : Type 0 where
-    pub told : Result (Unit {0}) Unopened
+    pub told : Result (Unit {0}) StoreRefusal
     pub copies : CopiesAll (shown source) (shown source_new) (shown_too fresh) (shown_too fresh_new) told
     pub cause : HasCauseInEither (shown source).failures (shown source_new).failures
         (shown_too fresh).failures (shown_too fresh_new).failures told
@@ -43,7 +43,7 @@ module _ {S F : Type 0} (shown : S → Shown) (shown_too : F → Shown) where
   -- result says why
   pub record CopiesNone (source source_new : S) (result : Result (Unit {0}) CopyRefusal) : Type 0 where
     pub same : source_new ≡ source
-    pub tells : (result ≡ Err copy.NotEmpty) ⊎ ((why : Unopened) × (result ≡ Err (uncopied why)))
+    pub tells : (result ≡ Err copy.NotEmpty) ⊎ ((why : StoreRefusal) × (result ≡ Err (uncopied why)))
 
   -- The store of a file was opened and made a copy, or not; or the served store was left as it was. It may be either,
   -- whatever the path is: `CopiesTo` says which file was opened.

@@ -4,7 +4,7 @@ use Rattle.files.specs.History.{Span, IsIdle, Refuses, Opens}
 use Rattle.world.specs.Store.{Shown}
 use Rattle.store.specs.Extracted.{HasCauseInEither}
 use Rattle.store.specs.Parts.{ExtractsTeams}
-use Rattle.setup.specs.declared.refusal.Refusal.{Refusal as Unopened}
+use Rattle.setup.specs.declared.refusal.StoreRefusal.{StoreRefusal}
 use Rattle.commands.specs.declared.refusal.CommandRefusal.{CommandRefusal}
 use Rattle.commands.specs.declared.refusal.CommandRefusal.TheVariants.{NotEmpty}
 use Rattle.file_action.specs.Refusal.{unopened}
@@ -13,7 +13,7 @@ use Rattle.runner.specs.Opened.{store_result, LeavesSource}
 module _ {S F : Type 0} (shown : S → Shown) (shown_too : F → Shown) (source source_new : S) where
   -- the teams' part of the source was put into an open store, or it was not, and the result says why
   pub record ExtractsPart (fresh fresh_new : F) (teams : List (List ℕ)) (result : Result (Unit {0}) CommandRefusal) : Type 0 where
-    pub told : Result (Unit {0}) Unopened
+    pub told : Result (Unit {0}) StoreRefusal
     pub extracts : ExtractsTeams teams (shown source) (shown source_new) (shown_too fresh) (shown_too fresh_new) told
     pub cause : HasCauseInEither (shown source).failures (shown source_new).failures
         (shown_too fresh).failures (shown_too fresh_new).failures told
@@ -34,7 +34,7 @@ module _ {S F C D : Type 0} (shown : S → Shown) (shown_too : F → Shown) (fil
   -- the first was to be opened, and was not
   pub record ExtractsNone (result : Result (Unit {0}) CommandRefusal) : Type 0 where
     pub tells : ((result ≡ Err NotEmpty) × IsIdle files)
-        ⊎ ((why : Unopened) × (result ≡ Err (unopened why)) × (IsIdle files ⊎ Refuses files db))
+        ⊎ ((why : StoreRefusal) × (result ≡ Err (unopened why)) × (IsIdle files ⊎ Refuses files db))
     pub idle : IsIdle targets
 
   -- the store of the first file was opened, and some teams' part of it was put into that of the other, or was not

@@ -11,7 +11,7 @@ use Rattle.statements.specs.Calls.{IsOpenIfHonest}
 use Rattle.world.specs.Store.{Shown}
 use Rattle.store.specs.Migrated.{Migrates, HasCauseInOne, IsForeign}
 use Rattle.store.specs.Older.{FindsOlder}
-use Rattle.setup.specs.declared.refusal.Refusal.{Refusal as Unopened}
+use Rattle.setup.specs.declared.refusal.StoreRefusal.{StoreRefusal}
 use Rattle.commands.specs.declared.refusal.CommandRefusal.{CommandRefusal}
 use Rattle.commands.specs.declared.refusal.CommandRefusal.TheVariants.{NotEmpty}
 use Rattle.file_action.specs.Refusal.{unopened}
@@ -20,7 +20,7 @@ use Rattle.runner.specs.Opened.{store_result, LeavesSource}
 module _ {C F : Type 0} (state_of : C → State) (shown : F → Shown) (old old_new : C) where
   -- what the older store has was put into an open one, or it was not, and the result says why
   pub record MigratesInto (fresh fresh_new : F) (result : Result (Unit {0}) CommandRefusal) : Type 0 where
-    pub told : Result (Unit {0}) Unopened
+    pub told : Result (Unit {0}) StoreRefusal
     pub migrates : Migrates (state_of old) (state_of old_new) (shown fresh) (shown fresh_new) told
     pub cause : HasCauseInOne (state_of old) (state_of old_new) (shown fresh).failures (shown fresh_new).failures told
     pub ends : result ≡ store_result told
@@ -43,7 +43,7 @@ module _ {F D : Type 0} (shown : F → Shown) (targets : Span F D) (to : List �
 
   -- the new store was not to be opened, and the result says why
   pub record MigratesNone (result : Result (Unit {0}) CommandRefusal) : Type 0 where
-    pub tells : (result ≡ Err NotEmpty) ⊎ ((why : Unopened) × (result ≡ Err (unopened why)))
+    pub tells : (result ≡ Err NotEmpty) ⊎ ((why : StoreRefusal) × (result ≡ Err (unopened why)))
     pub idle : IsIdle targets
 
   abbrev pub MigratesEmpty : Result (Unit {0}) CommandRefusal → Type 0

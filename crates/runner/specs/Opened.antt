@@ -6,13 +6,13 @@ use Rattle.world.specs.Store.{Shown}
 use Rattle.world.specs.World.{World}
 use Rattle.store.specs.Shown.{BeginsAt}
 use Rattle.store.specs.Restart.{HoldsStore, RecoversStore}
-use Rattle.setup.specs.declared.refusal.Refusal.{Refusal as Unopened}
+use Rattle.setup.specs.declared.refusal.StoreRefusal.{StoreRefusal}
 use Rattle.commands.specs.declared.refusal.CommandRefusal.{CommandRefusal}
 use Rattle.commands.specs.declared.refusal.CommandRefusal.TheVariants as refusal
 use Rattle.file_action.specs.Refusal.{unopened, unmade}
 
 -- the result of the command, by that of the store
-abbrev pub store_result : Result (Unit {0}) Unopened → Result (Unit {0}) CommandRefusal
+abbrev pub store_result : Result (Unit {0}) StoreRefusal → Result (Unit {0}) CommandRefusal
 store_result (Ok u) = Ok tt
 store_result (Err why) = Err (unopened why)
 
@@ -36,4 +36,4 @@ pub record LeavesSource {S F D : Type 0} (targets : Span F D) (to : List ℕ) (s
     (result : Result (Unit {0}) CommandRefusal) : Type 0 where
   pub same : source_new ≡ source
   pub tells : ((result ≡ Err refusal.NotEmpty) × IsIdle targets)
-      ⊎ ((why : Unopened) × (result ≡ Err (unmade (unopened why))) × Refuses targets to)
+      ⊎ ((why : StoreRefusal) × (result ≡ Err (unmade (unopened why))) × Refuses targets to)

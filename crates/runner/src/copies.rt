@@ -15,7 +15,7 @@ use crate::system::SystemStoreFiles;
 use control::{Copies, CopyRefusal};
 use files::files::{StoreFiles, Use};
 use sqlite::{Alter, Start};
-use store::refusal::Refusal as Unopened;
+use store::refusal::StoreRefusal;
 use store::store::SqlShelves;
 use world::registry::StoreFault;
 use world::shelves::Shelves;
@@ -40,6 +40,10 @@ impl<'a, S: Alter> Copies<SqlShelves<S>> for FileCopies<'a> {
 
     ghost counted = { CountsIn ⟦<SqlShelves<S> as Shelves>⟧.shown };
 
+    fn served(&self) -> &str {
+        self.db
+    }
+
     fn copy(&mut self, shelves: &mut SqlShelves<S>, path: &str) -> Result<(), CopyRefusal> {
         let mut targets = SystemStoreFiles::new(self.host.rt);
         copy_to(&self.host, &mut targets, self.db, shelves, path)
@@ -63,7 +67,7 @@ fn copy_to<L, S, G>(
 where
     L: Looks,
     S: Alter,
-    G: StoreFiles<OpenedStore, ClosedFile, Unopened>,
+    G: StoreFiles<OpenedStore, ClosedFile, StoreRefusal>,
     ensures reads { IsOnlyRead
         (⟦<SqlShelves<S> as Shelves>⟧.shown source.old) (⟦<SqlShelves<S> as Shelves>⟧.shown source.new) }
     ensures came { CopiesTo ⟦<SqlShelves<S> as Shelves>⟧.shown (λ s. ⟦<Found as Shelves>⟧.shown s.shelves)
@@ -101,15 +105,15 @@ fn copy_into<S: Alter>(
 }
 
 /// Returns why no copy was made, by why the store was not opened or copied.
-fn uncopied(refusal: Unopened) -> CopyRefusal
+fn uncopied(refusal: StoreRefusal) -> CopyRefusal
     ensures { result ≡ spec.uncopied refusal }
 {
     match refusal {
-        Unopened::Device => CopyRefusal::Device,
-        Unopened::Memory => CopyRefusal::Memory,
-        Unopened::BadSchema => CopyRefusal::NotEmpty,
-        Unopened::NotEmpty => CopyRefusal::NotEmpty,
-        Unopened::NoTeam => CopyRefusal::Device,
+        StoreRefusal::Device => CopyRefusal::Device,
+        StoreRefusal::Memory => CopyRefusal::Memory,
+        StoreRefusal::BadSchema => CopyRefusal::NotEmpty,
+        StoreRefusal::NotEmpty => CopyRefusal::NotEmpty,
+        StoreRefusal::NoTeam => CopyRefusal::Device,
     }
 }
 

@@ -11,7 +11,7 @@ use commands::refusal::CommandRefusal;
 use file_action::refusal::{command_refusal, unmade};
 use files::files::{StoreFiles, Use};
 use sqlite::Alter;
-use store::refusal::Refusal as Unopened;
+use store::refusal::StoreRefusal;
 use store::store::SqlShelves;
 use world::shelves::Shelves;
 
@@ -32,8 +32,8 @@ pub(crate) fn extract_file<L, F, G>(
 ) -> Result<(), CommandRefusal>
 where
     L: Looks,
-    F: StoreFiles<OpenedStore, ClosedFile, Unopened>,
-    G: StoreFiles<OpenedStore, ClosedFile, Unopened>,
+    F: StoreFiles<OpenedStore, ClosedFile, StoreRefusal>,
+    G: StoreFiles<OpenedStore, ClosedFile, StoreRefusal>,
     ensures { ExtractsFile (λ s. ⟦<Found as Shelves>⟧.shown s.shelves) (λ s. ⟦<Found as Shelves>⟧.shown s.shelves)
         (record { begins = F.begins; left = F.left; before = F.history files.old; after = F.history files.new })
         (record { begins = G.begins; left = G.left; before = G.history targets.old; after = G.history targets.new })
@@ -66,7 +66,7 @@ fn extract_to<L, G>(
 ) -> Result<(), CommandRefusal>
 where
     L: Looks,
-    G: StoreFiles<OpenedStore, ClosedFile, Unopened>,
+    G: StoreFiles<OpenedStore, ClosedFile, StoreRefusal>,
     ensures { Fills (λ s. ⟦<Found as Shelves>⟧.shown s.shelves) (λ s. ⟦<Found as Shelves>⟧.shown s.shelves)
         (record { begins = G.begins; left = G.left; before = G.history targets.old; after = G.history targets.new })
         (each (λ team. team.now) teams.now) to.now source.old source.new result }
@@ -104,7 +104,7 @@ fn extract_teams<S: Alter>(
     source: &mut SqlShelves<S>,
     teams: &[&str],
     fresh: &mut OpenedStore,
-) -> Result<(), Unopened>
+) -> Result<(), StoreRefusal>
     ensures extracts { ExtractsTeams (each (λ team. team.now) teams.now)
         (⟦<SqlShelves<S> as Shelves>⟧.shown source.old) (⟦<SqlShelves<S> as Shelves>⟧.shown source.new)
         (⟦<Found as Shelves>⟧.shown fresh.old.shelves) (⟦<Found as Shelves>⟧.shown fresh.new.shelves) result }

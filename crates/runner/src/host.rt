@@ -15,7 +15,7 @@ use commands::action::{Action, act_on};
 use commands::files::{holds_bytes, is_empty_file, is_missing_or_empty, is_same_file};
 use commands::listing::list_at;
 use commands::new_key::order_new_at;
-use commands::order::{copy_at, order_at, stop_at};
+use commands::order::{copy_at, order_at, revoke_at, stop_at};
 use commands::ping::ping_at;
 use commands::refusal::CommandRefusal;
 use control::{Listing, Order};
@@ -36,7 +36,7 @@ use world::shelves::Shelves;
 pub trait Host<S, C>: ActionHost<S> + Looks {
     ghost use Rattle.std.specs.Prelude.{map as each};
     ghost use Rattle.sqlite.specs.State.{State};
-    ghost use Rattle.commands.specs.Order.{CopiesThere, OrdersThere, StopsThere};
+    ghost use Rattle.commands.specs.Order.{CopiesThere, OrdersThere, RevokesThere, StopsThere};
     ghost use Rattle.commands.specs.Listing.{ListsThere};
     ghost use Rattle.commands.specs.NewKey.{OrdersNew};
     ghost use Rattle.commands.specs.Ping.{PingsThere};
@@ -95,6 +95,10 @@ pub trait Host<S, C>: ActionHost<S> + Looks {
         output: &mut O,
     ) -> Result<(), CommandRefusal>
         ensures { OrdersNew shelf.entry right (O.contents output.old) (O.contents output.new) result };
+
+    /// Has a running `serve` revoke the key with a fingerprint. Fails as [`revoke_at`] does.
+    fn revoke(&mut self, control: &str, fingerprint: &str) -> Result<(), CommandRefusal>
+        ensures { RevokesThere fingerprint.now result };
 
     /// Has a running `serve` copy its store into a file. Fails as [`copy_at`] does.
     fn copy(&mut self, control: &str, to: &str) -> Result<(), CommandRefusal>
@@ -223,6 +227,10 @@ impl<'a> Host<OpenedStore, ClosedFile> for SystemHost<'a> {
         output: &mut O,
     ) -> Result<(), CommandRefusal> {
         order_new_at(self.rt, control, shelf, right, output)
+    }
+
+    fn revoke(&mut self, control: &str, fingerprint: &str) -> Result<(), CommandRefusal> {
+        revoke_at(self.rt, control, fingerprint)
     }
 
     fn copy(&mut self, control: &str, to: &str) -> Result<(), CommandRefusal> {

@@ -9,6 +9,7 @@
 //! | [`Command::Migrate`] | opens the store of a file and puts what a file of an older schema has into it |
 //! | [`Command::Order`] | opens no store, and sends an order to the `serve` that has one open |
 //! | [`Command::OrderNew`] | opens no store, makes a key, prints it, and sends an order to add it |
+//! | [`Command::OrderNamed`] | opens no store, and sends the order that revokes the key with a fingerprint |
 //! | [`Command::Copy`] | opens no store, and has the `serve` that has one open copy it into another file |
 //! | [`Command::Ping`] | opens no store, asks the `serve` that has one open for its health, and prints it |
 //! | [`Command::List`] | opens no store, asks the `serve` that has one open for a list, and prints it |
@@ -45,7 +46,7 @@ use control::{Listing, Order};
 use file_action::{init, on_file};
 use files::files::StoreFiles;
 use histories::{Hear, Tell};
-use store::refusal::Refusal as Unopened;
+use store::refusal::StoreRefusal;
 use world::entry::Right;
 
 /// What the words after the name of the program ask for, with the files of its stores.
@@ -88,6 +89,12 @@ pub enum Command<'a> {
         shelf: &'a str,
         right: Right,
     },
+    /// `key-revoke --control S --fingerprint X`: orders the `serve` that listens at the socket S to revoke the key with
+    /// a fingerprint.
+    OrderNamed {
+        control: &'a str,
+        fingerprint: &'a str,
+    },
     /// `copy --control S --to G`: orders the `serve` that listens at the socket S to make the store of G, as that
     /// server sees the file, a copy of its own.
     Copy {
@@ -128,8 +135,8 @@ pub fn run<S, C, H, F, G, Q, I, W>(
 ) -> Result<bool, CommandRefusal>
 where
     H: Host<S, C>,
-    F: StoreFiles<S, C, Unopened>,
-    G: StoreFiles<S, C, Unopened>,
+    F: StoreFiles<S, C, StoreRefusal>,
+    G: StoreFiles<S, C, StoreRefusal>,
     Q: OlderFiles<C>,
     I: Hear,
     W: Tell,
@@ -157,6 +164,10 @@ where
             shelf,
             right,
         } => acceptance(host.order_new(control, shelf, *right, output)),
+        Command::OrderNamed {
+            control,
+            fingerprint,
+        } => acceptance(host.revoke(control, fingerprint)),
         Command::Copy { control, to } => acceptance(host.copy(control, to)),
         Command::Ping { control } => host.ping(control, output),
         Command::List { control, listing } => host.list(control, *listing, output),

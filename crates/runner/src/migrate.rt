@@ -18,7 +18,7 @@ use sqlite_trees::store::Store;
 use std::alloc::Global;
 use store::files::names_no_file;
 use store::migrate::migrate;
-use store::refusal::Refusal as Unopened;
+use store::refusal::StoreRefusal;
 use world::shelves::Shelves;
 
 /// An older store that is open: that of a file, or one with no tables in memory.
@@ -58,7 +58,10 @@ impl OlderStore for Connection<MemStore> {
 
 /// Puts what an older store has into that of a file. It is generic over the tables of the first, because a call at
 /// those of files for both takes the checker too many steps.
-fn migrate_from<S: Alter>(old: &mut Connection<S>, fresh: &mut OpenedStore) -> Result<(), Unopened>
+fn migrate_from<S: Alter>(
+    old: &mut Connection<S>,
+    fresh: &mut OpenedStore,
+) -> Result<(), StoreRefusal>
     ensures migrates { Migrates (state S.Store old.old) (state S.Store old.new)
         (⟦<Found as Shelves>⟧.shown fresh.old.shelves) (⟦<Found as Shelves>⟧.shown fresh.new.shelves) result }
     ensures cause { HasCauseInOne (state S.Store old.old) (state S.Store old.new)
@@ -68,7 +71,7 @@ fn migrate_from<S: Alter>(old: &mut Connection<S>, fresh: &mut OpenedStore) -> R
 }
 
 /// Returns the result of the command, by that of the store.
-fn command_result(migrated: Result<(), Unopened>) -> Result<(), CommandRefusal>
+fn command_result(migrated: Result<(), StoreRefusal>) -> Result<(), CommandRefusal>
     ensures { result ≡ spec.store_result migrated }
 {
     match migrated {
@@ -93,7 +96,7 @@ pub(crate) fn migrate_file<L, Q, G>(
 where
     L: Looks,
     Q: OlderFiles<ClosedFile>,
-    G: StoreFiles<OpenedStore, ClosedFile, Unopened>,
+    G: StoreFiles<OpenedStore, ClosedFile, StoreRefusal>,
     ensures { MigratesFile ⟦<ClosedFile as OlderStore>⟧.state_of (λ s. ⟦<Found as Shelves>⟧.shown s.shelves)
         (record { begins = Q.begins; left = Q.left; before = Q.history older.old; after = Q.history older.new })
         (record { begins = G.begins; left = G.left; before = G.history targets.old; after = G.history targets.new })
@@ -103,7 +106,7 @@ where
         return Err(command_refusal(refusal));
     }
     if names_no_file(from) {
-        return Err(command_refusal(Unopened::Device));
+        return Err(command_refusal(StoreRefusal::Device));
     }
     if looks.is_missing_or_empty(from) {
         return migrate_nothing(alloc, looks, targets, from, to);
@@ -129,7 +132,7 @@ fn migrate_copy<L, Q, G>(
 where
     L: Looks,
     Q: OlderFiles<ClosedFile>,
-    G: StoreFiles<OpenedStore, ClosedFile, Unopened>,
+    G: StoreFiles<OpenedStore, ClosedFile, StoreRefusal>,
     ensures { MigratesCopy ⟦<ClosedFile as OlderStore>⟧.state_of (λ s. ⟦<Found as Shelves>⟧.shown s.shelves)
         (record { begins = Q.begins; left = Q.left; before = Q.history older.old; after = Q.history older.new })
         (record { begins = G.begins; left = G.left; before = G.history targets.old; after = G.history targets.new })
@@ -163,13 +166,13 @@ fn migrate_nothing<L, G>(
 ) -> Result<(), CommandRefusal>
 where
     L: Looks,
-    G: StoreFiles<OpenedStore, ClosedFile, Unopened>,
+    G: StoreFiles<OpenedStore, ClosedFile, StoreRefusal>,
     ensures { MigratesEmpty (λ s. ⟦<Found as Shelves>⟧.shown s.shelves)
         (record { begins = G.begins; left = G.left; before = G.history targets.old; after = G.history targets.new })
         to.now result }
 {
     let Ok(mut none) = Connection::open_in_memory(alloc) else {
-        return Err(command_refusal(Unopened::Memory));
+        return Err(command_refusal(StoreRefusal::Memory));
     };
     migrate_to(looks, targets, from, &mut none, to)
 }
@@ -186,7 +189,7 @@ fn migrate_to<L, O, G>(
 where
     L: Looks,
     O: OlderStore,
-    G: StoreFiles<OpenedStore, ClosedFile, Unopened>,
+    G: StoreFiles<OpenedStore, ClosedFile, StoreRefusal>,
     ensures { MigratesTo O.state_of (λ s. ⟦<Found as Shelves>⟧.shown s.shelves)
         (record { begins = G.begins; left = G.left; before = G.history targets.old; after = G.history targets.new })
         to.now old.old old.new result }

@@ -45,7 +45,11 @@ fn is_unmade(rt: &HostRuntime, path: &str) -> bool {
 }
 
 /// Opens a new store in files that lose their names, in the folder of a file. Fails as `FileShelves::open_from` does.
-fn open_unnamed<T: Start>(rt: &HostRuntime, path: &str, start: T) -> Result<FileShelves<T>, Refusal>
+fn open_unnamed<T: Start>(
+    rt: &HostRuntime,
+    path: &str,
+    start: T,
+) -> Result<FileShelves<T>, StoreRefusal>
     ensures { IfOk result (HasBegun ⟦<FileShelves<T> as Shelves>⟧.shown (image_at T.Start)) }
 {
     let files = match Unnamed::beside(rt, path) {
@@ -66,7 +70,11 @@ fn unnamed_refusal(error: io::Error) -> StoreRefusal {
 }
 
 /// Opens the store of a file. Fails as `FileShelves::open_from` does.
-fn open_named<T: Start>(rt: &HostRuntime, path: &str, start: T) -> Result<FileShelves<T>, Refusal>
+fn open_named<T: Start>(
+    rt: &HostRuntime,
+    path: &str,
+    start: T,
+) -> Result<FileShelves<T>, StoreRefusal>
     ensures { IfOk result (HasBegun ⟦<FileShelves<T> as Shelves>⟧.shown (image_at T.Start)) }
 {
     match FileShelves::open_from(rt, path, start) {

@@ -19,6 +19,10 @@ pub returns-in-Order : goal.returns-in-Order
 returns-in-Order g c = ran _ _ _ _ _ _ _ _ _ _ _ _ _ c.in-Order.is
     (alone _ _ _ _ c.order.result c.order.ensures c.acceptance-in-Order.ensures, (refl, refl, refl))
 
+pub returns-in-OrderNamed : goal.returns-in-OrderNamed
+returns-in-OrderNamed g c = ran _ _ _ _ _ _ _ _ _ _ _ _ _ c.in-OrderNamed.is
+    (alone _ _ _ _ c.revoke.result c.revoke.ensures c.acceptance-in-OrderNamed.ensures, (refl, refl, refl))
+
 pub returns-in-Copy : goal.returns-in-Copy
 returns-in-Copy g c = ran _ _ _ _ _ _ _ _ _ _ _ _ _ c.in-Copy.is
     (alone _ _ _ _ c.copy.result c.copy.ensures c.acceptance-in-Copy.ensures, (refl, refl, refl))

@@ -1,7 +1,9 @@
 //! An operator and a peer who come at once.
 use crate::copier::Copier;
 use control::{Doors, serve_both};
+use histories::Telling;
 use keyring::Keyring;
+use memory_store::map_shelves::MapShelves;
 use modver::{TimeText, read_time};
 use std::fs;
 use std::io::{self, Write};
@@ -9,12 +11,12 @@ use std::net::{Shutdown, TcpListener, TcpStream};
 use std::os::unix::net::{UnixListener, UnixStream};
 use std::rt::HostRuntime;
 use std::test::Fail;
-use world::map_shelves::MapShelves;
 
 const GET: &[u8] = b"GET /k/alphakey00000001/example.com/lib/@v/list HTTP/1.1\r\n\r\n";
 
 /// Serves one peer, and before it the operators.
 fn serve<S: Keyring + Drop>(rt: &HostRuntime, doors: &mut Doors, mut shelves: S, since: TimeText) {
+    let mut errors = Vec::new(rt.alloc());
     serve_both(
         rt.alloc(),
         rt,
@@ -23,6 +25,7 @@ fn serve<S: Keyring + Drop>(rt: &HostRuntime, doors: &mut Doors, mut shelves: S,
         &mut Copier { versions: 0 },
         since,
         1,
+        &mut Telling::new(&mut errors),
     );
 }
 

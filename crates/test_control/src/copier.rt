@@ -15,6 +15,10 @@ impl<S: Shelves> Copies<S> for Copier {
 
     ghost counted = { λ _ _ _. Unit {0} };
 
+    fn served(&self) -> &str {
+        "shelves.db"
+    }
+
     fn copy(&mut self, _shelves: &mut S, path: &str) -> Result<(), CopyRefusal> {
         match path {
             "full" => Err(CopyRefusal::NotEmpty),

@@ -1,16 +1,16 @@
 //! Lines and their outcomes.
 use crate::copier::Copier;
-use commands::order::{copy_over, order_over};
+use commands::order::{copy_over, order_over, revoke_over};
 use commands::ping::ping_over;
 use commands::refusal::CommandRefusal;
 use control::{Order, Tally, obey};
 use histories::{Hearing, Telling};
 use keyring::Keyring;
+use memory_store::map_shelves::MapShelves;
 use modver::read_time;
 use std::alloc::Global;
 use std::test::Fail;
 use world::entry::Right;
-use world::map_shelves::MapShelves;
 
 /// Lines in their order, and after `|` the outcome of each.
 const ROWS: &str = "\
@@ -36,6 +36,21 @@ team-add|bad
 Team-add delta|bad
 |bad
 key-revoke commonreader0001|done
+key-add beta betakey000000001|done
+keys-revoke beta|done
+key-revoke betakey000000001|no-key
+keys-revoke beta|done
+keys-revoke delta|no-team
+keys-revoke |no-team
+keys-revoke|bad
+keys-revoke alpha beta|bad
+keys-revoke alpha |bad
+key-add alpha alphakey00000001|done
+revoke-fingerprint ccaaf6d99f2c8ac|no-key
+revoke-fingerprint ccaaf6d99f2c8ac7|done
+revoke-fingerprint ccaaf6d99f2c8ac7|no-key
+revoke-fingerprint|bad
+revoke-fingerprint ccaaf6d99f2c8ac7 more|bad
 copy /var/backups/one.db|done
 copy full|not-empty
 copy small|memory
@@ -65,7 +80,10 @@ const SENT: &str = "\
 4|done||Name
 5|taken|team-add alpha common|Taken
 6|done||NoTeam
-7|done||NoKey";
+7|done||NoTeam
+8|no-team|keys-revoke alpha|NoTeam
+8|bad|keys-revoke alpha|Io
+9|done||NoKey";
 
 /// Paths of copies, the outcome that comes, what is sent, and how the command ends.
 const COPIES: &str = "\
@@ -78,6 +96,16 @@ one.db|stopping|copy one.db|Io
 one.db|bad|copy one.db|Io
 one.db||copy one.db|Io
 a path|done||Name";
+
+/// Fingerprints, the outcome that comes, what is sent, and how the command ends.
+const FINGERPRINTS: &str = "\
+ccaaf6d99f2c8ac7|done|revoke-fingerprint ccaaf6d99f2c8ac7|done
+ccaaf6d99f2c8ac7|no-key|revoke-fingerprint ccaaf6d99f2c8ac7|NoKey
+ccaaf6d99f2c8ac7|device|revoke-fingerprint ccaaf6d99f2c8ac7|Device
+ccaaf6d99f2c8ac7|memory|revoke-fingerprint ccaaf6d99f2c8ac7|Memory
+ccaaf6d99f2c8ac7|bad|revoke-fingerprint ccaaf6d99f2c8ac7|Io
+ccaaf6d99f2c8ac7||revoke-fingerprint ccaaf6d99f2c8ac7|Io
+ccaaf6d9 9f2c8ac7|done||NoKey";
 
 /// What a server replies to a ping, what is printed, and how the command ends.
 const HEALTHS: &str = "\
@@ -98,7 +126,7 @@ fn column(row: &str, index: usize) -> &str {
     row.split('|').nth(index).unwrap_or("")
 }
 
-/// Returns the order of a number. No line can carry those from 4 on.
+/// Returns the order of a number. No line can carry 4 to 7, and 9.
 fn order_at(number: &str) -> Order<'static> {
     let (shelf, key) = ("alpha", "alphakey00000001");
     match number {
@@ -126,6 +154,8 @@ fn order_at(number: &str) -> Order<'static> {
             key,
             right: Right::Publishes,
         },
+        "7" => Order::KeysRevoke { shelf: "al pha" },
+        "8" => Order::KeysRevoke { shelf },
         _ => Order::KeyRevoke { key: "alpha key" },
     }
 }
@@ -210,6 +240,19 @@ fn is_copied(alloc: Global, row: &str) -> Result<bool, Fail> {
     is_row(alloc, row, &sent, told)
 }
 
+/// Reports whether the line of a fingerprint is sent, and the command ends as its row says.
+fn is_revoked(alloc: Global, row: &str) -> Result<bool, Fail> {
+    let reply = format!(in alloc; "{}\n", column(row, 1))?;
+    let mut sent = Vec::new(alloc);
+    let told = revoke_over(
+        alloc,
+        &mut Hearing::new(reply.as_bytes()),
+        &mut Telling::new(&mut sent),
+        column(row, 0),
+    );
+    is_row(alloc, row, &sent, told)
+}
+
 /// Reports whether the line of the order is sent, and the command ends as its row says.
 fn is_sent(alloc: Global, row: &str) -> Result<bool, Fail> {
     let reply = format!(in alloc; "{}\n", column(row, 1))?;
@@ -271,6 +314,14 @@ fn sends_the_line_of_an_order_and_ends_by_its_outcome(rt: HostRuntime) -> Result
 fn sends_the_line_of_a_copy_and_ends_by_its_outcome(rt: HostRuntime) -> Result<(), Fail> {
     for row in COPIES.lines() {
         assert!(rt; is_copied(rt.alloc(), row)?);
+    }
+    Ok(())
+}
+
+#[test]
+fn sends_the_line_of_a_fingerprint_and_ends_by_its_outcome(rt: HostRuntime) -> Result<(), Fail> {
+    for row in FINGERPRINTS.lines() {
+        assert!(rt; is_revoked(rt.alloc(), row)?);
     }
     Ok(())
 }

@@ -1,14 +1,15 @@
 //! Peers and operators in memory, whose bytes are known.
 use crate::copier::Copier;
 use control::{Caller, Callers, serve_both};
+use histories::Telling;
 use keyring::Keyring;
+use memory_store::map_shelves::MapShelves;
 use modver::read_time;
 use std::collections::LinkedList;
 use std::io::{self, ErrorKind};
 use std::rt::HostRuntime;
 use std::test::Fail;
 use test_support::in_memory::{InMemory, sending};
-use world::map_shelves::MapShelves;
 use world::registry::StoreFault;
 use world::shelves::Shelves;
 
@@ -27,6 +28,9 @@ const PUBLISHED: &str =
 const NOT_FOUND: &str =
     "HTTP/1.1 404 Not Found\r\nContent-Type: text/plain; charset=utf-8\r\nContent-Length: 10\r\nConnection: close\r\n\
      \r\nnot found\n";
+
+/// What is told of the two orders. The key is told by the digits with which its SHA-256 begins.
+const NOTICES: &str = "order: key-add alpha ccaaf6d99f2c8ac7: done\norder: stopping\n";
 
 /// Callers who connect one after another, and then nobody.
 #[derive(Drop)]
@@ -49,11 +53,13 @@ impl<P, O> Callers<P, O> for Queue<P, O> {
     }
 }
 
-/// Serves up to three connections of a queue, and returns how many callers it still has.
+/// Serves up to three connections of a queue, writes what happens to `errors`, and returns how many callers it still
+/// has.
 fn serve<'a, S: Keyring>(
     rt: &HostRuntime,
     callers: LinkedList<Caller<InMemory<'a>, InMemory<'a>>>,
     shelves: &mut S,
+    errors: &mut Vec<u8>,
 ) -> Result<usize, Fail> {
     let Ok(since) = read_time("2026-11-26T18:40:00Z") else {
         return Err(Fail::from("no time"));
@@ -67,12 +73,13 @@ fn serve<'a, S: Keyring>(
         &mut Copier { versions: 0 },
         since,
         3,
+        &mut Telling::new(errors),
     );
     Ok(queue.callers.len())
 }
 
 /// Returns shelves of one team, which has no key.
-fn shelves(rt: &HostRuntime) -> Result<MapShelves, StoreFault> {
+pub(crate) fn shelves(rt: &HostRuntime) -> Result<MapShelves, StoreFault> {
     let mut shelves = MapShelves::new(rt.alloc())?;
     shelves.team_add("alpha", None)?;
     Ok(shelves)
@@ -91,13 +98,15 @@ fn serves_the_callers_of_a_queue_up_to_a_stop(rt: HostRuntime) -> Result<(), Fai
     callers.push_back(Caller::Peer(sending(PUT, &mut late)))?;
     callers.push_back(Caller::Operator(sending(b"stop\n", &mut stopped)))?;
     callers.push_back(Caller::Peer(sending(GET, &mut never)))?;
-    let left = serve(&rt, callers, &mut shelves(&rt)?)?;
+    let mut errors = Vec::new(rt.alloc());
+    let left = serve(&rt, callers, &mut shelves(&rt)?, &mut errors)?;
     assert!(rt; left == 1, "the last peer was not taken");
     assert!(rt; early.as_slice() == NOT_FOUND.as_bytes());
     assert!(rt; added.as_slice() == b"done\n".as_slice());
     assert!(rt; late.as_slice() == PUBLISHED.as_bytes());
     assert!(rt; stopped.as_slice() == b"stopping\n".as_slice());
     assert!(rt; never.is_empty());
+    assert!(rt; errors.as_slice() == NOTICES.as_bytes());
     Ok(())
 }
 
@@ -106,7 +115,8 @@ fn a_caller_who_cannot_be_taken_counts(rt: HostRuntime) -> Result<(), Fail> {
     let mut added = Vec::new(rt.alloc());
     let mut callers = LinkedList::new(rt.alloc());
     callers.push_back(Caller::Operator(sending(KEY_ADD, &mut added)))?;
-    assert!(rt; serve(&rt, callers, &mut shelves(&rt)?)? == 0);
+    let mut errors = Vec::new(rt.alloc());
+    assert!(rt; serve(&rt, callers, &mut shelves(&rt)?, &mut errors)? == 0);
     assert!(rt; added.as_slice() == b"done\n".as_slice());
     Ok(())
 }

@@ -3,11 +3,11 @@ use crate::import::imported;
 use crate::requests::answered;
 use crate::steps::{done, set_up};
 use crate::worlds::told_by;
+use memory_store::map_shelves::MapShelves;
 use sqlite::{Alter, Connection};
 use std::alloc::Global;
 use std::test::Fail;
 use store::store::SqlShelves;
-use world::map_shelves::MapShelves;
 use world::shelves::Shelves;
 
 /// The kind of a job.

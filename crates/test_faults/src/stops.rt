@@ -175,6 +175,17 @@ fn a_stopped_revocation_leaves_all_or_nothing(rt: HostRuntime) -> Result<(), Fai
     Ok(())
 }
 
+const REVOCATION: &str = "\
+key-add|alpha|alphareader00001 = Done
+keys-revoke|alpha = Done
+";
+
+#[test]
+fn a_stopped_revocation_of_all_keys_leaves_all_or_nothing(rt: HostRuntime) -> Result<(), Fail> {
+    assert_eq!(rt; wrong_job(rt.alloc(), Kind::Steps, REVOCATION, 3)?, "");
+    Ok(())
+}
+
 #[test]
 fn a_stopped_import_keeps_the_rows_that_were_told(rt: HostRuntime) -> Result<(), Fail> {
     assert_eq!(rt; wrong_job(rt.alloc(), Kind::Import, "", 3)?, "");

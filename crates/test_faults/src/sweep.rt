@@ -4,9 +4,9 @@ use crate::jobs::{Job, Kind};
 use crate::open::{Left, NO_STOP, left_by, stop_at};
 use crate::requests::wrong_reply;
 use crate::stops::prepared;
+use memory_store::map_shelves::MapShelves;
 use std::alloc::Global;
 use std::test::Fail;
-use world::map_shelves::MapShelves;
 
 /// Requests, with the reply that each gets if no call fails.
 const REQUESTS: &str = "\

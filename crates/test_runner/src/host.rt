@@ -7,6 +7,7 @@ use control::{Listing, Order};
 use file_action::host::ActionHost;
 use files::files::StoreFiles;
 use histories::{Hear, Tell};
+use memory_store::map_shelves::MapShelves;
 use runner::host::Host;
 use runner::looks::Looks;
 use runner::older_files::OlderFiles;
@@ -14,7 +15,6 @@ use std::alloc::Global;
 use std::rt::HostRuntime;
 use store::refusal::StoreRefusal;
 use world::entry::Right;
-use world::map_shelves::MapShelves;
 use world::shelves::Shelves;
 
 /// A system in which only `bytes.db` is a file with bytes. No `serve` listens. It carries out registry commands, prints
@@ -107,6 +107,10 @@ impl<'a> Host<MapShelves, MapShelves> for MemoryHost<'a> {
     }
 
     fn order(&mut self, _control: &str, _order: &Order) -> Result<(), CommandRefusal> {
+        Err(CommandRefusal::Device)
+    }
+
+    fn revoke(&mut self, _control: &str, _fingerprint: &str) -> Result<(), CommandRefusal> {
         Err(CommandRefusal::Device)
     }
 

@@ -4,10 +4,10 @@ ghost use Rattle.files.specs.declared.files.Deed.TheVariants.{Closed};
 
 use files::files::{Deed, OpenFile, StoreFiles, Use};
 use files::record::Record;
+use memory_store::map_shelves::MapShelves;
 use runner::older_files::OlderFiles;
 use runner::unnamed::Unnamed;
 use store::refusal::StoreRefusal;
-use world::map_shelves::MapShelves;
 
 /// Files of which none holds an older store.
 #[derive(Drop)]

@@ -8,6 +8,7 @@ use files::files::StoreFiles;
 use files::memory::MemoryStoreFiles;
 use files::record::Record;
 use histories::{Hearing, Telling};
+use memory_store::map_shelves::MapShelves;
 use runner::host::Host;
 use runner::older_files::OlderFiles;
 use runner::{Command, run};
@@ -17,7 +18,6 @@ use std::test::Fail;
 use store::refusal::StoreRefusal;
 use test_support::rows::cell;
 use world::entry::Right;
-use world::map_shelves::MapShelves;
 
 /// A command, its file, what it adds, a key, and the word that it ends by. There is one file, `shelves.db`. A command
 /// that finds what another left was run on the store that the other closed.

@@ -1,6 +1,6 @@
 //! The checks of a publish, row by row.
 use machine::ask::{Body, GivenTime, Publish};
-use machine::decide::{decide_by_shelf, gomod_refusal, request_refusal};
+use machine::decide::{allowed_entry, decide_by_shelf, gomod_refusal};
 use machine::reply::Decision;
 use modpath::ModulePath;
 use modver::{Version, read_time};
@@ -8,7 +8,7 @@ use std::alloc::{AllocError, Global};
 use std::test::Fail;
 use test_support::rows::{answer_of, call_of, column, named, with_lines};
 use world::bytes::Bytes;
-use world::entry::{Entry, Right};
+use world::entry::{Entry, EntryRef, Right};
 use world::reading::Reading;
 use world::standing::{Standing, standing_to};
 
@@ -16,7 +16,6 @@ use world::standing::{Standing, standing_to};
 /// go.mod and the zip, with `-` for a body that does not split; the go.mod as it is read; the zip and the time of the
 /// entry that the shelf sees; and the number of versions. `;` stands for a newline.
 const DECISIONS: &str = "\
-none|v1.0.0||module example.com/lib;|a|-|a||0 = NotFound
 Reads|v2.0.0|malformed|-||-|||0 = Forbidden
 Publishes|v2.0.0|malformed|-||-|||0 = BadLength
 Publishes|v1.0.0||module example.com/lib;|a|;|a||4096 = Refused(BadGoMod(0))
@@ -80,11 +79,10 @@ fn publish(alloc: Global, row: &str) -> Result<Publish, Fail> {
     })
 }
 
-fn right(text: &str) -> Option<Right> {
+fn right(text: &str) -> Right {
     match text {
-        "Publishes" => Some(Right::Publishes),
-        "Reads" => Some(Right::Reads),
-        _ => None,
+        "Publishes" => Right::Publishes,
+        _ => Right::Reads,
     }
 }
 
@@ -108,11 +106,11 @@ fn seen(alloc: Global, zip: &str, time: &str) -> Result<Option<Entry>, Fail> {
     Ok(Some(Entry::copy_of(alloc, &offered)?))
 }
 
-/// Returns how a publish compares with the entry that is seen.
-fn compared(publish: &Publish, seen: Option<&Entry>) -> Standing {
-    match (seen, publish.entry()) {
-        (Some(seen), Some(entry)) => standing_to(&seen.as_ref(), &entry),
-        _ => Standing::Absent,
+/// Returns how an entry compares with the one that is seen.
+fn compared(entry: &EntryRef, seen: Option<&Entry>) -> Standing {
+    match seen {
+        Some(seen) => standing_to(&seen.as_ref(), entry),
+        None => Standing::Absent,
     }
 }
 
@@ -123,17 +121,16 @@ fn decided_as_read(
     publish: &Publish,
     reading: &Reading,
 ) -> Result<Decision, Fail> {
-    let right = right(column(row, 0));
     let count = column(row, 8).parse::<u64>()?;
     let seen = seen(alloc, column(row, 6), column(row, 7))?;
-    let standing = compared(publish, seen.as_ref());
-    if let Some(refused) = request_refusal(publish, right) {
-        return Ok(refused);
-    }
+    let entry = match allowed_entry(publish, right(column(row, 0))) {
+        Ok(entry) => entry,
+        Err(refused) => return Ok(refused),
+    };
     if let Some(refused) = gomod_refusal(publish, reading) {
         return Ok(refused);
     }
-    Ok(decide_by_shelf(standing, count))
+    Ok(decide_by_shelf(compared(&entry, seen.as_ref()), count))
 }
 
 fn decided(alloc: Global, row: &str, publish: &Publish) -> Result<Decision, Fail> {

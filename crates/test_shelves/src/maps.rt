@@ -1,11 +1,11 @@
 //! Scripts, each run on new shelves in memory.
 use engine::answer_all;
 use histories::{Hearing, Telling};
+use memory_store::map_shelves::MapShelves;
 use std::alloc::Global;
 use std::test::Fail;
 use test_support::calls::{CALLS, wrong_row, wrong_row_of};
 use test_support::requests::{REQUESTS, in_one_stream};
-use world::map_shelves::MapShelves;
 use world::shelves::Shelves;
 
 fn wrong_row_of_maps<'a>(alloc: Global, script: &'a str) -> Result<&'a str, Fail> {

@@ -2,6 +2,7 @@
 use machine::ask::{Ask, Body, Event, GivenTime, Publish, Query};
 use machine::reply::{Answer, Reply};
 use machine::run::run;
+use memory_store::map_shelves::MapShelves;
 use modpath::ModulePath;
 use modver::Version;
 use std::alloc::{AllocError, Global};
@@ -12,7 +13,6 @@ use test_support::rows::{answer_of, call_of, column, with_lines};
 use text::Text;
 use world::bytes::Bytes;
 use world::entry::Right;
-use world::map_shelves::MapShelves;
 
 /// Runs, with `====` between them: events and their answers. What stands before `----` runs first, and the rest then
 /// runs on the shelves that it left. Every request is for `v1.0.0`; `;` stands for a newline.

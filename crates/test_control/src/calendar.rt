@@ -1,0 +1,68 @@
+//! A calendar in memory.
+use crate::copier::Copier;
+use crate::queue::shelves;
+use commands::ledger::Ledger;
+use commands::moment::Calendar;
+use commands::serve::{Entrance, serve};
+use histories::Telling;
+use modver::{TimeText, read_time};
+use std::fs;
+use std::rt::HostRuntime;
+use std::str::from_utf8;
+use std::test::Fail;
+
+/// Shows this time, or none.
+#[derive(Drop)]
+struct Times {
+    time: Option<TimeText>,
+    shown: Ledger,
+}
+
+impl Calendar for Times {
+    ghost shown = { λ t. t.shown.entries };
+
+    fn time_now(&mut self) -> Option<TimeText> {
+        let time = self.time?;
+        self.shown.note(time.as_str().as_bytes());
+        Some(time)
+    }
+}
+
+/// Serves no connection, with a socket of operators, from when the calendar shows this time. Returns what was printed,
+/// and how it ended.
+fn served(rt: &HostRuntime, time: Option<TimeText>, path: &str) -> Result<String, Fail> {
+    let mut calendar = Times {
+        time,
+        shown: Ledger::new(),
+    };
+    let mut shelves = shelves(rt)?;
+    let mut printed = Vec::new(rt.alloc());
+    let mut errors = Vec::new(rt.alloc());
+    let told = serve(
+        rt,
+        &mut calendar,
+        &mut shelves,
+        &mut Copier { versions: 0 },
+        Entrance::Port(0),
+        0,
+        Some(path),
+        &mut Telling::new(&mut printed),
+        &mut Telling::new(&mut errors),
+    );
+    let printed = from_utf8(printed.as_slice())?;
+    Ok(format!(in rt.alloc(); "{printed}{told:?}")?)
+}
+
+#[test]
+fn serves_only_once_the_calendar_shows_a_time(rt: HostRuntime) -> Result<(), Fail> {
+    let path = "control-of-a-calendar";
+    let _ = fs::remove_file(&rt, path);
+    assert_eq!(rt; served(&rt, None, path)?.as_str(), "Err(Io)");
+    let Ok(time) = read_time("2026-11-26T18:40:00Z") else {
+        return Err(Fail::from("no time"));
+    };
+    let told = served(&rt, Some(time), path)?;
+    assert!(rt; told.as_str().starts_with("listening on 127.0.0.1:"));
+    assert!(rt; told.as_str().ends_with("\nOk(())"));
+    Ok(())
+}

@@ -1,0 +1,5 @@
+use Rattle.std.proofs.Common.{[], refl, inr}
+use Rattle.test_runner.proofs.host.MemoryHostHostMapShelvesMapShelves.order_new.Goals as goal
+
+pub returns : goal.returns
+returns g c = (record { given = []; failed = 1 }, inr ((refl, refl), refl, refl))

@@ -1,10 +1,10 @@
 #!/usr/bin/env python3
 """The release of tools/release: its files, and its Debian package under systemd.
 
-The package is installed, upgraded, removed and purged. The package goes to a copy of this machine: the same files under
-an overlay, with processes, a network and a systemd of its own. The copy vanishes with the suite, and the machine stays
-as it is. The commands that set goshelf up are those of docs/OPERATING.md, and those for a second shard of
-docs/DEPLOYMENTS.md.
+It packs the program of this checkout, which `./goshelf --version` builds, or the one that GOSHELF names. The package is
+installed, upgraded, removed and purged. It goes to a copy of this machine: the same files under an overlay, with
+processes, a network and a systemd of its own. The copy vanishes with the suite, and the machine stays as it is. The
+commands that set goshelf up are those of docs/OPERATING.md, and those for a second shard of docs/DEPLOYMENTS.md.
 """
 
 import hashlib
@@ -492,14 +492,18 @@ def by_socket(suite, copy):
     )
 
 
-# Takes the place of `cp`: a connection comes before each copy, and what then runs is noted.
-COPYING = """cat > /usr/local/bin/cp <<'END'
+# Takes the place of `cat`, by which the user of the store copies a file of it: a connection comes before each copy, and
+# how it ends is noted. (curl's 7 says that it was refused.)
+COPYING = """: > /tmp/during
+chmod 666 /tmp/during
+cat > /usr/local/bin/cat <<'END'
 #!/bin/sh
-curl -s http://127.0.0.1:8080/ || echo $? >> /root/during
-systemctl is-active goshelf goshelf.socket >> /root/during
-exec /usr/bin/cp "$@"
+case $1 in
+*/shelves.db*) curl -s http://127.0.0.1:8080/ || echo $? >> /tmp/during ;;
+esac
+exec /usr/bin/cat "$@"
 END
-chmod 755 /usr/local/bin/cp"""
+chmod 755 /usr/local/bin/cat"""
 
 
 def stopped(suite, copy):
@@ -530,13 +534,9 @@ def stopped(suite, copy):
         )
     copy.sh(COPYING)
     suite.equal("a backup that stops goshelf prints nothing", copy.sh("goshelf-backup stop"), (0, "", ""))
-    suite.equal(
-        "no connection starts it while files are copied",
-        copy.prints("cat /root/during"),
-        " ".join(["7 inactive inactive"] * 2),
-    )
+    suite.equal("no connection starts it while files are copied", copy.prints("cat /tmp/during"), "7 7")
     suite.equal("and then both run again", (copy.prints(are), ask(copy, f"{AT}/list")), ("active active", "v1.0.0 200"))
-    copy.sh("rm /usr/local/bin/cp")
+    copy.sh("rm /usr/local/bin/cat")
     told = copy.sh("goshelf-restore --yes last")
     suite.holds("a restore ends well", told[0] == 0 and "lacks 0 versions" in told[1], told)
     suite.equal("its files are goshelf's", copy.prints("stat -c '%U %a' /var/lib/goshelf/shelves.db"), "goshelf 600")

@@ -81,7 +81,8 @@ def suites():
 def settings():
     """What a user has in ~/.sqliterc changes what sqlite3 prints. So each script in sh that asks it does without."""
     asking = [it for it in COMMANDS if it not in in_python() and re.search(r"^[^#]*sqlite3 [-\"]", read(it), re.M)]
-    careless = [it for it in asking if 'command sqlite3 -batch -init /dev/null "$@"' not in read(it)]
+    careful = re.compile(r'(?:command|as_owner) sqlite3 -batch -init /dev/null "\$@"')
+    careless = [it for it in asking if not careful.search(read(it))]
     SUITE.equal("scripts that ask sqlite3 read no ~/.sqliterc", (len(asking) > 4, careless), (True, []))
 
 

@@ -23,11 +23,11 @@ from lib.warm import COPY, HOME, NOT_WHOLE, SAMPLE, WARM, Warm, publishes, tried
 
 LACKS = r"the copy lacks versions that are served here:\nalpha\|example.com/lib\|v1.1.0\|"
 BROKEN_STORE = "(the copy is no store|goshelf refuses the copy|the copy lacks versions)"
-# On the first host: cp, but behind a copy of the store's file so much is published that goshelf empties its log.
-CP = """#!/bin/sh
-/bin/cp "$@"
-left=$(cat "@/often")
-case $1 in *shelves.db) ;; *) exit 0 ;; esac
+# On the first host: cat, but behind a copy of the store's file so much is published that goshelf empties its log.
+CAT = """#!/bin/sh
+/bin/cat "$@"
+left=$(/bin/cat "@/often")
+case ${1-} in *shelves.db) ;; *) exit 0 ;; esac
 [ "$left" -gt 0 ] || exit 0
 echo $((left - 1)) > "@/often"
 for it in big small; do
@@ -188,6 +188,7 @@ def killed_runs(suite, company):
     other = other_store(f"{warm.folder}/root/half", "v1.0.0")
     for name, moved, come in (
         ("nothing was moved", (), ()),
+        ("the old file was", COPY[:1], ()),
         ("the old log was", COPY[1:], ()),
         ("both old files were", COPY, ()),
         ("the new log had come", COPY, COPY[1:]),
@@ -197,7 +198,7 @@ def killed_runs(suite, company):
         os.mkdir(old)
         for it in moved:
             os.rename(f"{home}/{it}", f"{old}/{it}")
-        write({f"{home}/{it}": other[it] for it in come})
+        write({f"{home}/{it}": other[it] for it in come} | ({f"{old}/all": ""} if come else {}))
         before = store_bytes(moved, home, old)
         status, printed, _ = tried(company, b"")
         begun = len(company.lines(FIRST, 0))
@@ -290,7 +291,7 @@ def rush(suite, company):
     first = company.first
     gomod = b"module example.com/rush\n"
     write({f"{first.folder}/big": gomod + company.seed.randbytes(4_200_000), f"{first.folder}/small": gomod})
-    first.command("cp", CP.replace("PORT", str(first.behind)).replace("KEY", company.key("pub")))
+    first.command("cat", CAT.replace("PORT", str(first.behind)).replace("KEY", company.key("pub")))
     first.write("often", "9")
     status, printed, errors = company.warm.sh("goshelf-warm store")
     told = (
@@ -306,7 +307,7 @@ def rush(suite, company):
     first.write("often", "2")
     company.copy()
     suite.equal("emptied during two copies: the third is good", first.read("often"), "0\n")
-    os.remove(f"{first.folder}/usr/local/bin/cp")
+    os.remove(f"{first.folder}/usr/local/bin/cat")
     versions = company.own("ann", "/example.com/rush/@v/list")[2].decode().split()
     files = {
         ("ann", f"/example.com/rush/@v/{it}.{end}"): company.own("ann", f"/example.com/rush/@v/{it}.{end}")

@@ -1,0 +1,193 @@
+#!/usr/bin/env python3
+"""Commands of operators in odd places: links, folders of others, names with spaces, a full disk, a kill.
+
+The commands run on a machine in a folder (lib/machine.py), with the store of lib/operating.py and an nginx that accepts
+all.
+"""
+
+import os
+import shutil
+import subprocess
+import sys
+
+from lib.machine import Machine
+from lib.operating import copies, prepared
+from lib.program import PROGRAM, ROOT, done
+from lib.scratch import mounted, play, read, write
+from lib.suite import Suite
+
+BACKUPS, OWN = "var/backups/goshelf", "2019 goshelf-kept goshelf-own"
+TOOL, DOCTOR = os.path.join(ROOT, "tools", "shards"), os.path.join(ROOT, "deploy", "goshelf-doctor")
+CONF = 'map $a $goshelf_part {\n    default "$goshelf_shelf 1";\n}\nupstream goshelf {\n    server 127.0.0.1:8080;\n}\n'
+CONF += "# http://goshelf/\n"
+USER_FILES = ("keys.map", "users.map")
+
+
+def backups(suite, machine):
+    """What else is among the backups stays, and the backups may be behind a link.
+
+    The words of its name are those of no file, wherever a command that splits the name removes them."""
+    at = f"{machine.folder}/{BACKUPS}"
+    # (goshelf-watch asks a host a minute long)
+    machine.write("etc/default/goshelf", "")
+    machine.does("goshelf-backup")
+    for day in range(16):
+        shutil.copytree(f"{at}/{copies(machine)[-1]}", f"{at}/2020-01-{day + 1:02}T031500Z")
+    for it in (f"{at}/{OWN}", f"{machine.folder}/root/goshelf-kept"):
+        os.mkdir(it)
+    suite.equal("a backup beside a folder of others", machine.sh("goshelf-backup"), (0, "", ""))
+    kept = [os.path.isdir(it) for it in (f"{at}/{OWN}", f"{machine.folder}/root/goshelf-kept")]
+    suite.equal("their folders stay, and 14 backups", (kept, len(copies(machine)) - 1), ([True, True], 14))
+    listed = machine.does("goshelf-restore")
+    suite.equal("theirs is no backup", (OWN in listed, len(listed.splitlines())), (False, 14))
+    os.rename(at, f"{at}.there")
+    os.symlink("goshelf.there", at)
+    suite.equal("backups behind a link are listed", machine.does("goshelf-restore"), listed)
+    suite.equal("and made", machine.sh("goshelf-backup"), (0, "", ""))
+    suite.equal("and 14 are kept", len(copies(machine)) - 1, 14)
+    for it in ("watch", "metrics"):
+        text = machine.sh(f"goshelf-{it}")[1]
+        suite.holds(
+            f"goshelf-{it} finds them", "no backup" not in text and (it == "watch" or "backup_age" in text), text
+        )
+
+
+def full_disk(suite, machine):
+    """The disk of the backups is full: nothing half made stays there, and the metrics stay as they were."""
+    at, small = f"{machine.folder}/{BACKUPS}", f"{machine.folder}/root/small"
+    os.mkdir(small)
+    os.remove(at)
+    if not mounted(small, "64k"):
+        suite.skip("a full disk", "this needs to mount a tmpfs")
+        os.mkdir(at)
+        return
+    try:
+        os.symlink(small, at)
+        told = machine.sh("goshelf-backup")
+        suite.equal("a full disk: no backup, and nothing of one", (told[0], os.listdir(small)), (1, []))
+        machine.does("goshelf-metrics --to /root/small/it.prom")
+        before = machine.read("root/small/it.prom")
+        subprocess.run(["dd", "if=/dev/zero", f"of={small}/filler", "bs=1k"], capture_output=True)
+        told = machine.sh("goshelf-metrics --to /root/small/it.prom")
+        left = machine.read("root/small/it.prom"), sorted(os.listdir(small))
+        suite.equal("metrics on a full disk", (told[0], left), (1, (before, ["filler", "it.prom"])))
+    finally:
+        subprocess.run(["umount", small], check=True)
+    os.remove(at)
+    os.rename(f"{at}.there", at)
+
+
+def forgotten(suite, machine):
+    """goshelf-forget is killed once the version is out of the store: the next run does the rest."""
+    machine.write("etc/nginx/conf.d/goshelf.conf", CONF)
+    machine.command("goshelf-uncache", '#!/bin/sh\n[ "$PPID" = 1 ] || kill -9 "$PPID"\n')
+    words = "goshelf-forget --yes alpha example.com/lib v1.0.0"
+    count = len(copies(machine))
+    told = machine.sh(words)
+    suite.holds("a kill in the middle", told[0] != 0 and len(copies(machine)) == count, told)
+    machine.command("goshelf-uncache", "#!/bin/sh\n")
+    told = machine.sh(words)
+    suite.holds("the next run ends it", told[0] == 0 and copies(machine) == [OWN], told)
+    told = machine.sh(words)
+    suite.holds("a third finds nothing", told[0] == 1 and "Nothing was taken out" in told[2], told)
+
+
+def units(suite, machine):
+    """A word that is no unit, a store that is not there, and a folder in the place of a file."""
+    os.makedirs(f"{machine.folder}/root/it.prom")
+    for words, status, said in (
+        ("GOSHELF_UNIT=../x goshelf-watch", 1, "goshelf: no unit has the name ../x\n"),
+        ("GOSHELF_UNIT=../x goshelf-doctor", 2, "goshelf-doctor: GOSHELF_UNIT is not a unit\n"),
+        ("goshelf-metrics --to it.prom", 1, "goshelf-metrics: it.prom is a folder\n"),
+    ):
+        told = machine.sh(words)
+        suite.equal(words, (told[0], told[1] + told[2]), (status, said))
+    suite.equal("nothing is in the folder", os.listdir(f"{machine.folder}/root/it.prom"), [])
+    left = [it for it in os.listdir(machine.folder) if it.startswith("x-")]
+    suite.equal("nothing is written elsewhere", left, [])
+    os.rename(machine.store, f"{machine.store}.aside")
+    told = machine.sh("goshelf-watch")
+    os.rename(f"{machine.store}.aside", machine.store)
+    suite.holds(
+        "goshelf-watch without a store", f"there is no store {machine.store}\n" in told[1] and not told[2], told
+    )
+
+
+def links(suite, machine):
+    """A link in the place of a file of nginx's: it stays, or the command refuses it."""
+    at = f"{machine.folder}/etc/nginx"
+    os.mkdir(f"{at}/goshelf")
+    machine.command("nginx", "#!/bin/sh\n")
+    shutil.copy(f"{machine.folder}/root/deploy/goshelf-uncache", f"{machine.folder}/usr/local/bin/goshelf-uncache")
+    write({f"{at}/there.conf": CONF, f"{machine.folder}/root/shards.conf": "shard first 127.0.0.1:1\nteam alpha\n"})
+    os.remove(f"{at}/conf.d/goshelf.conf")
+    os.symlink("../there.conf", f"{at}/conf.d/goshelf.conf")
+    for words in ("goshelf-uncache", f"{TOOL} conf shards.conf /etc/nginx/conf.d/goshelf.conf"):
+        before = read(f"{at}/there.conf")
+        told = machine.sh(words)
+        found = told[0], os.path.islink(f"{at}/conf.d/goshelf.conf"), read(f"{at}/there.conf") != before
+        suite.equal(f"{os.path.basename(words.split()[0])}: the file of a link changes", found, (0, True, True))
+    for it in USER_FILES:
+        write({f"{at}/goshelf/{it}": ""})
+    machine.does("goshelf-user add ann alpha read")
+    os.rename(f"{at}/goshelf/users.map", f"{at}/users.map")
+    os.symlink("../users.map", f"{at}/goshelf/users.map")
+    before = machine.does("goshelf key-list --control /run/goshelf/control")
+    told = machine.sh("goshelf-user add bob alpha publish")
+    is_right = told[0] == 1 and "users.map is a link" in told[2] and os.path.islink(f"{at}/goshelf/users.map")
+    suite.holds("goshelf-user refuses a link", is_right, told)
+    suite.equal("and adds no key", machine.does("goshelf key-list --control /run/goshelf/control"), before)
+    suite.equal("and lists the users", machine.does("goshelf-user list"), "ann alpha read\n")
+
+
+def shards(suite, machine):
+    """An empty word names no folder, such as the one above all."""
+    made = "/goshelf-misuse-row.db"
+    machine.does("systemctl stop goshelf")
+    machine.write(
+        "root/shards.conf", "shard goshelf-misuse-row 127.0.0.1:1\nteam alpha\nteam beta\ngroup platform gamma\n"
+    )
+    told = machine.sh(f"{TOOL} make shards.conf {machine.store} ''")
+    suite.equal("tools/shards make in no folder", told, (2, "", "shards: a word is empty\n"))
+    suite.equal("it makes nothing", os.path.exists(made), False)
+    for it in (made, f"{made}-wal"):
+        if os.path.exists(it):
+            os.remove(it)
+
+
+def doctor(suite, machine):
+    """What mends a fault can be pasted, wherever the file is; and what is no file is not read."""
+    folder = f"{machine.folder}/root/a b; c"
+    os.mkdir(folder)
+    done("init", "--db", f"{folder}/s.db")
+    done("team-add", "--db", f"{folder}/s.db", "--team", "alpha")
+    os.chown(folder, 65534, 65534)
+    os.chown(f"{folder}/s.db", 65534, 65534)
+    told = examined(f"{folder}/s.db")
+    suite.holds("a name with spaces", f"\n    chown -h --reference='{folder}' '{folder}/s.db-wal'\n" in told[1], told)
+    os.mkfifo(f"{folder}/pipe")
+    for it in (f"{folder}/pipe", "/dev/zero"):
+        told = examined(it)
+        suite.holds(f"{os.path.basename(it)} is no file", told[0] == 1 and f"device: {it} is no file" in told[1], told)
+    told = examined(f"{folder}/s.db", f"{folder}/none")
+    suite.equal("without a program", told, (2, "", f"goshelf-doctor: there is no command {folder}/none: install it\n"))
+
+
+def examined(file, program=PROGRAM):
+    """What the doctor says of a file, within a minute and with 100 MiB of a file."""
+    words = ["prlimit", "--fsize=104857600", DOCTOR, "--db", file]
+    settings = {**os.environ, "GOSHELF": program}
+    try:
+        ran = subprocess.run(words, capture_output=True, text=True, env=settings, timeout=60)
+    except subprocess.TimeoutExpired:
+        return None, "it does not end", ""
+    return ran.returncode, ran.stdout, ran.stderr
+
+
+def main():
+    parts = (prepared, backups, full_disk, forgotten, units, links, shards, doctor)
+    return play(Suite(), "the machine", "an operator's commands need root", Machine, parts)
+
+
+if __name__ == "__main__":
+    sys.exit(main())

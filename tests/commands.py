@@ -107,6 +107,14 @@ key-add --control none --key A
 key-add --control none --db none.db --shelf alpha --key A
 key-revoke --control none
 key-revoke --control none --db none.db --key A
+key-revoke --control none --db none.db --fingerprint ccaaf6d99f2c8ac7
+key-revoke --control none --key A --fingerprint ccaaf6d99f2c8ac7
+key-revoke --control none --shelf alpha --all --fingerprint ccaaf6d99f2c8ac7
+key-revoke --control none --fingerprint ccaaf6d99f2c8ac7 --all
+key-revoke --control none --db none.db --shelf alpha --all
+key-revoke --control none --shelf alpha
+key-revoke --control none --all
+key-revoke --control none --key A --shelf alpha --all
 publish --control none --key A --module example.com/lib --version v1.0.0 --mod go.mod --zip zip
 extract --control none --team alpha --to other.db
 ping
@@ -131,6 +139,8 @@ goshelf key-revoke --db <F> --key <K>
 goshelf key-revoke --db <F> --fingerprint <X>
 goshelf key-revoke --db <F> --shelf <S> --all
 goshelf key-revoke --control <S> --key <K>
+goshelf key-revoke --control <S> --fingerprint <X>
+goshelf key-revoke --control <S> --shelf <S> --all
 goshelf key-list --db <F>
 goshelf key-list --control <S>
 goshelf shelf-list --db <F>

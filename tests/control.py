@@ -60,6 +60,23 @@ key-revoke --key= | 1 no-key
 key-revoke --key R | 0
 key-revoke --key R | 1 no-key
 key-add --shelf common --key R --read-only | 0
+key-add --shelf gamma --key B | 0
+key-add --shelf gamma --key D --read-only | 0
+key-revoke --shelf gamma --all | 0
+key-revoke --key B | 1 no-key
+key-revoke --key D | 1 no-key
+key-revoke --key M | 1 no-key
+key-revoke --shelf gamma --all | 0
+key-revoke --shelf nosuch --all | 1 no-team
+key-revoke --shelf= --all | 1 no-team
+key-add --shelf gamma --key M | 0
+key-revoke --fingerprint c2fcda156efd8585 | 0
+key-revoke --fingerprint c2fcda156efd8585 | 1 no-key
+key-revoke --fingerprint ccaaf6d99f2c8ac | 1 no-key
+key-revoke --fingerprint ccaaf6d99f2c8ac70 | 1 no-key
+key-revoke --fingerprint CCAAF6D99F2C8AC7 | 1 no-key
+key-revoke --fingerprint= | 1 no-key
+key-add --shelf common --key R --read-only | 0
 """
 # words that no line can carry, and how both end
 UNSAYABLE = [
@@ -71,7 +88,11 @@ UNSAYABLE = [
     (["key-add", "--shelf", "al pha", "--key", KEYS["B"]], "no-team"),
     (["key-add", "--shelf", "alpha", "--key", KEY + "\n"], "name"),
     (["key-add", "--shelf", "al pha", "--key", "short"], "name"), (["key-revoke", "--key", KEY + " "], "no-key"),
-    (["key-revoke", "--key", "k" * 200], "no-key"), (["team-add", "--team", "t" * 200], "name"),
+    (["key-revoke", "--key", "k" * 200], "no-key"), (["key-revoke", "--shelf", "al pha", "--all"], "no-team"),
+    (["key-revoke", "--shelf", "s" * 200, "--all"], "no-team"), (["team-add", "--team", "t" * 200], "name"),
+    (["key-revoke", "--fingerprint", "ccaaf6d99f2c8ac7 "], "no-key"),
+    (["key-revoke", "--fingerprint", "f" * 200], "no-key"),
+    (["key-revoke", "--fingerprint", "ccaaf6d9\n9f2c8ac7"], "no-key"),
 ]  # fmt: skip
 # what is sent before the operator shuts its side, and what is told
 LINES = [
@@ -83,6 +104,12 @@ LINES = [
     (b"team-add eta\0\n", b"name\n"), (b"key-add alpha alphakey0000009\n", b"name\n"), (b"key-add alpha\n", b"bad\n"),
     (b"key-revoke alphakey0000000", b"bad\n"), (b"key-revoke alphakey00000001 \n", b"bad\n"),
     (b"reader-add nosuch nosuchkey0000001\n", b"no-team\n"),
+    (b"keys-revoke nosuch\n", b"no-team\n"), (b"keys-revoke\n", b"bad\n"), (b"keys-revoke alpha", b"bad\n"),
+    (b"keys-revoke alpha beta\n", b"bad\n"), (b"keys-revoke alpha \n", b"bad\n"),
+    (b"revoke-fingerprint 0123456789abcdef\n", b"no-key\n"), (b"revoke-fingerprint\n", b"bad\n"),
+    (b"revoke-fingerprint \n", b"no-key\n"), (b"revoke-fingerprint 0123456789abcdef more\n", b"bad\n"),
+    (b"revoke-fingerprint " + b"0" * 108 + b"\n", b"no-key\n"),
+    (b"revoke-fingerprint " + b"0" * 109 + b"\n", b"bad\n"),
     (b"key-list", b"bad\n"), (b"key-list \n", b"bad\n"), (b"shelf-list a\n", b"bad\n"), (b"key-list\n\n", b"bad\n"),
     (b"stop", b"bad\n"), (b"stop \n", b"bad\n"), (b"stop now\n", b"bad\n"), (b"Stop\n", b"bad\n"),
     (b"stop\nstop\n", b"bad\n"),
@@ -334,6 +361,30 @@ def revoked(suite):
     server.kill()
 
 
+def emptied(suite):
+    """All keys of a shelf that are revoked by one order while peers ask with one of them."""
+    new_store("served.db", ("alpha", KEY), ("beta", KEYS["B"]))
+    server = Server("served.db", CONTROL)
+    suite.equal("a version", server.status(put("example.com/lib", "v1.0.0", GOMOD)), 201)
+    keys = [KEY, *(f"key{number:013}" for number in range(5))]
+    told = {server.order(f"reader-add alpha {key}\n".encode()) for key in keys[1:]}
+    suite.equal("keys of the same shelf", told, {b"done\n"})
+    load = Load(server, keys[1])
+    time.sleep(0.05)
+    begun = time.monotonic()
+    suite.equal("all are revoked", run(["key-revoke", "--control", CONTROL, "--shelf", "alpha", "--all"])[0], 0)
+    ended = time.monotonic()
+    time.sleep(0.05)
+    load.stop()
+    suite.equal("a request before that", {status for _, at, status in load.seen if at < begun}, {200})
+    suite.equal("and after", {status for at, _, status in load.seen if at > ended}, {404})
+    suite.equal("each key of the shelf", {server.status(get("-/modules", it)) for it in keys}, {404})
+    suite.equal("and that of another", server.status(get("-/modules", KEYS["B"])), 200)
+    server.kill()
+    told = run(["key-list", "--db", "served.db"])
+    suite.equal("the keys that are left", (told[0], told[1].count(b"\n"), told[1].startswith(b"beta ")), (0, 1, True))
+
+
 def at_once(suite):
     """200 operators at once, among peers."""
     new_store("served.db", ("alpha", KEY))
@@ -515,4 +566,8 @@ def from_input(suite):
 
 
 if __name__ == "__main__":
-    sys.exit(in_new_folders(Suite(), orders, lines, refused, untold, revoked, at_once, stopped, same_bytes, from_input))
+    sys.exit(
+        in_new_folders(
+            Suite(), orders, lines, refused, untold, revoked, emptied, at_once, stopped, same_bytes, from_input
+        )
+    )

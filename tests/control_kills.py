@@ -2,15 +2,16 @@
 """What `serve --control` acknowledged is there after it is killed.
 
 The kills are those of tests/kills.py, with orders among the publishes. The server is killed (SIGKILL) at random moments
-while keys are added, publish and are revoked. After each kill the store is opened again: each version and key that was
-acknowledged is there, whole, and each revoked key is unknown. The short form has 20 kills, --long 1,000, and a number
+while keys are added, publish and are revoked, at times all of a shelf in one order. After each kill the store is opened
+again: each version and key that was acknowledged is there, whole, each revoked key is unknown, and of the keys of a
+shelf that were being revoked all are there or none. The short form has 20 kills, --long 1,000, and a number
 as many; --seed N repeats a run.
 """
 
 import random
 import sys
 
-from lib.keys import KEY
+from lib.keys import KEY, KEYS
 from lib.kills import MOST, count_of, is_kept, kill_after, publish
 from lib.messages import get
 from lib.program import answered
@@ -26,16 +27,39 @@ class Acknowledged:
     """What a store acknowledged: its publishes, the keys that it added, and those that it revoked."""
 
     def __init__(self, store):
-        new_store(store, ("alpha", KEY))
+        new_store(store, ("alpha", KEY), ("beta", KEYS["B"]))
         self.store, self.next_number, self.next_key = store, 0, 0
         self.published, self.kept, self.gone = [], [], []
+        # the keys of beta, and whether the order to revoke them was sent and not acknowledged
+        self.of_beta, self.is_emptied = [], False
+
+    def is_done(self, server, order):
+        return server.order(f"{order}\n".encode()) == b"done\n"
+
+    def key(self):
+        """A key that no shelf has."""
+        self.next_key += 1
+        return f"key{self.next_key:013}"
+
+    def empty(self, server):
+        """Adds keys to beta, and revokes them all in one order. Returns whether all was acknowledged."""
+        for _ in range(4):
+            key = self.key()
+            if not self.is_done(server, f"reader-add beta {key}"):
+                return False
+            self.of_beta.append(key)
+        self.is_emptied = True
+        if not self.is_done(server, "keys-revoke beta"):
+            return False
+        self.gone += self.of_beta
+        self.of_beta, self.is_emptied = [], False
+        return True
 
     def ask(self, server):
-        """Adds a key, publishes by it and at times revokes it, on and on, until the server is killed."""
+        """Adds a key, publishes by it and at times revokes it, or all of beta, until the server is killed."""
         while True:
-            key = f"key{self.next_key:013}"
-            self.next_key += 1
-            if server.order(f"key-add alpha {key}\n".encode()) != b"done\n":
+            key = self.key()
+            if not self.is_done(server, f"key-add alpha {key}"):
                 return
             self.kept.append(key)
             if server.status(publish(self.next_number, key)) != 201:
@@ -44,19 +68,35 @@ class Acknowledged:
             self.next_number += 1
             if random.random() < 0.5:
                 self.kept.remove(key)
-                if server.order(f"key-revoke {key}\n".encode()) != b"done\n":
+                if not self.is_done(server, f"key-revoke {key}"):
                     return
                 self.gone.append(key)
+            if random.random() < 0.5 and not self.empty(server):
+                return
+
+    def statuses(self, keys):
+        """How each key is answered once the store is opened again. (A key that is there sees its shelf, though it be
+        empty.)"""
+        return [status for status, _ in answered(["--db", self.store], [get("-/modules", it) for it in keys])]
+
+    def wrong_of_beta(self):
+        """What is wrong with the keys of beta, or None: all are there, or none if they were being revoked."""
+        told, count = self.statuses(self.of_beta), len(self.of_beta)
+        wrong = None if told == [200] * count or (self.is_emptied and told == [404] * count) else f"beta: {told}"
+        if self.is_emptied and 200 not in told:
+            self.gone += self.of_beta
+            self.of_beta = []
+        self.is_emptied = False
+        return wrong
 
     def wrong(self):
-        """Opens the store again. Returns what is wrong with its publishes and with its keys, each None where nothing
-        is."""
+        """Opens the store again. Returns what is wrong with its publishes, with its keys and with those of beta, each
+        None where nothing is."""
         is_there, wrong = is_kept(self.store, self.published[-12:], [self.next_number])
         self.next_number += is_there
         keys, wanted = self.kept[-8:] + self.gone[-8:], [200] * len(self.kept[-8:]) + [404] * len(self.gone[-8:])
-        # (a key that is there sees its shelf, though it be empty)
-        told = [status for status, _ in answered(["--db", self.store], [get("-/modules", it) for it in keys])]
-        return wrong, None if told == wanted else f"{keys} are answered {told}"
+        told = self.statuses(keys)
+        return wrong, None if told == wanted else f"{keys} are answered {told}", self.wrong_of_beta()
 
 
 def sums_of(stores):
@@ -84,7 +124,7 @@ def killed(suite):
         timer.cancel()
         server.kill()
         said = None
-        for what, wrong in zip(("publishes", "keys"), stores[-1].wrong()):
+        for what, wrong in zip(("publishes", "keys", "keys of beta"), stores[-1].wrong()):
             suite.counts(f"kill {turn}: {what}", wrong)
             said = said or wrong
     sums = sums_of(stores)

@@ -1,7 +1,8 @@
 #!/usr/bin/env python3
-"""tools/publish --check, without a server, finds the line that goshelf finds, in go.mods made at random.
+"""tools/publish --check, without a server, finds the line that goshelf finds, in listed go.mods and in random ones.
 
-The program that tools/publish builds for it reads each go.mod, and goshelf gets it as a publish. The seed is fixed.
+The program that tools/publish builds for it reads each go.mod, and goshelf gets it as a publish. The list is that of
+the proved reader's own tests, which names the fault of each. The seed is fixed.
 """
 
 import os
@@ -38,6 +39,8 @@ WORDS = [
     '"a b"', "v1.0.0-" + "a" * 121, "v1.0.0-" + "a" * 122, "example.com/" + "a" * 243, "example.com/" + "a" * 244,
     "\x7f", "\x01", "\xa0", "\xe9", "\u200b",
 ]  # fmt: skip
+# an escape of a literal of Rattle
+ESCAPE, ESCAPED = re.compile(r"\\(?:u\{(\w+)\}|(.))"), {"t": "\t", "r": "\r", "n": "\n"}
 # two paths in a block of `module`, which may have one
 TWO = "example.com/x\n\nexample.com/y"
 # bytes that are put anywhere
@@ -75,6 +78,16 @@ def gomod():
     return text[:at] + text[at + 1 :] if odd < 0.3 else text
 
 
+def listed():
+    """The go.mods of the reader's own tests, each with the line of its fault as a text, or with an empty text."""
+    with open(os.path.join(ROOT, "crates", "test_formats", "src", "gomod_faults.rt"), encoding="utf-8") as file:
+        rows = re.findall(r"^read\|(.*)\|(\w+)(?:\((\d+)\))?$", file.read(), re.M)
+    for text, fault, line in rows:
+        text = ESCAPE.sub(lambda it: chr(int(it[1], 16)) if it[1] else ESCAPED.get(it[2], it[2]), text)
+        gomod = b"\xff".join(it.encode() for it in text.replace(";", "\n").split("\xff"))
+        yield gomod, "" if fault in ("bare", "more") else line or "0"
+
+
 def published(texts):
     """The line that goshelf names for each go.mod, or nothing."""
     head = "PUT /k/{}/example.com/x/@v/v1.0.{} HTTP/1.1\r\nMod-Length: {}\r\nContent-Length: {}\r\n\r\n"
@@ -102,9 +115,16 @@ def checked(texts, folder):
 
 
 def main():
-    texts = [gomod() for _ in range(COUNT)]
+    rows = list(listed())
+    texts = [*(it for it, _ in rows), *(gomod() for _ in range(COUNT))]
     with tempfile.TemporaryDirectory(prefix="goshelf-gomod-") as folder:
         found, wanted = checked(texts, folder), published(texts)
+    faults = [line for _, line in rows]
+    SUITE.holds("listed faults and valid files are many", len(faults) > 100 and faults.count("") > 30, faults)
+    for name, told in (("tools/publish", found), ("goshelf", wanted)):
+        wrong = [(*row, it) for row, it in zip(rows, told) if row[1] != it]
+        SUITE.equal(f"{name}: the line of {len(rows)} listed go.mods", wrong, [])
+    texts, found, wanted = (it[len(rows) :] for it in (texts, found, wanted))
     valid = wanted.count("")
     SUITE.holds("faults and valid files are among them", COUNT // 5 < valid < COUNT // 2, valid)
     wrong = [it for it in zip(texts, found, wanted, strict=True) if it[1] != it[2]]

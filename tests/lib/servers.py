@@ -17,8 +17,8 @@ TIME = "2024-01-31T12:00:00Z"
 class Server:
     """A program that serves a store, on a port of this host, and on a socket for operators where one is named."""
 
-    def __init__(self, store, control=None, *more, program=PROGRAM):
-        self.store, self.control, self.program, self.port = store, control, program, 0
+    def __init__(self, store, control=None, *more, program=PROGRAM, errors=None):
+        self.store, self.control, self.program, self.port, self.errors = store, control, program, 0, errors
         self.more = [*(["--control", control] if control else []), *more]
         self.start()
 
@@ -26,7 +26,7 @@ class Server:
         """Starts it, the second time on the port that it had. `line` is what it prints first, and `port` None if it
         prints nothing."""
         words = [self.program, "serve", "--db", self.store, "--port", str(self.port), *self.more]
-        self.child = subprocess.Popen(words, stdin=subprocess.DEVNULL, stdout=subprocess.PIPE)
+        self.child = subprocess.Popen(words, stdin=subprocess.DEVNULL, stdout=subprocess.PIPE, stderr=self.errors)
         self.line = self.child.stdout.readline().decode()
         self.port = int(self.line.rpartition(":")[2]) if self.line else None
 

@@ -1,0 +1,155 @@
+#!/usr/bin/env python3
+"""What `serve --control` writes on standard error: a line for each order and each fault, and none with a key.
+
+The lines of orders are compared with the fingerprints that hashlib makes. A fault is made by a full disk, once a minute
+at most is it told, and a standard error that takes nothing changes nothing else.
+"""
+
+import hashlib
+import os
+import subprocess
+import sys
+import time
+
+from lib.keys import KEY, KEYS
+from lib.messages import get, put
+from lib.peers import GOMOD, LIST
+from lib.program import run
+from lib.scratch import in_new_folders, mounted, read
+from lib.servers import CONTROL, Server
+from lib.stores import new_store
+from lib.suite import Suite
+
+# what an operator sends, where a capital letter is a key of the worked rows, and the line that is told of it; `#A` is
+# the fingerprint of A, and an order that leaves no line has none
+TOLD = [
+    ("group-add platform", "order: group-add platform: done"),
+    ("group-add platform", "order: group-add platform: taken"),
+    ("team-add beta platform", "order: team-add beta platform: done"),
+    ("team-add gamma", "order: team-add gamma: done"),
+    ("team-add goshelf:", "order: team-add goshelf:: name"),
+    ("key-add beta B", "order: key-add beta #B: done"),
+    ("key-add beta B", "order: key-add beta #B: taken"),
+    ("reader-add beta R", "order: key-add beta read-only #R: done"),
+    ("key-add nosuch N", "order: key-add nosuch #N: no-team"),
+    ("key-revoke R", "order: key-revoke #R: done"),
+    ("key-revoke N", "order: key-revoke #N: no-key"),
+    ("copy copy.db", "order: copy copy.db: done"),
+    ("copy served.db", "order: copy served.db: not-empty"),
+    ("copy nosuch/copy.db", "order: copy nosuch/copy.db: device"),
+    ("team-add be\x1b[2Jta", "order: ?: name"),
+    ("key-ad beta B", "order: bad"),
+    ("key-add beta", "order: bad"),
+    ("ping", None),
+    ("key-list", None),
+    ("shelf-list", None),
+    ("stop", "order: stopping"),
+]
+
+
+def fingerprint(letter):
+    return hashlib.sha256(KEYS[letter].encode()).hexdigest()[:16]
+
+
+def lines():
+    """What was told so far."""
+    return read("errors").decode().splitlines()
+
+
+def lines_like(wanted):
+    """So many lines, once they are these, or after some seconds: an outcome reaches the operator before it is told."""
+    end = time.monotonic() + 10
+    while lines()[: len(wanted)] != wanted and time.monotonic() < end:
+        time.sleep(0.01)
+    return lines()[: len(wanted)]
+
+
+def served(*more):
+    """A server of the store of these folders, which tells in `errors`."""
+    with open("errors", "ab") as errors:
+        return Server("served.db", CONTROL, *more, errors=errors)
+
+
+def orders(suite):
+    """A line for each order, in their order, between those of the opening and of the end."""
+    new_store("served.db", ("alpha", KEY))
+    server = served()
+    suite.equal("a publish", server.status(put("example.com/lib", "v1.0.0", GOMOD)), 201)
+    wanted = ["opened: served.db: 0 versions"]
+    for sent, told in TOLD:
+        line = " ".join(KEYS.get(word, word) for word in sent.split(" "))
+        server.order(line.encode() + b"\n")
+        if told:
+            for letter in KEYS:
+                told = told.replace(f"#{letter}", fingerprint(letter))
+            wanted.append(told)
+        suite.equal(f"{sent!r}: what is told", lines_like(wanted), wanted)
+    suite.equal("it ends", server.child.wait(60), 0)
+    suite.equal("its end is told", lines(), [*wanted, "ended: served.db"])
+    text = read("errors").decode()
+    suite.equal("no key is told", [key for key in KEYS.values() if key in text], [])
+    suite.equal("no line is a refusal's", [it for it in lines() if it.startswith("goshelf:")], [])
+    last = served("--connections", "1")
+    last.status(get(LIST))
+    suite.equal("a server whose connections are used up", last.child.wait(60), 0)
+    wanted = ["opened: served.db: 1 versions", "ended: served.db"]
+    suite.equal("it tells its versions and its end", lines()[-2:], wanted)
+
+
+def plain(suite):
+    """Without a socket nothing is told, and a refusal is the only line."""
+    new_store("served.db", ("alpha", KEY))
+    with open("errors", "wb") as errors:
+        server = Server("served.db", errors=errors)
+    server.status(get(LIST))
+    suite.equal("without a socket nothing is told", lines(), [])
+    with open("control", "wb"):
+        pass
+    suite.equal(
+        "a socket that cannot be made",
+        run(["serve", "--db", "other.db", "--port", "0", "--control", CONTROL])[2].splitlines()[-1:],
+        ["goshelf: io"],
+    )
+    server.kill()
+
+
+def unheard(suite):
+    """A standard error that takes nothing changes nothing else."""
+    new_store("served.db", ("alpha", KEY))
+    with open("/dev/full", "wb") as full:
+        server = Server("served.db", CONTROL, errors=full)
+    suite.equal("an order is done", server.order(b"team-add beta\n"), b"done\n")
+    suite.equal("and a publish", server.status(put("example.com/lib", "v1.0.0", GOMOD)), 201)
+    suite.equal("and the end", (server.order(b"stop\n"), server.child.wait(60)), (b"stopping\n", 0))
+
+
+def faults(suite):
+    """A fault is told with what it met, and the same fault once a minute at most."""
+    os.mkdir("small")
+    if not mounted("small", "1m"):
+        suite.skip("faults on a full disk", "this needs to mount a tmpfs")
+        return
+    try:
+        new_store("small/served.db", ("alpha", KEY))
+        with open("errors", "wb") as errors:
+            server = Server("small/served.db", CONTROL, errors=errors)
+        for version in ("v1.0.0", "v1.0.0", "v1.1.0", "v1.0.0"):
+            told = server.status(put("example.com/lib", version, GOMOD, bytes(2_000_000)))
+            suite.equal(f"a publish of {version} onto a full disk", told, 503)
+        wanted = [*lines()[:1], *(f"fault: publish example.com/lib {it}: device" for it in ("v1.0.0", "v1.1.0"))]
+        suite.equal("its faults are told", lines_like(wanted), wanted)
+        for number in range(100):
+            server.status(
+                put(f"example.com/lib{number}", "v1.0.0", GOMOD.replace(b"lib", b"lib%d" % number), bytes(2_000_000))
+            )
+        faults_told = lines()
+        suite.equal("20 lines of faults in a minute", len(faults_told[1:]), 20)
+        suite.equal("an order is answered", server.order(b"nonsense\n"), b"bad\n")
+        suite.equal("and told still", lines_like([*faults_told, "order: bad"])[-1], "order: bad")
+        server.kill()
+    finally:
+        subprocess.run(["umount", "small"], check=True)
+
+
+if __name__ == "__main__":
+    sys.exit(in_new_folders(Suite(), orders, plain, unheard, faults))

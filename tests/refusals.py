@@ -114,6 +114,12 @@ def publish_of(words):
 DOCTOR = os.path.join(ROOT, "deploy", "goshelf-doctor")
 
 
+def doctor(*words, before=()):
+    """Runs goshelf-doctor over this program, which need not be installed."""
+    settings = {**os.environ, "GOSHELF": PROGRAM}
+    return subprocess.run([*before, DOCTOR, *words], capture_output=True, text=True, env=settings, timeout=120)
+
+
 class Refusals(Suite):
     """Rows of a cause and the expected error word, which is empty where the command ends well."""
 
@@ -122,8 +128,7 @@ class Refusals(Suite):
 
     def finds(self, wanted, *words, before=()):
         """goshelf-doctor finds one cause, and prints this of it; none if nothing is wanted."""
-        settings = {**os.environ, "GOSHELF": PROGRAM}
-        ran = subprocess.run([*before, DOCTOR, *words], capture_output=True, text=True, env=settings, timeout=120)
+        ran = doctor(*words, before=before)
         lines = ran.stdout.splitlines()
         if wanted:
             is_right = ran.returncode == 1 and len(lines) == 2 and wanted in lines[0] and lines[1].startswith("    ")
@@ -503,9 +508,9 @@ def sockets(suite):
     serve = subprocess.Popen([PROGRAM, *"serve --db s.db --port 0 --control control".split()], stdout=subprocess.PIPE)
     serve.stdout.readline()
     suite.finds("", "--control", "control")
-    told = subprocess.run([DOCTOR, "--db", "s.db"], capture_output=True, text=True).stdout
-    is_right = "\n    use --control control, or stop it\n" in told
-    suite.holds("the doctor names the socket of who has the store open", is_right, told)
+    ran = doctor("--db", "s.db")
+    is_right = "\n    use --control control, or stop it\n" in ran.stdout
+    suite.holds("the doctor names the socket of who has the store open", is_right, (ran.stdout, ran.stderr))
     if can_be_nobody():
         os.chmod(".", 0o755)
         suite.finds("device: nobody may not connect to control", "--control", "control", before=NOBODY)

@@ -44,6 +44,7 @@ SUITES = (
     listed("commands"),
     listed("control"),
     listed("control_kills", is_long=True),
+    listed("control_sockets"),
     listed("copies", is_long=True),
     listed("departures", "go"),
     listed("extract_full_disk"),

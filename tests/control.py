@@ -130,16 +130,30 @@ def orders(suite):
     for words, word in UNSAYABLE:
         for way in (["--control", CONTROL], ["--db", "other.db"]):
             suite.equal(f"{words}, by {way[0]}", run([words[0], *way, *words[1:]]), (1, b"", f"goshelf: {word}\n"))
+    made(suite, server)
+    answered(suite, server)
+    server.kill()
+    for key, status in (("A", 0), ("R", 0), ("M", 0), ("P", 0), ("C", 0), ("B", 1), ("N", 1)):
+        told = [run(["inventory", "--db", store, "--key", KEYS[key]])[0] for store in ("served.db", "other.db")]
+        suite.equal(f"the key {key} is in both stores, or in none", told, [status, status])
+
+
+def made(suite, server):
+    """A key that the program makes and prints."""
     status, output, told = run(["key-add", "--control", CONTROL, "--shelf", "alpha", "--new"])
     suite.equal("a key that is made, by --control", (status, told), (0, ""))
-    made = output.decode().strip()
-    suite.holds("it has 26 of a-z0-9", re.fullmatch("[a-z0-9]{26}", made), output)
-    suite.equal("it reads", server.told(get(LIST, made)), reply(404, b"not found\n"))
-    suite.equal("the same key, by --db", run(["key-add", "--db", "other.db", "--shelf", "alpha", "--key", made])[0], 0)
+    key = output.decode().strip()
+    suite.holds("it has 26 of a-z0-9", re.fullmatch("[a-z0-9]{26}", key), output)
+    suite.equal("it reads", server.told(get(LIST, key)), reply(404, b"not found\n"))
+    suite.equal("the same key, by --db", run(["key-add", "--db", "other.db", "--shelf", "alpha", "--key", key])[0], 0)
     with open("/dev/full", "wb") as full:
         words = [PROGRAM, "key-add", "--control", CONTROL, "--shelf", "alpha", "--new"]
         ran = subprocess.run(words, stdout=full, stderr=subprocess.PIPE, timeout=120)
     suite.equal("a made key that cannot be printed", (ran.returncode, ran.stderr), (1, b"goshelf: io\n"))
+
+
+def answered(suite, server):
+    """What the server lists and answers after the orders, which hold its store."""
     for words in (["key-list"], ["shelf-list"]):
         served, other = run([*words, "--control", CONTROL]), run([*words, "--db", "other.db"])
         suite.equal(f"{words[0]}, by --control", served, other)
@@ -153,10 +167,6 @@ def orders(suite):
     suite.equal(
         "the store is held meanwhile", run(["team-add", "--db", "served.db", "--team", "eta"])[2], "goshelf: device\n"
     )
-    server.kill()
-    for key, status in (("A", 0), ("R", 0), ("M", 0), ("P", 0), ("C", 0), ("B", 1), ("N", 1)):
-        told = [run(["inventory", "--db", store, "--key", KEYS[key]])[0] for store in ("served.db", "other.db")]
-        suite.equal(f"the key {key} is in both stores, or in none", told, [status, status])
 
 
 def lines(suite):

@@ -23,6 +23,8 @@ from lib.stores import new_store
 from lib.suite import Suite
 
 LISTED = b"path,version,shelf,class,time,mod_bytes,zip_bytes\nexample.com/lib,v1.0.0,alpha,release,,23,0\n"
+REVOKE = ["key-revoke", "--key", KEY, "--control"]
+SERVE = ["serve", "--db", "served.db", "--stdin"]
 
 
 def refused(suite):
@@ -48,6 +50,12 @@ def refused(suite):
         suite.equal("serve on a port that is taken", run(words), (1, b"", "goshelf: io\n"))
     suite.equal("leaves no socket", os.path.lexists("left"), False)
     live.kill()
+    taken_over(suite)
+    removed(suite)
+
+
+def taken_over(suite):
+    """The socket that a killed server left is the next one's."""
     suite.equal("a killed server leaves its socket", stat.S_ISSOCK(os.lstat("live").st_mode), True)
     suite.equal(
         "where nobody listens any more",
@@ -60,6 +68,10 @@ def refused(suite):
     suite.equal("and its last peer is answered", server.status(get(LIST)), 404)
     suite.equal("it ends well", server.child.wait(60), 0)
     suite.equal("and takes its socket away", os.path.lexists("live"), False)
+
+
+def removed(suite):
+    """A socket with the longest name, which is removed while its server runs."""
     longest = "s" * 107
     server = Server("live.db", longest)
     suite.equal("a name of 107 bytes", server.order(b"team-add delta\n"), b"done\n")
@@ -77,18 +89,21 @@ def untold(suite):
     """Commands that are told nothing."""
     write({"file": "text\n"})
     os.mkdir("folder")
-    words = ["key-revoke", "--key", KEY, "--control"]
     for name in ("none", "file", "folder", "none/control", "s" * 108, ""):
-        suite.equal(f"nobody listens at {name[:20]!r}", run([*words, name]), (1, b"", "goshelf: device\n"))
+        suite.equal(f"nobody listens at {name[:20]!r}", run([*REVOKE, name]), (1, b"", "goshelf: device\n"))
     for told in (b"", b"d", b"done", b"gone\n", b"done\ndone\n", b"\xff\n", b"d" * 200 + b"\n"):
         suite.equal(
             f"a server that tells {told[:20]!r}",
-            by_false_server(words, told),
+            by_false_server(REVOKE, told),
             ((1, b"", "goshelf: io\n"), f"key-revoke {KEY}\n".encode()),
         )
     suite.equal(
-        "one that tells done", by_false_server(words, b"done\n"), ((0, b"", ""), f"key-revoke {KEY}\n".encode())
+        "one that tells done", by_false_server(REVOKE, b"done\n"), ((0, b"", ""), f"key-revoke {KEY}\n".encode())
     )
+
+
+def cut_lists(suite):
+    """A list is whole only with its last line."""
     listed = b"alpha publish ccaaf6d99f2c8ac7\n"
     cut = (b"", listed, listed[:-1], b"a team undone\n", listed + b"done", listed + b"bad\n", b"bad\n", b"stopping\n")
     for told, ended in (
@@ -100,11 +115,15 @@ def untold(suite):
     ):
         told_so = by_false_server(["key-list", "--control"], told)
         suite.equal(f"key-list of a server that tells {told!r}", told_so, (ended, b"key-list\n"))
+
+
+def strange(suite):
+    """Another user, who may not use the socket."""
     new_store("served.db", ("alpha", KEY))
     if can_be_nobody():
         os.chmod(".", 0o755)
         server = Server("served.db", CONTROL)
-        suite.equal("another user", run([*words, CONTROL], before=NOBODY), (1, b"", "goshelf: device\n"))
+        suite.equal("another user", run([*REVOKE, CONTROL], before=NOBODY), (1, b"", "goshelf: device\n"))
         suite.equal("revokes nothing", server.status(put("example.com/lib", "v1.0.0", GOMOD)), 201)
         os.mkdir("other")
         os.chown("other", 65534, 65534)
@@ -214,16 +233,15 @@ def no_listeners(held):
 
 
 def from_input(suite):
-    """`serve --stdin`: what standard input may be, and restarts that refuse nobody."""
+    """`serve --stdin`: what standard input may not be."""
     new_store("served.db", ("alpha", KEY))
-    serve = ["serve", "--db", "served.db", "--stdin"]
     before = read("served.db-wal"), read("served.db")
     with contextlib.ExitStack() as held:
         for name, taken in no_listeners(held):
             for way in ([], ["--control", CONTROL]):
                 closes = (lambda: os.close(0)) if taken is None else None
                 ran = subprocess.run(
-                    [PROGRAM, *serve, *way], stdin=taken, capture_output=True, timeout=60, preexec_fn=closes
+                    [PROGRAM, *SERVE, *way], stdin=taken, capture_output=True, timeout=60, preexec_fn=closes
                 )
                 suite.equal(
                     f"--stdin of {' '.join([name, *way])}",
@@ -232,55 +250,79 @@ def from_input(suite):
                 )
     suite.equal("no socket is left", os.path.lexists(CONTROL), False)
     suite.equal("and the store is as it was", (read("served.db-wal"), read("served.db")), before)
-    suite.equal("--stdin and --port", run([*serve, "--port", "0"])[0], 2)
-    if socket.has_ipv6:
-        with socket.create_server(("::1", 0), family=socket.AF_INET6) as listener:
-            ran = subprocess.Popen([PROGRAM, *serve, "--connections", "1"], stdin=listener, stdout=subprocess.PIPE)
-            told = (
-                asked_by(lambda: socket.create_connection(listener.getsockname()[:2], timeout=60), get(LIST)),
-                ran.communicate(timeout=60)[0],
-            )
-        suite.equal("--stdin of a socket of IPv6", told, (reply(404, b"not found\n"), b"listening on standard input\n"))
+    suite.equal("--stdin and --port", run([*SERVE, "--port", "0"])[0], 2)
+
+
+def from_ipv6(suite):
+    """`serve --stdin` of a socket of IPv6."""
+    if not socket.has_ipv6:
+        return
+    new_store("served.db", ("alpha", KEY))
+    with socket.create_server(("::1", 0), family=socket.AF_INET6) as listener:
+        ran = subprocess.Popen([PROGRAM, *SERVE, "--connections", "1"], stdin=listener, stdout=subprocess.PIPE)
+        told = (
+            asked_by(lambda: socket.create_connection(listener.getsockname()[:2], timeout=60), get(LIST)),
+            ran.communicate(timeout=60)[0],
+        )
+    suite.equal("--stdin of a socket of IPv6", told, (reply(404, b"not found\n"), b"listening on standard input\n"))
+
+
+class Peers:
+    """Four peers who ask at one address, each on and on: what they were answered, and why a connection failed."""
+
+    def __init__(self, address):
+        self.address, self.answered, self.failed = address, [], []
+        self.stopped, self.threads = threading.Event(), [threading.Thread(target=self.ask) for _ in range(4)]
+
+    def ask(self):
+        while not self.stopped.is_set():
+            try:
+                with socket.create_connection(self.address, timeout=60) as held:
+                    held.sendall(get(LIST))
+                    self.answered.append(rest(held))
+            except OSError as error:
+                self.failed.append(type(error))
+
+    def start(self):
+        for thread in self.threads:
+            thread.start()
+
+    def stop(self):
+        self.stopped.set()
+        for thread in self.threads:
+            thread.join()
+
+
+def restarted(suite):
+    """Restarts over a socket that listens on: nobody is refused."""
+    new_store("served.db", ("alpha", KEY))
     with socket.create_server(("127.0.0.1", 0)) as listener:
-        answered, failed, stopped = [], [], threading.Event()
-
-        def ask():
-            while not stopped.is_set():
-                try:
-                    with socket.create_connection(listener.getsockname(), timeout=60) as held:
-                        held.sendall(get(LIST))
-                        answered.append(rest(held))
-                except OSError as error:
-                    failed.append(type(error))
-
-        threads = [threading.Thread(target=ask) for _ in range(4)]
+        peers = Peers(listener.getsockname())
         # with operators and without by turns, since the mode of the socket outlives each server
         for turn in range(6):
-            words = [PROGRAM, *serve, *(["--control", CONTROL] if turn % 2 == 0 else [])]
+            words = [PROGRAM, *SERVE, *(["--control", CONTROL] if turn % 2 == 0 else [])]
             server = subprocess.Popen(words, stdin=listener, stdout=subprocess.PIPE)
             suite.equal(f"start {turn}", server.stdout.readline(), b"listening on standard input\n")
             if turn == 0:
-                for thread in threads:
-                    thread.start()
+                peers.start()
             time.sleep(0.3)
             suite.equal(f"start {turn} serves on", server.poll(), None)
             server.kill()
             server.wait()
             server.stdout.close()
             time.sleep(0.1)
-        server = subprocess.Popen([PROGRAM, *serve], stdin=listener, stdout=subprocess.DEVNULL)
+        server = subprocess.Popen([PROGRAM, *SERVE], stdin=listener, stdout=subprocess.DEVNULL)
         time.sleep(0.3)
-        stopped.set()
-        for thread in threads:
-            thread.join()
+        peers.stop()
         server.kill()
         server.wait()
-        told = {it for it in answered if it}
-        suite.equal(f"{len(answered)} requests around 6 restarts", told, {reply(404, b"not found\n")})
-        suite.holds("no connection is refused", ConnectionRefusedError not in failed, failed)
-        lost = len(failed) + answered.count(b"")
-        suite.holds("at most those in hand are lost", lost <= 6 * 2, lost)
+    told = {it for it in peers.answered if it}
+    suite.equal(f"{len(peers.answered)} requests around 6 restarts", told, {reply(404, b"not found\n")})
+    suite.holds("no connection is refused", ConnectionRefusedError not in peers.failed, peers.failed)
+    lost = len(peers.failed) + peers.answered.count(b"")
+    suite.holds("at most those in hand are lost", lost <= 6 * 2, lost)
 
 
 if __name__ == "__main__":
-    sys.exit(in_new_folders(Suite(), refused, untold, stopped, same_bytes, from_input))
+    parts = (refused, untold, cut_lists, strange, stopped, same_bytes, from_input, from_ipv6, restarted)
+    sys.exit(in_new_folders(Suite(), *parts))

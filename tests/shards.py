@@ -4,41 +4,20 @@
 It has missed publishes, two publishers, and files that are wrong.
 """
 
-import base64
-import http.client
 import os
-import random
 import re
-import ssl
 import subprocess
 import sys
 import time
 from concurrent.futures import ThreadPoolExecutor
 
-from lib.machine import Machine
 from lib.pages import block
-from lib.peers import fetched
-from lib.ports import wait_for
-from lib.program import PROGRAM, ROOT, done, run
+from lib.program import ROOT, done, run
 from lib.scratch import play, read
-from lib.servers import Server
-from lib.stores import new_store
+from lib.shards import PSEUDO, SEED, SHELVES, TEAMS, Company, Goshelf, add, key, user_line
 from lib.suite import Suite
 
-# gamma is a team of the group platform
-TEAMS = {"first": ("alpha", "beta"), "second": ("platform", "gamma", "delta")}
-SHELVES = ("common", "alpha", "beta", "platform", "gamma", "delta")
-SEED = random.Random(11)
-PSEUDO = "v0.0.0-20240131120000-abcdefabcdef"
 RELEASES = ("v1.0.0", "v1.1.0-RC.1")
-CERTIFICATE = (
-    "openssl req -x509 -newkey ec -pkeyopt ec_paramgen_curve:P-256 -nodes -days 2 -subj /CN=localhost -out"
-    " /etc/ssl/goshelf.pem -keyout /etc/ssl/goshelf.key"
-)
-SHARDS = (
-    "shard first 127.0.0.1:{first}\nteam alpha\nteam beta\nshard second 127.0.0.1:{second}\ngroup platform gamma\nteam"
-    " delta\n"
-)
 # a file of shards, and what is said of it; keys are those of GOOD
 WRONG_FILES = {
     "": "it names no team",
@@ -75,142 +54,6 @@ NOT_THE_STORE = {
         "platform is a group in the store, and a team in no group here",
         "gamma is in the group platform in the store, and a team in no group here"],
 }  # fmt: skip
-
-
-def key(shelf, right="publish"):
-    return f"{shelf}{right}key0000000000"[:20]
-
-
-def login(shelf, right="publish"):
-    return "Basic " + base64.b64encode(f"{shelf}-{right}:password".encode()).decode()
-
-
-def user_line(shelf, right):
-    """The line of nginx's users.map for a shelf's user."""
-    return f'"{login(shelf, right)}" "{login(shelf, right).split()[1]} {shelf}-{right} {shelf} {right}";\n'
-
-
-def add(file, shelf):
-    """Adds a group, a team of it, or a team."""
-    if shelf == "platform":
-        done("group-add", "--db", file, "--group", shelf)
-    else:
-        done("team-add", "--db", file, "--team", shelf, *(["--group", "platform"] if shelf == "gamma" else []))
-
-
-class Goshelf(Server):
-    """A server that teams ask by their keys."""
-
-    def ask(self, method, shelf, target, body=None, headers=None, right="publish"):
-        return super().ask(method, target.removeprefix("/"), body, key(shelf, right), headers)
-
-
-def with_teams(file, teams):
-    """A new store with common and some teams."""
-    new_store(file)
-    for shelf in teams:
-        add(file, shelf)
-    for shelf in ("common", *teams):
-        done("key-add", "--db", file, "--shelf", shelf, "--key", key(shelf))
-        done("key-add", "--db", file, "--shelf", shelf, "--key", key(shelf, "read"), "--read-only")
-    return file
-
-
-class Company:
-    """One goshelf that has it all, two that share the teams, and nginx before these."""
-
-    def __init__(self, folder):
-        self.machine, self.folder, self.published = Machine(f"{folder}/machine"), folder, []
-        self.one = Goshelf(with_teams(f"{folder}/one.db", SHELVES[1:]))
-        self.shards = {name: Goshelf(with_teams(f"{folder}/{name}.db", teams)) for name, teams in TEAMS.items()}
-        self.file, self.keys = f"{folder}/shards.conf", f"{self.machine.folder}/etc/nginx/goshelf/keys.map"
-        with open(self.file, "w", encoding="utf-8") as file:
-            file.write(SHARDS.format(**{name: it.port for name, it in self.shards.items()}))
-        self.start_nginx()
-
-    def start_nginx(self):
-        machine, rights = self.machine, ("read", "publish")
-        machine.check_out()
-        machine.does(CERTIFICATE)
-        for name in ("etc/nginx/goshelf", "var/cache/nginx/goshelf", "var/cache/nginx/goshelf-public"):
-            os.makedirs(f"{machine.folder}/{name}")
-        os.chmod(f"{machine.folder}/var/cache/nginx/goshelf", 0o777)
-        machine.write(
-            "etc/nginx/goshelf/keys.map",
-            "".join(f'"{it} {right}" {key(it, right)};\n' for it in SHELVES for right in rights),
-        )
-        machine.write(
-            "etc/nginx/goshelf/users.map", "".join(user_line(it, right) for it in SHELVES for right in rights)
-        )
-        machine.write("etc/nginx/goshelf/paths.map", '"example.com" "{}";\n'.format(" ".join(SHELVES)))
-        machine.does("install -m 0644 deploy/nginx/elsewhere.conf deploy/nginx/public.conf /etc/nginx/goshelf/")
-        machine.does(
-            f"{ROOT}/tools/shards conf {self.file} < deploy/nginx/goshelf.conf > /etc/nginx/conf.d/goshelf.conf"
-        )
-        machine.does("nginx")
-        wait_for(machine.front)
-        self.context = ssl.create_default_context(cafile=f"{machine.folder}/etc/ssl/goshelf.pem")
-        self.context.check_hostname = False
-
-    def ask(self, method, shelf, target, body=None, headers=None, right="publish"):
-        """What nginx answers."""
-        conn = http.client.HTTPSConnection("127.0.0.1", self.machine.front, timeout=60, context=self.context)
-        status, _, told = fetched(conn, method, target, body, {"Authorization": login(shelf, right), **(headers or {})})
-        return status, told
-
-    def put(self, shelf, path, version, content=None, at=None):
-        """Publishes by nginx, or at a goshelf."""
-        head = f"module {path}\n".encode()
-        headers = {
-            "Mod-Length": str(len(head)),
-            **({} if version == PSEUDO else {"Version-Time": "2024-01-31T12:00:00Z"}),
-        }
-        target = f"/{path}/@v/{version}".replace("RC", "!r!c")
-        return (at or self).ask("PUT", shelf, target, head + (content or SEED.randbytes(3_000)), headers)
-
-    def put_both(self, shelf, path, version):
-        """Publishes by nginx and at the one goshelf."""
-        content = SEED.randbytes(3_000)
-        told, own = self.put(shelf, path, version, content), self.put(shelf, path, version, content, self.one)
-        assert told == own, (told, own)
-        self.published.append((path, version.replace("RC", "!r!c")))
-        return told
-
-    def targets(self):
-        files = [
-            f"/{path}/@v/{version}.{it}"
-            for path, version in sorted(set(self.published))
-            for it in ("info", "mod", "zip")
-        ]
-        paths = sorted({path for path, _ in self.published})
-        return [
-            *files,
-            *(f"/{path}/{it}" for path in paths for it in ("@v/list", "@latest")),
-            "/-/modules",
-            "/example.com/none/@v/list",
-        ]
-
-    def differing(self):
-        """The answers of nginx, asked twice, that are not the one goshelf's."""
-        asks = [(it, target, right) for it in SHELVES for target in self.targets() for right in ("read", "publish")]
-        own = {it: self.one.ask("GET", *it[:2], right=it[2]) for it in asks}
-        return [
-            (it, found[0], own[it][0])
-            for it in asks
-            for found in (self.ask("GET", *it[:2], right=it[2]),)
-            if found != own[it]
-        ]
-
-    def tool(self, command, *words, file=None, keys=None):
-        """The status, the lines and the errors of tools/shards."""
-        said = [f"{ROOT}/tools/shards", command, file or self.file, keys or self.keys, *words]
-        ran = subprocess.run(said, capture_output=True, text=True, env=dict(os.environ, GOSHELF=PROGRAM))
-        return ran.returncode, ran.stdout.splitlines(), ran.stderr
-
-    def close(self):
-        self.machine.close()
-        for it in (self.one, *self.shards.values()):
-            it.stop()
 
 
 def alike(suite, company):
@@ -325,6 +168,21 @@ def made(suite, company):
         (status, lines, errors),
         (1, [], "shards: first is not made: goshelf: not-empty\n"),
     )
+    not_the_store(suite, company, folder)
+    for store in (f"{folder}/missing.db", company.file):
+        status, lines, errors = company.tool("make", folder, keys=store)
+        is_right = (status, lines) == (1, []) and "cannot be read" in errors
+        suite.holds(f"make of {os.path.basename(store)}", is_right, errors)
+    one.start()
+    for it, teams in TEAMS.items():
+        shard = Goshelf(f"{folder}/{it}.db")
+        compared(suite, company, shard, it, teams)
+        shard.stop()
+
+
+def not_the_store(suite, company, folder):
+    """Files of shards that do not fit the store: none is made."""
+    one = company.one
     name = f"{company.folder}/wrong"
     before = {it: os.path.getmtime(one.store + it) for it in ("", "-wal") if os.path.exists(one.store + it)}
     for text, said in NOT_THE_STORE.items():
@@ -338,30 +196,26 @@ def made(suite, company):
         suite.equal(f"make of {text!r} makes nothing", left, ([], False))
         os.rmdir(f"{folder}/none")
     suite.equal("and leaves the store as it was", {it: os.path.getmtime(one.store + it) for it in before}, before)
-    for store in (f"{folder}/missing.db", company.file):
-        status, lines, errors = company.tool("make", folder, keys=store)
-        is_right = (status, lines) == (1, []) and "cannot be read" in errors
-        suite.holds(f"make of {os.path.basename(store)}", is_right, errors)
-    one.start()
-    for it, teams in TEAMS.items():
-        shard = Goshelf(f"{folder}/{it}.db")
-        asks = [
-            (shelf, target, right)
-            for shelf in ("common", *teams)
-            for target in company.targets()
-            for right in ("read", "publish")
-        ]
-        other = [
-            ask[:2]
-            for ask in asks
-            if shard.ask("GET", *ask[:2], right=ask[2]) != one.ask("GET", *ask[:2], right=ask[2])
-        ]
-        suite.equal(f"no answer of {it} differs from the one goshelf's, by {len(asks)} asks", other, [])
-        strangers = [
-            shelf for shelf in SHELVES[1:] if shelf not in teams and shard.ask("GET", shelf, "/-/modules")[0] != 404
-        ]
-        suite.equal(f"{it} has no key of another shard's teams", strangers, [])
-        shard.stop()
+
+
+def compared(suite, company, shard, name, teams):
+    """The answers of a shard's store beside those of the one that has it all."""
+    asks = [
+        (shelf, target, right)
+        for shelf in ("common", *teams)
+        for target in company.targets()
+        for right in ("read", "publish")
+    ]
+    other = [
+        ask[:2]
+        for ask in asks
+        if shard.ask("GET", *ask[:2], right=ask[2]) != company.one.ask("GET", *ask[:2], right=ask[2])
+    ]
+    suite.equal(f"no answer of {name} differs from the one goshelf's, by {len(asks)} asks", other, [])
+    strangers = [
+        shelf for shelf in SHELVES[1:] if shelf not in teams and shard.ask("GET", shelf, "/-/modules")[0] != 404
+    ]
+    suite.equal(f"{name} has no key of another shard's teams", strangers, [])
 
 
 def new_team(suite, company):

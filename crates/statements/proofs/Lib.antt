@@ -18,6 +18,7 @@ pub mod HeadingLemmas
 pub mod StandingLemmas
 pub mod CountLemmas
 pub mod VisibleLemmas
+mod NamedLemmas
 pub mod RevokeLemmas
 pub mod DifferLemmas
 pub mod PairLemmas

@@ -32,7 +32,7 @@ use Rattle.tables.proofs.CountedRows.{same_place}
 
 -- ---- the texts that rows show
 
-same_truth : (a b : Bool) → ((a ≡ true) ↔ (b ≡ true)) → a ≡ b
+pub same_truth : (a b : Bool) → ((a ≡ true) ↔ (b ≡ true)) → a ≡ b
 same_truth true true h = refl
 same_truth true false h = sym (h.0 refl)
 same_truth false true h = h.1 refl

@@ -12,6 +12,8 @@
 //! | `registry::find_key` | read the row of `access` that has the key |
 //! | `registry::find_shelf` | read the row of `shelf` that has the name |
 //! | `shelves::find_shelves` | read all rows of `shelf` |
+//! | `named::find_keys` | read the token of each row of `access` |
+//! | `named::find_shelf_names` | read the name of each row of `shelf` |
 //! | `entries::find_seen` | read the row of `version` on each shelf in turn, up to the first that has one, and no row of `piece` |
 //! | `outlines::find_outline` | those of `find_seen`, then read the last row of `piece`, and look for one more after a full one |
 //! | `entries::find_entry` | those of `find_seen`, then read the last row of `piece` of the version, then all in order |
@@ -44,6 +46,7 @@ pub mod compare;
 pub mod entries;
 pub mod extract_rows;
 pub mod keyed;
+pub mod named;
 mod numbers;
 pub mod outlines;
 pub mod pieces;

@@ -27,7 +27,7 @@
 //! | `team_add`, `group_add`, `key_add` | `add_team`, `add_group`, `add_key` of `statements::registry` |
 //! | `key_revoke`, `keys_revoke` | `statements::revoke::revoke_key`, `revoke_keys` |
 //! | `extract`, `extract_teams`, `copy` | `setup::copy::copy_shelves`, which writes in one transaction |
-//! | `keys`, `shelves` | `keyring_rows::find_keys`, `find_shelf_names` |
+//! | `keys`, `shelves` | `statements::named::find_keys`, `find_shelf_names` |
 //! | `parent` | `statements::registry::find_shelf` |
 //! | `migrate` | `older::schema::format_of`, and `older_rows::write::write_world`, into a fresh store in one transaction |
 //!

@@ -2,8 +2,8 @@
 
 use crate::store::{SqlShelves, counted};
 use keyring::Keyring;
-use keyring_rows::{find_keys, find_shelf_names};
 use sqlite::Alter;
+use statements::named::{find_keys, find_shelf_names};
 use statements::registry::find_shelf;
 use std::alloc::Global;
 use text::Text;

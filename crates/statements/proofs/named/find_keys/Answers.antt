@@ -4,8 +4,8 @@ use Rattle.sqlite.specs.Listing.{understood}
 use Rattle.sqlite_tied.specs.Compute.{everything}
 use Rattle.tables.proofs.FailureLemmas.{was_clean}
 use Rattle.statements.proofs.ChangeLemmas.{weaker}
-use Rattle.keyring_rows.proofs.NamedLemmas.{all_shelves}
-use Rattle.keyring_rows.proofs.find_shelf_names.Goals as goal
+use Rattle.statements.proofs.NamedLemmas.{all_keys}
+use Rattle.statements.proofs.named.find_keys.Goals as goal
 
 pub find_texts-requires-clause-plain : goal.find_texts-requires-clause-plain
 unfolding understood everything
@@ -22,5 +22,5 @@ returns-clause-answer g c clean w stands =
     let new = state g.S.Store c.find_texts.new.conn in
     weaker c.find_texts.result (λ texts found.
     let holds = stands (was_clean old new c.find_texts.ensures.spares.clean clean) found.0 in
-    all_shelves old.now w holds.trees.means found.1.rows texts found.1.adds found.1.read)
+    all_keys old.now w holds.trees.means found.1.rows texts found.1.adds found.1.read)
     (c.find_texts.ensures.texts clean w stands)

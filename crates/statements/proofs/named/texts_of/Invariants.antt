@@ -1,7 +1,7 @@
 use Rattle.std.proofs.Common.{take}
 use Rattle.std.specs.FinSet as set
 use Rattle.statements.specs.Lists.{AddsTexts}
-use Rattle.keyring_rows.proofs.texts_of.Given as goal
+use Rattle.statements.proofs.named.texts_of.Given as goal
 
 -- the texts are those of the rows so far
 abbrev pub invariant-loop-row : goal.invariant-loop-row

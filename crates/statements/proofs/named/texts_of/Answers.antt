@@ -2,8 +2,8 @@ use Rattle.std.proofs.Common.{[], sym, subst}
 use Rattle.std.specs.FinSet as set
 use Rattle.statements.specs.Lists.{AddsTexts}
 use Rattle.statements.proofs.VisibleLemmas.{nothing_more}
-use Rattle.keyring_rows.proofs.NamedLemmas.{texts_at}
-use Rattle.keyring_rows.proofs.texts_of.Goals as goal
+use Rattle.statements.proofs.NamedLemmas.{texts_at}
+use Rattle.statements.proofs.named.texts_of.Goals as goal
 
 pub loop-row-init : goal.loop-row-init
 loop-row-init c = subst (AddsTexts [] set.empty) (sym c.new-texts.ensures) (nothing_more set.empty)

@@ -1,14 +1,4 @@
-//! The SQL statements that name all keys and all shelves of a store.
-//!
-//! | call | its statement |
-//! |---|---|
-//! | [`find_keys`] | reads the token of each row of `access` |
-//! | [`find_shelf_names`] | reads the name of each row of `shelf` |
-//!
-//! As in `statements`, each call uses a `Connection` and nothing else, and what a contract says of values holds if the
-//! disk has returned what was written. A call fails with the error of `sqlite` if the disk fails, memory runs out, the
-//! connection is closed or limited in its steps, or a row holds a value that no store writes.
-#![tactic(auto)]
+//! Lists all keys and the names of all shelves in SQL tables.
 
 ghost use Rattle.std.specs.Prelude.{◌≡◌, [], false, IfOk, IsTrue};
 ghost use Rattle.std.specs.FinSet as set;
@@ -20,8 +10,8 @@ ghost use Rattle.statements.specs.Calls.{InEachWorld, Spares};
 ghost use Rattle.statements.specs.Lists.{AddsTexts, AddsAnswer};
 ghost use Rattle.keyring.specs.Named.{keys_in, shelves_in};
 
+use crate::query::find_rows;
 use sqlite::{Alter, Connection, Error, Row};
-use statements::query::find_rows;
 use std::alloc::Global;
 use world::text_set::TextSet;
 

@@ -1,5 +1,5 @@
 use Rattle.statements.proofs.ChangeLemmas.{weaker}
-use Rattle.keyring_rows.proofs.find_texts.Goals as goal
+use Rattle.statements.proofs.named.find_texts.Goals as goal
 
 pub returns-clause-texts : goal.returns-clause-texts
 returns-clause-texts g c clean w stands =

@@ -20,14 +20,8 @@ use Rattle.tables.proofs.Maps.{no_text}
 use Rattle.statements.specs.Lookup.{lookup, AreFound}
 use Rattle.statements.specs.Lists.{AddsTexts, IsShown}
 use Rattle.statements.proofs.LookupLemmas.{asks, all_found}
-use Rattle.statements.proofs.VisibleLemmas.{one_more}
+use Rattle.statements.proofs.VisibleLemmas.{same_truth, one_more}
 use Rattle.keyring.specs.Named.{keys_in, shelves_in}
-
-same_truth : (a b : Bool) → ((a ≡ true) ↔ (b ≡ true)) → a ≡ b
-same_truth true true h = refl
-same_truth true false h = sym (h.0 refl)
-same_truth false true h = h.1 refl
-same_truth false false h = refl
 
 -- the query of the first column of a table
 abbrev pub first_column : ℕ → Query

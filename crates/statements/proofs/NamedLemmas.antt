@@ -1,10 +1,8 @@
 -- What the queries of all keys and of all shelves answer.
-use Rattle.std.proofs.Common.{◌≡◌, ◌↔◌, ◌∙◌, ℕ, Bool, true, false, List, [], ◌∷◌, ◌++◌, take, get_or, length, ◌+◌, ◌<◌}
-use Rattle.std.proofs.Common.{Some, is_some, inl, inr, refl, sym, ap, subst}
+use Rattle.std.proofs.Common.{◌≡◌, ◌↔◌, ◌∙◌, ℕ, true, List, [], ◌∷◌, Some, is_some, inl, inr, refl, sym, ap}
 use Rattle.std.specs.FinMap as map
 use Rattle.std.specs.FinSet as set
 use Rattle.std.specs.FinSet.{same_set}
-use Rattle.std.proofs.lemmas.List.{take_more}
 use Rattle.sqlite.specs.declared.types.Value.TheVariants.{Text}
 use Rattle.sqlite.specs.Order.{Row, column}
 use Rattle.sqlite.specs.Term.{Term, col, eval_all}
@@ -20,7 +18,7 @@ use Rattle.tables.proofs.Maps.{no_text}
 use Rattle.statements.specs.Lookup.{lookup, AreFound}
 use Rattle.statements.specs.Lists.{AddsTexts, IsShown}
 use Rattle.statements.proofs.LookupLemmas.{asks, all_found}
-use Rattle.statements.proofs.VisibleLemmas.{same_truth, one_more}
+use Rattle.statements.proofs.VisibleLemmas.{same_truth}
 use Rattle.keyring.specs.Named.{keys_in, shelves_in}
 
 -- the query of the first column of a table
@@ -67,14 +65,3 @@ module _ (db : Database) (w : World) (means : Means db.trees w) (out : List Row)
   pub all_shelves : Reads (asks (first_column 2)) db [] out → texts ≡ shelves_in w
   all_shelves read = keys_of_map w.shelves _ (λ row it is. is.0) db 2 means.shelves out
       (all_found [] db 2 [] (col 1 1 ∷ []) [] (λ _. refl) out read) texts adds
-
--- ---- row by row
-
--- the texts of some rows and the text of the next one are those of the rows with the next one
-pub texts_at : (rows : List Row) (at : ℕ) (row : Row) (text : List ℕ) (mid new : set.FinSet text_cmp) → at < length rows
-    → row ≡ get_or rows at row → column row 0 ≡ Text text
-    → new ≡ set.insert mid text → AddsTexts (take at rows) set.empty mid → AddsTexts (take (at + 1) rows) set.empty new
-texts_at rows at row text mid new within is shows made adds =
-    subst (λ l. AddsTexts l set.empty new)
-    (sym (take_more rows at row within ∙ ap (λ r. take at rows ++ r ∷ []) (sym is)))
-    (one_more (take at rows) row text set.empty mid new shows made adds)

@@ -23,7 +23,7 @@ use world::versions::ascending;
 
 /// Adds the first value of each row of the answer to a query to a set of texts, one row at a time: a shelf may have
 /// many rows, and none stays in memory.
-fn add_texts<S: Alter>(
+pub(crate) fn add_texts<S: Alter>(
     conn: &mut Connection<S>,
     sql: &str,
     params: &[ValueRef<'_>],

@@ -1,19 +1,41 @@
-//! The worked examples of shelves: calls of shelves in memory, decisions on publishes, runs of the machine, and the
-//! bytes that answer requests.
+//! The worked examples of shelves in memory, and the worked rows of the streams and connections that they answer.
+//!
+//! | module | its rows show |
+//! |---|---|
+//! | `maps` | the scripts of `test_support`: calls of shelves, and the bytes that answer requests |
+//! | `kept_counts`, `version_sets` | what shelves in memory keep |
+//! | `entries`, `decisions`, `runs` | which entries may stand, decisions on publishes, runs of the machine |
+//! | `answers`, `sweeps` | answers to a stream however it is cut, and readers and writers that fail at each of their calls |
+//! | `connections`, `queue` | connections of this process to itself and in memory |
+//! | `in_time` | a peer's time |
 //!
 //! Each table is a text whose lines are rows. Each public function of the crates below runs on at least one row. The
 //! scripts are those of `test_support`, which `test_stores` also runs on tables.
 #![tactic(auto)]
 
 #[cfg(test)]
+mod answers;
+#[cfg(test)]
+mod connections;
+#[cfg(test)]
 mod decisions;
 #[cfg(test)]
 mod entries;
+#[cfg(test)]
+mod in_time;
 #[cfg(test)]
 mod kept_counts;
 #[cfg(test)]
 mod maps;
 #[cfg(test)]
+mod queue;
+#[cfg(test)]
 mod runs;
+#[cfg(test)]
+mod shelves;
+#[cfg(test)]
+mod stream;
+#[cfg(test)]
+mod sweeps;
 #[cfg(test)]
 mod version_sets;

@@ -8,12 +8,15 @@ use std::cell::Cell;
 use std::test::Fail;
 use test_support::doubles::{Sink, Source};
 use wire::RouteTable;
+use world::shelves::Shelves;
 
-/// Answers a stream from shelves that have no entry.
-fn serve(alloc: Global, reader: Source, writer: &mut Sink) -> Result<(), Io> {
-    let Ok(mut shelves) = shelves(alloc) else {
-        return Err(Io::Read);
-    };
+/// Answers a stream from shelves, and then drops them.
+fn serve_from<S: Shelves + Drop>(
+    alloc: Global,
+    mut shelves: S,
+    reader: Source,
+    writer: &mut Sink,
+) -> Result<(), Io> {
     answer_all(
         alloc,
         &mut Hearing::new(reader),
@@ -22,11 +25,21 @@ fn serve(alloc: Global, reader: Source, writer: &mut Sink) -> Result<(), Io> {
     )
 }
 
-/// Answers the first message of a stream from shelves that have no entry.
-fn serve_one(alloc: Global, reader: Source, writer: &mut Sink) -> Result<Option<u16>, Io> {
-    let Ok(mut shelves) = shelves(alloc) else {
-        return Err(Io::Read);
-    };
+/// Answers a stream from shelves that have no entry.
+fn serve(alloc: Global, reader: Source, writer: &mut Sink) -> Result<(), Io> {
+    match shelves(alloc) {
+        Ok(shelves) => serve_from(alloc, shelves, reader, writer),
+        Err(_) => Err(Io::Read),
+    }
+}
+
+/// Answers the first message of a stream from shelves, and then drops them.
+fn serve_one_from<S: Shelves + Drop>(
+    alloc: Global,
+    mut shelves: S,
+    reader: Source,
+    writer: &mut Sink,
+) -> Result<Option<u16>, Io> {
     answer_one(
         alloc,
         &mut RouteTable::new(alloc),
@@ -34,6 +47,14 @@ fn serve_one(alloc: Global, reader: Source, writer: &mut Sink) -> Result<Option<
         &mut Telling::new(writer),
         &mut shelves,
     )
+}
+
+/// Answers the first message of a stream from shelves that have no entry.
+fn serve_one(alloc: Global, reader: Source, writer: &mut Sink) -> Result<Option<u16>, Io> {
+    match shelves(alloc) {
+        Ok(shelves) => serve_one_from(alloc, shelves, reader, writer),
+        Err(_) => Err(Io::Read),
+    }
 }
 
 #[test]

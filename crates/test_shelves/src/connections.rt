@@ -5,6 +5,7 @@ use std::io::{Read, Write};
 use std::net::{Shutdown, TcpListener, TcpStream};
 use std::rt::HostRuntime;
 use std::test::Fail;
+use world::shelves::Shelves;
 
 pub const PUT: &[u8] =
     b"PUT /k/alphakey00000001/example.com/lib/@v/v1.0.0 HTTP/1.1\r\nMod-Length: 23\r\nContent-Length: 23\r\n\r\n\
@@ -42,10 +43,19 @@ fn half_client(rt: &HostRuntime, port: u16, bytes: &[u8], more: &[u8]) -> Result
     Ok(stream)
 }
 
-/// Serves this many connections from shelves that have no entry.
-fn serve(rt: &HostRuntime, mut listener: &TcpListener, connections: u32) -> Result<(), Fail> {
-    let mut shelves = shelves(rt.alloc())?;
+/// Serves this many connections from shelves, and then drops them.
+fn serve_from<S: Shelves + Drop>(
+    rt: &HostRuntime,
+    mut shelves: S,
+    mut listener: &TcpListener,
+    connections: u32,
+) {
     serve_on(rt.alloc(), rt, &mut listener, &mut shelves, connections);
+}
+
+/// Serves this many connections from shelves that have no entry.
+fn serve(rt: &HostRuntime, listener: &TcpListener, connections: u32) -> Result<(), Fail> {
+    serve_from(rt, shelves(rt.alloc())?, listener, connections);
     Ok(())
 }
 

@@ -11,6 +11,7 @@ use std::test::Fail;
 use std::time::{Clock, Duration};
 use test_support::doubles::Sink;
 use wire::RouteTable;
+use world::shelves::Shelves;
 
 /// A clock that goes on by `step` milliseconds each time it is read.
 #[derive(Drop)]
@@ -99,6 +100,25 @@ fn no_waits() -> Waits {
     }
 }
 
+/// Answers a message from shelves, measured by a clock with this step, and returns the status. Then drops the shelves.
+fn timed_from<S: Shelves + Drop, R: BoundRead + Drop, W: BoundWrite + Drop>(
+    alloc: Global,
+    mut shelves: S,
+    step: u64,
+    reader: R,
+    writer: W,
+) -> Result<Option<u16>, Io> {
+    let answered = answer_in_time(
+        alloc,
+        &clock(step),
+        &mut RouteTable::new(alloc),
+        Hearing::new(reader),
+        Telling::new(writer),
+        &mut shelves,
+    );
+    answered.status
+}
+
 /// Answers the message in these bytes, which are given in two reads or more, measured by a clock with this step, and
 /// returns the status.
 fn answer_timed<W: Write + Drop>(
@@ -109,7 +129,6 @@ fn answer_timed<W: Write + Drop>(
     last: &[u8],
     writer: W,
 ) -> Result<Result<Option<u16>, Io>, Fail> {
-    let mut shelves = shelves(alloc)?;
     let reader = Bounded {
         inner: first.chain(last),
         longest: &waits.read,
@@ -118,15 +137,7 @@ fn answer_timed<W: Write + Drop>(
         inner: writer,
         longest: &waits.write,
     };
-    let answered = answer_in_time(
-        alloc,
-        &clock(step),
-        &mut RouteTable::new(alloc),
-        Hearing::new(reader),
-        Telling::new(writer),
-        &mut shelves,
-    );
-    Ok(answered.status)
+    Ok(timed_from(alloc, shelves(alloc)?, step, reader, writer))
 }
 
 #[test]

@@ -1,11 +1,13 @@
 //! Peers in memory, whose bytes are known.
 use crate::connections::{GET, PUBLISHED, PUT, SERVED};
 use crate::shelves::shelves;
-use socket::{Listener, serve_on};
+use socket::{Listener, Peer, serve_on};
 use std::collections::LinkedList;
 use std::io::{self, ErrorKind};
+use std::rt::HostRuntime;
 use std::test::Fail;
 use test_support::in_memory::sending;
+use world::shelves::Shelves;
 
 /// Peers that connect one after another, and then nobody.
 #[derive(Drop)]
@@ -28,6 +30,11 @@ impl<P> Listener<P> for Queue<P> {
     }
 }
 
+/// Serves four connections of a queue from shelves, and then drops both. The fourth is an accept that fails.
+fn serve<P: Peer + Drop, S: Shelves + Drop>(rt: &HostRuntime, mut queue: Queue<P>, mut shelves: S) {
+    serve_on(rt.alloc(), rt, &mut queue, &mut shelves, 4);
+}
+
 #[test]
 fn answers_each_peer_of_a_queue(rt: HostRuntime) -> Result<(), Fail> {
     let mut first = Vec::new(rt.alloc());
@@ -37,11 +44,7 @@ fn answers_each_peer_of_a_queue(rt: HostRuntime) -> Result<(), Fail> {
     peers.push_back(sending(PUT, &mut first))?;
     peers.push_back(sending(b"", &mut second))?;
     peers.push_back(sending(GET, &mut third))?;
-    let mut queue = Queue { peers };
-    let mut shelves = shelves(rt.alloc())?;
-    // The fourth is an accept that fails.
-    serve_on(rt.alloc(), &rt, &mut queue, &mut shelves, 4);
-    drop(queue);
+    serve(&rt, Queue { peers }, shelves(rt.alloc())?);
     assert!(rt; first.as_slice() == PUBLISHED.as_bytes());
     assert!(rt; second.is_empty());
     assert!(rt; third.as_slice() == SERVED.as_bytes());

@@ -1,5 +1,6 @@
 //! Runs of the machine on shelves in memory.
-use machine::ask::{Ask, Body, Event, GivenTime, Publish, Query};
+use crate::decisions::body;
+use machine::ask::{Ask, Event, GivenTime, Publish, Query};
 use machine::reply::{Answer, Reply};
 use machine::run::run;
 use memory_store::map_shelves::MapShelves;
@@ -9,10 +10,10 @@ use std::alloc::{AllocError, Global};
 use std::process::Abort;
 use std::str::from_utf8;
 use std::test::Fail;
-use test_support::rows::{answer_of, call_of, column, with_lines};
+use test_support::rows::{answer_of, call_of, column};
 use text::Text;
-use world::bytes::Bytes;
 use world::entry::Right;
+use world::shelves::Shelves;
 
 /// Runs, with `====` between them: events and their answers. What stands before `----` runs first, and the rest then
 /// runs on the shelves that it left. Every request is for `v1.0.0`; `;` stands for a newline.
@@ -96,19 +97,19 @@ fn get(alloc: Global, call: &str, is_zip: bool) -> Result<Event, Fail> {
     Ok(Event::Asked(Ask::Get { key, query }))
 }
 
-fn put(alloc: Global, call: &str) -> Result<Event, Fail> {
-    let key = Text::copy_of(alloc, column(call, 1))?;
-    let gomod = with_lines(alloc, column(call, 3))?;
-    let body = Body {
-        gomod: Bytes::copy_of(alloc, gomod.as_bytes())?,
-        zip: Bytes::copy_of(alloc, column(call, 4).as_bytes())?,
-    };
-    let publish = Publish {
+fn publish(alloc: Global, call: &str) -> Result<Publish, Fail> {
+    let body = body(alloc, column(call, 3), column(call, 4))?;
+    Ok(Publish {
         path: ModulePath::parse(alloc, column(call, 2))?,
         version: Version::parse(alloc, "v1.0.0")?,
-        body: Some(body),
+        body,
         time: GivenTime::Absent,
-    };
+    })
+}
+
+fn put(alloc: Global, call: &str) -> Result<Event, Fail> {
+    let publish = publish(alloc, call)?;
+    let key = Text::copy_of(alloc, column(call, 1))?;
     Ok(Event::Asked(Ask::Put { key, publish }))
 }
 
@@ -181,16 +182,34 @@ fn assert_answers(
     Ok(())
 }
 
+/// Runs the events of a script on shelves. Each answer has to be that of its row.
+fn assert_run<S: Shelves>(
+    rt: &impl Abort,
+    alloc: Global,
+    shelves: &mut S,
+    script: &str,
+) -> Result<(), Fail> {
+    let events = events(alloc, script)?;
+    let answers = run(alloc, shelves, events.as_slice())?;
+    assert_answers(rt, alloc, answers.as_slice(), script)
+}
+
+/// Runs a script of two parts on shelves, and then drops the shelves.
+fn assert_runs<S: Shelves + Drop>(
+    rt: &impl Abort,
+    alloc: Global,
+    mut shelves: S,
+    script: &str,
+) -> Result<(), Fail> {
+    let (first, rest) = script.split_once("----\n").ok_or("no second part")?;
+    assert_run(rt, alloc, &mut shelves, first)?;
+    assert_run(rt, alloc, &mut shelves, rest)
+}
+
 #[test]
 fn runs_have_their_answers(rt: HostRuntime) -> Result<(), Fail> {
-    let alloc = rt.alloc();
     for script in RUNS.split("====\n") {
-        let (first, rest) = script.split_once("----\n").ok_or("no second part")?;
-        let mut shelves = MapShelves::new(alloc)?;
-        let answers = run(alloc, &mut shelves, events(alloc, first)?.as_slice())?;
-        assert_answers(&rt, alloc, answers.as_slice(), first)?;
-        let answers = run(alloc, &mut shelves, events(alloc, rest)?.as_slice())?;
-        assert_answers(&rt, alloc, answers.as_slice(), rest)?;
+        assert_runs(&rt, rt.alloc(), MapShelves::new(rt.alloc())?, script)?;
     }
     Ok(())
 }

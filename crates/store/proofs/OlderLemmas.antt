@@ -1,6 +1,7 @@
 -- Files of an older store that are opened.
 use Rattle.std.proofs.Common.{◌≡◌, IsTrue, sym, ap, subst, ◌∙◌}
 use Rattle.sqlite.specs.Effect.{Database}
+use Rattle.sqlite.specs.Files.{AreFoundIn}
 use Rattle.sqlite.specs.Schema.{Schema}
 use Rattle.sqlite.specs.Start.{FindsIn}
 use Rattle.sqlite.specs.State.{State, IsLive}
@@ -30,3 +31,9 @@ finds_older s image live opened settled finds w held =
         is = was.1.is;
       },
     )
+
+-- the connection shows tables that the files, which begin as `begun`, recover to
+pub shows_found : (s : State) (image begun : Image) → image ≡ begun → s.now ≡ s.committed → FindsIn image s
+    → AreFoundIn begun s.now.trees
+shows_found s image begun same settled finds = subst (λ i. AreFoundIn i s.now.trees) same
+    (subst (λ (d : Database). AreFoundIn image d.trees) (sym settled) finds.reads)

@@ -140,10 +140,7 @@ pub(crate) fn connect_files<D: Disk + Drop>(
         Ok(()) => {}
         Err(refusal) => return Err((refusal, Leftover::Files(files))),
     }
-    match connect_judged(alloc, files, options) {
-        Ok(conn) => Ok(conn),
-        Err((refusal, left)) => Err((refusal, left)),
-    }
+    connect_judged(alloc, files, options)
 }
 
 /// Refuses files that sqlite would take for ones with no database yet, and write over, though no broken-off start

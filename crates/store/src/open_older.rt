@@ -1,9 +1,9 @@
 //! Opens the files of a store of an older schema.
 
-ghost use Rattle.std.specs.Prelude.{◌≡◌, IfOk, IfErr, IfSome, IsTrue};
-ghost use Rattle.sqlite.specs.Files.{file_state, image_of, IsCleanLeft, AreFoundIn};
+ghost use Rattle.std.specs.Prelude.{IfOk, IfErr, IfSome};
+ghost use Rattle.sqlite.specs.Files.{file_state, IsCleanLeft, AreFoundIn};
 ghost use Rattle.sqlite.specs.State.{HasCleanDisk};
-ghost use Rattle.sqlite_wal.specs.Files.{image_at, outcomes};
+ghost use Rattle.sqlite_wal.specs.Files.{image_at};
 ghost use Rattle.statements.specs.Calls.{IsOpenIfHonest};
 ghost use Rattle.store.specs.Older.{FindsOlder};
 ghost use Rattle.store.specs.Restart.{Keeps};
@@ -11,9 +11,7 @@ ghost use Rattle.setup.specs.Opened.{IsOfOpening};
 
 use crate::files::{connect_files, open_pair};
 use setup::refusal::StoreRefusal;
-use sqlite::{Connection, FileFrom, FileStore, Files, Leftover, Start};
-use sqlite_disk::Disk;
-use std::alloc::Global;
+use sqlite::{Connection, FileFrom, FileStore, Leftover, Start};
 use std::rt::HostRuntime;
 
 /// Opens a connection to the files of an older store, where `T` says what they hold. It does not test the tables: they
@@ -38,30 +36,8 @@ pub fn open_older<T: Start>(
         Ok(opened) => opened,
         Err(refusal) => return Err((refusal, None)),
     };
-    match older_over(rt.alloc(), files, seed) {
+    match connect_files(rt.alloc(), files, seed) {
         Ok(conn) => Ok(conn),
         Err((refusal, left)) => Err((refusal, Some(left))),
-    }
-}
-
-/// Opens a connection to the two files of an older store, or returns them with the refusal, as `open_older` does.
-fn older_over<D: Disk + Drop>(
-    alloc: Global,
-    files: Files<D>,
-    seed: u64,
-) -> Result<Connection<FileStore<D>>, (StoreRefusal, Leftover<D>)>
-    requires log { IsTrue (D.Disk.is_usable files.log) }
-    requires db { IsTrue (D.Disk.is_usable files.db) }
-    requires settled { (it : _) → outcomes D.Disk files.log files.db it → it ≡ image_of D.Disk files }
-    ensures open { IfOk result (λ c. IsOpenIfHonest (file_state c)) }
-    ensures found { IfOk result (λ c. FindsOlder (image_of D.Disk files) (file_state c)) }
-    ensures shows { IfOk result (λ c. HasCleanDisk (file_state c)
-        → AreFoundIn (image_of D.Disk files) (file_state c).now.trees) }
-    ensures refused { IfErr result (λ e. IsOfOpening e.0) }
-    ensures keeps { IfErr result (λ e. IsCleanLeft e.1 → Keeps (image_of D.Disk files) e.1) }
-{
-    match connect_files(alloc, files, seed) {
-        Ok(connection) => Ok(connection),
-        Err((refusal, left)) => Err((refusal, left)),
     }
 }

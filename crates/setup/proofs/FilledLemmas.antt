@@ -30,8 +30,8 @@ use Rattle.statements.specs.Extract.{OfWorlds, Then}
 use Rattle.statements.specs.Shelves.{names_of, behind, AreNew, AreShelves}
 use Rattle.statements.specs.declared.shelf_list.Shelf.{Shelf}
 use Rattle.statements.proofs.ShelfListLemmas.{among_all}
-use Rattle.setup.specs.Parts.{part_of, PutsShelves, MakesPart}
-use Rattle.setup.proofs.PartLemmas.{is_there, has_there, parent_at, key_at, entry_at, held_key, held_entry}
+use Rattle.setup.specs.Parts.{part_of, registry_of, PutsRegistry, PutsShelves, MakesPart, MakesRegistry}
+use Rattle.setup.proofs.PartLemmas.{part_all, is_there, has_there, parent_at, key_at, entry_at, held_key, held_entry}
 use Rattle.statements.proofs.CopyKeyLemmas.{keys_of_none, keys_of_more}
 use Rattle.statements.proofs.RowLemmas.{puts_along, of_as, same_pieces}
 
@@ -295,3 +295,27 @@ makes_part shelves new source db after it w means is are blank =
     (puts_along version_table version_read IsEachPlaceOnce IsVersionOn ss source with_keys with_versions it.1.2)
     (puts_along piece_table piece_read IsEachPieceOnce IsPieceOn ss source with_versions after it.2)
     y (shelves_are w x y ss alone adds) (keys_are w x y ss alone adds) made.2.means
+
+-- the shelves of a world, and then their keys, make of a store with `common` alone the world without its entries
+pub makes_registry : (shelves : List Shelf) → AreNew (common ∷ []) (names_of shelves) → (source db after : Trees)
+    → PutsRegistry shelves source db after → MakesRegistry shelves source db after
+makes_registry shelves new source db after it w means is all blank =
+    let ss : List (List ℕ) = common ∷ names_of shelves in
+    let first : HasAlone w (common ∷ []) only_common =
+    (one_more w [] map.empty common None is.has_common (map.get-empty text_cmp), refl, refl) in
+    let put = shelves_put w shelves (common ∷ []) db it.0 all.are new only_common first blank it.1 in
+    let x : World = put.0 in
+    let alone : HasAlone w ss x = (
+      λ s. put.1.0 s ∙ ap (λ b. cond b (map.get w.shelves s) None) (among_all (names_of shelves) s),
+      put.1.1,
+      put.1.2,
+    ) in
+    let made = keys_along w ss source it.0 after means it.2 x put.2 in
+    let y : World = made.0 in
+    let adds : AddsKeys (IsKeyOn w ss) x y = made.1 in
+    let whole : part_of w ss ≡ w = part_all w ss is all.each_is in
+    let keys : y.keys ≡ w.keys = keys_are w x y ss alone adds ∙ ap (λ (v : World). v.keys) whole in
+    let shelves_too : y.shelves ≡ w.shelves = shelves_are w x y ss alone adds ∙ ap (λ (v : World). v.shelves) whole in
+    let entries : y.entries ≡ map.empty = adds.entries ∙ alone.2 in
+    let same : y ≡ registry_of w = λ i. record { keys = keys i; shelves = shelves_too i; entries = entries i } in
+    subst (StandFor after) same made.2

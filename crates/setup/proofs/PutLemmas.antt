@@ -14,10 +14,10 @@ use Rattle.statements.specs.Extract.{IsReady, Copies, PutsShelf, Along}
 use Rattle.statements.proofs.ChangeLemmas.{when_ok}
 use Rattle.statements.proofs.ExtractLemmas.{copies_none}
 use Rattle.statements.proofs.GoingLemmas.{goes_on_itself, goes_on_then}
-use Rattle.statements.specs.Shelves.{names_of, AreShelves}
+use Rattle.statements.specs.Shelves.{names_of, AreShelves, AreAllShelves}
 use Rattle.statements.specs.declared.shelf_list.Shelf.{Shelf}
 use Rattle.statements.proofs.RowLemmas.{filling_of, writing_of}
-use Rattle.setup.specs.Parts.{part_of, Puts, PutsShelves, MakesPart, is_written}
+use Rattle.setup.specs.Parts.{part_of, registry_of, Puts, PutsShelves, MakesPart, MakesRegistry, is_written}
 use Rattle.setup.specs.declared.judge.Judged.{Judged}
 use Rattle.statements.specs.declared.extract_rows.CopyError.{CopyError}
 
@@ -30,6 +30,10 @@ spares_when a b c p up then = record {
   left = λ clean w stands db may.
       p.left (was_clean b c up clean) w stands db ((then w stands).left clean w (p.stays w stands) db may);
 }
+
+pub when_done : {A E : Type 0} {P : Type 0} (r : Result A E) → (IsTrue (is_ok r) → P) → OnOk r P
+when_done (Ok x) then = then refl
+when_done (Err e) then = tt
 
 pub not_written : (r : Result Judged CopyError) → IsErr r → is_written r ≡ false
 not_written (Ok x) h = absurd (true≢false (sym h))
@@ -102,3 +106,13 @@ part_written s t a b done w shelves fills ready clean good stands is are all wri
     let means = (stands was (ready was).0).trees.means in
     let it = fills.makes clean good ready w means (filling_of a only_common writing) all in
     writing_of b (part_of w (common ∷ names_of shelves)) it.1 (it.0 w means is are writing.trees)
+
+-- inside the transaction, the fresh tables come to stand for w without its entries
+pub registry_written : (s t a b : State) (done : Bool) (w : World) (shelves : List Shelf)
+    → Copies (MakesRegistry shelves) s t a b done → IsReady s → HasCleanDisk t → HasCleanDisk b → Stands s w → IsWorld w
+    → AreAllShelves w shelves → IsTrue done → Writing a only_common → Writing b (registry_of w)
+registry_written s t a b done w shelves fills ready clean good stands is all whole writing =
+    let was = was_clean s t fills.clean clean in
+    let means = (stands was (ready was).0).trees.means in
+    let it = fills.makes clean good ready w means (filling_of a only_common writing) whole in
+    writing_of b (registry_of w) it.1 (it.0 w means is all writing.trees).means

@@ -7,8 +7,8 @@ use Rattle.sqlite.specs.Tree.{Trees}
 use Rattle.sqlite_rules.specs.Lists.{Has}
 use Rattle.tables.specs.Means.{Means, StandFor}
 use Rattle.statements.specs.Rows.{Filling, GoesOn}
-use Rattle.statements.specs.Extract.{OfWorlds, PutsShelf, CopiesKeys, CopiesVersions, CopiesPieces}
-use Rattle.statements.specs.Shelves.{names_of, added, AreShelves}
+use Rattle.statements.specs.Extract.{OfWorlds, PutsShelf, CopiesKeys, CopiesVersions, CopiesPieces, Then, Along}
+use Rattle.statements.specs.Shelves.{names_of, added, AreShelves, AreAllShelves}
 use Rattle.statements.specs.declared.extract_rows.CopyError.{CopyError}
 use Rattle.statements.specs.declared.shelf_list.Shelf.{Shelf}
 use Rattle.world.specs.Part.{IsTeam, is_held, part}
@@ -125,6 +125,21 @@ abbrev pub CopiesRows : Rows → List ℕ → Trees → Trees → Trees → Type
 CopiesRows rows.Keys shelf = OfWorlds (CopiesKeys shelf)
 CopiesRows rows.Versions shelf = CopiesVersions shelf
 CopiesRows rows.Pieces shelf = CopiesPieces shelf
+
+-- these shelves are put in, and then the keys of `common` and of these shelves
+abbrev pub PutsRegistry : List Shelf → Trees → Trees → Trees → Type 0
+PutsRegistry shelves = Then (λ _. PutsShelves shelves) (Along (CopiesRows rows.Keys) (common ∷ names_of shelves))
+
+-- the world without its entries
+abbrev pub registry_of : World → World
+registry_of w = record { keys = w.keys; shelves = w.shelves; entries = map.empty }
+
+-- if the source means w, these are all its shelves, and the fresh tables stood for `common` alone, they come to stand
+-- for w without its entries
+abbrev pub MakesRegistry : List Shelf → Trees → Trees → Trees → Type 0
+MakesRegistry shelves source db after =
+    (w : World) → Means source w → IsWorld w → AreAllShelves w shelves
+    → StandFor db only_common → StandFor after (registry_of w)
 
 -- if the source means w, and the fresh tables stood for `common` alone, they come to mean w with only these shelves and
 -- `common`

@@ -1,17 +1,22 @@
 //! Copies shelves of a store into a fresh one, if they exist and the fresh one has only `common`.
 
-ghost use Rattle.std.specs.Prelude.{◌≡◌, ◌≤◌, false, IfOk};
+ghost use Rattle.std.specs.Prelude.{◌≡◌, ◌≤◌, false, IfOk, OnOk, is_ok};
 ghost use Rattle.sqlite.specs.Held.{state};
+ghost use Rattle.sqlite.specs.State.{HasCleanDisk};
 ghost use Rattle.sqlite_trees.specs.View.{doubt};
+ghost use Rattle.world.specs.World.{only_common};
+ghost use Rattle.tables.specs.Means.{StandsFor};
 ghost use Rattle.statements.specs.Calls.{Spares, ChangesAt};
+ghost use Rattle.statements.specs.Rows.{GoesOn, Writing};
 ghost use Rattle.setup.specs.Extracted.{InEachTwo};
-ghost use Rattle.setup.specs.Parts.{IsJudged, is_fit, is_written, wanted_part};
+ghost use Rattle.setup.specs.Parts.{IsJudged, is_fit, is_written, registry_of, wanted_part};
 
 use crate::choice::Wanted;
 use crate::judge::{Judged, judge};
-use crate::write::write_part;
-use sqlite::{Alter, Connection};
+use crate::write::{write_part, write_registry};
+use sqlite::{Alter, Connection, Transaction};
 use statements::extract_rows::CopyError;
+use statements::shelves::find_shelves;
 use std::alloc::Global;
 
 /// Copies the wanted shelves into a fresh store, if they exist and the store has only `common`, and returns the
@@ -43,4 +48,22 @@ pub fn copy_shelves<S: Alter, F: Alter>(
         Judged::NoTeam => Ok(Judged::NoTeam),
         Judged::NotEmpty => Ok(Judged::NotEmpty),
     }
+}
+
+/// Writes all shelves and keys of a store into one that has only `common`, inside a transaction of it. Fails with
+/// `Source` or `Fresh`, by the store that failed.
+pub fn copy_registry<S: Alter, F: Alter>(
+    alloc: Global,
+    source: &mut Connection<S>,
+    tx: &mut Transaction<'_, F>,
+) -> Result<(), CopyError>
+    ensures reads { Spares (state S.Store source.old) (state S.Store source.new) }
+    ensures same_reference { tx.new.conn.ghost_name ≡ tx.old.conn.ghost_name }
+    ensures goes_on { GoesOn (state F.Store tx.old.conn.now) (state F.Store tx.new.conn.now) (is_ok result) }
+    ensures copies { HasCleanDisk (state S.Store source.new) → HasCleanDisk (state F.Store tx.new.conn.now)
+        → (w : _) → StandsFor (state S.Store source.old) w → Writing (state F.Store tx.old.conn.now) only_common
+        → OnOk result (Writing (state F.Store tx.new.conn.now) (registry_of w)) }
+{
+    let shelves = find_shelves(alloc, source)?;
+    write_registry(source, &shelves, tx)
 }

@@ -9,7 +9,7 @@ ghost use Rattle.tables.specs.Means.{Stands};
 ghost use Rattle.statements.specs.Calls.{IsOpenIfHonest, Spares, ChangesAt};
 ghost use Rattle.statements.specs.Extract.{IsReady, Copies, PutsShelf, Along};
 ghost use Rattle.statements.specs.Shelves.{names_of, AreShelves};
-ghost use Rattle.setup.specs.Parts.{part_of, Puts, PutsShelves, CopiesRows, MakesPart};
+ghost use Rattle.setup.specs.Parts.{part_of, Puts, PutsRegistry, PutsShelves, CopiesRows, MakesPart, MakesRegistry};
 
 use sqlite::{Alter, Connection, Error, ErrorCode, Transaction};
 use statements::extract_rows::{CopyError, copy_keys, copy_pieces, copy_versions};
@@ -90,6 +90,29 @@ fn copy_along<S: Alter, F: Alter>(
     Ok(())
 }
 
+/// Writes the rows of these shelves, each after its parent, into a store that has only `common`, and copies the keys of
+/// `common` and of these shelves.
+pub(crate) fn write_registry<S: Alter, F: Alter>(
+    source: &mut Connection<S>,
+    shelves: &ShelfList,
+    tx: &mut Transaction<'_, F>,
+) -> Result<(), CopyError>
+    ensures same_reference { tx.new.conn.ghost_name ≡ tx.old.conn.ghost_name }
+    ensures rows { Copies (PutsRegistry shelves.now)
+        (state S.Store source.old) (state S.Store source.new)
+        (state F.Store tx.old.conn.now) (state F.Store tx.new.conn.now) (is_ok result) }
+    ensures fills { Copies (MakesRegistry shelves.now)
+        (state S.Store source.old) (state S.Store source.new)
+        (state F.Store tx.old.conn.now) (state F.Store tx.new.conn.now) (is_ok result) }
+{
+    let shelves = shelves.as_slice();
+    match put_shelves(tx, shelves) {
+        Ok(()) => {}
+        Err(error) => return Err(CopyError::Fresh(error)),
+    }
+    copy_along(source, Rows::Keys, shelves, tx)
+}
+
 /// Fills a store that has only `common`: writes the rows of these shelves, each after its parent, and copies the keys,
 /// the versions and the zips of `common` and of these shelves.
 fn fill<S: Alter, F: Alter>(
@@ -102,12 +125,8 @@ fn fill<S: Alter, F: Alter>(
         (state S.Store source.old) (state S.Store source.new)
         (state F.Store tx.old.conn.now) (state F.Store tx.new.conn.now) (is_ok result) }
 {
+    write_registry(source, shelves, tx)?;
     let shelves = shelves.as_slice();
-    match put_shelves(tx, shelves) {
-        Ok(()) => {}
-        Err(error) => return Err(CopyError::Fresh(error)),
-    }
-    copy_along(source, Rows::Keys, shelves, tx)?;
     copy_along(source, Rows::Versions, shelves, tx)?;
     copy_along(source, Rows::Pieces, shelves, tx)
 }

@@ -1,0 +1,3 @@
+pub mod SubsetLemmas
+pub mod HoldLemmas
+pub mod RowLemmas

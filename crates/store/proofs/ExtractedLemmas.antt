@@ -104,6 +104,26 @@ on_err_both : (A : Type 0) {B : Type 0} (r : Result (Unit {0}) StoreRefusal) →
 on_err_both A (Ok u) b a = tt
 on_err_both A (Err e) b a = (a, b)
 
+-- so does what `FillsAt` says, if the fresh store caches nothing
+pub fills_at_kept : (There : Type 0) (next x : World) (a b : State) (old new : Kept) (n m : ℕ)
+    (r : Result (Unit {0}) StoreRefusal) → IsNothing new → FillsAt (shown_of a) (shown_of b) There next x r
+    → FillsAt (shown_with a old n) (shown_with b new m) There next x r
+fills_at_kept There next x a b old new n m r none it = record {
+  tells = it.tells;
+  ok = on_ok_both (StandsFor b next) r (nothing_kept next new none) it.ok;
+  err = on_err_both (StandsFor b x) r (nothing_kept x new none) it.err;
+  crash = fill_kept a b old new n m x next r it.crash;
+}
+
+-- so does what a store that was only read shows
+pub read_kept : (a b : State) (old new : Kept) (n m : ℕ) → IsNothing new → IsRead (shown_of a) (shown_of b)
+    → IsRead (shown_with a old n) (shown_with b new m)
+read_kept a b old new n m none read = record {
+  honest = read.honest;
+  stays = λ h w so. (read.stays h w so.0, nothing_kept w new none);
+  left = λ h w x y so. read.left h w x y so.0;
+}
+
 -- a fill holds with what the stores cache too, if the source caches what it did, and the fresh store nothing
 pub fills_kept : (There : World → Type 0) (next : World → World) (a a_new b b_new : State)
     (kept kept_new old new : Kept) (n n_new m m_new : ℕ) (r : Result (Unit {0}) StoreRefusal) → kept_new ≡ kept
@@ -117,19 +137,9 @@ fills_kept There next a a_new b b_new kept kept_new old new n n_new m m_new r sa
     left = λ h w x y so. does.reads.left h w x y so.0;
   };
   honest = does.honest;
-  spares = λ unfit. let read = does.spares unfit in record {
-    honest = read.honest;
-    stays = λ h w so. (read.stays h w so.0, nothing_kept w new none);
-    left = λ h w x y so. read.left h w x y so.0;
-  };
+  spares = λ unfit. read_kept b b_new old new m m_new none (does.spares unfit);
   at = λ h good w x sw sx.
-      let it = does.at h good w x sw.0 sx.0 in
-      record {
-        tells = it.tells;
-        ok = on_ok_both (StandsFor b_new (next w)) r (nothing_kept (next w) new none) it.ok;
-        err = on_err_both (StandsFor b_new x) r (nothing_kept x new none) it.err;
-        crash = fill_kept b b_new old new m m_new x (next w) r it.crash;
-      };
+      fills_at_kept (There w) (next w) x b b_new old new m m_new r none (does.at h good w x sw.0 sx.0);
 }
 
 -- ---- one team

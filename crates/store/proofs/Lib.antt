@@ -8,3 +8,4 @@ pub mod MigratedLemmas
 pub mod OlderLemmas
 pub mod CountedLemmas
 pub mod LookLemmas
+pub mod BetweenLemmas

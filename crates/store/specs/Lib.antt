@@ -9,3 +9,4 @@ pub mod Restart
 pub mod Migrated
 pub mod Older
 pub mod Still
+pub mod Between

@@ -27,6 +27,7 @@
 //! | `team_add`, `group_add`, `key_add` | `add_team`, `add_group`, `add_key` of `statements::registry` |
 //! | `key_revoke`, `keys_revoke` | `statements::revoke::revoke_key`, `revoke_keys` |
 //! | `extract`, `extract_teams`, `copy` | `setup::copy::copy_shelves`, which writes in one transaction |
+//! | `copy_between` | `setup::copy::copy_registry`, and `slices::slice::copy_slice` again and again, in one transaction |
 //! | `keys`, `shelves` | `statements::named::find_keys`, `find_shelf_names` |
 //! | `parent` | `statements::registry::find_shelf` |
 //! | `migrate` | `older::schema::format_of`, and `older_rows::write::write_world`, into a fresh store in one transaction |
@@ -38,6 +39,7 @@
 //! and otherwise `Device`, which is counted.
 #![tactic(auto)]
 
+pub mod between;
 mod chain;
 mod counting;
 mod extract;

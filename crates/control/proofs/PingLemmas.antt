@@ -1,10 +1,13 @@
 -- What a ping is told.
-use Rattle.std.proofs.Common.{ℕ, Ok, Err, inl, inr}
+use Rattle.std.proofs.Common.{ℕ, ◌≡◌, List, Result, Ok, Err, inl, inr, refl, subst, sym}
 use Rattle.world.specs.Store.{Shown}
+use Rattle.world.specs.declared.registry.StoreFault.{StoreFault}
 use Rattle.world.specs.declared.registry.StoreFault.TheVariants.{Memory}
 use Rattle.control.specs.Copying.{IsOnlyRead}
 use Rattle.control.specs.Health.{IsPinged}
-use Rattle.control.specs.Pinging.{IsLineFor, Pings}
+use Rattle.control.specs.Listing.{told_of_list}
+use Rattle.control.specs.Pinging.{IsLineFor, Pings, TellsPing}
+use Rattle.control.specs.declared.health.Figures.{Figures}
 use Rattle.control.specs.declared.health.Health.{Health}
 use Rattle.control.specs.declared.tally.Tally.{Tally}
 use Rattle.control.specs.declared.told.Told.{Told}
@@ -18,3 +21,28 @@ pings_counted shown counted tally old new health told reads came line = elim lin
   | inl is ↦ record { heard = Ok health; reads = reads; came = came; tells = is }
   | inr is ↦ record { heard = Err Memory; reads = reads; came = λ e. cc; tells = is }
 ]
+
+module _ (known : Figures → Type 0) (pinged : Result Health StoreFault → Type 0) where
+  -- what is told of a health is told of it, and of nothing else
+  tells_ping : (health : Health) (told : Told) → pinged (Ok health) → known health.figures → IsLineFor health told
+      → TellsPing known pinged told
+  tells_ping health told came is line = elim line [
+    | inl e ↦ subst (TellsPing known pinged) (sym e) (health, came, is, refl)
+    | inr e ↦ subst (TellsPing known pinged) (sym e) tt
+  ]
+
+  told_of_none : (heard : Result (List ℕ) StoreFault) → TellsPing known pinged (told_of_list heard)
+  told_of_none (Ok text) = tt
+  told_of_none (Err fault) = tt
+
+  -- a list is no health
+  pub tells_no_ping : (heard : Result (List ℕ) StoreFault) (told : Told) → told ≡ told_of_list heard
+      → TellsPing known pinged told
+  tells_no_ping heard told is = subst (TellsPing known pinged) (sym is) (told_of_none heard)
+
+-- what is told of versions that were counted
+pub tells_counted : (known : Figures → Type 0) (tally : Tally) (before now : ℕ) (counted : ℕ → Type 0)
+    (health : Health) (told : Told) → health.tally ≡ tally → health.store_failures ≡ now → counted health.versions
+    → known health.figures → IsLineFor health told → TellsPing known (IsPinged tally before now counted) told
+tells_counted known tally before now counted health told same failures versions is line =
+    tells_ping known (IsPinged tally before now counted) health told (same, failures, versions) is line

@@ -1,12 +1,16 @@
 -- What was answered since a server began, and the line that tells it.
 use Rattle.std.specs.Prelude.{ℕ, ◌≡◌, ◌+◌, ◌/◌, ◌<◌, ◌++◌, nat_eq, cond, Bool, true, false}
-use Rattle.std.specs.Prelude.{List, length, codes, decimal, count_by, Option, Some, None, Result, Ok, Err}
+use Rattle.std.specs.Prelude.{List, [], length, codes, decimal, count_by, Option, Some, None, option_copied, Result, Ok, Err}
+use Rattle.std.specs.FinMap as map
 use Rattle.world.specs.Store.{GrewOrFull}
 use Rattle.world.specs.declared.registry.StoreFault.{StoreFault}
 use Rattle.world.specs.declared.registry.StoreFault.TheVariants.{Device}
 use Rattle.engine.specs.declared.fault.Io.{Io}
+use Rattle.control.specs.Traffic as traffic
+use Rattle.control.specs.declared.health.Figures.{Figures}
 use Rattle.control.specs.declared.health.Health.{Health}
 use Rattle.control.specs.declared.tally.Tally.{Tally}
+use Rattle.control.specs.declared.traffic.Traffic.{Traffic}
 
 -- what became of one connection: the status that was written, none where the peer sent nothing, or that it failed
 abbrev pub Answered : Type 0
@@ -66,22 +70,56 @@ counts_text t =
     ++ codes " 5xx=" ++ decimal t.failed
     ++ codes " unanswered=" ++ decimal t.unanswered
 
--- the line of a health behind a text of its counts, with its end
-abbrev pub line_behind : List ℕ → Health → List ℕ
-line_behind counts h =
+-- a word that tells a number under a name, or none
+abbrev pub number_word : List ℕ → Option ℕ → List ℕ
+number_word name None = []
+number_word name (Some n) = name ++ decimal n
+
+-- a word that tells a time under a name, or none
+abbrev pub time_word : List ℕ → Option (List ℕ) → List ℕ
+time_word name None = []
+time_word name (Some time) = name ++ time
+
+-- how many shelves have counts
+abbrev pub shelves_in : Option Traffic → ℕ
+shelves_in None = 0
+shelves_in (Some t) = map.len t.shelves
+
+-- the lines of the shelves that have counts
+abbrev pub lines_in : Option Traffic → List ℕ
+lines_in None = []
+lines_in (Some t) = traffic.lines_of t
+
+-- the words that tell what is known of the file and of copies
+abbrev pub words_of : Figures → List ℕ
+words_of f =
+    number_word (codes " bytes=") f.bytes ++ (number_word (codes " log=") f.log ++ time_word (codes " copied=") f.copied)
+
+-- how many shelves have counts, the end of the line, and their lines
+abbrev pub shelves_text : Figures → List ℕ
+shelves_text f =
+    codes " shelves=" ++ decimal (shelves_in (option_copied f.traffic)) ++ codes "\n" ++ lines_in (option_copied f.traffic)
+
+-- the words of a health behind a text of its counts, up to the versions
+abbrev pub begin_behind : List ℕ → Health → List ℕ
+begin_behind counts h =
     counts
     ++ codes " store-failures=" ++ decimal h.store_failures
     ++ codes " since=" ++ h.tally.since
     ++ codes " versions=" ++ decimal h.versions
-    ++ codes "\n"
 
--- the line of a health, with its end
+-- the line of a health and those of its shelves, with their ends
 abbrev pub line_of : Health → List ℕ
-line_of h = line_behind (counts_text h.tally) h
+line_of h = begin_behind (counts_text h.tally) h ++ (words_of h.figures ++ shelves_text h.figures)
 
--- a line is a health's
+-- the names among the counts are those of shelves
+abbrev pub HasNamesIf : Option Traffic → Type 0
+HasNamesIf None = Unit {0}
+HasNamesIf (Some t) = traffic.HasNames t
+
+-- lines are a health's
 abbrev pub IsHealthLine : List ℕ → Type 0
-IsHealthLine line = (h : Health) × (line ≡ line_of h)
+IsHealthLine line = (h : Health) × HasNamesIf (option_copied h.figures.traffic) × (line ≡ line_of h)
 
 -- What a ping comes to: these counts, the failures of the store up to now, and versions that were counted. Or the store
 -- met a fault, or there was no memory.

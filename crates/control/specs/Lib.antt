@@ -1,5 +1,6 @@
 pub mod Asking
 pub mod Copying
+pub mod Figures
 pub mod Health
 pub mod Hearing
 pub mod Isolated
@@ -14,6 +15,7 @@ pub mod Outcome
 pub mod Pace
 pub mod Pinging
 pub mod Told
+pub mod Traffic
 pub mod Turns
 pub mod Visits
 pub mod Words

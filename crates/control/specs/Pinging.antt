@@ -4,11 +4,13 @@ use Rattle.world.specs.Store.{Shown}
 use Rattle.world.specs.declared.registry.StoreFault.{StoreFault}
 use Rattle.world.specs.declared.registry.StoreFault.TheVariants.{Memory}
 use Rattle.control.specs.Copying.{IsOnlyRead}
-use Rattle.control.specs.Health.{IsPinged}
+use Rattle.control.specs.Health.{IsPinged, line_of}
 use Rattle.control.specs.Hearing.{told_of_ping}
+use Rattle.control.specs.declared.health.Figures.{Figures}
 use Rattle.control.specs.declared.health.Health.{Health}
 use Rattle.control.specs.declared.tally.Tally.{Tally}
 use Rattle.control.specs.declared.told.Told.{Told}
+use Rattle.control.specs.declared.told.Told.TheVariants as spoken
 
 -- the line of this health is told, or that there was no memory for it
 abbrev pub IsLineFor : Health → Told → Type 0
@@ -22,3 +24,9 @@ pub record Pings
   pub reads : IsOnlyRead (shown old) (shown new)
   pub came : IsPinged tally (shown old).failures (shown new).failures (counted old new) heard
   pub tells : told ≡ told_of_ping heard
+
+-- where the lines of a health are told, it came of the ping, and this is known of its figures
+abbrev pub TellsPing : (Figures → Type 0) → (Result Health StoreFault → Type 0) → Told → Type 0
+TellsPing known pinged (spoken.Health lines) = (h : Health) × pinged (Ok h) × known h.figures × (lines ≡ line_of h)
+TellsPing known pinged (spoken.Outcome outcome) = Unit {0}
+TellsPing known pinged (spoken.List lines) = Unit {0}

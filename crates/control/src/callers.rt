@@ -2,9 +2,11 @@
 ghost use Rattle.std.specs.Prelude.{◌≡◌, [], IfOk, IfErr, IfSome};
 ghost use Rattle.engine.specs.Causes.{IsCausedIn};
 ghost use Rattle.histories.specs.Timing.{KeepsTime};
+ghost use Rattle.control.specs.Health.{IsPinged};
 ghost use Rattle.control.specs.Hearing.{ObeysBy};
 ghost use Rattle.control.specs.Line.{most_tries};
 ghost use Rattle.control.specs.Pace.{time_for_order};
+ghost use Rattle.control.specs.Pinging.{TellsPing};
 ghost use Rattle.control.specs.Visits.{IsUnheard};
 
 use crate::copies::Copies;
@@ -54,9 +56,11 @@ pub trait Operator {
     ghost use Rattle.histories.specs.Timing.{KeepsTime};
     ghost use Rattle.histories.specs.declared.call.Call.{Call};
     ghost use Rattle.engine.specs.Causes.{IsCausedIn};
+    ghost use Rattle.control.specs.Health.{IsPinged};
     ghost use Rattle.control.specs.Hearing.{ObeysBy};
     ghost use Rattle.control.specs.Line.{most_tries};
     ghost use Rattle.control.specs.Pace.{time_for_order};
+    ghost use Rattle.control.specs.Pinging.{TellsPing};
 
     /// The bytes that came from it so far.
     ghost came: { Self → Account };
@@ -76,7 +80,7 @@ pub trait Operator {
     /// The calls that bear on how long a write to it waits, the last of them first.
     ghost write_calls: { Self → List Call };
 
-    /// Carries out its order, as `obey` does. A ping gets this tally.
+    /// Carries out its order, as `obey` does. A ping gets this tally, and the figures that `copies` has.
     fn obeyed<C: Clock, S: Keyring, K: Copies<S>>(
         self,
         alloc: Global,
@@ -89,6 +93,9 @@ pub trait Operator {
         Self: Sized,
         ensures obeys { ObeysBy S.shown K.copied K.counted tally.now shelves.old shelves.new
             (came self) (came result.operator) (written self) (written result.operator) result.told }
+        // A ping is told what `copies` knows of the store, and nothing else.
+        ensures figures { IfOk result.told (TellsPing (K.figured shelves.new) (IsPinged tally.now
+            (S.shown shelves.old).failures (S.shown shelves.new).failures (K.counted shelves.old shelves.new))) }
         // It fails only if a call to read or to write failed or was refused, or if no read is left.
         ensures cause { IfErr result.told (IsCausedIn most_tries
             (reads self) (reads result.operator) (writes self) (writes result.operator)) }
@@ -149,6 +156,8 @@ fn obey_since<
         (⟦<Hearing<R> as Hear>⟧.account operator.reader) (⟦<Hearing<R> as Hear>⟧.account result.operator.reader)
         (⟦<Telling<W> as Write>⟧.contents operator.writer) (⟦<Telling<W> as Write>⟧.contents result.operator.writer)
         result.told }
+    ensures figures { IfOk result.told (TellsPing (K.figured shelves.new) (IsPinged tally.now
+        (S.shown shelves.old).failures (S.shown shelves.new).failures (K.counted shelves.old shelves.new))) }
     ensures cause { IfErr result.told (IsCausedIn most_tries
         (⟦<Hearing<R> as Hear>⟧.reads operator.reader) (⟦<Hearing<R> as Hear>⟧.reads result.operator.reader)
         (⟦<Telling<W> as Tell>⟧.writes operator.writer) (⟦<Telling<W> as Tell>⟧.writes result.operator.writer)) }

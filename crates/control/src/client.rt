@@ -11,9 +11,7 @@ ghost use Rattle.control.specs.Told.{bytes_told};
 ghost use Rattle.control.specs.Words.{said, text_of, behind, line_end};
 
 use crate::health::health_line_in;
-use crate::line::{
-    LONGEST, LONGEST_COPY, PING_LINE, STOP_LINE, line_in, read_all, read_line, read_to,
-};
+use crate::line::{LONGEST, LONGEST_COPY, PING_LINE, STOP_LINE, line_in, read_all, read_line};
 use crate::listing::{Listing, list_in};
 use crate::order::Order;
 use crate::outcome::Outcome;
@@ -25,9 +23,6 @@ use histories::{Hear, Tell};
 use std::alloc::{AllocError, Global};
 use world::bytes::Bytes;
 use world::entry::Right;
-
-/// The most bytes of a health line without its end. The longest has at most 232, where each count has all its digits.
-const LONGEST_HEALTH: usize = 255;
 
 /// Why no outcome was read.
 #[derive(Clone, Copy, Debug, Drop, PartialEq, Eq)]
@@ -117,8 +112,8 @@ pub fn ask_to_stop<R: Hear, W: Tell>(
     send(alloc, reader, writer, STOP_LINE)
 }
 
-/// Asks for the health of the server, and returns its line, or an outcome if the server sends one instead. Fails only
-/// with `Untold::Io`: the line was not sent whole, or neither a health nor an outcome was read.
+/// Asks for the health of the server, and returns its lines, or an outcome if the server sends one instead. Fails only
+/// with `Untold::Io`: the line was not sent whole, memory ran out, or neither a whole health nor an outcome was read.
 pub fn ask_for_health<R: Hear, W: Tell>(
     alloc: Global,
     reader: &mut R,
@@ -288,11 +283,11 @@ fn hear_outcome<R: Hear>(alloc: Global, reader: &mut R) -> Result<Outcome, Untol
     }
 }
 
-/// Reads the line of a health, or of an outcome.
+/// Reads the lines of a health to their end, or the line of an outcome.
 fn hear_health<R: Hear>(alloc: Global, reader: &mut R) -> Result<Told, Untold>
     ensures { TellsHealth (R.remaining reader.old) (R.remaining reader.new) result }
 {
-    let Ok(got) = read_to(alloc, reader, LONGEST_HEALTH) else {
+    let Ok(got) = read_all(alloc, reader) else {
         return Err(Untold::Io);
     };
     match told_in(alloc, &got) {
@@ -327,7 +322,7 @@ fn listed_in(alloc: Global, got: &[u8]) -> Option<Result<Bytes, Outcome>>
     }
 }
 
-/// What the bytes tell, if they are the line of an outcome or of a health.
+/// What the bytes tell, if they are the line of an outcome or the lines of a health.
 fn told_in(alloc: Global, got: &[u8]) -> Option<Told>
     ensures line { IfSome result (λ told. got.now ≡ bytes_told told) }
     ensures told { IfSome result IsTold }

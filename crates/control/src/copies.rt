@@ -1,4 +1,6 @@
 //! What reads a store that is served: copies of it, and how much it keeps.
+use crate::health::Figures;
+use modver::TimeText;
 use world::registry::StoreFault;
 use world::shelves::Shelves;
 
@@ -15,9 +17,10 @@ pub enum CopyRefusal {
 
 /// What copies a store between two requests, and counts what it keeps.
 pub trait Copies<S: Shelves> {
-    ghost use Rattle.std.specs.Prelude.{ℕ, List, Result, IfOk};
+    ghost use Rattle.std.specs.Prelude.{ℕ, ◌≡◌, List, [], ◌∷◌, ◌++◌, Result, IfOk, IfSome};
     ghost use Rattle.control.specs.Copying.{IsOnlyRead};
     ghost use Rattle.control.specs.declared.copies.CopyRefusal.{CopyRefusal};
+    ghost use Rattle.control.specs.declared.health.Figures.{Figures};
     ghost use Rattle.world.specs.Store.{HasCause};
 
     /// What a copy does: relates the served store before and after it, the path, and the result.
@@ -25,6 +28,12 @@ pub trait Copies<S: Shelves> {
 
     /// What a count says, by the served store before and after it, and the number.
     ghost counted: { S → S → ℕ → Type 0 };
+
+    /// What is known of the figures of a served store, by the store.
+    ghost figured: { S → Figures → Type 0 };
+
+    /// The times that it showed so far, the oldest first.
+    ghost times: { Self → List (List ℕ) };
 
     /// Returns the name of the file of the served store, for those who read it.
     fn served(&self) -> &str;
@@ -45,4 +54,12 @@ pub trait Copies<S: Shelves> {
         ensures reads { IsOnlyRead (S.shown shelves.old) (S.shown shelves.new) }
         ensures cause { HasCause (S.shown shelves.old) (S.shown shelves.new) result }
         ensures counted { IfOk result (λ n. counted shelves.old shelves.new n) };
+
+    /// Returns what is known of the served store beside its versions. Does not open its file.
+    fn figures<'s>(&self, shelves: &'s S) -> Figures<'s>
+        ensures { figured shelves.now result };
+
+    /// Returns the time in UTC, to the second. None if it can't be read.
+    fn time_now(&mut self) -> Option<TimeText>
+        ensures { IfSome result (λ time. times self.new ≡ times self.old ++ time ∷ []) };
 }

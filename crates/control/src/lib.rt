@@ -5,7 +5,7 @@
 //! |---|---|
 //! | the lines of operators, and which one some bytes are | [`Line`], [`line_of_bytes`] |
 //! | the orders that change a store, and what makes a copy of it | [`Order`], [`Copies`] |
-//! | what a ping is told: how connections were answered, and more that an operator watches | [`Tally`], [`Health`] |
+//! | what a ping is told: how connections were answered, what was counted by shelf, and more | [`Tally`], [`Health`] |
 //! | the lists of keys and of shelves | [`Listing`] |
 //! | what came of an order, and the line that tells it | [`Outcome`], [`Told`] |
 //! | taking an operator's line, and carrying its order out | [`obey`], [`carry_out`] |
@@ -39,6 +39,7 @@ mod socket_file;
 mod tally;
 mod telling;
 mod told;
+mod traffic;
 mod two_words;
 mod watched;
 mod words;
@@ -49,7 +50,7 @@ pub use client::{
     Untold, ask, ask_for_health, ask_for_list, ask_to_copy, ask_to_revoke, ask_to_stop,
 };
 pub use copies::{Copies, CopyRefusal};
-pub use health::Health;
+pub use health::{Figures, Health};
 pub use listing::Listing;
 pub use notice::{Notice, ended, opened};
 pub use obeying::obey;
@@ -61,3 +62,4 @@ pub use socket_file::{operators_at, remove_socket, server_at};
 pub use tally::Tally;
 pub use telling::tell;
 pub use told::Told;
+pub use traffic::{ShelfTraffic, Traffic, Transfer};

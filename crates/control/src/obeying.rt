@@ -1,8 +1,10 @@
 //! One order.
 ghost use Rattle.std.specs.Prelude.{◌≡◌, [], IfOk, IfErr, OnOk};
 ghost use Rattle.engine.specs.Causes.{FailsWith, IsCausedIn, IsUnreadable};
+ghost use Rattle.control.specs.Health.{IsPinged};
 ghost use Rattle.control.specs.Hearing.{HeedsBy, HearsBy, ObeysBy, TellsLine};
 ghost use Rattle.control.specs.Line.{most_tries};
+ghost use Rattle.control.specs.Pinging.{TellsPing};
 
 use crate::carry::carry_out;
 use crate::copies::Copies;
@@ -25,8 +27,8 @@ use world::registry::StoreFault;
 /// copies.
 ///
 /// `Outcome::Stopping`: the server is to end. `Told::Health`: the line is a ping, which gets the tally, the failures of
-/// the store and the versions that `copies` counts. `Told::List`: the line asks for a list. `Outcome::Failed` with
-/// `StoreFault::Memory` also means that memory ran out for the line, and that nothing was done.
+/// the store, and the versions and the figures that `copies` has of it. `Told::List`: the line asks for a list.
+/// `Outcome::Failed` with `StoreFault::Memory` also means that memory ran out for the line, and that nothing was done.
 ///
 /// `Io::Read`: nothing was done, and nothing written. `Io::Write`: a write or the flush failed; a beginning of the line
 /// was written or all of it, and the shelves are as after the order.
@@ -40,6 +42,9 @@ pub fn obey<R: Hear, W: Tell, S: Keyring, K: Copies<S>>(
 ) -> Result<Told, Io>
     ensures obeys { ObeysBy S.shown K.copied K.counted tally.now shelves.old shelves.new
         (R.account reader.old) (R.account reader.new) (W.contents writer.old) (W.contents writer.new) result }
+    // A ping is told what `copies` knows of the store, and nothing else.
+    ensures figures { IfOk result (TellsPing (K.figured shelves.new) (IsPinged tally.now (S.shown shelves.old).failures
+        (S.shown shelves.new).failures (K.counted shelves.old shelves.new))) }
     // It fails only if a call of the reader or of the writer failed, or if no read is left.
     ensures cause { IfErr result (IsCausedIn most_tries (R.reads reader.old) (R.reads reader.new)
         (W.writes writer.old) (W.writes writer.new)) }
@@ -80,6 +85,8 @@ fn hear<R: Hear, S: Keyring, K: Copies<S>>(
 ) -> Result<Told, Io>
     ensures hears { HearsBy S.shown K.copied K.counted tally.now shelves.old shelves.new
         (R.account reader.old) (R.account reader.new) result }
+    ensures figures { IfOk result (TellsPing (K.figured shelves.new) (IsPinged tally.now (S.shown shelves.old).failures
+        (S.shown shelves.new).failures (K.counted shelves.old shelves.new))) }
     ensures cause { IfErr result (λ _. IsUnreadable most_tries (R.reads reader.old) (R.reads reader.new)) }
 {
     match read_line(alloc, reader) {
@@ -97,7 +104,9 @@ fn heed<S: Keyring, K: Copies<S>>(
     shelves: &mut S,
     copies: &mut K,
 ) -> Told
-    ensures { HeedsBy S.shown K.copied K.counted tally.now shelves.old shelves.new got.now result }
+    ensures heeds { HeedsBy S.shown K.copied K.counted tally.now shelves.old shelves.new got.now result }
+    ensures figures { TellsPing (K.figured shelves.new) (IsPinged tally.now (S.shown shelves.old).failures
+        (S.shown shelves.new).failures (K.counted shelves.old shelves.new)) result }
 {
     match line_of_bytes(got) {
         Some(Line::Stop) => Told::Outcome(Outcome::Stopping),

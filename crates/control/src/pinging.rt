@@ -1,6 +1,7 @@
 //! What a ping gets.
 ghost use Rattle.std.specs.Prelude.{◌≡◌};
-ghost use Rattle.control.specs.Pinging.{Pings, IsLineFor};
+ghost use Rattle.control.specs.Health.{IsPinged};
+ghost use Rattle.control.specs.Pinging.{Pings, IsLineFor, TellsPing};
 
 use crate::copies::Copies;
 use crate::health::Health;
@@ -11,15 +12,18 @@ use std::alloc::Global;
 use world::registry::StoreFault;
 use world::shelves::Shelves;
 
-/// Counts the versions that the store keeps, and returns what a ping gets: the line of the health, with the tally and
-/// the failures of the store. Returns `Outcome::Failed` if the count fails or memory runs out for the line.
+/// Counts the versions that the store keeps, and returns what a ping gets: the lines of the health, with the tally, the
+/// failures of the store, and the figures that `copies` has of it. Returns `Outcome::Failed` if the count fails or
+/// memory runs out for the lines.
 pub(crate) fn ping<S: Shelves, K: Copies<S>>(
     alloc: Global,
     tally: &Tally,
     shelves: &mut S,
     copies: &mut K,
 ) -> Told
-    ensures { Pings S.shown K.counted tally.now shelves.old shelves.new result }
+    ensures pings { Pings S.shown K.counted tally.now shelves.old shelves.new result }
+    ensures figures { TellsPing (K.figured shelves.new) (IsPinged tally.now (S.shown shelves.old).failures
+        (S.shown shelves.new).failures (K.counted shelves.old shelves.new)) result }
 {
     match copies.versions(shelves) {
         Ok(versions) => tell(
@@ -28,13 +32,14 @@ pub(crate) fn ping<S: Shelves, K: Copies<S>>(
                 tally: *tally,
                 store_failures: shelves.failures(),
                 versions,
+                figures: copies.figures(shelves),
             },
         ),
         Err(fault) => Told::Outcome(Outcome::Failed(fault)),
     }
 }
 
-/// Returns the line of a health, or `Outcome::Failed(StoreFault::Memory)` if memory runs out for it.
+/// Returns the lines of a health, or `Outcome::Failed(StoreFault::Memory)` if memory runs out for them.
 fn tell(alloc: Global, health: &Health) -> Told
     ensures { IsLineFor health.now result }
 {

@@ -11,7 +11,7 @@ use world::bytes::Bytes;
 pub enum Told {
     /// What came of an order.
     Outcome(Outcome),
-    /// The line of the health that a ping asks for, with its end.
+    /// The lines of the health that a ping asks for, with their ends.
     Health(Text),
     /// A list that was asked for, with its last line.
     List(Bytes),

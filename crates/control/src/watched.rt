@@ -1,16 +1,31 @@
 //! A store that is served, with what has to be said of it.
-ghost use Rattle.std.specs.Prelude.{◌≡◌, IfErr, IfSome};
+ghost use Rattle.std.specs.Prelude.{◌≡◌, IfErr, IfSome, None, option_copied};
+ghost use Rattle.std.specs.FinMap as map;
+ghost use Rattle.control.specs.Copying.{IsOnlyRead};
+ghost use Rattle.control.specs.Figures.{NotesTime, TellsKept};
 ghost use Rattle.control.specs.Notices.{Copied, Met, Ordered, line_of};
+ghost use Rattle.control.specs.Traffic.{CountsIf, was_found, was_published};
+ghost use Rattle.modver.specs.SemanticVersion.{version_text};
+ghost use Rattle.world.specs.Latest.{latest_of};
+ghost use Rattle.world.specs.Registry.{after_group_add, after_key_add, after_key_revoke, after_keys_revoke};
+ghost use Rattle.world.specs.Registry.{after_team_add, group_added, key_added, key_revoked, keys_revoked, team_added};
+ghost use Rattle.world.specs.Standing.{standing};
+ghost use Rattle.world.specs.Store.{Does, DoesWhere, IsRoomFor, Reads};
+ghost use Rattle.world.specs.Versions.{versions_of};
+ghost use Rattle.world.specs.Visible.{paths_seen};
+ghost use Rattle.world.specs.World.{count, heading, place, view, with_entry};
 
 use crate::copies::{Copies, CopyRefusal};
 use crate::errand::Errand;
+use crate::health::Figures;
 use crate::notice::{Notice, answered, copied, met, ordered};
 use crate::order::Order;
 use crate::told::Told;
+use crate::traffic::{Traffic, Transfer};
 use engine::Io;
 use keyring::Keyring;
 use modpath::ModulePath;
-use modver::Version;
+use modver::{TimeText, Version};
 use std::alloc::Global;
 use std::marker::{Brand, PhantomData};
 use text::Text;
@@ -34,27 +49,34 @@ impl Loan for Brand {
 }
 
 /// A store that is lent, and the notice of the last order that it carried out, or of the last fault that it met for a
-/// request. It answers as the store inside does.
+/// request. It answers as the store inside does, and counts the publishes and fetches of each shelf.
 #[derive(Drop)]
 pub(crate) struct Watched<'a, N: Loan, S: Shelves> {
     alloc: Global,
     inner: &'a mut S,
     notice: Option<Notice>,
+    traffic: Traffic,
+    /// When the last copy was made, if one was and the time could be read then.
+    copied: Option<TimeText>,
     loan: PhantomData<N>,
     ghost same: { inner.ghost_name ≡ N.name },
 }
 
 impl<'a, N: Loan, S: Shelves> Watched<'a, N, S> {
-    /// Returns the store, of which nothing has to be said so far.
+    /// Returns the store, of which nothing has to be said and nothing is counted so far.
     pub(crate) fn new(alloc: Global, inner: &'a mut S) -> Watched<'a, N, S>
         requires { inner.ghost_name ≡ N.name }
         ensures same { result.inner.ghost_name ≡ inner.entry.ghost_name }
         ensures value { result.inner.now ≡ inner.old }
+        ensures counts { result.traffic.shelves ≡ map.empty }
+        ensures copied { result.copied ≡ None }
     {
         Watched {
             alloc,
             inner,
             notice: None,
+            traffic: Traffic::new(alloc),
+            copied: None,
             loan: PhantomData,
         }
     }
@@ -69,7 +91,8 @@ impl<'a, N: Loan, S: Shelves> Watched<'a, N, S> {
 
     /// Returns the notice, if there is one, and forgets it.
     pub(crate) fn take(&mut self) -> Option<Notice>
-        ensures { self.new.inner ≡ self.old.inner }
+        ensures same { self.new.inner ≡ self.old.inner }
+        ensures counts { self.new.traffic ≡ self.old.traffic }
     {
         self.notice.take()
     }
@@ -77,7 +100,8 @@ impl<'a, N: Loan, S: Shelves> Watched<'a, N, S> {
     /// Notes what an operator was told, unless the order that did it is noted. A list and the line of a ping are not
     /// noted: they change nothing.
     pub(crate) fn note_told(&mut self, told: &Result<Told, Io>)
-        ensures { self.new.inner ≡ self.old.inner }
+        ensures same { self.new.inner ≡ self.old.inner }
+        ensures counts { self.new.traffic ≡ self.old.traffic }
     {
         if self.notice.is_some() {
             return;
@@ -90,6 +114,7 @@ impl<'a, N: Loan, S: Shelves> Watched<'a, N, S> {
     /// Notes the fault of a call, if it met one.
     fn note_fault<T>(&mut self, errand: &Errand, told: &Result<T, StoreFault>)
         ensures same { self.new.inner ≡ self.old.inner }
+        ensures counts { self.new.traffic ≡ self.old.traffic }
         ensures noted { IfErr told.now (λ fault. IfSome self.new.notice (λ n. n.text ≡ line_of (Met errand.now fault))) }
     {
         if let Err(fault) = told {
@@ -100,6 +125,7 @@ impl<'a, N: Loan, S: Shelves> Watched<'a, N, S> {
     /// Notes an order that was carried out.
     fn note_order(&mut self, order: &Order, told: Result<RegistryReply, StoreFault>)
         ensures same { self.new.inner ≡ self.old.inner }
+        ensures counts { self.new.traffic ≡ self.old.traffic }
         ensures noted { IfSome self.new.notice (λ n. n.text ≡ line_of (Ordered order.now told)) }
     {
         self.notice = ordered(self.alloc, order, told).ok();
@@ -108,9 +134,40 @@ impl<'a, N: Loan, S: Shelves> Watched<'a, N, S> {
     /// Notes a copy that was ordered.
     fn note_copy(&mut self, path: &str, told: Result<(), CopyRefusal>)
         ensures same { self.new.inner ≡ self.old.inner }
+        ensures counts { self.new.traffic ≡ self.old.traffic }
+        ensures time { self.new.copied ≡ self.old.copied }
         ensures noted { IfSome self.new.notice (λ n. n.text ≡ line_of (Copied path.now told)) }
     {
         self.notice = copied(self.alloc, path, told).ok();
+    }
+
+    /// Notes when a copy was made, if the time could be read.
+    fn note_time(&mut self, time: Option<TimeText>)
+        ensures same { self.new.inner ≡ self.old.inner }
+        ensures noted { self.new.copied ≡ time }
+    {
+        self.copied = time;
+    }
+
+    /// Counts a fetch of a shelf if its zip was found.
+    fn count_fetch(&mut self, shelf: &str, told: &Result<Option<Seen>, StoreFault>)
+        ensures same { self.new.inner ≡ self.old.inner }
+        ensures counts { CountsIf (was_found told.now) Transfer.Fetch shelf.now self.old.traffic self.new.traffic }
+    {
+        if let Ok(Some(_)) = told {
+            self.traffic.count(self.alloc, shelf, Transfer::Fetch);
+        }
+    }
+
+    /// Counts a publish to a shelf if the store kept it.
+    fn count_publish(&mut self, shelf: &str, told: &Result<(), StoreFault>)
+        ensures same { self.new.inner ≡ self.old.inner }
+        ensures counts { CountsIf (was_published told.now) Transfer.Publish shelf.now
+            self.old.traffic self.new.traffic }
+    {
+        if let Ok(()) = told {
+            self.traffic.count(self.alloc, shelf, Transfer::Publish);
+        }
     }
 }
 
@@ -121,7 +178,11 @@ impl<'a, N: Loan, S: Shelves> Shelves for Watched<'a, N, S> {
         self.inner.failures()
     }
 
-    fn key(&mut self, key: &str) -> Result<Option<Holder>, StoreFault> {
+    fn key(&mut self, key: &str) -> Result<Option<Holder>, StoreFault>
+        ensures reads { Reads (S.shown self.old.inner.now) (S.shown self.new.inner.now) result
+            (λ w. map.get w.keys key.now) }
+        ensures counts { self.new.traffic ≡ self.old.traffic }
+    {
         let told = self.inner.key(key);
         self.note_fault(&Errand::Key, &told);
         told
@@ -132,9 +193,14 @@ impl<'a, N: Loan, S: Shelves> Shelves for Watched<'a, N, S> {
         shelf: &str,
         path: &ModulePath,
         version: &Version,
-    ) -> Result<Option<Seen>, StoreFault> {
+    ) -> Result<Option<Seen>, StoreFault>
+        ensures reads { Reads (S.shown self.old.inner.now) (S.shown self.new.inner.now) result
+            (λ w. view w shelf.now path.now (version_text version.now)) }
+        ensures counts { CountsIf (was_found result) Transfer.Fetch shelf.now self.old.traffic self.new.traffic }
+    {
         let told = self.inner.entry(shelf, path, version);
         self.note_fault(&fetch_of(path, version), &told);
+        self.count_fetch(shelf, &told);
         told
     }
 
@@ -143,7 +209,11 @@ impl<'a, N: Loan, S: Shelves> Shelves for Watched<'a, N, S> {
         shelf: &str,
         path: &ModulePath,
         version: &Version,
-    ) -> Result<Option<Heading>, StoreFault> {
+    ) -> Result<Option<Heading>, StoreFault>
+        ensures reads { Reads (S.shown self.old.inner.now) (S.shown self.new.inner.now) result
+            (λ w. heading w shelf.now path.now (version_text version.now)) }
+        ensures counts { self.new.traffic ≡ self.old.traffic }
+    {
         let told = self.inner.heading(shelf, path, version);
         self.note_fault(&fetch_of(path, version), &told);
         told
@@ -155,33 +225,53 @@ impl<'a, N: Loan, S: Shelves> Shelves for Watched<'a, N, S> {
         path: &ModulePath,
         version: &Version,
         entry: &EntryRef,
-    ) -> Result<Standing, StoreFault> {
+    ) -> Result<Standing, StoreFault>
+        ensures reads { Reads (S.shown self.old.inner.now) (S.shown self.new.inner.now) result
+            (λ w. standing w shelf.now path.now (version_text version.now) entry.now) }
+        ensures counts { self.new.traffic ≡ self.old.traffic }
+    {
         let told = self.inner.compare(shelf, path, version, entry);
         self.note_fault(&publish_of(path, version), &told);
         told
     }
 
-    fn versions(&mut self, shelf: &str, path: &ModulePath) -> Result<Versions, StoreFault> {
+    fn versions(&mut self, shelf: &str, path: &ModulePath) -> Result<Versions, StoreFault>
+        ensures reads { Reads (S.shown self.old.inner.now) (S.shown self.new.inner.now) result
+            (λ w. versions_of w shelf.now path.now) }
+        ensures counts { self.new.traffic ≡ self.old.traffic }
+    {
         let told = self.inner.versions(shelf, path);
         let path = path.as_str();
         self.note_fault(&Errand::Fetch { path }, &told);
         told
     }
 
-    fn latest(&mut self, shelf: &str, path: &ModulePath) -> Result<Option<Version>, StoreFault> {
+    fn latest(&mut self, shelf: &str, path: &ModulePath) -> Result<Option<Version>, StoreFault>
+        ensures reads { Reads (S.shown self.old.inner.now) (S.shown self.new.inner.now) result
+            (λ w. latest_of w shelf.now path.now) }
+        ensures counts { self.new.traffic ≡ self.old.traffic }
+    {
         let told = self.inner.latest(shelf, path);
         let path = path.as_str();
         self.note_fault(&Errand::Fetch { path }, &told);
         told
     }
 
-    fn paths(&mut self, shelf: &str) -> Result<TextSet, StoreFault> {
+    fn paths(&mut self, shelf: &str) -> Result<TextSet, StoreFault>
+        ensures reads { Reads (S.shown self.old.inner.now) (S.shown self.new.inner.now) result
+            (λ w. paths_seen w shelf.now) }
+        ensures counts { self.new.traffic ≡ self.old.traffic }
+    {
         let told = self.inner.paths(shelf);
         self.note_fault(&Errand::Modules, &told);
         told
     }
 
-    fn count(&mut self, shelf: &str, path: &ModulePath) -> Result<u64, StoreFault> {
+    fn count(&mut self, shelf: &str, path: &ModulePath) -> Result<u64, StoreFault>
+        ensures reads { Reads (S.shown self.old.inner.now) (S.shown self.new.inner.now) result
+            (λ w. count w shelf.now path.now) }
+        ensures counts { self.new.traffic ≡ self.old.traffic }
+    {
         let told = self.inner.count(shelf, path);
         let path = path.as_str();
         self.note_fault(&Errand::Publish { path }, &told);
@@ -194,42 +284,69 @@ impl<'a, N: Loan, S: Shelves> Shelves for Watched<'a, N, S> {
         path: &ModulePath,
         version: &Version,
         entry: &EntryRef,
-    ) -> Result<(), StoreFault> {
+    ) -> Result<(), StoreFault>
+        ensures does { DoesWhere (λ w. IsRoomFor w (place shelf.now path.now (version_text version.now)) entry.now)
+            (S.shown self.old.inner.now) (S.shown self.new.inner.now) result (λ _. tt)
+            (λ w. with_entry w (place shelf.now path.now (version_text version.now)) entry.now) }
+        ensures counts { CountsIf (was_published result) Transfer.Publish shelf.now self.old.traffic self.new.traffic }
+    {
         let told = self.inner.insert(shelf, path, version, entry);
         self.note_fault(&publish_of(path, version), &told);
+        self.count_publish(shelf, &told);
         told
     }
 
-    fn team_add(&mut self, name: &str, group: Option<&str>) -> Result<RegistryReply, StoreFault> {
+    fn team_add(&mut self, name: &str, group: Option<&str>) -> Result<RegistryReply, StoreFault>
+        ensures does { Does (S.shown self.old.inner.now) (S.shown self.new.inner.now) result
+            (λ w. team_added w name.now (option_copied group.entry))
+            (λ w. after_team_add w name.now (option_copied group.entry)
+            (team_added w name.now (option_copied group.entry))) }
+        ensures counts { self.new.traffic ≡ self.old.traffic }
+    {
         let told = self.inner.team_add(name, group);
         self.note_order(&Order::TeamAdd { name, group }, told);
         told
     }
 
-    fn group_add(&mut self, name: &str) -> Result<RegistryReply, StoreFault> {
+    fn group_add(&mut self, name: &str) -> Result<RegistryReply, StoreFault>
+        ensures does { Does (S.shown self.old.inner.now) (S.shown self.new.inner.now) result
+            (λ w. group_added w name.now)
+            (λ w. after_group_add w name.now (group_added w name.now)) }
+        ensures counts { self.new.traffic ≡ self.old.traffic }
+    {
         let told = self.inner.group_add(name);
         self.note_order(&Order::GroupAdd { name }, told);
         told
     }
 
-    fn key_add(
-        &mut self,
-        shelf: &str,
-        key: &str,
-        right: Right,
-    ) -> Result<RegistryReply, StoreFault> {
+    fn key_add(&mut self, shelf: &str, key: &str, right: Right) -> Result<RegistryReply, StoreFault>
+        ensures does { Does (S.shown self.old.inner.now) (S.shown self.new.inner.now) result
+            (λ w. key_added w shelf.now key.now)
+            (λ w. after_key_add w shelf.now key.now right (key_added w shelf.now key.now)) }
+        ensures counts { self.new.traffic ≡ self.old.traffic }
+    {
         let told = self.inner.key_add(shelf, key, right);
         self.note_order(&Order::KeyAdd { shelf, key, right }, told);
         told
     }
 
-    fn key_revoke(&mut self, key: &str) -> Result<RegistryReply, StoreFault> {
+    fn key_revoke(&mut self, key: &str) -> Result<RegistryReply, StoreFault>
+        ensures does { Does (S.shown self.old.inner.now) (S.shown self.new.inner.now) result
+            (λ w. key_revoked w key.now)
+            (λ w. after_key_revoke w key.now (key_revoked w key.now)) }
+        ensures counts { self.new.traffic ≡ self.old.traffic }
+    {
         let told = self.inner.key_revoke(key);
         self.note_order(&Order::KeyRevoke { key }, told);
         told
     }
 
-    fn keys_revoke(&mut self, shelf: &str) -> Result<RegistryReply, StoreFault> {
+    fn keys_revoke(&mut self, shelf: &str) -> Result<RegistryReply, StoreFault>
+        ensures does { Does (S.shown self.old.inner.now) (S.shown self.new.inner.now) result
+            (λ w. keys_revoked w shelf.now)
+            (λ w. after_keys_revoke w shelf.now (keys_revoked w shelf.now)) }
+        ensures counts { self.new.traffic ≡ self.old.traffic }
+    {
         let told = self.inner.keys_revoke(shelf);
         self.note_order(&Order::KeysRevoke { shelf }, told);
         told
@@ -266,10 +383,37 @@ impl<'a, 'b, N: Loan, S: Shelves, K: Copies<S>> Copies<Watched<'a, N, S>>
 
     ghost counted = { λ old new n. K.counted old.inner.now new.inner.now n };
 
-    fn copy(&mut self, shelves: &mut Watched<'a, N, S>, path: &str) -> Result<(), CopyRefusal> {
+    ghost figured = { λ w f. TellsKept (K.figured w.inner.now) w.traffic w.copied f };
+
+    ghost times = { λ c. K.times c.inner.now };
+
+    /// Also notes when the copy was made, if it was.
+    fn copy(&mut self, shelves: &mut Watched<'a, N, S>, path: &str) -> Result<(), CopyRefusal>
+        ensures reads { IsOnlyRead (S.shown shelves.old.inner.now) (S.shown shelves.new.inner.now) }
+        ensures came { K.copied shelves.old.inner.now shelves.new.inner.now path.now result }
+        ensures time { NotesTime (K.times self.new.inner.now) shelves.old.copied shelves.new.copied result }
+    {
         let told = self.inner.copy(shelves.inner, path);
         shelves.note_copy(path, told);
-        told
+        if let Err(why) = told {
+            return Err(why);
+        }
+        shelves.note_time(self.inner.time_now());
+        Ok(())
+    }
+
+    fn figures<'s>(&self, shelves: &'s Watched<'a, N, S>) -> Figures<'s> {
+        let sizes = self.inner.figures(shelves.inner);
+        Figures {
+            bytes: sizes.bytes,
+            log: sizes.log,
+            copied: shelves.copied,
+            traffic: Some(&shelves.traffic),
+        }
+    }
+
+    fn time_now(&mut self) -> Option<TimeText> {
+        self.inner.time_now()
     }
 
     fn versions(&mut self, shelves: &mut Watched<'a, N, S>) -> Result<u64, StoreFault> {

@@ -12,3 +12,6 @@ returns-clause-cause g c =
 
 pub returns-clause-flushed : goal.returns-clause-flushed
 returns-clause-flushed g c = rw c.into_inner-2.ensures.same c.obey-told.ensures.flushed
+
+pub returns-clause-figures : goal.returns-clause-figures
+returns-clause-figures g c = c.obey-told.ensures.figures

@@ -5,6 +5,6 @@ pub returns-in-Some : goal.returns-in-Some
 returns-in-Some g c =
     let laws = g.met.R.Hear in (
       c.in-Some.ensures.told,
-      line_consumed _ _ _ _ _ _ (laws.left_is c.args.reader.now) (laws.left_is c.read_to.new.reader)
-          c.in-Ok.ensures.reads.gives (rw c.deref.ensures.value at c.in-Some.ensures.line),
+      line_consumed _ _ _ _ _ _ (laws.left_is c.args.reader.now) (laws.left_is c.read_all.new.reader)
+          c.in-Ok.ensures (rw c.deref.ensures.value at c.in-Some.ensures.line),
     )

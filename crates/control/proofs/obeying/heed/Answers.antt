@@ -1,12 +1,14 @@
 use Rattle.std.proofs.Common.{refl, ap}
+use Rattle.control.specs.Health.{IsPinged}
 use Rattle.control.specs.Hearing.{Carried, Copied, Listed, Pinged, Named, Stop, NoOrder}
 use Rattle.control.specs.declared.told.Told.TheVariants as spoken
 use Rattle.control.proofs.ListingLemmas.{list_only_reads}
+use Rattle.control.proofs.PingLemmas.{tells_no_ping}
 use Rattle.control.proofs.TurnLemmas.{turns_none, turns_read, turns_ordered}
 use Rattle.control.proofs.obeying.heed.Goals as goal
 
-pub returns-in-Some-Stop : goal.returns-in-Some-Stop
-returns-in-Some-Stop g c = record {
+pub returns-in-Some-Stop-clause-heeds : goal.returns-in-Some-Stop-clause-heeds
+returns-in-Some-Stop-clause-heeds g c = record {
   heard = Stop;
   from = rw c.in-Some-Stop.field-0-is at c.in-Some-Stop.ensures;
   tells = refl;
@@ -15,18 +17,18 @@ returns-in-Some-Stop g c = record {
   lists = tt;
 }
 
-pub returns-in-Some-Ping : goal.returns-in-Some-Ping
-returns-in-Some-Ping g c = record {
-  heard = Pinged c.ping.ensures.heard;
+pub returns-in-Some-Ping-clause-heeds : goal.returns-in-Some-Ping-clause-heeds
+returns-in-Some-Ping-clause-heeds g c = record {
+  heard = Pinged c.ping.ensures.pings.heard;
   from = rw c.in-Some-Ping.field-0-is at c.in-Some-Ping.ensures;
-  tells = c.ping.ensures.tells;
-  through = turns_read _ _ c.ping.ensures.reads;
-  came = c.ping.ensures.came;
+  tells = c.ping.ensures.pings.tells;
+  through = turns_read _ _ c.ping.ensures.pings.reads;
+  came = c.ping.ensures.pings.came;
   lists = tt;
 }
 
-pub returns-in-Some-Copy : goal.returns-in-Some-Copy
-returns-in-Some-Copy g c = record {
+pub returns-in-Some-Copy-clause-heeds : goal.returns-in-Some-Copy-clause-heeds
+returns-in-Some-Copy-clause-heeds g c = record {
   heard = Copied c.in-Some-Copy.path.now c.copy.result;
   from = rw c.in-Some-Copy.field-0-is at c.in-Some-Copy.ensures;
   tells = ap spoken.Outcome c.outcome_of_copy.ensures;
@@ -35,8 +37,8 @@ returns-in-Some-Copy g c = record {
   lists = tt;
 }
 
-pub returns-in-Some-List : goal.returns-in-Some-List
-returns-in-Some-List g c = record {
+pub returns-in-Some-List-clause-heeds : goal.returns-in-Some-List-clause-heeds
+returns-in-Some-List-clause-heeds g c = record {
   heard = Listed c.in-Some-List.listing c.list.ensures.heard;
   from = rw c.in-Some-List.field-0-is at c.in-Some-List.ensures;
   tells = c.list.ensures.tells;
@@ -45,8 +47,8 @@ returns-in-Some-List g c = record {
   lists = c.list.ensures.reads;
 }
 
-pub returns-in-Some-RevokeNamed : goal.returns-in-Some-RevokeNamed
-returns-in-Some-RevokeNamed g c = record {
+pub returns-in-Some-RevokeNamed-clause-heeds : goal.returns-in-Some-RevokeNamed-clause-heeds
+returns-in-Some-RevokeNamed-clause-heeds g c = record {
   heard = Named c.in-Some-RevokeNamed.fingerprint.now c.revoke_named.ensures.naming;
   from = rw c.in-Some-RevokeNamed.field-0-is at c.in-Some-RevokeNamed.ensures;
   tells = ap spoken.Outcome c.revoke_named.ensures.tells;
@@ -55,8 +57,8 @@ returns-in-Some-RevokeNamed g c = record {
   lists = c.revoke_named.ensures.finds;
 }
 
-pub returns-in-Some-Order : goal.returns-in-Some-Order
-returns-in-Some-Order g c = record {
+pub returns-in-Some-Order-clause-heeds : goal.returns-in-Some-Order-clause-heeds
+returns-in-Some-Order-clause-heeds g c = record {
   heard = Carried c.in-Some-Order.order c.carry_out.result;
   from = rw c.in-Some-Order.field-0-is at c.in-Some-Order.ensures;
   tells = ap spoken.Outcome c.outcome_of.ensures;
@@ -65,8 +67,8 @@ returns-in-Some-Order g c = record {
   lists = tt;
 }
 
-pub returns-in-None : goal.returns-in-None
-returns-in-None g c = record {
+pub returns-in-None-clause-heeds : goal.returns-in-None-clause-heeds
+returns-in-None-clause-heeds g c = record {
   heard = NoOrder;
   from = c.in-None.ensures;
   tells = refl;
@@ -74,3 +76,11 @@ returns-in-None g c = record {
   came = tt;
   lists = tt;
 }
+
+pub returns-in-Some-List-clause-figures : goal.returns-in-Some-List-clause-figures
+returns-in-Some-List-clause-figures g c =
+    let s = g.S.Shelves in
+    let k = g.K.Copies in
+    tells_no_ping (k.figured c.list.new.shelves)
+    (IsPinged c.args.tally.now (s.shown c.args.shelves.now).failures (s.shown c.list.new.shelves).failures
+    (k.counted c.args.shelves.now c.list.new.shelves)) _ _ c.list.ensures.tells

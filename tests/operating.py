@@ -330,26 +330,55 @@ def watch(suite, machine):
 
 # a line of the text format of Prometheus
 SAMPLE = re.compile(
-    r'# (HELP goshelf_\w+ \S.*|TYPE goshelf_\w+ (gauge|counter))|goshelf_\w+\{unit="goshelf"(,class="\dxx")?\} -?\d+'
+    r"# (HELP goshelf_\w+ \S.*|TYPE goshelf_\w+ (gauge|counter))|"
+    r'goshelf_\w+\{unit="goshelf"(,class="\dxx"|,shelf="[a-z0-9-]+")?\} -?\d+'
 )
+
+
+# a publish, two fetches and a copy
+METERED = """\
+printf 'module example.com/metered\\n' > metered
+at=http://127.0.0.1:8080/k/{key}/example.com/metered/@v/v1.0.0
+curl -sf -o out -T metered -H 'Mod-Length: 27' $at && curl -sf -o out $at.zip && curl -sf -o out $at.zip
+goshelf copy --control /run/goshelf/control --to /var/lib/goshelf/metered.db
+rm /var/lib/goshelf/metered.db*
+"""
+
+
+def planted(suite, machine, folder):
+    """A link that somebody made where goshelf-metrics would write: what it names stays as it is."""
+    machine.write("root/precious", "precious")
+    at = f"{folder}/goshelf.prom"
+    told = machine.sh(f"""sh -c 'ln -s /root/precious "{at}.new-$$" && exec goshelf-metrics --to {at}'""")
+    left = machine.read("root/precious"), sorted(os.listdir(f"{machine.folder}{folder}"))[0]
+    suite.equal("a planted link is not followed", (told, *left), ((0, "", ""), "precious", "goshelf.prom"))
+    machine.does(f"rm {folder}/goshelf.prom.new-*")
 
 
 def metrics(suite, machine):
     """goshelf-metrics prints what ping reports, and ages, in Prometheus's format; with --to it replaces a file."""
     folder = "/var/lib/prometheus/node-exporter"
     os.makedirs(f"{machine.folder}{folder}")
-    machine.does(f"curl -s -o out http://127.0.0.1:8080/k/{ALPHA}/-/modules")
-    told = dict(it.split("=", 1) for it in machine.does("goshelf ping --control /run/goshelf/control").split())
+    machine.does(METERED.format(key=ALPHA))
+    line, *shelves = machine.does("goshelf ping --control /run/goshelf/control").splitlines()
+    told = dict(it.split("=", 1) for it in line.split())
     text = machine.does("goshelf-metrics")
     suite.equal("each line is of the format", [it for it in text.splitlines() if not SAMPLE.fullmatch(it)], [])
     found = dict(re.findall(r'^goshelf_(\w+)\{unit="goshelf"(?:,class="\dxx")?\} (-?\d+)$', text, re.M))
     names = ("connections", "unanswered", "store-failures", "versions")
     pinged = {it.replace("-", "_"): told[it] for it in names}
+    pinged |= {"store_bytes": told["bytes"], "log_bytes": told["log"]}
     suite.equal("it has what ping reports", {it: found.get(it, found.get(f"{it}_total")) for it in pinged}, pinged)
     replies = dict(re.findall(r'class="(\dxx)"\} (\d+)', text))
     suite.equal("and the replies", replies, {it: told[it] for it in ("2xx", "4xx", "5xx")})
-    since = machine.does(f"date -d {told['since']} +%s").strip()
-    suite.equal("and when serve began", found["start_time_seconds"], since)
+    for word, name in {"since": "start_time_seconds", "copied": "last_copy_time_seconds"}.items():
+        suite.equal(f"and the time {word}", found[name], machine.does(f"date -d {told[word]} +%s").strip())
+    uses = re.findall(r'^goshelf_(\w+)_total\{unit="goshelf",shelf="(\S+)"\} (\d+)$', text, re.M)
+    suite.equal(
+        "and each shelf",
+        (shelves, uses),
+        (["shelf alpha publishes=1 fetches=2"], [("publishes", "alpha", "1"), ("fetches", "alpha", "2")]),
+    )
     ages = int(found["backup_age_seconds"]) < 600, 9 * 86_400 < int(found["certificate_left_seconds"]) < 11 * 86_400
     suite.equal("and the ages", ages, (True, True))
     suite.equal("it writes a file", machine.sh(f"goshelf-metrics --to {folder}/goshelf.prom"), (0, "", ""))
@@ -359,6 +388,7 @@ def metrics(suite, machine):
     words = ["env", "-i", "PATH=/usr/bin:/bin", "sh", "-c", " ".join(last[6:])]
     ran = subprocess.run(words, capture_output=True, text=True)
     suite.equal("by cron it prints nothing", (ran.returncode, ran.stdout, ran.stderr), (0, "", ""))
+    planted(suite, machine, folder)
     for words in ("--to", "--file x.prom", "now"):
         suite.equal(f"goshelf-metrics {words}", machine.sh(f"goshelf-metrics {words}")[:2], (2, ""))
     for words, status in {"--to ''": 1, "--to x.txt": 1, "--to .prom": 1, "--to none/x.prom": 1}.items():

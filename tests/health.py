@@ -1,10 +1,12 @@
 #!/usr/bin/env python3
 """`ping --control S`: the counts after known requests, and after connections that get no answer.
 
-It leaves all else as it is. Some pings are made under load, behind a publish and of servers that lie. What goshelf
-counts is compared with what the peers here were told.
+It also tells the sizes of the store, the last copy, and publishes and fetches by shelf, and leaves all else as it is.
+Some pings are made under load, behind a publish and of servers that lie. What goshelf counts is compared with what the
+peers here were told.
 """
 
+import os
 import re
 import socket
 import struct
@@ -22,15 +24,23 @@ from lib.servers import CONTROL, Server
 from lib.stores import new_store
 from lib.suite import Suite
 
+TIME = rb"\d{4}-\d\d-\d\dT\d\d:\d\d:\d\dZ"
 FORM = re.compile(
     rb"connections=(\d+) 2xx=(\d+) 4xx=(\d+) 5xx=(\d+) unanswered=(\d+) store-failures=(\d+) "
-    rb"since=(\d{4}-\d\d-\d\dT\d\d:\d\d:\d\dZ) versions=(\d+)\n"
+    rb"since=(%s) versions=(\d+) bytes=(\d+) log=(\d+)(?: copied=(%s))? shelves=(\d+)\n"
+    rb"((?:shelf [a-z0-9-]+ publishes=\d+ fetches=\d+\n)*)" % (TIME, TIME)
 )
 PING = ["ping", "--control", CONTROL]
-LINE = b"connections=124 2xx=100 4xx=20 5xx=3 unanswered=1 store-failures=0 since=2026-11-26T18:40:00Z versions=12345\n"
+OLD = b"connections=124 2xx=100 4xx=20 5xx=3 unanswered=1 store-failures=0 since=2026-11-26T18:40:00Z versions=12345\n"
+SHORT = OLD[:-1] + b" shelves=0\n"
+ALPHA, COMMON = b"shelf alpha publishes=1 fetches=0\n", b"shelf common publishes=0 fetches=70\n"
+LINE = OLD[:-1] + b" bytes=8192 log=32 copied=2026-11-26T18:50:00Z shelves=2\n" + ALPHA + COMMON
 MOST = 2**64 - 1
 LONGEST = f"connections={MOST} 2xx={MOST} 4xx={MOST} 5xx={MOST} unanswered={MOST} store-failures={MOST} ".encode()
-LONGEST += f"since=9999-12-31T23:59:59Z versions={MOST}\n".encode()
+LONGEST += f"since=9999-12-31T23:59:59Z versions={MOST} bytes={MOST} log={MOST} copied=9999-12-31T23:59:59Z ".encode()
+LONGEST += b"shelves=1000\n" + b"".join(
+    f"shelf {'a' * 28}{it:04} publishes={MOST} fetches={MOST}\n".encode() for it in range(1000)
+)
 # replies that are no health's: nothing of them is printed
 FALSE = [
     b"", b"done\n", b"bad\n", b"stopping\n", b"ok\n", LINE[:-1], LINE + b"\n", LINE + LINE, b" " + LINE,
@@ -45,18 +55,39 @@ FALSE = [
     LINE.replace(b"2026", b"12026"), LINE.replace(b"conn", b"Conn"), b"\x1b[2J" + LINE, b"\xff" + LINE,
     LINE.replace(b" ", b"\t"),
     LINE.replace(b" ", b"\0"), b"a" * 300 + b"\n", LINE.replace(b"=124", b"=" + b"0" * 300),
+    OLD, SHORT + ALPHA, SHORT + b"\n", LINE.replace(COMMON, b""), LINE.replace(ALPHA, b""), LINE.replace(ALPHA, COMMON),
+    LINE.replace(ALPHA, ALPHA + ALPHA), LINE.replace(ALPHA + COMMON, COMMON + ALPHA), LINE + b"done\n",
+    LINE.replace(b"=70", b"=070"), LINE.replace(b"=70", b"="), LINE.replace(b"=70", b"=18446744073709551616"),
+    LINE.replace(b"alpha", b"Alpha"), LINE.replace(b"alpha", b""), LINE.replace(b"alpha", b"\x1b[2J"),
+    LINE.replace(b"alpha", b"a" * 33), LINE.replace(b"publishes=1", b"publishes=1 publishes=1"),
+    LINE.replace(b" bytes=8192 log=32", b" log=32 bytes=8192"), LINE.replace(b"log=32", b"log=-32"),
+    LINE.replace(b"log=32", b"log=32 log=32"), LINE.replace(b"18:50", b"24:50"),
+    LINE.replace(b"shelves=2", b"shelves=3"),
 ]  # fmt: skip
 # the place of each class of statuses among the counts
 CLASSES = [None, 2, 4, 5]
 NO_LINGER = struct.pack("ii", 1, 0)
 
 
-def health():
-    """What a ping prints: five counts, the failures, the time and the versions."""
+def pinged():
+    """What a ping prints, as a match of FORM."""
     status, printed, errors = run(PING)
     found = FORM.fullmatch(printed)
     assert (status, errors) == (0, "") and found, (status, printed, errors)
+    return found
+
+
+def health():
+    """What a ping prints first: five counts, the failures, the time and the versions."""
+    found = pinged()
     return [int(it) for it in found.groups()[:6]] + [found[7].decode(), int(found[8])]
+
+
+def shelves():
+    """The number of shelves that a ping prints, and each with its publishes and fetches."""
+    found = pinged()
+    rows = [it.replace("=", " ").split() for it in found[13].decode().splitlines()]
+    return int(found[12]), [(it[1], int(it[3]), int(it[5])) for it in rows]
 
 
 def counts():
@@ -163,7 +194,7 @@ def beside(suite):
         suite.holds("a ping that comes byte by byte", FORM.fullmatch(told), told)
     suite.equal(
         "no key and no path is told",
-        [it for it in (KEY, "example.com", "alpha") if it.encode() in server.order(b"ping\n")],
+        [it for it in (KEY, "example.com", "shelves.db") if it.encode() in server.order(b"ping\n")],
         [],
     )
     server.kill()
@@ -175,6 +206,61 @@ def beside(suite):
     )
     last.status(get(LIST))
     suite.equal("a server whose connections are used up", (last.child.wait(60), run(PING)), (0, refusal("device")))
+
+
+def sizes(suite):
+    """The sizes are those of the file and its log, also behind a link; the last copy that was made has its time."""
+    new_store("served.db", ("alpha", KEY))
+    os.symlink("served.db", "link.db")
+    server = Server("link.db", CONTROL)
+    for number in range(3):
+        server.status(put("example.com/lib", f"v1.{number}.0", GOMOD, b"z" * 100_000 * number))
+        found = pinged()
+        there = [os.path.getsize(it) for it in ("served.db", "served.db-wal")]
+        suite.equal(f"the sizes behind publish {number}", [int(found[9]), int(found[10])], there)
+    suite.equal("no copy so far", found[11], None)
+    begun = utc()
+    suite.equal("a copy", run(["copy", "--control", CONTROL, "--to", "copy.db"])[0], 0)
+    copied = pinged()[11].decode()
+    suite.holds("its time", begun <= copied <= utc(), (begun, copied))
+    time.sleep(1.1)
+    suite.equal("no copy", run(["copy", "--control", CONTROL, "--to", "copy.db"]), refusal("not-empty"))
+    suite.equal("the time stays", pinged()[11].decode(), copied)
+    suite.equal("another copy", run(["copy", "--control", CONTROL, "--to", "other.db"])[0], 0)
+    suite.holds("has its own", copied < pinged()[11].decode() <= utc())
+    server.kill()
+
+
+def by_shelf(suite):
+    """Publishes and fetches are counted for the shelf of the key, once they ended well, and nothing else is."""
+    new_store("served.db", ("beta", KEYS["B"]), ("alpha", KEY, KEYS["R"]), ("common", KEYS["C"]))
+    server = Server("served.db", CONTROL)
+    suite.equal("no shelf so far", shelves(), (0, []))
+    module, zipped = ("example.com/lib", "v1.0.0"), "example.com/lib/@v/v1.0.0.zip"
+    lines = []
+    for request, status, wanted in (
+        (get(zipped), 404, {}), (put(*module, GOMOD, key=KEYS["R"]), 403, {}),
+        (put("example.com/lib", "v2.0.0", GOMOD), 422, {}), (put(*module, GOMOD), 201, {"alpha": (1, 0)}),
+        (put(*module, GOMOD), 200, {}), (put(*module, GOMOD, b"zip"), 409, {}),
+        (get(zipped), 200, {"alpha": (0, 1)}), (get(zipped, KEYS["R"]), 200, {"alpha": (0, 1)}),
+        (get(LIST), 200, {}), (get("example.com/lib/@v/v1.0.0.mod"), 200, {}),
+        (get("example.com/lib/@v/v1.0.0.info"), 200, {}), (get("-/gosum/example.com/lib/@v/v1.0.0"), 200, {}),
+        (get(zipped, KEYS["B"]), 404, {}), (get(zipped, KEYS["N"]), 404, {}), (get(zipped, KEYS["C"]), 404, {}),
+        (put("example.com/all", "v1.0.0", b"module example.com/all\n", key=KEYS["C"]), 201, {"common": (1, 0)}),
+        (get("example.com/all/@v/v1.0.0.zip", KEYS["B"]), 200, {"beta": (0, 1)}),
+        (get("example.com/all/@v/v1.0.0.zip"), 200, {"alpha": (0, 1)}),
+        (put(*module, GOMOD, key=KEYS["B"]), 201, {"beta": (1, 0)}),
+    ):  # fmt: skip
+        was = dict((it[0], it[1:]) for it in lines)
+        for shelf, more in wanted.items():
+            was[shelf] = tuple(a + b for a, b in zip(was.get(shelf, (0, 0)), more))
+        got = server.status(request)
+        lines = [(it, *was[it]) for it in sorted(was)]
+        suite.equal(f"{request[:60]} gets {status}, by shelf", (got, shelves()), (status, (len(lines), lines)))
+    server.kill()
+    server = Server("served.db", CONTROL)
+    suite.equal("the next server begins anew", shelves(), (0, []))
+    server.kill()
 
 
 def loaded(suite):
@@ -214,8 +300,8 @@ def behind(suite):
 
 
 def false(suite):
-    """What the command prints of a server that lies: nothing but the line of a health."""
-    for line in (LINE, LONGEST):
+    """What the command prints of a server that lies: nothing but the lines of a health."""
+    for line in (LINE, SHORT, LONGEST):
         suite.equal(f"a health of {len(line)} bytes", by_false_server(PING[:-1], line), ((0, line, ""), b"ping\n"))
     for told in FALSE:
         suite.equal(f"a server that tells {told[:60]!r}", by_false_server(PING[:-1], told), (refusal("io"), b"ping\n"))
@@ -234,4 +320,4 @@ def false(suite):
 
 
 if __name__ == "__main__":
-    sys.exit(in_new_folders(Suite(), known, unanswered, beside, loaded, behind, false))
+    sys.exit(in_new_folders(Suite(), known, unanswered, beside, sizes, by_shelf, loaded, behind, false))

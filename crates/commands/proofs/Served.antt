@@ -1,11 +1,12 @@
 -- A store whose versions are counted before it is served.
-use Rattle.std.proofs.Common.{◌≡◌, ℕ, List, [], ◌∷◌, Result, Ok, Err, IfOk, refl}
+use Rattle.std.proofs.Common.{◌≡◌, ℕ, List, [], ◌∷◌, Option, None, Result, Ok, Err, IfOk, refl}
 use Rattle.std.proofs.lemmas.List.Elements.{All-cons}
 use Rattle.world.specs.Store.{Shown}
 use Rattle.world.specs.declared.registry.StoreFault.{StoreFault}
 use Rattle.control.specs.Copying.{AllRead, Counted, GoesOnRead, IsOnlyRead, TellsSince}
 use Rattle.control.specs.Health.{tally_of}
 use Rattle.control.specs.declared.copies.CopyRefusal.{CopyRefusal}
+use Rattle.control.specs.declared.health.Figures.{Figures}
 use Rattle.control.specs.declared.health.Health.{Health}
 use Rattle.control.proofs.StepLemmas.{steps_more}
 use Rattle.control.proofs.TurnLemmas.{turns_read}
@@ -31,7 +32,9 @@ module _ {S : Type 0} (shown : S → Shown) (copied : S → S → List ℕ → R
   pub counted_first : (told : Result ℕ StoreFault) → IfOk told (λ n. counted old mid n)
       → GoesOnRead shown copied counted old new since most
   counted_first (Ok n) came =
-      let health : Health = record { tally = tally_of since []; store_failures = (shown mid).failures; versions = n } in
+      let figures : Figures = record { bytes = None; log = None; copied = None; traffic = None } in
+      let health : Health =
+      record { tally = tally_of since []; store_failures = (shown mid).failures; versions = n; figures = figures } in
       behind (Ok health) (λ h w stands all. (
         record {
           source = old;

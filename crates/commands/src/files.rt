@@ -50,6 +50,15 @@ pub fn is_missing_or_empty(rt: &HostRuntime, path: &str) -> bool {
     }
 }
 
+/// Returns how many bytes a file has, as the system tells it without opening the file. None if it tells nothing, or if
+/// the name is of a folder or a device.
+pub fn size_of_file(rt: &HostRuntime, path: &str) -> Option<u64> {
+    match fs::metadata(rt, path) {
+        Ok(found) if found.is_file() => Some(found.len()),
+        _ => None,
+    }
+}
+
 /// Whether both names lead to one file. False if one of them leads to none.
 pub fn is_same_file(rt: &HostRuntime, path: &str, other: &str) -> bool {
     let (Ok(one), Ok(two)) = (fs::metadata(rt, path), fs::metadata(rt, other)) else {

@@ -28,7 +28,7 @@ pub struct SystemCalendar<'a> {
 
 impl<'a> SystemCalendar<'a> {
     /// Returns the clock of the system, which has shown no time so far.
-    pub(crate) fn new(rt: &'a HostRuntime) -> SystemCalendar<'a>
+    pub fn new(rt: &'a HostRuntime) -> SystemCalendar<'a>
         ensures { ⟦<SystemCalendar<'a> as Calendar>⟧.shown result ≡ [] }
     {
         SystemCalendar {

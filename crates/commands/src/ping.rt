@@ -13,10 +13,10 @@ use std::rt::HostRuntime;
 use text::Text;
 use world::registry::StoreFault;
 
-/// Asks the `serve` that listens at a socket for its health, prints the line and returns true. `Device` if nobody
+/// Asks the `serve` that listens at a socket for its health, prints its lines and returns true. `Device` if nobody
 /// listens there, the system refuses the connection, or the store of that server met a fault; `Memory` if the server
-/// had no memory for the line. `Io` if no such line came, or the output failed: then a beginning of the line is
-/// printed, or all of it.
+/// had no memory for the lines. `Io` if no such lines came, or the output failed: then a beginning of the lines is
+/// printed, or all of them.
 pub fn ping_at<O: Tell>(
     rt: &HostRuntime,
     path: &str,
@@ -35,8 +35,8 @@ pub fn ping_at<O: Tell>(
     }
 }
 
-/// Writes the line of a ping, reads the line of the health, prints it and returns true. What is no line of a health is
-/// not printed. Fails as `ping_at` does once it is connected.
+/// Writes the line of a ping, reads the lines of the health, prints them and returns true. What is no health's is not
+/// printed. Fails as `ping_at` does once it is connected.
 pub fn ping_over<R: Hear, W: Tell, O: Tell>(
     alloc: Global,
     reader: &mut R,
@@ -55,7 +55,7 @@ pub fn ping_over<R: Hear, W: Tell, O: Tell>(
     print_health(health_ending(told), output)
 }
 
-/// The line of the health that was told, or why there is none.
+/// The lines of the health that was told, or why there is none.
 fn health_ending(told: Result<Told, Untold>) -> Result<Text, CommandRefusal>
     ensures { result ≡ spec.health_ending told }
 {
@@ -80,7 +80,7 @@ pub(crate) fn refusal_of(outcome: Outcome) -> CommandRefusal
     }
 }
 
-/// Prints the line of a health, if there is one.
+/// Prints the lines of a health, if there are some.
 fn print_health<O: Tell>(
     told: Result<Text, CommandRefusal>,
     output: &mut O,

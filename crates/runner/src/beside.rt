@@ -57,7 +57,7 @@ fn is_file(rt: &HostRuntime, path: &str) -> bool {
 
 /// Returns the name of a file with no link in it. If there is no file, it has its folder's name without links, and if
 /// there is no folder, it is the name that was given. Fails only if memory runs out.
-fn real_name(rt: &HostRuntime, path: &str) -> io::Result<String> {
+pub(crate) fn real_name(rt: &HostRuntime, path: &str) -> io::Result<String> {
     match fs::canonicalize(rt, path) {
         Ok(real) => Ok(String::from_str(rt.alloc(), real.as_str())?),
         Err(error) if error.kind() == ErrorKind::OutOfMemory => Err(error),

@@ -1,4 +1,4 @@
-//! Copies of the store of a file while it is served, and counts of its versions.
+//! Copies of the store of a file while it is served, counts of its versions, and its size.
 
 ghost use Rattle.std.specs.Prelude.{◌≡◌, IfOk};
 ghost use Rattle.control.specs.Copying.{IsOnlyRead};
@@ -8,27 +8,59 @@ ghost use Rattle.runner.specs.Copies.{CopiesFile, CopiesInto, CopiesTo, CountsIn
 ghost use Rattle.runner.specs.Opened.{HasBegun};
 ghost use Rattle.world.specs.Store.{HasCause};
 
+use crate::beside::real_name;
 use crate::found::{AsFound, ClosedFile, Found, OpenedStore};
 use crate::host::SystemHost;
 use crate::looks::Looks;
 use crate::system::SystemStoreFiles;
-use control::{Copies, CopyRefusal};
+use commands::files::size_of_file;
+use commands::moment::{Calendar, SystemCalendar};
+use control::{Copies, CopyRefusal, Figures};
 use files::files::{StoreFiles, Use};
+use modver::TimeText;
 use sqlite::{Alter, Start};
+use std::rt::HostRuntime;
 use store::refusal::StoreRefusal;
 use store::store::SqlShelves;
 use world::registry::StoreFault;
 use world::shelves::Shelves;
 
-/// Copies the served store of a file into other files.
+/// Copies the served store of a file into other files, and looks at the sizes of the file and its log.
 #[derive(Drop)]
 pub(crate) struct FileCopies<'a> {
     pub host: SystemHost<'a>,
     /// The file of the served store.
     pub db: &'a str,
+    /// What shows when a copy was made.
+    pub calendar: SystemCalendar<'a>,
+}
+
+impl<'a> FileCopies<'a> {
+    /// Returns what copies the store of a file.
+    pub(crate) fn new(rt: &'a HostRuntime, db: &'a str) -> FileCopies<'a> {
+        FileCopies {
+            host: SystemHost { rt },
+            db,
+            calendar: SystemCalendar::new(rt),
+        }
+    }
+
+    /// Returns how many bytes the log of the served store has, as the system tells it. None if it tells nothing or
+    /// memory runs out for the name.
+    fn log_size(&self) -> Option<u64> {
+        let rt = self.host.rt;
+        let Ok(real) = real_name(rt, self.db) else {
+            return None;
+        };
+        match format!(in rt.alloc(); "{}-wal", real.as_str()) {
+            Ok(log) => size_of_file(rt, log.as_str()),
+            Err(_) => None,
+        }
+    }
 }
 
 impl<'a, S: Alter> Copies<SqlShelves<S>> for FileCopies<'a> {
+    ghost use Rattle.std.specs.Prelude.{◌≡◌, None};
     ghost use Rattle.sqlite_wal.specs.Files.{image_at};
     ghost use Rattle.runner.specs.Copies.{CopiesFile, CountsIn};
     ghost use Rattle.runner.specs.Opened.{HasBegun};
@@ -39,6 +71,11 @@ impl<'a, S: Alter> Copies<SqlShelves<S>> for FileCopies<'a> {
         (λ s. HasBegun ⟦<Found as Shelves>⟧.shown (image_at ⟦<AsFound as Start>⟧) s.shelves) };
 
     ghost counted = { CountsIn ⟦<SqlShelves<S> as Shelves>⟧.shown };
+
+    /// It keeps no time of a copy and counts no shelf. What the system tells of the sizes is not known.
+    ghost figured = { λ _ f. (f.copied ≡ None) × (f.traffic ≡ None) };
+
+    ghost times = { λ c. ⟦<SystemCalendar<'a> as Calendar>⟧.shown c.calendar };
 
     fn served(&self) -> &str {
         self.db
@@ -51,6 +88,19 @@ impl<'a, S: Alter> Copies<SqlShelves<S>> for FileCopies<'a> {
 
     fn versions(&mut self, shelves: &mut SqlShelves<S>) -> Result<u64, StoreFault> {
         count_in(shelves)
+    }
+
+    fn figures<'s>(&self, _shelves: &'s SqlShelves<S>) -> Figures<'s> {
+        Figures {
+            bytes: size_of_file(self.host.rt, self.db),
+            log: self.log_size(),
+            copied: None,
+            traffic: None,
+        }
+    }
+
+    fn time_now(&mut self) -> Option<TimeText> {
+        self.calendar.time_now()
     }
 }
 

@@ -42,7 +42,7 @@ fn served(rt: &HostRuntime, time: Option<TimeText>, path: &str) -> Result<String
         rt,
         &mut calendar,
         &mut shelves,
-        &mut Copier { versions: 0 },
+        &mut Copier::new(0),
         Entrance::Port(0),
         0,
         Some(path),

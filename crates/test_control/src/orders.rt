@@ -58,7 +58,8 @@ copy |device
 copy|bad
 copy one two|bad
 Copy one|bad
-ping|connections=1006 2xx=1000 4xx=3 5xx=2 unanswered=1 store-failures=0 since=2026-11-26T18:40:00Z versions=12345
+ping|connections=1006 2xx=1000 4xx=3 5xx=2 unanswered=1 store-failures=0 since=2026-11-26T18:40:00Z versions=12345 \
+bytes=8192 log=4152 shelves=0
 ping |bad
 ping now|bad
 Ping|bad";
@@ -107,19 +108,37 @@ ccaaf6d99f2c8ac7|bad|revoke-fingerprint ccaaf6d99f2c8ac7|Io
 ccaaf6d99f2c8ac7||revoke-fingerprint ccaaf6d99f2c8ac7|Io
 ccaaf6d9 9f2c8ac7|done||NoKey";
 
-/// What a server replies to a ping, what is printed, and how the command ends.
+/// What a server replies to a ping, what is printed, and how the command ends. A `/` is in the place of the end of a
+/// line, and `@` in that of the words that each reply begins with.
 const HEALTHS: &str = "\
-connections=124 2xx=100 4xx=20 5xx=3 unanswered=1 store-failures=0 since=2026-11-26T18:40:00Z versions=12345|\
-connections=124 2xx=100 4xx=20 5xx=3 unanswered=1 store-failures=0 since=2026-11-26T18:40:00Z versions=12345|done
-connections=0124 2xx=100 4xx=20 5xx=3 unanswered=1 store-failures=0 since=2026-11-26T18:40:00Z versions=12345||Io
-connections=124 2xx=100 4xx=20 5xx=3 unanswered=1 store-failures=0 since=2026-11-26T24:40:00Z versions=12345||Io
-connections=124 2xx=100 4xx=20 5xx=3 unanswered=1 store-failures=0 since=2026-11-26T18:40:00Z versions=12345 ||Io
+@ shelves=0|@ shelves=0|done
+@ bytes=4096 shelves=0|@ bytes=4096 shelves=0|done
+@ bytes=8192 log=32 copied=2026-11-26T18:50:00Z shelves=2/shelf alpha publishes=1 fetches=0/shelf common publishes=0 \
+fetches=7|@ bytes=8192 log=32 copied=2026-11-26T18:50:00Z shelves=2/shelf alpha publishes=1 fetches=0/shelf common \
+publishes=0 fetches=7|done
+@||Io
+0@ shelves=0||Io
+@ shelves=0 ||Io
+@ shelves=00||Io
+@ shelves=1||Io
+@ shelves=0/||Io
+@ shelves=0/shelf alpha publishes=1 fetches=0||Io
+@ shelves=1/shelf Alpha publishes=1 fetches=0||Io
+@ shelves=1/shelf  publishes=1 fetches=0||Io
+@ shelves=2/shelf beta publishes=1 fetches=0/shelf alpha publishes=1 fetches=0||Io
+@ shelves=2/shelf alpha publishes=1 fetches=0/shelf alpha publishes=1 fetches=0||Io
+@ log=32 bytes=8192 shelves=0||Io
+@ copied=2026-11-26T24:50:00Z shelves=0||Io
 connections=124||Io
 device||Device
 memory||Memory
 done||Io
 bad||Io
 ||Io";
+
+/// The words that each reply begins with.
+const BEGIN: &str = "\
+connections=124 2xx=100 4xx=20 5xx=3 unanswered=1 store-failures=0 since=2026-11-26T18:40:00Z versions=12345";
 
 /// Returns a column of a row, or the empty text if the row has no such column.
 fn column(row: &str, index: usize) -> &str {
@@ -190,7 +209,7 @@ fn wrong_row<S: Keyring + Drop>(
             &mut Telling::new(&mut told),
             tally,
             &mut shelves,
-            &mut Copier { versions: 12_345 },
+            &mut Copier::new(12_345),
         )
         .is_err()
         {
@@ -266,9 +285,16 @@ fn is_sent(alloc: Global, row: &str) -> Result<bool, Fail> {
     is_row(alloc, row, &sent, told)
 }
 
+/// Returns the lines that stand in a column of `HEALTHS`, with their ends.
+fn lines_in(alloc: Global, column: &str) -> Result<String, Fail> {
+    let text = format!(in alloc; "{column}\n")?;
+    let lines = text.replace(alloc, "/", "\n")?;
+    Ok(lines.replace(alloc, "@", BEGIN)?)
+}
+
 /// Reports whether a ping is sent, and the command prints and ends as its row says.
 fn is_pinged(alloc: Global, row: &str) -> Result<bool, Fail> {
-    let reply = format!(in alloc; "{}\n", column(row, 0))?;
+    let reply = lines_in(alloc, column(row, 0))?;
     let mut sent = Vec::new(alloc);
     let mut printed = Vec::new(alloc);
     let mut reader = Hearing::new(reply.as_bytes());
@@ -280,7 +306,7 @@ fn is_pinged(alloc: Global, row: &str) -> Result<bool, Fail> {
     );
     let wanted = match column(row, 1) {
         "" => String::new(alloc),
-        line => format!(in alloc; "{line}\n")?,
+        lines => lines_in(alloc, lines)?,
     };
     let done = match told {
         Ok(_) => Ok(()),
@@ -327,7 +353,7 @@ fn sends_the_line_of_a_fingerprint_and_ends_by_its_outcome(rt: HostRuntime) -> R
 }
 
 #[test]
-fn prints_the_line_of_a_health_alone(rt: HostRuntime) -> Result<(), Fail> {
+fn prints_the_lines_of_a_health_alone(rt: HostRuntime) -> Result<(), Fail> {
     for row in HEALTHS.lines() {
         assert!(rt; is_pinged(rt.alloc(), row)?);
     }

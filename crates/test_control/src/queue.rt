@@ -21,6 +21,15 @@ const KEY_ADD: &[u8] = b"key-add alpha alphakey00000001\n";
 
 const GET: &[u8] = b"GET /k/alphakey00000001/example.com/lib/@v/v1.0.0.mod HTTP/1.1\r\n\r\n";
 
+const GET_ZIP: &[u8] = b"GET /k/alphakey00000001/example.com/lib/@v/v1.0.0.zip HTTP/1.1\r\n\r\n";
+
+/// What a ping is told behind a publish, the fetch of its zip, that of a zip that is not there, and a copy.
+const HEALTH: &str = "\
+connections=3 2xx=2 4xx=1 5xx=0 unanswered=0 store-failures=0 since=2026-11-26T18:40:00Z versions=7 bytes=8192 \
+log=4152 copied=2026-11-26T18:50:00Z shelves=1
+shelf alpha publishes=1 fetches=1
+";
+
 const PUBLISHED: &str =
     "HTTP/1.1 201 Created\r\nContent-Type: text/plain; charset=utf-8\r\nContent-Length: 10\r\nConnection: close\r\n\r\n\
      published\n";
@@ -70,7 +79,7 @@ fn serve<'a, S: Keyring>(
         rt,
         &mut queue,
         shelves,
-        &mut Copier { versions: 0 },
+        &mut Copier::new(7),
         since,
         3,
         &mut Telling::new(errors),
@@ -118,5 +127,39 @@ fn a_caller_who_cannot_be_taken_counts(rt: HostRuntime) -> Result<(), Fail> {
     let mut errors = Vec::new(rt.alloc());
     assert!(rt; serve(&rt, callers, &mut shelves(&rt)?, &mut errors)? == 0);
     assert!(rt; added.as_slice() == b"done\n".as_slice());
+    Ok(())
+}
+
+#[test]
+fn counts_by_shelf_and_tells_the_last_copy(rt: HostRuntime) -> Result<(), Fail> {
+    let mut added = Vec::new(rt.alloc());
+    let mut early = Vec::new(rt.alloc());
+    let mut published = Vec::new(rt.alloc());
+    let mut fetched = Vec::new(rt.alloc());
+    let mut copied = Vec::new(rt.alloc());
+    let mut told = Vec::new(rt.alloc());
+    let mut callers = LinkedList::new(rt.alloc());
+    callers.push_back(Caller::Operator(sending(KEY_ADD, &mut added)))?;
+    callers.push_back(Caller::Peer(sending(GET_ZIP, &mut early)))?;
+    callers.push_back(Caller::Peer(sending(PUT, &mut published)))?;
+    callers.push_back(Caller::Peer(sending(GET_ZIP, &mut fetched)))?;
+    callers.push_back(Caller::Operator(sending(b"copy one.db\n", &mut copied)))?;
+    callers.push_back(Caller::Operator(sending(b"ping\n", &mut told)))?;
+    let mut errors = Vec::new(rt.alloc());
+    let mut shelves = shelves(&rt)?;
+    let Ok(since) = read_time("2026-11-26T18:40:00Z") else {
+        return Err(Fail::from("no time"));
+    };
+    serve_both(
+        rt.alloc(),
+        &rt,
+        &mut Queue { callers },
+        &mut shelves,
+        &mut Copier::new(7),
+        since,
+        4,
+        &mut Telling::new(&mut errors),
+    );
+    assert!(rt; told.as_slice() == HEALTH.as_bytes());
     Ok(())
 }

@@ -59,12 +59,12 @@ fn obeys_operators_before_peers(rt: HostRuntime) -> Result<(), Fail> {
     let operators = UnixListener::bind(&rt, path)?;
     let peer = peer_at(&rt, port)?;
     let operator = operator_at(&rt, path)?;
-    let Ok(shelves) = MapShelves::new(rt.alloc()) else {
-        return Err(Fail::from("no memory"));
-    };
     let mut doors = Doors::new(&rt, peers, operators)?;
     let Ok(since) = read_time("2026-11-26T18:40:00Z") else {
         return Err(Fail::from("no time"));
+    };
+    let Ok(shelves) = MapShelves::new(rt.alloc()) else {
+        return Err(Fail::from("no memory"));
     };
     serve(&rt, &mut doors, shelves, since);
     let told = io::read_to_string(rt.alloc(), operator)?;

@@ -3,8 +3,10 @@ use crate::copier::Copier;
 use crate::queue::shelves;
 use commands::ledger::Ledger;
 use commands::moment::Calendar;
+use commands::refusal::CommandRefusal;
 use commands::serve::{Entrance, serve};
 use histories::Telling;
+use keyring::Keyring;
 use modver::{TimeText, read_time};
 use std::fs;
 use std::rt::HostRuntime;
@@ -28,17 +30,21 @@ impl Calendar for Times {
     }
 }
 
-/// Serves no connection, with a socket of operators, from when the calendar shows this time. Returns what was printed,
-/// and how it ended.
-fn served(rt: &HostRuntime, time: Option<TimeText>, path: &str) -> Result<String, Fail> {
+/// Serves no connection from shelves, with a socket of operators, from when the calendar shows this time. Appends what
+/// is printed, and returns how it ended. Then drops the shelves.
+fn serve_from<S: Keyring + Drop>(
+    rt: &HostRuntime,
+    time: Option<TimeText>,
+    mut shelves: S,
+    path: &str,
+    printed: &mut Vec<u8>,
+) -> Result<(), CommandRefusal> {
     let mut calendar = Times {
         time,
         shown: Ledger::new(),
     };
-    let mut shelves = shelves(rt)?;
-    let mut printed = Vec::new(rt.alloc());
     let mut errors = Vec::new(rt.alloc());
-    let told = serve(
+    serve(
         rt,
         &mut calendar,
         &mut shelves,
@@ -46,9 +52,15 @@ fn served(rt: &HostRuntime, time: Option<TimeText>, path: &str) -> Result<String
         Entrance::Port(0),
         0,
         Some(path),
-        &mut Telling::new(&mut printed),
+        &mut Telling::new(printed),
         &mut Telling::new(&mut errors),
-    );
+    )
+}
+
+/// Serves as [`serve_from`] does, and returns what was printed, and how it ended.
+fn served(rt: &HostRuntime, time: Option<TimeText>, path: &str) -> Result<String, Fail> {
+    let mut printed = Vec::new(rt.alloc());
+    let told = serve_from(rt, time, shelves(rt)?, path, &mut printed);
     let printed = from_utf8(printed.as_slice())?;
     Ok(format!(in rt.alloc(); "{printed}{told:?}")?)
 }

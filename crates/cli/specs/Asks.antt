@@ -1,5 +1,6 @@
 -- Which command the words ask for: for each command, which option gives which field.
-use Rattle.std.specs.Prelude.{ℕ, List, [], ◌≡◌, ◌⊎◌, ◌≤◌, Bool, true, false, Option, Some, None, codes, find, if◌then◌else◌, map, option_and_then, option_map}
+use Rattle.std.specs.Prelude.{ℕ, List, [], ◌≡◌, ◌⊎◌, ◌≤◌, Bool, true, false, Option, Some, None, codes, find}
+use Rattle.std.specs.Prelude.{if◌then◌else◌, map, option_and_then, option_map}
 use Rattle.std.specs.Borrow.{Bor}
 use Rattle.std.specs.Str.{bytes_eq}
 use Rattle.std.specs.Str.Parse.{IsNumeral, digits_value, without_leading_plus}
@@ -73,9 +74,11 @@ module _ (rows : List Row) where
   -- ---- which command is asked for by its word
 
   abbrev pub AsksOrder : Text → Order → Type 0
-  AsksOrder word (TeamAdd name group) = (word ≡ codes "team-add") × Is (codes "team") name.now × MayBe (codes "group") group
+  AsksOrder word (TeamAdd name group) = (word ≡ codes "team-add") × Is (codes "team") name.now
+      × MayBe (codes "group") group
   AsksOrder word (GroupAdd name) = (word ≡ codes "group-add") × Is (codes "group") name.now
-  AsksOrder word (KeyAdd shelf key right) = (word ≡ codes "key-add") × Is (codes "shelf") shelf.now × Is (codes "key") key.now
+  AsksOrder word (KeyAdd shelf key right) = (word ≡ codes "key-add") × Is (codes "shelf") shelf.now
+      × Is (codes "key") key.now
       × (is_flagged (codes "new") ≡ false) × (right ≡ (if is_flagged (codes "read-only") then Reads else Publishes))
   AsksOrder word (KeyRevoke key) = (word ≡ codes "key-revoke") × Is (codes "key") key.now × Lacks (codes "fingerprint")
       × Lacks (codes "shelf") × (is_flagged (codes "all") ≡ false)
@@ -89,7 +92,8 @@ module _ (rows : List Row) where
 
   -- how many connections it answers: this number, or the largest if none is given
   abbrev pub AsksConnections : ℕ → Type 0
-  AsksConnections n = IsNumber (codes "connections") 4294967295 n ⊎ (LacksNumber (codes "connections") × (n ≡ 4294967295))
+  AsksConnections n = IsNumber (codes "connections") 4294967295 n
+      ⊎ (LacksNumber (codes "connections") × (n ≡ 4294967295))
 
   -- an action of a command, or of a form of one, that only the store of a file can do
   abbrev pub AsksAction : Text → Action → Type 0
@@ -107,11 +111,13 @@ module _ (rows : List Row) where
   AsksAction word (action.Publish words files) = (word ≡ codes "publish")
       × Is (codes "key") words.key.now × Is (codes "module") words.path.now × Is (codes "version") words.version.now
       × MayBe (codes "time") words.time × Is (codes "mod") files.gomod.now × Is (codes "zip") files.zip.now
-  AsksAction word (action.Import key list) = (word ≡ codes "import") × Is (codes "key") key.now × Is (codes "list") list.now
+  AsksAction word (action.Import key list) = (word ≡ codes "import") × Is (codes "key") key.now
+      × Is (codes "list") list.now
   AsksAction word (action.Inventory key) = (word ≡ codes "inventory") × Is (codes "key") key.now
   AsksAction word (action.Catalog key) = (word ≡ codes "catalog") × Is (codes "key") key.now
   AsksAction word (action.Requires version) = (word ≡ codes "requires")
-      × Is (codes "key") version.key.now × Is (codes "module") version.path.now × Is (codes "version") version.version.now
+      × Is (codes "key") version.key.now × Is (codes "module") version.path.now
+      × Is (codes "version") version.version.now
   AsksAction word (action.Serve entrance connections control) = (word ≡ codes "serve")
       × AsksEntrance entrance × AsksConnections connections × MayBe (codes "control") control
 
@@ -145,12 +151,16 @@ module _ (rows : List Row) where
       × Is (codes "db") db.now × Lacks (codes "control")
   AsksCommand word (command.OnStore db action) = AsksUnordered word (command.OnStore db action)
   AsksCommand word (command.OrderNew control shelf right) = AsksUnordered word (command.OrderNew control shelf right)
-  AsksCommand word (command.OrderNamed control fingerprint) = AsksUnordered word (command.OrderNamed control fingerprint)
+  AsksCommand word (command.OrderNamed control fingerprint) =
+      AsksUnordered word (command.OrderNamed control fingerprint)
   AsksCommand word (command.Extract db teams to) = (word ≡ codes "extract")
       × Is (codes "db") db.now × Are (codes "team") teams.now × Is (codes "to") to.now
-  AsksCommand word (command.Migrate from to) = (word ≡ codes "migrate") × Is (codes "from") from.now × Is (codes "to") to.now
-  AsksCommand word (command.Order control order) = Is (codes "control") control.now × Lacks (codes "db") × AsksOrder word order
-  AsksCommand word (command.Copy control to) = (word ≡ codes "copy") × Is (codes "control") control.now × Is (codes "to") to.now
+  AsksCommand word (command.Migrate from to) = (word ≡ codes "migrate") × Is (codes "from") from.now
+      × Is (codes "to") to.now
+  AsksCommand word (command.Order control order) = Is (codes "control") control.now × Lacks (codes "db")
+      × AsksOrder word order
+  AsksCommand word (command.Copy control to) = (word ≡ codes "copy") × Is (codes "control") control.now
+      × Is (codes "to") to.now
   AsksCommand word (command.Ping control) = (word ≡ codes "ping") × Is (codes "control") control.now
   AsksCommand word (command.List control listing) = AsksListing word listing
       × Is (codes "control") control.now × Lacks (codes "db")

@@ -58,7 +58,8 @@ MayWarn errors errors_new (OnStore db (Import key list)) = MayPrint errors error
 MayWarn errors errors_new other = errors_new ≡ errors
 
 -- `words` are the words after the name of the program
-module _ {P : Type 0} (ran : Ran P) (words : List (List ℕ)) (old new : P) (came came_new : Account) (written written_new : Option (List ℕ)) where
+module _ {P : Type 0} (ran : Ran P) (words : List (List ℕ)) (old new : P) (came came_new : Account)
+    (written written_new : Option (List ℕ)) where
   -- the command that the words ask for was run, once, and the run ends by its result
   pub record RunsCommand (errors errors_new : Option (List ℕ)) (ended : Exit) : Type 0 where
     pub command : Command

@@ -231,8 +231,8 @@ fn key_add_of<'a>(options: &ArgMatches<'a>) -> Option<Order<'a>>
     }
 }
 
-/// Returns the order of `key-revoke` with a key, or with a shelf whose keys are all revoked, or None if a fingerprint is
-/// named in their place, or nothing.
+/// Returns the order of `key-revoke` with a key, or with a shelf whose keys are all revoked, or None if a fingerprint
+/// is named in their place, or nothing.
 fn key_revoke_of<'a>(options: &ArgMatches<'a>) -> Option<Order<'a>>
     ensures { Finds result (AsksOrder (rows_of (found_of options.now)) (codes "key-revoke")) }
 {

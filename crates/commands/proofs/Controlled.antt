@@ -127,7 +127,8 @@ module _ (old new : Shown) (sent : List ℕ) (order asked : Order) (result : Res
 
     heard_so : new.is_honest → old.stands w → IsWorld w → ComeToTheSame asked order → IsSent sent asked
         → (heard : Heard) → IsHeardIn sent heard
-        → (outcome : Outcome) → spoken.Outcome outcome ≡ told_heard heard → result ≡ told_ending (unsayable asked) (Ok outcome)
+        → (outcome : Outcome) → spoken.Outcome outcome ≡ told_heard heard
+        → result ≡ told_ending (unsayable asked) (Ok outcome)
         → GoesThroughSteps old new (steps_heard heard)
         → EndsAt new w order result
     heard_so honest stands is same asks (Carried other told) from outcome tells ends through =

@@ -42,7 +42,8 @@ ends_so (Err fault) = refl
 
 module _ (old new : Shown) (f : List ℕ) (result : Result (Unit {0}) CommandRefusal) (w : World) where
   named : new.is_honest → old.stands w → (naming : Naming) → Finds old new f naming
-      → GoesThroughSteps old new (named_steps f naming) → result ≡ ending (named_result naming) → RevokesAt new w f result
+      → GoesThroughSteps old new (named_steps f naming) → result ≡ ending (named_result naming)
+      → RevokesAt new w f result
   named honest stands (NamesOne key (Ok r)) finds through ends =
       let run = through.runs.at honest w stands in
       let found = finds honest w stands in

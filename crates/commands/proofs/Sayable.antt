@@ -335,7 +335,8 @@ unsent_ends (KeysRevoke shelf) sent is unsaid w world = ap (λ o. Err (unsayable
 -- a command that sends the order for its own, and ends by the result, does as `OrdersOver` says
 pub orders_over : (unread unread_new written written_new : Option (List ℕ)) (order asked : Order)
     (told : Result Outcome Untold) (result : Result (Unit {0}) CommandRefusal)
-    → IsSentFor order asked → Asks unread unread_new written written_new asked told → result ≡ told_ending (unsayable asked) told
+    → IsSentFor order asked → Asks unread unread_new written written_new asked told
+    → result ≡ told_ending (unsayable asked) told
     → OrdersOver unread unread_new written written_new order result
 orders_over unread unread_new written written_new order asked told result sends asks ends = record {
   asked = asked;

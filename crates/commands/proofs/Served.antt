@@ -12,7 +12,8 @@ use Rattle.control.proofs.StepLemmas.{steps_more}
 use Rattle.control.proofs.TurnLemmas.{turns_read}
 
 module _ {S : Type 0} (shown : S → Shown) (copied : S → S → List ℕ → Result (Unit {0}) CopyRefusal → Type 0)
-    (counted : S → S → ℕ → Type 0) (old mid new : S) (since : List ℕ) (most : ℕ) (read : IsOnlyRead (shown old) (shown mid))
+    (counted : S → S → ℕ → Type 0) (old mid new : S) (since : List ℕ) (most : ℕ)
+    (read : IsOnlyRead (shown old) (shown mid))
     (goes : GoesOnRead shown copied counted mid new since most) where
   behind : (told : Result Health StoreFault)
       → ((shown new).is_honest → (w : _) → (shown old).stands w

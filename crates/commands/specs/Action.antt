@@ -65,7 +65,8 @@ module _ {S : Type 0} (shown : S → Shown) (copied : Copied S) (counted : Count
 
   -- connections were served from the store, by these times of a calendar, and nothing was read from the input
   pub record ServesConnections
-      (entrance : Entrance) (connections : ℕ) (control : Option (List ℕ)) (result : Result Bool CommandRefusal) : Type 0 where
+      (entrance : Entrance) (connections : ℕ) (control : Option (List ℕ))
+      (result : Result Bool CommandRefusal) : Type 0 where
     pub times : List (List ℕ)
     pub ended : Result (Unit {0}) CommandRefusal
     pub serves : ListensAs shown copied counted [] times old.store new.store entrance connections control
@@ -91,9 +92,12 @@ module _ {S : Type 0} (shown : S → Shown) (copied : Copied S) (counted : Count
   Acts result (action.Catalog key) =
       PrintsCatalogOf (shown old.store) (shown new.store) key.now old.written new.written result × (new.came ≡ old.came)
   Acts result (action.Requires version) =
-      PrintsRequirements (shown old.store) (shown new.store) version old.written new.written result × (new.came ≡ old.came)
-  Acts result action.KeyList = PrintsKeys (shown old.store) (shown new.store) old.written new.written result × (new.came ≡ old.came)
+      PrintsRequirements (shown old.store) (shown new.store) version old.written new.written result
+      × (new.came ≡ old.came)
+  Acts result action.KeyList = PrintsKeys (shown old.store) (shown new.store) old.written new.written result
+      × (new.came ≡ old.came)
   Acts result action.ShelfList =
       PrintsShelves (shown old.store) (shown new.store) old.written new.written result × (new.came ≡ old.came)
   Acts result action.Answer = AnswersFrom result
-  Acts result (action.Serve entrance connections control) = ServesConnections entrance connections (option_copied control) result
+  Acts result (action.Serve entrance connections control) =
+      ServesConnections entrance connections (option_copied control) result

@@ -17,7 +17,8 @@ use Rattle.commands.specs.Order.{OrdersOver, RevokesOver}
 use Rattle.commands.specs.declared.refusal.CommandRefusal.{CommandRefusal}
 
 -- The command wrote these bytes, the server did what they order, and the command got its outcome.
-pub record AreConnected (copied : List ℕ → Result (Unit {0}) CopyRefusal → Type 0) (pinged : Result Health StoreFault → Type 0)
+pub record AreConnected (copied : List ℕ → Result (Unit {0}) CopyRefusal → Type 0)
+    (pinged : Result Health StoreFault → Type 0)
     (old new : Shown) (order : Order) (result : Result (Unit {0}) CommandRefusal) : Type 0 where
   pub unread : Option (List ℕ)
   pub unread_new : Option (List ℕ)

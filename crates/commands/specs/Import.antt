@@ -143,7 +143,8 @@ BadRowComes list rows =
 -- the list has no record, or the first one is not UTF-8 or is not the header
 abbrev pub BadHeaderComes : Option (List ℕ) → Type 0
 BadHeaderComes list =
-    Meets list [] IsNone ⊎ Meets list [] IsNoText ⊎ ((fields : List (List ℕ)) × (fields ≢ header) × Begins list (fields ∷ []))
+    Meets list [] IsNone ⊎ Meets list [] IsNoText
+    ⊎ ((fields : List (List ℕ)) × (fields ≢ header) × Begins list (fields ∷ []))
 
 -- why no row is done after these; nothing is known if the rest of the list can't be read
 abbrev pub IsClosing : Option (List ℕ) → List (List (List ℕ)) → Closing → Type 0
@@ -167,7 +168,8 @@ IsOver list done_rows n why =
 
 -- the store went through the rows in a run of publishes
 pub record GoesThrough
-    (old new : Shown) (files : List ℕ → Option (Option (List ℕ))) (key : List ℕ) (done_rows : List DoneRow) : Type 0 where
+    (old new : Shown) (files : List ℕ → Option (Option (List ℕ))) (key : List ℕ)
+    (done_rows : List DoneRow) : Type 0 where
   pub done : AreDone files key done_rows
   pub runs : Runs old new (events done_rows) (answers done_rows)
   -- the count never falls, and a `Device` fault is met only if it grew or is full
@@ -192,7 +194,8 @@ Ends list written written_new done_rows result =
 
 -- The rows at the front of the list were published one after another, and the import ended as `Ends` says.
 pub record Imports
-    (old new : Shown) (files : List ℕ → Option (Option (List ℕ))) (key : List ℕ) (list written written_new : Option (List ℕ))
+    (old new : Shown) (files : List ℕ → Option (Option (List ℕ))) (key : List ℕ)
+    (list written written_new : Option (List ℕ))
     (result : Result Ending Io) : Type 0 where
   pub done_rows : List DoneRow
   pub first : AreFirst list done_rows
@@ -211,7 +214,8 @@ pub record Publishes (old new : Shown) (ask : Ask) (answer : Fixed) : Type 0 whe
 
 -- a row was done, with this outcome
 pub record DoesRow
-    (old new : Shown) (files : List ℕ → Option (Option (List ℕ))) (key : List ℕ) (l : Line) (result : RowOutcome) : Type 0 where
+    (old new : Shown) (files : List ℕ → Option (Option (List ℕ))) (key : List ℕ) (l : Line)
+    (result : RowOutcome) : Type 0 where
   pub done : Done
   pub through : GoesThrough old new files key (record { line = l; done = done } ∷ [])
   pub is : result ≡ outcome_of done

@@ -1,7 +1,8 @@
 -- The list of an import: CSV with a header and five fields a row.
 use Rattle.std.specs.Prelude.{ℕ, ◌≡◌, ◌≢◌, List, [], ◌∷◌, ◌++◌, codes, length, true, Option, Some, None}
 use Rattle.csv.specs.Machine.{Read, next_record}
-use Rattle.csv.specs.Reading.{Reached, Ready, default_config, is_flexible, reader_config, reader_state, reader_trim, source_of, strip_bom}
+use Rattle.csv.specs.Reading.{Reached, Ready, default_config, is_flexible, reader_config, reader_state, reader_trim}
+use Rattle.csv.specs.Reading.{source_of, strip_bom}
 use Rattle.csv.specs.Records.{AllText}
 use Rattle.csv.specs.declared.error.ErrorKind.{ErrorKind}
 use Rattle.csv.specs.declared.error.ErrorKind.TheVariants as kind
@@ -27,7 +28,13 @@ abbrev pub fields_of_line : Line → List (List ℕ)
 fields_of_line l = l.path ∷ l.version ∷ l.time ∷ l.gomod ∷ l.zip ∷ []
 
 abbrev pub line_of_row : ImportRow → Line
-line_of_row r = record { path = r.path.now; version = r.version.now; time = r.time.now; gomod = r.gomod.now; zip = r.zip.now }
+line_of_row r = record {
+  path = r.path.now;
+  version = r.version.now;
+  time = r.time.now;
+  gomod = r.gomod.now;
+  zip = r.zip.now;
+}
 
 abbrev pub fields_of_row : ImportRow → List (List ℕ)
 fields_of_row r = fields_of_line (line_of_row r)

@@ -42,7 +42,14 @@ row_of p v (Some seen) =
 abbrev pub outlined : List ℕ → SemanticVersion → Option Outline → List InventoryRow
 outlined p v None = []
 outlined p v (Some it) =
-    record { path = p; version = v; shelf = it.shelf; time = it.time; gomod_bytes = it.gomod_bytes; zip_bytes = it.zip_bytes } ∷ []
+    record {
+      path = p;
+      version = v;
+      shelf = it.shelf;
+      time = it.time;
+      gomod_bytes = it.gomod_bytes;
+      zip_bytes = it.zip_bytes;
+    } ∷ []
 
 -- the row of a version that the shelf sees, or none if it does not
 abbrev pub row_at : World → List ℕ → List ℕ → SemanticVersion → List InventoryRow
@@ -77,7 +84,8 @@ time_field None = []
 time_field (Some time) = time
 
 abbrev pub header : List (List ℕ)
-header = codes "path" ∷ codes "version" ∷ codes "shelf" ∷ codes "class" ∷ codes "time" ∷ codes "mod_bytes" ∷ codes "zip_bytes" ∷ []
+header = codes "path" ∷ codes "version" ∷ codes "shelf" ∷ codes "class" ∷ codes "time" ∷ codes "mod_bytes"
+    ∷ codes "zip_bytes" ∷ []
 
 abbrev pub fields : InventoryRow → List (List ℕ)
 fields r =

@@ -22,7 +22,8 @@ pub record AreNames (team key : List ℕ) : Type 0 where
   pub key_name : is_key key ≡ true
 
 -- the requests were answered from shelves in memory that began at this world, with this result
-abbrev pub ServedFrom : World → Account → Account → Option (List ℕ) → Option (List ℕ) → Result (Unit {0}) Failure → Type 0
+abbrev pub ServedFrom : World → Account → Account → Option (List ℕ) → Option (List ℕ) → Result (Unit {0}) Failure
+    → Type 0
 ServedFrom start came came_new written written_new result =
     (end : World) × ServesAllHeard (in_memory start) (in_memory end) came came_new written written_new result
 
@@ -33,7 +34,8 @@ abbrev pub AnsweredFor :
 AnsweredFor team key came came_new written written_new (Ok u) =
     AreNames team key × ServedFrom (opening team key) came came_new written written_new (Ok tt)
 AnsweredFor team key came came_new written written_new (Err Io) =
-    AreNames team key × ((failure : Failure) × ServedFrom (opening team key) came came_new written written_new (Err failure))
+    AreNames team key × ((failure : Failure)
+    × ServedFrom (opening team key) came came_new written written_new (Err failure))
 AnsweredFor team key came came_new written written_new (Err Name) =
     (¬ AreNames team key) × (came_new ≡ came) × (written_new ≡ written)
 AnsweredFor team key came came_new written written_new (Err Memory) =
@@ -43,7 +45,8 @@ AnsweredFor team key came came_new written written_new (Err other) = ⊥
 -- The requests were answered from shelves that went from old to new, with this result.
 abbrev pub AnswersAll :
     Shown → Shown → Account → Account → Option (List ℕ) → Option (List ℕ) → Result (Unit {0}) CommandRefusal → Type 0
-AnswersAll old new came came_new written written_new (Ok u) = ServesAllHeard old new came came_new written written_new (Ok tt)
+AnswersAll old new came came_new written written_new (Ok u) =
+    ServesAllHeard old new came came_new written written_new (Ok tt)
 AnswersAll old new came came_new written written_new (Err Io) =
     (failure : Failure) × ServesAllHeard old new came came_new written written_new (Err failure)
 AnswersAll old new came came_new written written_new (Err other) = ⊥

@@ -1,5 +1,6 @@
 -- Orders that a command sends to a running `serve`.
-use Rattle.std.specs.Prelude.{ℕ, ◌≡◌, ◌⊎◌, if◌then◌else◌, Bool, List, Option, Some, None, option_copied, Result, Ok, Err}
+use Rattle.std.specs.Prelude.{ℕ, ◌≡◌, ◌⊎◌, if◌then◌else◌, Bool, List, Option, Some, None, option_copied, Result, Ok}
+use Rattle.std.specs.Prelude.{Err}
 use Rattle.std.specs.Borrow.{Bor}
 use Rattle.world.specs.World.{World, IsWorld, common, is_team_name, is_key}
 use Rattle.machine.specs.Machine.{after}
@@ -14,7 +15,8 @@ use Rattle.control.specs.declared.outcome.Outcome.{Outcome}
 use Rattle.control.specs.declared.outcome.Outcome.TheVariants as outcome
 use Rattle.commands.specs.Ending.{ending}
 use Rattle.commands.specs.declared.refusal.CommandRefusal.{CommandRefusal}
-use Rattle.commands.specs.declared.refusal.CommandRefusal.TheVariants.{Name, NoTeam, NoKey, NotEmpty, Device, Memory, Io}
+use Rattle.commands.specs.declared.refusal.CommandRefusal.TheVariants.{Name, NoTeam, NoKey, NotEmpty, Device, Memory}
+use Rattle.commands.specs.declared.refusal.CommandRefusal.TheVariants.{Io}
 
 -- ---- what is sent
 
@@ -27,12 +29,14 @@ group_sent (Some group) = if is_team_name group then Some group else Some common
 -- this order is sent for that one
 abbrev pub IsSentFor : Order → Order → Type 0
 IsSentFor (TeamAdd name group) sent =
-    (other : Option (Bor (List ℕ))) × (sent ≡ TeamAdd name other) × (option_copied other ≡ group_sent (option_copied group))
+    (other : Option (Bor (List ℕ))) × (sent ≡ TeamAdd name other)
+    × (option_copied other ≡ group_sent (option_copied group))
 IsSentFor order sent = sent ≡ order
 
 -- two orders have the same outcome and the same effect in each world
 abbrev pub ComeToTheSame : Order → Order → Type 0
-ComeToTheSame one two = (w : World) → IsWorld w → (outcome_in w one ≡ outcome_in w two) × (after w (event_of one) ≡ after w (event_of two))
+ComeToTheSame one two = (w : World) → IsWorld w
+    → (outcome_in w one ≡ outcome_in w two) × (after w (event_of one) ≡ after w (event_of two))
 
 -- ---- how a command ends
 
@@ -66,7 +70,8 @@ EndsInEach order result = (w : World) → IsWorld w → result ≡ ending (Ok (o
 -- The line of an order with the same effect was sent as `Asks` says, and the command ends by the result. If that order
 -- has no line, the command ends as the order does in each world.
 pub record OrdersOver
-    (unread unread_new written written_new : Option (List ℕ)) (order : Order) (result : Result (Unit {0}) CommandRefusal) : Type 0 where
+    (unread unread_new written written_new : Option (List ℕ)) (order : Order)
+    (result : Result (Unit {0}) CommandRefusal) : Type 0 where
   pub asked : Order
   pub same : ComeToTheSame asked order
   pub told : Result Outcome Untold
@@ -77,7 +82,8 @@ pub record OrdersOver
 -- so it was over a connection, or there was none
 abbrev pub OrdersThere : Order → Result (Unit {0}) CommandRefusal → Type 0
 OrdersThere order result =
-    ((unread unread_new written written_new : Option (List ℕ)) × OrdersOver unread unread_new written written_new order result)
+    ((unread unread_new written written_new : Option (List ℕ))
+    × OrdersOver unread unread_new written written_new order result)
     ⊎ (result ≡ Err Device)
 
 -- in each world, the command ends as the revocation of the key with this fingerprint does there
@@ -96,7 +102,8 @@ pub record RevokesOver (unread unread_new written written_new : Option (List ℕ
 -- so it was over a connection, or there was none
 abbrev pub RevokesThere : List ℕ → Result (Unit {0}) CommandRefusal → Type 0
 RevokesThere f result =
-    ((unread unread_new written written_new : Option (List ℕ)) × RevokesOver unread unread_new written written_new f result)
+    ((unread unread_new written written_new : Option (List ℕ))
+    × RevokesOver unread unread_new written written_new f result)
     ⊎ (result ≡ Err Device)
 
 -- how `copy` ends, by the result of sending its order; a path that no line can carry counts as a name that breaks its
@@ -121,7 +128,8 @@ pub record CopiesOver (unread unread_new written written_new : Option (List ℕ)
 -- so it was over a connection, or there was none
 abbrev pub CopiesThere : List ℕ → Result (Unit {0}) CommandRefusal → Type 0
 CopiesThere path result =
-    ((unread unread_new written written_new : Option (List ℕ)) × CopiesOver unread unread_new written written_new path result)
+    ((unread unread_new written written_new : Option (List ℕ))
+    × CopiesOver unread unread_new written written_new path result)
     ⊎ (result ≡ Err Device)
 
 -- how `stop` ends, by the result of sending its order
@@ -134,7 +142,8 @@ stop_ending (Ok outcome.Bad) = Err Io
 stop_ending (Err why) = Err Io
 
 -- the line that ends a server was sent as `AsksToStop` says, and the command ends by the result
-pub record StopsOver (unread unread_new written written_new : Option (List ℕ)) (result : Result (Unit {0}) CommandRefusal) : Type 0 where
+pub record StopsOver (unread unread_new written written_new : Option (List ℕ))
+    (result : Result (Unit {0}) CommandRefusal) : Type 0 where
   pub told : Result Outcome Untold
   pub asks : AsksToStop unread unread_new written written_new told
   pub ends : result ≡ stop_ending told

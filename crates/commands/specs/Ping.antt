@@ -30,7 +30,8 @@ health_ending (Ok (spoken.List lines)) = Err Io
 health_ending (Err why) = Err Io
 
 -- the line that asks for the health was written, a line was read, and that of a health was printed
-pub record PingsOver (unread unread_new written written_new printed printed_new : Option (List ℕ)) (result : Result Bool CommandRefusal)
+pub record PingsOver (unread unread_new written written_new printed printed_new : Option (List ℕ))
+    (result : Result Bool CommandRefusal)
     : Type 0 where
   pub told : Result Told Untold
   pub asks : AsksForHealth unread unread_new written written_new told
@@ -38,7 +39,8 @@ pub record PingsOver (unread unread_new written written_new printed printed_new 
 
 -- the line that asks for the health was written, and if no line of a health was printed, that is because of what was
 -- read in its place or because the output failed
-pub record FailsOver (unread unread_new written written_new : Option (List ℕ)) (writes writes_new : Writes) (result : Result Bool CommandRefusal)
+pub record FailsOver (unread unread_new written written_new : Option (List ℕ)) (writes writes_new : Writes)
+    (result : Result Bool CommandRefusal)
     : Type 0 where
   pub told : Result Told Untold
   pub asks : AsksForHealth unread unread_new written written_new told
@@ -47,5 +49,6 @@ pub record FailsOver (unread unread_new written written_new : Option (List ℕ))
 -- so it was over a connection, or there was none
 abbrev pub PingsThere : Option (List ℕ) → Option (List ℕ) → Result Bool CommandRefusal → Type 0
 PingsThere printed printed_new result =
-    ((unread unread_new written written_new : Option (List ℕ)) × PingsOver unread unread_new written written_new printed printed_new result)
+    ((unread unread_new written written_new : Option (List ℕ))
+    × PingsOver unread unread_new written written_new printed printed_new result)
     ⊎ ((result ≡ Err Device) × (printed_new ≡ printed))

@@ -18,7 +18,8 @@ PrintsFront written written_new text = (front : List ℕ) × IsFront front text 
 -- the text was printed, or the output failed and a beginning of it was printed
 abbrev pub PrintsText : Option (List ℕ) → Option (List ℕ) → List ℕ → Result (Unit {0}) Failure → Type 0
 PrintsText written written_new text result =
-    MatchResult result (λ u. Appends written written_new text) (λ e. (e ≡ io.Write) × PrintsFront written written_new text)
+    MatchResult result (λ u. Appends written written_new text)
+    (λ e. (e ≡ io.Write) × PrintsFront written written_new text)
 
 -- a call to write to the output or to flush it failed
 abbrev pub HasFailed : Writes → Writes → Type 0

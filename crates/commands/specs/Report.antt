@@ -51,7 +51,8 @@ list_ending (Err fault.Memory) = Err Memory
 
 -- The text was printed, or the output failed and a beginning of it was printed. If there is no text, the result is the
 -- refusal, and nothing is printed.
-abbrev pub Prints : Option (List ℕ) → Option (List ℕ) → Result Bool CommandRefusal → Result (List ℕ) CommandRefusal → Type 0
+abbrev pub Prints : Option (List ℕ) → Option (List ℕ) → Result Bool CommandRefusal → Result (List ℕ) CommandRefusal
+    → Type 0
 Prints written written_new result (Ok text) =
     MatchResult result
     (λ accepted. (accepted ≡ true) × Appends written written_new text)
@@ -60,34 +61,39 @@ Prints written written_new result (Err refusal) = (result ≡ Err refusal) × (w
 
 -- the inventory of a key was read, which changes nothing, and printed
 pub record PrintsInventory
-    (old new : Shown) (key : List ℕ) (written written_new : Option (List ℕ)) (result : Result Bool CommandRefusal) : Type 0 where
+    (old new : Shown) (key : List ℕ) (written written_new : Option (List ℕ))
+    (result : Result Bool CommandRefusal) : Type 0 where
   pub told : Result (List ℕ) InventoryFault
   pub inventories : Inventories old new key told
   pub prints : Prints written written_new result (inventory_ending told)
 
 -- the catalog of a key was read, which changes nothing, and printed meanwhile
 pub record PrintsCatalogOf
-    (old new : Shown) (key : List ℕ) (written written_new : Option (List ℕ)) (result : Result Bool CommandRefusal) : Type 0 where
+    (old new : Shown) (key : List ℕ) (written written_new : Option (List ℕ))
+    (result : Result Bool CommandRefusal) : Type 0 where
   pub told : Result Bool Unprinted
   pub prints : PrintsCatalog old new key written written_new told
   pub ends : result ≡ catalog_ending told
 
 -- what a version requires was read, which changes nothing, and printed
 pub record PrintsRequirements
-    (old new : Shown) (version : Named) (written written_new : Option (List ℕ)) (result : Result Bool CommandRefusal) : Type 0 where
+    (old new : Shown) (version : Named) (written written_new : Option (List ℕ))
+    (result : Result Bool CommandRefusal) : Type 0 where
   pub told : Result (Option (List ℕ)) StoreFault
   pub reads : Reads old new told
       (λ w. required_by w (map.get w.keys version.key.now) (path_of version.path.now) (version_of version.version.now))
   pub prints : Prints written written_new result (requirements_ending told)
 
 -- the lines of all keys were read, which changes nothing, and printed in byte order
-pub record PrintsKeys (old new : Shown) (written written_new : Option (List ℕ)) (result : Result Bool CommandRefusal) : Type 0 where
+pub record PrintsKeys (old new : Shown) (written written_new : Option (List ℕ))
+    (result : Result Bool CommandRefusal) : Type 0 where
   pub told : Result (List ℕ) StoreFault
   pub lists : ListsKeys old new told
   pub prints : Prints written written_new result (list_ending told)
 
 -- the lines of all shelves were read, which changes nothing, and printed
-pub record PrintsShelves (old new : Shown) (written written_new : Option (List ℕ)) (result : Result Bool CommandRefusal) : Type 0 where
+pub record PrintsShelves (old new : Shown) (written written_new : Option (List ℕ))
+    (result : Result Bool CommandRefusal) : Type 0 where
   pub told : Result (List ℕ) StoreFault
   pub reads : Reads old new told shelf_text
   pub prints : Prints written written_new result (list_ending told)

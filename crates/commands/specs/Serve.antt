@@ -22,7 +22,8 @@ input_line = codes "listening on standard input\n"
 
 -- a port was printed: the one that is named, or any for 0
 abbrev pub PrintsPort : ℕ → Option (List ℕ) → Option (List ℕ) → Type 0
-PrintsPort port written written_new = (bound : ℕ) × (port ≢ 0 → bound ≡ port) × Appends written written_new (port_line bound)
+PrintsPort port written written_new = (bound : ℕ) × (port ≢ 0 → bound ≡ port)
+    × Appends written written_new (port_line bound)
 
 -- the entrance was printed
 abbrev pub Announces : Entrance → Option (List ℕ) → Option (List ℕ) → Type 0
@@ -43,7 +44,8 @@ AnnouncesFront Input written written_new = PrintsFront written written_new input
 -- entrance can't be opened, or the output failed, and a beginning of the line was printed, and the store stays as it
 -- was.
 abbrev pub Listens :
-    {S : Type 0} → (S → Shown) → S → S → Entrance → ℕ → Option (List ℕ) → Option (List ℕ) → Result (Unit {0}) CommandRefusal → Type 0
+    {S : Type 0} → (S → Shown) → S → S → Entrance → ℕ → Option (List ℕ) → Option (List ℕ)
+    → Result (Unit {0}) CommandRefusal → Type 0
 Listens shown old new entrance connections written written_new result =
     MatchResult result
     (λ _. Announces entrance written written_new × GoesThroughMost (shown old) (shown new) connections)
@@ -58,7 +60,8 @@ abbrev pub Counted : Type 0 → Type 1
 Counted S = S → S → ℕ → Type 0
 
 -- The calendar showed one time more, and each ping was told that the server began then. The store went through at most
--- as many requests as there are connections, with orders between them, and copies of the machine's world at that moment,
+-- as many requests as there are connections, with orders between them, and copies of the machine's world at that
+-- moment,
 -- and versions counted in it.
 pub record ServesSince {S : Type 0} (shown : S → Shown) (copied : Copied S) (counted : Counted S)
     (times times_new : List (List ℕ)) (old new : S) (connections : ℕ) : Type 0 where

@@ -28,9 +28,9 @@ pub fn orders_end_as_on_the_store<S: Shelves, K: Copies<S>>()
         (IsPinged tally (S.shown old).failures (S.shown new).failures (K.counted old new)) (S.shown old) (S.shown new) }
 {}
 
-/// `key-revoke --fingerprint` with `--control`, whose line a `serve` carried out and whose outcome came, ends as it does
-/// on the store of a file: the key that has the fingerprint in the world that the store stood for is revoked, or it
-/// ends with `no-key` if no key has it or several have; or by a fault of the store, which changes nothing.
+/// `key-revoke --fingerprint` with `--control`, whose line a `serve` carried out and whose outcome came, ends as it
+/// does on the store of a file: the key that has the fingerprint in the world that the store stood for is revoked, or
+/// it ends with `no-key` if no key has it or several have; or by a fault of the store, which changes nothing.
 pub fn revocations_end_as_on_the_store<S: Shelves, K: Copies<S>>()
     ensures { (old new : S) (tally : Tally) → RevokesAsOnTheStore (K.copied old new)
         (IsPinged tally (S.shown old).failures (S.shown new).failures (K.counted old new)) (S.shown old) (S.shown new) }

@@ -99,7 +99,8 @@ fn order_made<O: Tell>(
     bytes: &[u8],
     output: &mut O,
 ) -> Result<(), CommandRefusal>
-    ensures orders { spec.OrdersMade shelf.entry right bytes.now (O.contents output.old) (O.contents output.new) result }
+    ensures orders { spec.OrdersMade shelf.entry right bytes.now
+        (O.contents output.old) (O.contents output.new) result }
     ensures cause { spec.HasCause result (spec.IsUnprinted bytes.now (O.writes output.old) (O.writes output.new)
         ⊎ spec.IsPrinted (O.contents output.old) (O.contents output.new)) }
     ensures flushed { OnOk result ((O.writes output.new).unflushed ≡ []) }

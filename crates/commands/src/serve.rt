@@ -37,12 +37,12 @@ pub enum Entrance {
 
 /// Prints the line of the entrance, and serves the connections that come in: the store goes through at most as many
 /// requests as there are connections. If a socket `control` is named, the orders of operators who connect to it are
-/// carried out between them, copies by `copies`, and do not count; a ping is told the versions that `copies` counts, and
-/// when the server began: the time that `calendar` shows before the socket is made. What happens is then told on
-/// `errors`, in lines without a key; if that fails, nothing else changes.
-/// `Io` if the entrance or the socket can't be opened, the clock can't be read for the start time, the output fails, or
-/// memory runs out before it serves: then nothing of the line is printed, a beginning or all of it, and the store stays
-/// as it was. A connection that fails only counts.
+/// carried out between them, copies by `copies`, and do not count; a ping is told the versions that `copies` counts,
+/// and when the server began: the time that `calendar` shows before the socket is made. What happens is then told on
+/// `errors`, in lines without a key; if that fails, nothing else changes. `Io` if the entrance or the socket can't be
+/// opened, the clock can't be read for the start time, the output fails, or memory runs out before it serves: then
+/// nothing of the line is printed, a beginning or all of it, and the store stays as it was. A connection that fails
+/// only counts.
 pub fn serve<D: Calendar, S: Keyring, K: Copies<S>, O: Tell, E: Tell>(
     rt: &HostRuntime,
     calendar: &mut D,

@@ -33,7 +33,8 @@ module _ (old mid new : Shown) (f : List ℕ) where
 
 module _ (old new : Shown) (f : List ℕ) where
   -- no key was found, or several
-  pub none_named : Reads old new (Ok None) (λ w. only_with (keys_in w) f) → RevokesNamed old new f (outcome_of (Ok NoKey))
+  pub none_named : Reads old new (Ok None) (λ w. only_with (keys_in w) f)
+      → RevokesNamed old new f (outcome_of (Ok NoKey))
   none_named reads = record {
     naming = NamesNone;
     through = turns_read old new (only_read old new _ _ reads);

@@ -1,5 +1,6 @@
 -- What is written of what happened.
-use Rattle.std.proofs.Common.{◌≡◌, ◌≢◌, ℕ, nat_eq, Bool, true, false, IsTrue, not, ◌&&◌, List, [], ◌∷◌, ◌++◌, All, refl, sym}
+use Rattle.std.proofs.Common.{◌≡◌, ◌≢◌, ℕ, nat_eq, Bool, true, false, IsTrue, not, ◌&&◌, List, [], ◌∷◌, ◌++◌, All, refl}
+use Rattle.std.proofs.Common.{sym}
 use Rattle.std.proofs.Common.{ap, ◌∙◌, subst, Option, Result, Ok, Err, inl, inr, append_assoc, append-nil}
 use Rattle.std.proofs.KnownBytes.{Appends-kept, Appends-nil, Appends-trans}
 use Rattle.std.proofs.lemmas.Bool.{false≢true, and_parts, eq-eqb, eqb-true}
@@ -109,13 +110,17 @@ on_false false text is calm = calm
 calm_within : (word rest : List ℕ) → list_all is_no_end word ≡ true → Calm false rest → Calm false (word ++ rest)
 calm_within [] rest no_end calm = calm
 calm_within (b ∷ bs) rest no_end calm =
-    let parts = and_parts (is_no_end b) (list_all is_no_end bs) no_end in
-    (λ never. absurd (false≢true never), on_false (nat_eq b line_end) (bs ++ rest) parts.0 (calm_within bs rest parts.1 calm))
+    let parts = and_parts (is_no_end b) (list_all is_no_end bs) no_end in (
+      λ never. absurd (false≢true never),
+      on_false (nat_eq b line_end) (bs ++ rest) parts.0 (calm_within bs rest parts.1 calm),
+    )
 
 calm_line : (b : ℕ) (word rest : List ℕ) → nat_eq b 103 ≡ false → is_no_end b ≡ true → list_all is_no_end word ≡ true
     → Calm false rest → Calm true (b ∷ (word ++ rest))
-calm_line b word rest other no_end all calm =
-    (λ is e. false≢true (sym other ∙ eq-eqb b 103 e), on_false (nat_eq b line_end) (word ++ rest) no_end (calm_within word rest all calm))
+calm_line b word rest other no_end all calm = (
+  λ is e. false≢true (sym other ∙ eq-eqb b 103 e),
+  on_false (nat_eq b line_end) (word ++ rest) no_end (calm_within word rest all calm),
+)
 
 plain_byte : (b : ℕ) → is_plain_byte b ≡ true → is_no_end b ≡ true
 plain_byte b is = at (nat_eq b line_end) refl
@@ -142,7 +147,8 @@ plain_text text = at (list_all is_plain_byte text) refl
     at false e = refl
 
 calm_outcome : (told : Outcome) → Calm false (outcome.line_of told)
-calm_outcome told = calm_within (outcome.word_of told) (line_end ∷ []) (word told) (λ never. absurd (false≢true never), tt)
+calm_outcome told = calm_within (outcome.word_of told) (line_end ∷ []) (word told)
+    (λ never. absurd (false≢true never), tt)
   where
     word : (told : Outcome) → list_all is_no_end (outcome.word_of told) ≡ true
     word (case.RegistryReply registered.Done) = refl
@@ -167,7 +173,8 @@ calm_end text = calm_within (plain text) (codes "\n") (plain_text text) (λ neve
 
 calm_about : (about : Occasion) → Calm true (line_of about)
 calm_about (Opened file n) =
-    calm_line 111 (codes "pened: ") _ refl refl refl (calm_end (file ++ (codes ": " ++ (decimal n ++ codes " versions"))))
+    calm_line 111 (codes "pened: ") _ refl refl refl
+    (calm_end (file ++ (codes ": " ++ (decimal n ++ codes " versions"))))
 calm_about (Uncounted file met) = calm_line 111 (codes "pened: ") _ refl refl refl (calm_told file (case.Failed met))
 calm_about (Ordered order told) =
     calm_line 111 (codes "rder: ") _ refl refl refl (calm_told (shown_words order) (outcome.outcome_of told))
@@ -186,12 +193,14 @@ calm_pieces (piece ∷ pieces) each none =
     let first = All-head IsPiece piece pieces each in
     absurd (∥∥₁_elim first.1 ⊥_prop (λ it.
     let calm = calm_front true piece first.0 (subst (Calm true) (sym it.1) (calm_about it.0)) in
-    calm_pieces pieces (All-tail IsPiece piece pieces each) (λ more. none (calm_then true piece (joined pieces) calm more))))
+    calm_pieces pieces (All-tail IsPiece piece pieces each)
+    (λ more. none (calm_then true piece (joined pieces) calm more))))
 
 no_refusal_begins : (rest : List ℕ) → Calm true (codes "goshelf:" ++ rest) → ⊥
 no_refusal_begins rest calm = calm.0 refl refl
 
-begins_none : (text front rest : List ℕ) → Calm true text → EndsLine front → text ≡ front ++ (codes "goshelf:" ++ rest) → ⊥
+begins_none : (text front rest : List ℕ) → Calm true text → EndsLine front → text ≡ front ++ (codes "goshelf:" ++ rest)
+    → ⊥
 begins_none text front rest calm (inl none) is =
     no_refusal_begins rest (subst (Calm true) (is ∙ ap (λ f. f ++ (codes "goshelf:" ++ rest)) none) calm)
 begins_none text front rest calm (inr (before, ends)) is =

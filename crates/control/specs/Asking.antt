@@ -47,10 +47,12 @@ Sends unread unread_new written written_new line (Err why) =
 -- Such a line was sent, and the line of the outcome came. Or nothing was sent, because no bytes are such a line or
 -- memory ran out. Or the line was sent, or a beginning of it, and no outcome came.
 abbrev pub AsksBy :
-    (List ℕ → Type 0) → Option (List ℕ) → Option (List ℕ) → Option (List ℕ) → Option (List ℕ) → Result Outcome Untold → Type 0
+    (List ℕ → Type 0) → Option (List ℕ) → Option (List ℕ) → Option (List ℕ) → Option (List ℕ) → Result Outcome Untold
+    → Type 0
 AsksBy is_line unread unread_new written written_new (Ok told) =
     (sent : List ℕ) × is_line sent × Appends written written_new sent × Consumes unread unread_new (line_of told)
-AsksBy is_line unread unread_new written written_new (Err Words) = ((sent : List ℕ) → ¬ is_line sent) × Keeps written written_new
+AsksBy is_line unread unread_new written written_new (Err Words) = ((sent : List ℕ) → ¬ is_line sent)
+    × Keeps written written_new
 AsksBy is_line unread unread_new written written_new (Err Memory) = Keeps written written_new
 AsksBy is_line unread unread_new written written_new (Err Io) =
     (sent : List ℕ) × is_line sent × (WritesBeginning written written_new sent ⊎ Appends written written_new sent)

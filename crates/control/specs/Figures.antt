@@ -12,7 +12,8 @@ NotesTime times old None (Ok u) = Unit {0}
 NotesTime times old new (Err why) = new ≡ old
 
 -- The sizes are those of figures of which this is known, and the rest is what is kept.
-pub record TellsKept (known : Figures → Type 0) (traffic : Traffic) (copied : Option (List ℕ)) (f : Figures) : Type 0 where
+pub record TellsKept (known : Figures → Type 0) (traffic : Traffic) (copied : Option (List ℕ))
+    (f : Figures) : Type 0 where
   pub sizes : Figures
   pub are_known : known sizes
   pub bytes : f.bytes ≡ sizes.bytes

@@ -1,6 +1,7 @@
 -- What was answered since a server began, and the line that tells it.
 use Rattle.std.specs.Prelude.{ℕ, ◌≡◌, ◌+◌, ◌/◌, ◌<◌, ◌++◌, nat_eq, cond, Bool, true, false}
-use Rattle.std.specs.Prelude.{List, [], length, codes, decimal, count_by, Option, Some, None, option_copied, Result, Ok, Err}
+use Rattle.std.specs.Prelude.{List, [], length, codes, decimal, count_by, Option, Some, None, option_copied, Result, Ok}
+use Rattle.std.specs.Prelude.{Err}
 use Rattle.std.specs.FinMap as map
 use Rattle.world.specs.Store.{GrewOrFull}
 use Rattle.world.specs.declared.registry.StoreFault.{StoreFault}
@@ -93,12 +94,14 @@ lines_in (Some t) = traffic.lines_of t
 -- the words that tell what is known of the file and of copies
 abbrev pub words_of : Figures → List ℕ
 words_of f =
-    number_word (codes " bytes=") f.bytes ++ (number_word (codes " log=") f.log ++ time_word (codes " copied=") f.copied)
+    number_word (codes " bytes=") f.bytes
+    ++ (number_word (codes " log=") f.log ++ time_word (codes " copied=") f.copied)
 
 -- how many shelves have counts, the end of the line, and their lines
 abbrev pub shelves_text : Figures → List ℕ
 shelves_text f =
-    codes " shelves=" ++ decimal (shelves_in (option_copied f.traffic)) ++ codes "\n" ++ lines_in (option_copied f.traffic)
+    codes " shelves=" ++ decimal (shelves_in (option_copied f.traffic)) ++ codes "\n"
+    ++ lines_in (option_copied f.traffic)
 
 -- the words of a health behind a text of its counts, up to the versions
 abbrev pub begin_behind : List ℕ → Health → List ℕ

@@ -153,11 +153,14 @@ module _ (copied : List ℕ → Result (Unit {0}) CopyRefusal → Type 0) (pinge
 module _ {S : Type 0} (shown : S → Shown) (copied : S → S → List ℕ → Result (Unit {0}) CopyRefusal → Type 0)
     (counted : S → S → ℕ → Type 0) (tally : Tally) (old new : S) where
   abbrev pub HeedsBy : List ℕ → Told → Type 0
-  HeedsBy = Heeds (copied old new) (IsPinged tally (shown old).failures (shown new).failures (counted old new)) (shown old) (shown new)
+  HeedsBy = Heeds (copied old new) (IsPinged tally (shown old).failures (shown new).failures (counted old new))
+      (shown old) (shown new)
 
   abbrev pub HearsBy : Account → Account → Result Told Io → Type 0
   HearsBy =
-      HearsOrFails (copied old new) (IsPinged tally (shown old).failures (shown new).failures (counted old new)) (shown old) (shown new)
+      HearsOrFails (copied old new) (IsPinged tally (shown old).failures (shown new).failures (counted old new))
+      (shown old) (shown new)
 
   abbrev pub ObeysBy : Account → Account → Option (List ℕ) → Option (List ℕ) → Result Told Io → Type 0
-  ObeysBy = Obeys (copied old new) (IsPinged tally (shown old).failures (shown new).failures (counted old new)) (shown old) (shown new)
+  ObeysBy = Obeys (copied old new) (IsPinged tally (shown old).failures (shown new).failures (counted old new))
+      (shown old) (shown new)

@@ -36,7 +36,8 @@ remaining_for w s turns = remaining w (chain (world_at w turns) s) (map turn_eve
 
 -- Two stores, each on an honest disk, went through turns, from worlds that agreed on what the shelf sees at the end of
 -- the first. Each was read in between, for a copy or a ping, or not.
-pub record AreTwoRuns (old new old_too new_too : Shown) (w x : World) (s : List ℕ) (full purged : List Turn) : Type 0 where
+pub record AreTwoRuns (old new old_too new_too : Shown) (w x : World) (s : List ℕ)
+    (full purged : List Turn) : Type 0 where
   pub stands : old.stands w
   pub stands_too : old_too.stands x
   pub honest : new.is_honest

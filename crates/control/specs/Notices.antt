@@ -84,7 +84,8 @@ outcome_line kind text told = kind ++ (plain text ++ (codes ": " ++ outcome.line
 
 -- the line, with its end
 abbrev pub line_of : Occasion → List ℕ
-line_of (Opened file n) = codes "opened: " ++ (plain (file ++ (codes ": " ++ (decimal n ++ codes " versions"))) ++ codes "\n")
+line_of (Opened file n) = codes "opened: "
+    ++ (plain (file ++ (codes ": " ++ (decimal n ++ codes " versions"))) ++ codes "\n")
 line_of (Uncounted file fault) = outcome_line (codes "opened: ") file (Failed fault)
 line_of (Ordered order told) = outcome_line (codes "order: ") (shown_words order) (outcome_of told)
 line_of (Copied path told) = outcome_line (codes "order: ") (codes "copy " ++ path) (outcome_of_copy told)

@@ -50,7 +50,8 @@ callers_of (OfOperator audience ∷ calls) = Operator audience.before ∷ caller
 callers_of (Untaken ∷ calls) = callers_of calls
 
 -- nothing has passed between this caller and us
-module _ {P O : Type 0} (came : P → Account) (written : P → Option (List ℕ)) (heeded : O → Account) (told : O → Option (List ℕ)) where
+module _ {P O : Type 0} (came : P → Account) (written : P → Option (List ℕ)) (heeded : O → Account)
+    (told : O → Option (List ℕ)) where
   abbrev pub IsUnheard : Caller P O → Type 0
   IsUnheard (Peer peer) = IsUnused (came peer) (written peer)
   IsUnheard (Operator operator) = IsUnused (heeded operator) (told operator)
@@ -110,7 +111,8 @@ answered_with (OfOperator audience ∷ calls) = answered_with calls
 answered_with (Untaken ∷ calls) = answered_with calls
 
 -- what came of a copy that was ordered, or of a ping
-abbrev pub CameIf : (List ℕ → Result (Unit {0}) CopyRefusal → Type 0) → (Result Health StoreFault → Type 0) → Option Heard → Type 0
+abbrev pub CameIf : (List ℕ → Result (Unit {0}) CopyRefusal → Type 0) → (Result Health StoreFault → Type 0)
+    → Option Heard → Type 0
 CameIf copied pinged None = Unit {0}
 CameIf copied pinged (Some heard) = CameOf copied pinged heard
 
@@ -166,7 +168,8 @@ module _ {O : Type 0} (heeded : O → Account × Reads) (told : O → Option (Li
 
   -- This operator was obeyed, and the store went through its order. The flag says whether it was told that the server
   -- ends.
-  pub record ObeysOne (copied : List ℕ → Result (Unit {0}) CopyRefusal → Type 0) (pinged : Result Health StoreFault → Type 0)
+  pub record ObeysOne (copied : List ℕ → Result (Unit {0}) CopyRefusal → Type 0)
+      (pinged : Result Health StoreFault → Type 0)
       (operator : O) (stops : Bool) (old new : Shown) : Type 0 where
     pub audience : Audience O
     pub begins : audience.before ≡ operator
@@ -182,7 +185,8 @@ module _ {O : Type 0} (heeded : O → Account × Reads) (told : O → Option (Li
       (operator : O) (stops : Bool) (old new : S) → Type 0
   ObeysOneBy shown copied counted tally operator stops old new =
       ObeysOne (copied old new)
-      (IsPinged tally (shown old).failures (shown new).failures (counted old new)) operator stops (shown old) (shown new)
+      (IsPinged tally (shown old).failures (shown new).failures (counted old new)) operator stops (shown old)
+      (shown new)
 
   module _ {P : Type 0} (heard : P → Account × Reads) (written : P → Option (List ℕ) × Writes) where
     abbrev pub IsCallThere : Call P O → Type 0

@@ -1,5 +1,6 @@
 -- The words of a line.
-use Rattle.std.specs.Prelude.{ℕ, ◌≡◌, ◌∷◌, ◌++◌, List, [], Bool, true, not, ◌&&◌, nat_eq, Option, Some, None, option_copied}
+use Rattle.std.specs.Prelude.{ℕ, ◌≡◌, ◌∷◌, ◌++◌, List, [], Bool, true, not, ◌&&◌, nat_eq, Option, Some, None}
+use Rattle.std.specs.Prelude.{option_copied}
 use Rattle.std.specs.List.{list_all}
 use Rattle.control.specs.declared.words.Words.{Words}
 
@@ -55,4 +56,5 @@ HasNoWords text = (s : Said) → ¬ IsTextOf text s
 abbrev pub IsCut : List ℕ → List ℕ → Option (List ℕ) → Type 0
 IsCut text front rest =
     (text ≡ front ++ behind rest)
-    × ((word : List ℕ) (other : Option (List ℕ)) → is_word word ≡ true → text ≡ word ++ behind other → (front ≡ word) × (rest ≡ other))
+    × ((word : List ℕ) (other : Option (List ℕ)) → is_word word ≡ true → text ≡ word ++ behind other
+    → (front ≡ word) × (rest ≡ other))

@@ -81,8 +81,8 @@ pub fn ask_to_copy<R: Hear, W: Tell>(
     send(alloc, reader, writer, &line)
 }
 
-/// Orders to revoke the key that has a fingerprint, and returns the outcome: that of `RegistryReply::NoKey` if no key has
-/// it or several have.
+/// Orders to revoke the key that has a fingerprint, and returns the outcome: that of `RegistryReply::NoKey` if no key
+/// has it or several have.
 ///
 /// `Untold::Words`: no line can carry the fingerprint, and so no key has it. `Untold::Memory`: memory ran out for the
 /// line. In both cases nothing was sent. `Untold::Io`: the line was not sent whole, or no outcome was read.

@@ -10,8 +10,8 @@ use std::alloc::Global;
 use world::registry::RegistryReply;
 
 /// Looks up the key that has a fingerprint, carries out the order that revokes it, and returns the outcome: that of
-/// `RegistryReply::NoKey` if no key has the fingerprint or several have, and `Outcome::Failed` if the store meets a fault
-/// or memory runs out.
+/// `RegistryReply::NoKey` if no key has the fingerprint or several have, and `Outcome::Failed` if the store meets a
+/// fault or memory runs out.
 pub(crate) fn revoke_named<S: Keyring>(alloc: Global, shelves: &mut S, fingerprint: &str) -> Outcome
     ensures { RevokesNamed (S.shown shelves.old) (S.shown shelves.new) fingerprint.now result }
 {

@@ -29,7 +29,8 @@ use world::shelves::Shelves;
 /// connections since the server began, which was at `since`. It waits for the next caller as long as that takes. It
 /// returns after the last peer, or once `Stopping` was written to an operator.
 ///
-/// What came of each order, and which faults the store met, is written to `errors`; if that fails, nothing else changes.
+/// What came of each order, and which faults the store met, is written to `errors`; if that fails, nothing else
+/// changes.
 ///
 /// A connection counts even if it fails. One that can't be taken counts too, even an operator's, so a server without
 /// descriptors ends.

@@ -115,7 +115,8 @@ impl<'a, N: Loan, S: Shelves> Watched<'a, N, S> {
     fn note_fault<T>(&mut self, errand: &Errand, told: &Result<T, StoreFault>)
         ensures same { self.new.inner ≡ self.old.inner }
         ensures counts { self.new.traffic ≡ self.old.traffic }
-        ensures noted { IfErr told.now (λ fault. IfSome self.new.notice (λ n. n.text ≡ line_of (Met errand.now fault))) }
+        ensures noted { IfErr told.now (λ fault.
+            IfSome self.new.notice (λ n. n.text ≡ line_of (Met errand.now fault))) }
     {
         if let Err(fault) = told {
             self.notice = met(self.alloc, errand, *fault).ok();

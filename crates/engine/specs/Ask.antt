@@ -1,5 +1,6 @@
 -- What a message asks of the machine.
-use Rattle.std.specs.Prelude.{ℕ, List, [], ◌∷◌, Bool, true, false, if◌then◌else◌, Option, Some, None, nat_le, length, take, drop}
+use Rattle.std.specs.Prelude.{ℕ, List, [], ◌∷◌, Bool, true, false, if◌then◌else◌, Option, Some, None, nat_le, length}
+use Rattle.std.specs.Prelude.{take, drop}
 use Rattle.modver.specs.SemanticVersion.{SemanticVersion}
 use Rattle.framing.specs.Length.{length_value}
 use Rattle.framing.specs.Message.{Request}

@@ -85,8 +85,10 @@ CallsTellAlike old new old_too new_too =
     → (calls : AreTwoCalls old new old_too new_too w x (chain later s) messages end (Ok tt) (Ok tt))
     → let marks : List Bool = remaining_for w (chain later s) messages in
     calls.full.ends.1.0 ≢ Some Unavailable → calls.purged.ends.1.0 ≢ Some Unavailable
-    → NoneUnavailable (marked marks (map text_of calls.full.exchanges)) → NoneUnavailable (map text_of calls.purged.exchanges)
-    → WriteAlike new new_too (chain later s) messages marks end calls.full.exchanges calls.purged.exchanges calls.full.out calls.purged.out
+    → NoneUnavailable (marked marks (map text_of calls.full.exchanges))
+    → NoneUnavailable (map text_of calls.purged.exchanges)
+    → WriteAlike new new_too (chain later s) messages marks end calls.full.exchanges calls.purged.exchanges
+    calls.full.out calls.purged.out
 
 -- one list begins with the other
 abbrev pub AgreeAsFar : List (List ℕ) → List (List ℕ) → Type 0
@@ -98,7 +100,9 @@ abbrev pub CallsTellAlikeAsFar : Shown → Shown → Shown → Shown → Type 0
 CallsTellAlikeAsFar old new old_too new_too =
     (w x later : World) (s : List ℕ) (events : List Event) (answers : List Answer)
     (messages : List Request) (end : End) (result result_too : Result (Unit {0}) Io)
-    → Run w events answers later → (calls : AreTwoCalls old new old_too new_too w x (chain later s) messages end result result_too)
+    → Run w events answers later
+    → (calls : AreTwoCalls old new old_too new_too w x (chain later s) messages end result result_too)
     → let marks : List Bool = remaining_for w (chain later s) messages in
-    NoneUnavailable (marked marks (map text_of calls.full.exchanges)) → NoneUnavailable (map text_of calls.purged.exchanges)
+    NoneUnavailable (marked marks (map text_of calls.full.exchanges))
+    → NoneUnavailable (map text_of calls.purged.exchanges)
     → AgreeAsFar (marked marks (map text_of calls.full.exchanges)) (map text_of calls.purged.exchanges)

@@ -54,12 +54,14 @@ pub record TakesFirst (unread unread_new : Option (List ℕ)) (first : First) : 
 -- status that was written. Or a read failed before, and nothing was done. Or a write failed, and a beginning was
 -- written, or the flush alone failed.
 abbrev pub ServesFirst :
-    Shown → Shown → Option (List ℕ) → Option (List ℕ) → Option (List ℕ) → Option (List ℕ) → Result (Option ℕ) Io → Type 0
+    Shown → Shown → Option (List ℕ) → Option (List ℕ) → Option (List ℕ) → Option (List ℕ) → Result (Option ℕ) Io
+    → Type 0
 ServesFirst old new unread unread_new written written_new (Ok status) =
     (first : First) × TakesFirst unread unread_new first × GoesThrough old new (first_exchanges first)
     × (status ≡ first_status first) × Appends written written_new (first_bytes first)
 ServesFirst old new unread unread_new written written_new (Err io.Read) =
-    (got : List ℕ) × Consumes unread unread_new got × IsUnfinished got × GoesThrough old new [] × Keeps written written_new
+    (got : List ℕ) × Consumes unread unread_new got × IsUnfinished got × GoesThrough old new []
+    × Keeps written written_new
 ServesFirst old new unread unread_new written written_new (Err io.Write) =
     (first : First) × TakesFirst unread unread_new first × GoesThrough old new (first_exchanges first)
     × (WritesBeginning written written_new (first_bytes first) ⊎ Appends written written_new (first_bytes first))

@@ -32,8 +32,10 @@ unavailable = fixed_bytes Unavailable
 -- message that a run answered 503 is left out of that run, and so is a command that met a fault.
 abbrev pub CallersAreAnsweredAlike : Type 0
 CallersAreAnsweredAlike =
-    (old old_too new new_too : World) (s : List ℕ) (full purged : List Happening) → IsWorld old → Agree old old_too (chain new s)
-    → Run old (map event_at full) (map answer_at full) new → Run old_too (map event_at purged) (map answer_at purged) new_too
+    (old old_too new new_too : World) (s : List ℕ) (full purged : List Happening) → IsWorld old
+    → Agree old old_too (chain new s)
+    → Run old (map event_at full) (map answer_at full) new
+    → Run old_too (map event_at purged) (map answer_at purged) new_too
     → let marks : List Bool = remaining old (chain new s) (map event_at (faultless full)) in
     map coming_of (faultless purged) ≡ marked marks (map coming_of (faultless full))
     → (map text_at (faultless purged) ≡ marked marks (map text_at (faultless full))) × Agree new new_too (chain new s)
@@ -44,10 +46,13 @@ CallersAreAnsweredAlike =
 -- any events a GET of the same by any key that then belongs to s gets the same text or the 503.
 abbrev pub BytesStayServed : Type 0
 BytesStayServed =
-    (old mid new : World) (s k later : List ℕ) (q : Resource) (first last : Exchange) (events : List Event) (answers : List Answer)
-    → IsWorld old → belongs old k s → IsOfVersion (query_of q) → target_in first.message ≡ target.Get k q → status_of first ≡ 200
+    (old mid new : World) (s k later : List ℕ) (q : Resource) (first last : Exchange) (events : List Event)
+    (answers : List Answer)
+    → IsWorld old → belongs old k s → IsOfVersion (query_of q) → target_in first.message ≡ target.Get k q
+    → status_of first ≡ 200
     → Run old (event_of first ∷ events) (answer_of first ∷ answers) mid
-    → belongs mid later s → target_in last.message ≡ target.Get later q → Run mid (event_of last ∷ []) (answer_of last ∷ []) new
+    → belongs mid later s → target_in last.message ≡ target.Get later q
+    → Run mid (event_of last ∷ []) (answer_of last ∷ []) new
     → (text_of last ≡ text_of first) ⊎ (text_of last ≡ unavailable)
 
 -- ---- the latest version
@@ -56,13 +61,15 @@ BytesStayServed =
 -- sees and that the go.mod of the highest does not retract; or the 404 if there is none.
 abbrev pub TellsLatest : World → List ℕ → List ℕ → List ℕ → Type 0
 TellsLatest w s path text =
-    ((v : SemanticVersion) × (time : Option (List ℕ)) × IsTop (unretracted_versions w s path) v × HasTime w s path v time
+    ((v : SemanticVersion) × (time : Option (List ℕ)) × IsTop (unretracted_versions w s path) v
+    × HasTime w s path v time
     × (text ≡ reply_bytes 200 Json (info_bytes v time)))
     ⊎ (((v : SemanticVersion) → ¬ unretracted_versions w s path v) × (text ≡ fixed_bytes NotFound))
 
 -- A GET of the latest version by a key of s gets that text or the 503.
 abbrev pub LatestIsWritten : Type 0
 LatestIsWritten =
-    (old new : World) (s k path : List ℕ) (x : Exchange) → IsWorld old → belongs old k s → ask_of x.message ≡ Get k (Latest path)
+    (old new : World) (s k path : List ℕ) (x : Exchange) → IsWorld old → belongs old k s
+    → ask_of x.message ≡ Get k (Latest path)
     → Run old (event_of x ∷ []) (answer_of x ∷ []) new
     → TellsLatest old s path (text_of x) ⊎ (text_of x ≡ unavailable)

@@ -29,7 +29,8 @@ Takes old None new = IsUnfinished old.held × (new ≡ old)
 Takes old (Some (incoming.Message message)) new = ReadsMessage old.held (view message) new.held × (new.failure ≡ None)
 Takes old (Some (incoming.End None)) new = ⊥
 Takes old (Some (incoming.End (Some closing))) new =
-    ((more : List ℕ) → IsClosing (old.held ++ more) (Some closing)) × (closing ≡ fixed.Unavailable → HasMessage old.held)
+    ((more : List ℕ) → IsClosing (old.held ++ more) (Some closing))
+    × (closing ≡ fixed.Unavailable → HasMessage old.held)
 
 -- without at most the last `read_limit` bytes that came, the stream was unfinished
 pub record StaysNear (held bytes : List ℕ) : Type 0 where
@@ -42,7 +43,8 @@ pub record StaysNear (held bytes : List ℕ) : Type 0 where
 -- what a read gave the framer, or why it closes the stream; memory runs out only for bytes that came
 abbrev pub ReadsOn : Framing → Framing → Account → Account → Result Progress Io → Type 0
 ReadsOn old new unread unread_new (Ok progress.GoesOn) =
-    (bytes : List ℕ) × Gives unread unread_new bytes × StaysNear old.held bytes × (new ≡ record old { held = old.held ++ bytes })
+    (bytes : List ℕ) × Gives unread unread_new bytes × StaysNear old.held bytes
+    × (new ≡ record old { held = old.held ++ bytes })
 ReadsOn old new unread unread_new (Ok (progress.Ends closing)) =
     (bytes : List ℕ) × Gives unread unread_new bytes × StaysNear old.held bytes
     × ((more : List ℕ) → MayFollow unread_new more → IsClosing (old.held ++ (bytes ++ more)) closing)
@@ -80,8 +82,10 @@ pub record TakesNext (old new : Framing) (unread unread_new : Account) (first : 
 abbrev pub Comes : Framing → Framing → ℕ → ℕ → Account → Account → Result Incoming Io → Type 0
 Comes old new reads reads_new unread unread_new (Ok (incoming.Message message)) =
     (bytes : List ℕ) × Gives unread unread_new bytes × (IsUnfinished old.held → StaysNear old.held bytes)
-    × ReadsMessage (old.held ++ bytes) (view message) new.held × (new.failure ≡ None) × (work reads_new new.held < work reads old.held)
-Comes old new reads reads_new unread unread_new (Ok (incoming.End closing)) = TakesNext old new unread unread_new (Closes closing)
+    × ReadsMessage (old.held ++ bytes) (view message) new.held × (new.failure ≡ None)
+    × (work reads_new new.held < work reads old.held)
+Comes old new reads reads_new unread unread_new (Ok (incoming.End closing)) =
+    TakesNext old new unread unread_new (Closes closing)
 Comes old new reads reads_new unread unread_new (Err e) =
     (e ≡ io.Read) × ((bytes : List ℕ) × Gives unread unread_new bytes × IsUnfinished (old.held ++ bytes))
 
@@ -146,7 +150,8 @@ pub record CutShort
 
 -- what was read so far is the answered messages and what the framer holds
 pub record SoFar
-    (old new : Shown) (unread unread_new : Account) (written written_new : Option (List ℕ)) (framing : Framing) : Type 0 where
+    (old new : Shown) (unread unread_new : Account) (written written_new : Option (List ℕ))
+    (framing : Framing) : Type 0 where
   pub got : List ℕ
   pub consumed : Gives unread unread_new got
   pub answered : Answered old new written written_new got framing.held
@@ -155,4 +160,5 @@ pub record SoFar
 -- the writer got the whole text and was flushed, or a write or the flush failed
 abbrev pub Delivers : {T : Type 0} → Option (List ℕ) → Option (List ℕ) → List ℕ → Result T Io → Type 0
 Delivers old new text result =
-    MatchResult result (λ _. Appends old new text) (λ e. (e ≡ io.Write) × (WritesBeginning old new text ⊎ Appends old new text))
+    MatchResult result (λ _. Appends old new text)
+    (λ e. (e ≡ io.Write) × (WritesBeginning old new text ⊎ Appends old new text))

@@ -31,7 +31,8 @@ pub record AreTwoAnswers
   pub unread : Option (List ℕ)
   pub unread_too : Option (List ℕ)
   pub serves : ServesFirst old new (Some input) unread written written_new (Ok (Some status))
-  pub serves_too : ServesFirst old_too new_too (Some input) unread_too written_too written_too_new (Ok (Some status_too))
+  pub serves_too : ServesFirst old_too new_too (Some input) unread_too written_too written_too_new
+      (Ok (Some status_too))
 
 -- Both wrote the same text and returned the same status. The stores stand for the worlds after the request, and these
 -- are the same to s again.
@@ -49,7 +50,8 @@ pub record AnswerAlike
 -- Two such calls answer alike unless one of them wrote a 503.
 abbrev pub TwoAnswersAreAlike : Shown → Shown → Shown → Shown → Type 0
 TwoAnswersAreAlike old new old_too new_too =
-    (w x : World) (s : List ℕ) (m : Request) (written written_new written_too written_too_new : Option (List ℕ)) (status status_too : ℕ)
+    (w x : World) (s : List ℕ) (m : Request) (written written_new written_too written_too_new : Option (List ℕ))
+    (status status_too : ℕ)
     → AreTwoAnswers old new old_too new_too w x s m written written_new written_too written_too_new status status_too
     → status ≢ 503 → status_too ≢ 503
     → AnswerAlike new new_too w x s m written written_new written_too written_too_new status status_too

@@ -14,4 +14,5 @@ WritesBeginning old new text = (front : List ℕ) × IsBeginning front text × A
 
 -- the writer got the whole text, or the write failed and it got a beginning
 abbrev pub Writes : {T : Type 0} → Option (List ℕ) → Option (List ℕ) → List ℕ → Result T Io → Type 0
-Writes old new text result = MatchResult result (λ _. Appends old new text) (λ e. (e ≡ io.Write) × WritesBeginning old new text)
+Writes old new text result =
+    MatchResult result (λ _. Appends old new text) (λ e. (e ≡ io.Write) × WritesBeginning old new text)

@@ -22,7 +22,8 @@ fn answer_each<R: Hear, W: Tell, S: Shelves>(
 ) -> Result<(), Io>
     ensures heard { ServesAllHeard (S.shown shelves.old) (S.shown shelves.new)
         (R.account reader.old) (R.account reader.new) (W.contents writer.old) (W.contents writer.new) result }
-    ensures cause { IfErr result (IsCaused (R.reads reader.old) (R.reads reader.new) (W.writes writer.old) (W.writes writer.new)) }
+    ensures cause { IfErr result
+        (IsCaused (R.reads reader.old) (R.reads reader.new) (W.writes writer.old) (W.writes writer.new)) }
     ensures flushed { OnOk result ((W.writes writer.new).unflushed ≡ []) }
 {
     let mut routes = RouteTable::new(alloc);
@@ -52,7 +53,8 @@ pub fn answer_all<R: Hear, W: Tell, S: Shelves>(
     ensures known { Serves (S.shown shelves.old) (S.shown shelves.new)
         (R.remaining reader.old) (R.remaining reader.new) (W.contents writer.old) (W.contents writer.new) result }
     // It fails only if a call of the reader or of the writer failed, or if no read is left.
-    ensures cause { IfErr result (IsCaused (R.reads reader.old) (R.reads reader.new) (W.writes writer.old) (W.writes writer.new)) }
+    ensures cause { IfErr result
+        (IsCaused (R.reads reader.old) (R.reads reader.new) (W.writes writer.old) (W.writes writer.new)) }
     // What was written is flushed.
     ensures flushed { OnOk result ((W.writes writer.new).unflushed ≡ []) }
 {
@@ -81,9 +83,11 @@ pub fn answer_one<R: Hear, W: Tell, S: Shelves>(
     ensures empty { IfOk result (λ status. status ≡ None → shelves.new ≡ shelves.old) }
     ensures unread { IfErr result (λ e. e ≡ Io.Read → shelves.new ≡ shelves.old) }
     // No read began once the bytes that came say what is to be answered.
-    ensures asks { AsksWhileUnfinished [] (R.account reader.old) (R.account reader.new) (R.reads reader.old) (R.reads reader.new) }
+    ensures asks { AsksWhileUnfinished [] (R.account reader.old) (R.account reader.new)
+        (R.reads reader.old) (R.reads reader.new) }
     // It fails only if a call of the reader or of the writer failed, or if no read is left.
-    ensures cause { IfErr result (IsCaused (R.reads reader.old) (R.reads reader.new) (W.writes writer.old) (W.writes writer.new)) }
+    ensures cause { IfErr result
+        (IsCaused (R.reads reader.old) (R.reads reader.new) (W.writes writer.old) (W.writes writer.new)) }
     // What was written is flushed.
     ensures flushed { OnOk result ((W.writes writer.new).unflushed ≡ []) }
     // The answer does not depend on the shelves that the caller does not see.

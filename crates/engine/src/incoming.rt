@@ -43,7 +43,8 @@ pub(crate) fn next_message<R: Hear>(
     reads: &mut u64,
 ) -> Result<Incoming, Io>
     requires { framer.old.failure ≡ None }
-    ensures comes { Comes framer.old framer.new reads.old reads.new (R.account reader.old) (R.account reader.new) result }
+    ensures comes { Comes framer.old framer.new reads.old reads.new
+        (R.account reader.old) (R.account reader.new) result }
     ensures asks { AsksWhileUnfinished framer.old.held (R.account reader.old) (R.account reader.new)
         (R.reads reader.old) (R.reads reader.new) }
     ensures spent { IfOk result (λ _. Spends reads.old reads.new (R.reads reader.old) (R.reads reader.new)) }

@@ -1,5 +1,6 @@
 //! Reading into the framer.
-ghost use Rattle.std.specs.Prelude.{◌≡◌, ℕ, ◌<◌, ◌≤◌, List, [], ◌++◌, IsTrue, ◌+◌, None, length, take, IfOk, IfErr, OnErr};
+ghost use Rattle.std.specs.Prelude.{◌≡◌, ℕ, ◌<◌, ◌≤◌, List, [], ◌++◌, IsTrue, ◌+◌, None, length, take, IfOk};
+ghost use Rattle.std.specs.Prelude.{IfErr, OnErr};
 ghost use Rattle.histories.specs.Account.{Gives};
 ghost use Rattle.framing.specs.Framing.{IsUnfinished};
 ghost use Rattle.engine.specs.Causes.{FailsWith, GivesNone};

@@ -124,7 +124,8 @@ impl Session {
         // It fails only if a call of the reader or of the writer failed, or if no read is left.
         ensures cause { IfErr result (IsCausedIn self.old.reads (R.reads reader.old) (R.reads reader.new)
             (W.writes writer.old) (W.writes writer.new)) }
-        ensures spent { IfOk result (λ _. Spends self.old.reads self.new.reads (R.reads reader.old) (R.reads reader.new)) }
+        ensures spent { IfOk result
+            (λ _. Spends self.old.reads self.new.reads (R.reads reader.old) (R.reads reader.new)) }
         ensures later_reads { (R.reads reader.old).failed ≤ (R.reads reader.new).failed }
         ensures later_writes { (W.writes writer.old).failed ≤ (W.writes writer.new).failed }
         // A turn that closed the stream and a failed read leave the shelves untouched.

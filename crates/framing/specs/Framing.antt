@@ -39,7 +39,8 @@ MayBeginHead bytes = HasNoRequest bytes × MayBecomeRequest bytes × (length byt
 abbrev pub IsOpen : List ℕ → Type 0
 IsOpen bytes =
     MayBeginHead bytes
-    ⊎ ((head : RequestHead) × (n : ℕ) × (rest : List ℕ) × BeginsWith bytes head n rest × (n ≤ body_limit) × (length rest < n))
+    ⊎ ((head : RequestHead) × (n : ℕ) × (rest : List ℕ) × BeginsWith bytes head n rest × (n ≤ body_limit)
+    × (length rest < n))
 
 -- the end of a stream with this failure
 abbrev pub end_of : Bad → End
@@ -69,7 +70,8 @@ Answers old (next.Bad failure) new = IsBad old.held failure × (new.held ≡ old
 
 -- if the call succeeds, it returns the body after a head of the bytes held
 abbrev pub GivesBody : Framing → ℕ → ℕ → Result (Vec ℕ Global) Memory → Type 0
-GivesBody old head body result = MatchResult result (λ taken. taken.items ≡ slice_range old.held head (head + body)) (λ e. ⊤)
+GivesBody old head body result =
+    MatchResult result (λ taken. taken.items ≡ slice_range old.held head (head + body)) (λ e. ⊤)
 
 -- the call removed the first `n` bytes held, or it failed and changed nothing
 abbrev pub TakesOff : {T : Type 0} → Framing → ℕ → Result T Memory → Framing → Type 0

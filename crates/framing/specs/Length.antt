@@ -1,6 +1,7 @@
 -- Length values: how `Content-Length` and `Mod-Length` write a number. (RFC 9112, section 6.2, in this server's own
 -- profile.)
-use Rattle.std.specs.Prelude.{ℕ, List, Bool, ◌&&◌, not, if◌then◌else◌, Option, Some, None, nat_le, nat_lt, nat_eq, length, slice_index}
+use Rattle.std.specs.Prelude.{ℕ, List, Bool, ◌&&◌, not, if◌then◌else◌, Option, Some, None, nat_le, nat_lt, nat_eq}
+use Rattle.std.specs.Prelude.{length, slice_index}
 use Rattle.std.specs.List.{list_all}
 use Rattle.std.specs.Char.{is_ascii_digit}
 use Rattle.std.specs.Str.Parse.{digits_value}

@@ -1,5 +1,6 @@
 //! Heads, and what the bytes of a stream begin with.
-ghost use Rattle.std.specs.Prelude.{◌≡◌, ℕ, ◌≤◌, List, [], ◌∷◌, ◌++◌, length, All, take, MatchOption, MatchBool, codes, ◌≢◌};
+ghost use Rattle.std.specs.Prelude.{◌≡◌, ℕ, ◌≤◌, List, [], ◌∷◌, ◌++◌, length, All, take, MatchOption};
+ghost use Rattle.std.specs.Prelude.{MatchBool, codes, ◌≢◌};
 ghost use Rattle.std.specs.Str.{str_eq_ignore_ascii_case};
 ghost use Rattle.httparse.specs.Spans.{IsWithin, span_bytes, IsHeaderWithin, IsRequestWithin, IsRequestOf};
 ghost use Rattle.framing.specs.Message.{Announces, header_limit};

@@ -167,7 +167,8 @@ entry_means line Go ts q h =
     (record { paths = tt; go = (go_means line ts b.0 b.1, tt); required = tt; retractions = tt }, refl)
 entry_means line Toolchain ts q h =
     let b = bound (word_entry line ts) (λ o. Ok nothing) q h in
-    subst (Entry line Toolchain ts) (ok_same _ q b.2) (record { paths = tt; go = tt; required = tt; retractions = tt }, refl)
+    subst (Entry line Toolchain ts) (ok_same _ q b.2)
+    (record { paths = tt; go = tt; required = tt; retractions = tt }, refl)
 entry_means line Require ts q h =
     let b = bound (pair_entry line ts)
     (λ r. Ok (record { module_path = None; go = []; required = r ∷ []; retractions = []; bare = true })) q h in
@@ -175,10 +176,12 @@ entry_means line Require ts q h =
     (record { paths = tt; go = tt; required = (pair_entry_means line ts b.0 b.1, tt); retractions = tt }, refl)
 entry_means line Exclude ts q h =
     let b = bound (pair_entry line ts) (λ r. Ok nothing) q h in
-    subst (Entry line Exclude ts) (ok_same _ q b.2) (record { paths = tt; go = tt; required = tt; retractions = tt }, refl)
+    subst (Entry line Exclude ts) (ok_same _ q b.2)
+    (record { paths = tt; go = tt; required = tt; retractions = tt }, refl)
 entry_means line Replace ts q h =
     let b = bound (replace_entry line ts) (λ o. Ok nothing) q h in
-    subst (Entry line Replace ts) (ok_same _ q b.2) (record { paths = tt; go = tt; required = tt; retractions = tt }, refl)
+    subst (Entry line Replace ts) (ok_same _ q b.2)
+    (record { paths = tt; go = tt; required = tt; retractions = tt }, refl)
 entry_means line Retract ts q h =
     let b = bound (retract_entry line ts)
     (λ r. Ok (record { module_path = None; go = []; required = []; retractions = r ∷ []; bare = true })) q h in
@@ -189,7 +192,9 @@ entry_means line Tool ts q h =
     subst (Entry line Tool ts) (ok_same _ q b.2) (record { paths = tt; go = tt; required = tt; retractions = tt }, refl)
 entry_means line Godebug ts q h =
     let b = bound (word_entry line ts) (λ o. Ok nothing) q h in
-    subst (Entry line Godebug ts) (ok_same _ q b.2) (record { paths = tt; go = tt; required = tt; retractions = tt }, refl)
+    subst (Entry line Godebug ts) (ok_same _ q b.2)
+    (record { paths = tt; go = tt; required = tt; retractions = tt }, refl)
 entry_means line Ignore ts q h =
     let b = bound (word_entry line ts) (λ o. Ok nothing) q h in
-    subst (Entry line Ignore ts) (ok_same _ q b.2) (record { paths = tt; go = tt; required = tt; retractions = tt }, refl)
+    subst (Entry line Ignore ts) (ok_same _ q b.2)
+    (record { paths = tt; go = tt; required = tt; retractions = tt }, refl)

@@ -391,7 +391,13 @@ reading-from_reads known bytes m r =
     ∙ closed_file (length (lines bytes)) r.directives c.contents
     ∙ ap (module_of c.contents) path
     ∙ ap (fitting_module m.path c.contents) fits
-    ∙ ap (λ x. Ok x) (λ i. record { path = m.path; go = go i; required = required i; retractions = intervals i; bare = truth i })
+    ∙ ap (λ x. Ok x) (λ i. record {
+      path = m.path;
+      go = go i;
+      required = required i;
+      retractions = intervals i;
+      bare = truth i;
+    })
 
 -- ---- faults
 

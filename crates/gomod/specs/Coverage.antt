@@ -11,7 +11,8 @@ Ascends vs = (i j : ℕ) (d : Version) → i ≤ j → j < length vs → is_belo
 
 -- the first `n` versions are not above the high one of an interval, and the others are
 abbrev pub Reaches : Interval → List Version → ℕ → Type 0
-Reaches i vs n = (n ≤ length vs) × IsPartitionPoint (λ v. is_below i.high v ≡ false) (λ v. is_below i.high v ≡ true) vs n
+Reaches i vs n = (n ≤ length vs)
+    × IsPartitionPoint (λ v. is_below i.high v ≡ false) (λ v. is_below i.high v ≡ true) vs n
 
 -- for each version, whether an interval covers it
 abbrev pub covered : List Version → List Interval → List Bool

@@ -97,7 +97,8 @@ pub data HasShape : Keyword → List Symbol → List Demand → Type 0 where
   retract_version : (v : Symbol) → IsWord v → HasShape Retract (v ∷ []) (version (value_of v) ∷ [])
   retract_interval : (l v c w r : Symbol) → l.kind ≡ kinds.BracketLeft
       → IsWord v → c.kind ≡ kinds.Comma → IsWord w → r.kind ≡ kinds.BracketRight
-      → HasShape Retract (l ∷ v ∷ c ∷ w ∷ r ∷ []) (version (value_of v) ∷ version (value_of w) ∷ interval (value_of v) (value_of w) ∷ [])
+      → HasShape Retract (l ∷ v ∷ c ∷ w ∷ r ∷ [])
+      (version (value_of v) ∷ version (value_of w) ∷ interval (value_of v) (value_of w) ∷ [])
   word_shape : (k : Keyword) (w : Symbol) → takes_any_word k ≡ true → IsWord w → HasShape k (w ∷ []) []
 
 -- the entry has a shape, and its words meet the demands
@@ -116,7 +117,8 @@ IsGoEntry ts text = (w : Symbol) × (ts ≡ w ∷ []) × (value_of w ≡ text) �
 
 -- an entry names this path and this version
 abbrev pub IsPair : List Symbol → Requirement → Type 0
-IsPair ts r = (p : Symbol) × (v : Symbol) × (ts ≡ p ∷ v ∷ []) × (value_of p ≡ r.path) × NamesVersion (value_of v) r.version
+IsPair ts r = (p : Symbol) × (v : Symbol) × (ts ≡ p ∷ v ∷ []) × (value_of p ≡ r.path)
+    × NamesVersion (value_of v) r.version
 
 -- an entry names this interval; a single version is an interval of itself
 abbrev pub IsRetractEntry : List Symbol → Interval → Type 0

@@ -36,6 +36,7 @@ pub record Reads (known : Keywords) (bytes : List ℕ) (m : GoModule) : Type 0 w
   pub path : Pointwise (λ e p. IsModuleEntry e.symbols p) (entries_under Module (items directives None)) (m.path ∷ [])
   pub go : Pointwise (λ e v. IsGoEntry e.symbols v) (entries_under Go (items directives None)) m.go
   pub required : Pointwise (λ e r. IsPair e.symbols r) (entries_under Require (items directives None)) m.required
-  pub retractions : Pointwise (λ e i. IsRetractEntry e.symbols i) (entries_under Retract (items directives None)) m.retractions
+  pub retractions : Pointwise (λ e i. IsRetractEntry e.symbols i) (entries_under Retract (items directives None))
+      m.retractions
   pub fitting : AllByRecursion (FitsPath m.path) m.retractions
   pub bare : (m.bare ≡ true) ↔ (length directives ≡ 1)

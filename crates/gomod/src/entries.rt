@@ -6,9 +6,12 @@ ghost use Rattle.std.specs.Prelude.{◌≡◌, ℕ, List};
 ghost use Rattle.modlex.specs.Symbols.{symbol, symbols};
 ghost use Rattle.modpath.specs.Path.{suffix_of};
 ghost use Rattle.gomod.specs.Paths.{is_path, is_loose_path, is_below};
-ghost use Rattle.gomod.specs.Reading.{Gives, path_word, version_fault, version_word, fitting_word, module_entry, go_entry};
-ghost use Rattle.gomod.specs.Reading.{word_entry, pair, pair_entry, old_path, old_version, new_file, new_version, replace_three};
-ghost use Rattle.gomod.specs.Reading.{replace_four, replace_five, replace_entry, are_interval_kinds, interval, retract_entry};
+ghost use Rattle.gomod.specs.Reading.{Gives, path_word, version_fault, version_word, fitting_word};
+ghost use Rattle.gomod.specs.Reading.{module_entry, go_entry};
+ghost use Rattle.gomod.specs.Reading.{word_entry, pair, pair_entry, old_path, old_version, new_file};
+ghost use Rattle.gomod.specs.Reading.{new_version, replace_three};
+ghost use Rattle.gomod.specs.Reading.{replace_four, replace_five, replace_entry, are_interval_kinds};
+ghost use Rattle.gomod.specs.Reading.{interval, retract_entry};
 
 use super::fault::GoModFault;
 use super::go_version::{is_file_path, is_go_version};

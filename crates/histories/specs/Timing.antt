@@ -68,7 +68,8 @@ BeganAt None since = (now : ℕ) → first_shown now since ≡ now
 BeganAt (Some first) since = (now : ℕ) → first_shown now since ≡ instant_nanos first
 
 -- These calls came since the start, with the ones at it. The time began then, and at least so many bytes were moved.
-pub record Since (allowed : ℕ → ℕ) (start : List Call) (first : Option Instant) (moved : ℕ) (waits : Bool) (calls : List Call) : Type 0 where
+pub record Since (allowed : ℕ → ℕ) (start : List Call) (first : Option Instant) (moved : ℕ) (waits : Bool)
+    (calls : List Call) : Type 0 where
   pub since : List Call
   pub same : calls ≡ since ++ start
   pub each : EachMayBegin allowed start since

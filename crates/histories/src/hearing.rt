@@ -99,12 +99,15 @@ impl<R: Read> Hear for Hearing<R> {
         ensures bound { ReadsAtMost result buf.new }
         ensures gives { GivesTo
             (record { heard = self.old.noted.bytes; is_over = self.old.is_over; left = R.remaining self.old.inner })
-            (record { heard = self.new.noted.bytes; is_over = self.new.is_over; left = R.remaining self.new.inner }) result buf.new }
+            (record { heard = self.new.noted.bytes; is_over = self.new.is_over; left = R.remaining self.new.inner })
+            result buf.new }
         ensures calls { CallsRead
             (record { begun = times self.old.begun; last = self.old.last.bytes; failed = times self.old.failed })
-            (record { begun = times self.new.begun; last = self.new.last.bytes; failed = times self.new.failed }) result buf.new }
+            (record { begun = times self.new.begun; last = self.new.last.bytes; failed = times self.new.failed })
+            result buf.new }
         // The account of calls has the read, and the bytes that it gave.
-        ensures noted { MatchResult result (λ n. self.new.calls.calls ≡ call.Moves n ∷ call.Begins ∷ self.old.calls.calls)
+        ensures noted { MatchResult result
+            (λ n. self.new.calls.calls ≡ call.Moves n ∷ call.Begins ∷ self.old.calls.calls)
             (λ _. self.new.calls.calls ≡ call.Begins ∷ self.old.calls.calls) }
     {
         self.begun.one_more();

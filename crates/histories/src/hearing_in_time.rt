@@ -55,7 +55,8 @@ impl<'a, C: Clock, P: Patience, K: Start, R: BoundRead + Drop> HearingInTime<'a,
     /// Bounds the next read by what is left of the time. Fails if none is left, or if the clock can't be read or the
     /// bound can't be set.
     fn bound(&mut self) -> io::Result<()>
-        ensures account { ⟦<Hearing<R> as Hear>⟧.account self.new.inner ≡ ⟦<Hearing<R> as Hear>⟧.account self.old.inner }
+        ensures account { ⟦<Hearing<R> as Hear>⟧.account self.new.inner
+            ≡ ⟦<Hearing<R> as Hear>⟧.account self.old.inner }
         ensures reads { ⟦<Hearing<R> as Hear>⟧.reads self.new.inner ≡ ⟦<Hearing<R> as Hear>⟧.reads self.old.inner }
         ensures ready { OnOk result (IsReady P.allowed K.calls
             self.new.watch.first self.new.watch.moved self.new.waits self.new.inner.calls.calls) }

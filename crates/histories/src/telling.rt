@@ -92,7 +92,8 @@ impl<W: Write> Tell for Telling<W> {
         // What is noted is what the writer inside took.
         ensures passed { WriteAppends (W.contents self.old.inner) (W.contents self.new.inner) result buf.now }
         // The account of calls has the write, and the bytes that it took.
-        ensures noted { MatchResult result (λ n. self.new.calls.calls ≡ call.Moves n ∷ call.Begins ∷ self.old.calls.calls)
+        ensures noted { MatchResult result
+            (λ n. self.new.calls.calls ≡ call.Moves n ∷ call.Begins ∷ self.old.calls.calls)
             (λ _. self.new.calls.calls ≡ call.Begins ∷ self.old.calls.calls) }
     {
         self.calls.note(&[Call::Begins]);

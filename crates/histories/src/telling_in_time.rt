@@ -46,7 +46,8 @@ impl<'a, C: Clock, P: Patience, K: Start, W: BoundWrite + Drop> TellingInTime<'a
     /// Bounds the next write by what is left of the time. Fails if none is left, or if the clock can't be read or the
     /// bound can't be set.
     fn bound(&mut self) -> io::Result<()>
-        ensures contents { ⟦<Telling<W> as Write>⟧.contents self.new.inner ≡ ⟦<Telling<W> as Write>⟧.contents self.old.inner }
+        ensures contents { ⟦<Telling<W> as Write>⟧.contents self.new.inner
+            ≡ ⟦<Telling<W> as Write>⟧.contents self.old.inner }
         ensures writes { ⟦<Telling<W> as Tell>⟧.writes self.new.inner ≡ ⟦<Telling<W> as Tell>⟧.writes self.old.inner }
         ensures ready { OnOk result (IsReady P.allowed K.calls
             self.new.watch.first self.new.watch.moved true self.new.inner.calls.calls) }

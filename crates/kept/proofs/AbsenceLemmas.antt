@@ -1,4 +1,4 @@
--- Cached absences stay right when one more is cached, when a path is forgotten, and when the world grows.
+-- Kept absences stay right when one more is kept, when a path is forgotten, and when the world grows.
 use Rattle.std.proofs.Common.{◌≡◌, ◌∙◌, ◌⊎◌, ◌+◌, ◌≤◌, ℕ, List, [], ◌∷◌, Bool, true, false, cond, Option, Some, None}
 use Rattle.std.proofs.Common.{length, inl, inr, refl, sym, ap, subst, arith, Contains}
 use Rattle.std.specs.Prelude.{bytes_eq, unwrap_or, ◌||◌, IsTrue}
@@ -20,11 +20,11 @@ use Rattle.kept.specs.Absences.{Lacking, shelves_at, AreAbsent, HasPairs}
 use Rattle.kept.proofs.GroupLemmas.{same_versions}
 use Rattle.kept.proofs.ListLemmas.{none_seen}
 
--- whether a shelf is cached with a path
+-- whether a shelf is kept with a path
 abbrev pub lacks : Lacking → List ℕ → List ℕ → Bool
 lacks m p s = set.contains (shelves_at m p) s
 
--- ---- what is cached with each path: of an empty map, after one is removed, and after one is put
+-- ---- what is kept with each path: of an empty map, after one is removed, and after one is put
 
 pub none_lacks : (m : Lacking) → m ≡ map.empty → (p s : List ℕ) → lacks m p s ≡ false
 none_lacks m none p s =
@@ -38,7 +38,7 @@ nothing m none p s at = true≢false (sym at ∙ none_lacks m none p s)
 same_text : (t u : List ℕ) → t ≡ u → eq_by_cmp text_cmp t u ≡ true
 same_text t u same = ap (λ x. eq_by_cmp text_cmp t x) (sym same) ∙ ap is_eq (tied_itself texts_total t)
 
--- what is cached after a path is removed was cached before with another path
+-- what is kept after a path is removed was kept before with another path
 pub left : (m : Lacking) (k p s : List ℕ) → lacks (map.remove m k) p s ≡ true
     → (bytes_eq p k ≡ false) × (lacks m p s ≡ true)
 left m k p s at =
@@ -59,7 +59,7 @@ module _ (m : Lacking) (k s : List ℕ) where
   abbrev pub with_shelf_at : Lacking
   with_shelf_at = map.insert (map.remove m k) k (set.insert (shelves_at m k) s)
 
-  -- what is cached then is that shelf with that path, or was cached before
+  -- what is kept then is that shelf with that path, or was kept before
   pub put_or_before : (p t : List ℕ) → lacks with_shelf_at p t ≡ true → ((p ≡ k) × (t ≡ s)) ⊎ (lacks m p t ≡ true)
   put_or_before p t at =
       elim (eq_by_cmp text_cmp p k) as (λ b. eq_by_cmp text_cmp p k ≡ b
@@ -88,7 +88,7 @@ one_absent w m after k s put are is = subst (AreAbsent w) (sym put) (λ p t at. 
   | inr before ↦ are p t before
 ])
 
--- those that were cached, or none
+-- those that were kept, or none
 pub same_or_none : (w : World) (old new : Lacking) → (new ≡ old) ⊎ (new ≡ map.empty) → AreAbsent w old → AreAbsent w new
 same_or_none w old new (inl same) are = subst (AreAbsent w) (sym same) are
 same_or_none w old new (inr none) are = none_absent w new none

@@ -1,4 +1,4 @@
--- How many counts there are after one more is cached.
+-- How many counts there are after one more is kept.
 use Rattle.std.proofs.Common.{◌≡◌, ◌∙◌, ◌+◌, ◌⊎◌, ℕ, List, [], ◌∷◌, Bool, true, false, cond, Option, Some, None, inl}
 use Rattle.std.proofs.Common.{inr, refl, sym, ap, subst, arith, Contains}
 use Rattle.std.specs.Prelude.{◌≤◌, option_and_then}

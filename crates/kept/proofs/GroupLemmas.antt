@@ -1,4 +1,4 @@
--- Cached groups stay right when one more is cached and when a shelf is added; what a shelf sees stays when a group is
+-- Kept groups stay right when one more is kept and when a shelf is added; what a shelf sees stays when a group is
 -- added.
 use Rattle.std.proofs.Common.{◌≡◌, ◌≤◌, ◌<◌, ◌⊎◌, ◌+◌, ◌∙◌, arith, subst, ℕ, List, [], ◌∷◌, Bool, true, false, cond}
 use Rattle.std.proofs.Common.{true≢false, Option, Some, None, is_some, inl, inr, refl, sym, ap}
@@ -37,7 +37,7 @@ one_more_fits old new s g most put room =
       | false ↦ λ e. omega (arith, e, room)
     ] (ap map.len put ∙ map.len-insert texts_total old s g)
 
--- the groups that were cached, or none, are right
+-- the groups that were kept, or none, are right
 pub same_or_none : (w : World) (old new : Grouping) → (new ≡ old) ⊎ (new ≡ map.empty) → AreGroups w old
     → AreGroups w new
 same_or_none w old new (inl same) are = subst (AreGroups w) (sym same) are

@@ -1,4 +1,4 @@
--- A cached heading is what its shelf sees, also once a group is added.
+-- A kept heading is what its shelf sees, also once a group is added.
 use Rattle.std.proofs.Common.{◌≡◌, ◌∙◌, ℕ, List, false, Some, sym, ap, subst}
 use Rattle.std.specs.Prelude.{IsTrue}
 use Rattle.std.specs.FinMap as map

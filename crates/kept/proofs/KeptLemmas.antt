@@ -1,4 +1,4 @@
--- What is cached together.
+-- What is kept together.
 use Rattle.std.proofs.Common.{◌≡◌, ◌==◌, List, [], length, Option, Some, None, true, sym}
 use Rattle.std.specs.Prelude.{IfSome}
 use Rattle.std.proofs.lemmas.Bool.{eqb-true}
@@ -23,7 +23,7 @@ if_some (Some x) then holds = then x holds
 pub no_items : {X : Type 0} (xs : List X) → true ≡ (length xs == 0) → xs ≡ []
 no_items xs empty = nil_from_length xs (eqb-true (length xs) 0 (sym empty))
 
--- if nothing is cached, all that is cached is true
+-- if nothing is kept, all that is kept is true
 pub nothing_kept : (w : World) (kept : Kept) → IsNothing kept → AreKept w kept
 nothing_kept w kept none = (
   (empty_counts w kept.counts none.0, no_total w kept.total none.6),

@@ -1,4 +1,4 @@
--- A cached key holds what is cached with it, also once another key is added.
+-- A kept key holds what is kept with it, also once another key is added.
 use Rattle.std.proofs.Common.{◌≡◌, ◌∙◌, ℕ, List, Bool, true, false, None, Some, refl, sym, ap, subst}
 use Rattle.std.specs.Prelude.{bytes_eq, IsTrue, not, if◌then◌else◌}
 use Rattle.std.specs.FinMap as map

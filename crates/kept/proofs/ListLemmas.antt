@@ -1,4 +1,4 @@
--- Cached lists stay right when one more is cached, when some are dropped, and when the world grows.
+-- Kept lists stay right when one more is kept, when some are dropped, and when the world grows.
 use Rattle.std.proofs.Common.{◌≡◌, ◌∙◌, ◌⊎◌, ℕ, List, [], false, Option, None, Some, inl, inr, refl, sym, ap, subst}
 use Rattle.std.proofs.Common.{IfSome}
 use Rattle.std.specs.Prelude.{bytes_eq, Contains, IsTrue}
@@ -23,7 +23,7 @@ use Rattle.kept.proofs.RecentLemmas.{holds_none}
 abbrev pub Kept : Type 0
 Kept = List (ℕ × (ℕ × KeptList))
 
--- the list has the versions of the path that the shelf sees, and its latest version, if cached, is the one that the
+-- the list has the versions of the path that the shelf sees, and its latest version, if kept, is the one that the
 -- shelf sees
 abbrev pub IsListOf : World → KeptList → List ℕ → List ℕ → Type 0
 IsListOf w list s p = (list.versions ≡ versions_of w s p) × IfSome list.latest (λ latest. latest ≡ latest_of w s p)

@@ -1,4 +1,4 @@
--- Cached values: which remain, and what they weigh.
+-- Kept values: which remain, and what they weigh.
 use Rattle.std.proofs.Common.{◌≡◌, ◌∙◌, ◌≤◌, ◌⊎◌, ◌+◌, ◌-◌, ℕ, zero, suc, Bool, true, false, cond, List, [], ◌∷◌, take}
 use Rattle.std.proofs.Common.{length, slice_get, Contains, Option, Some, None, inl, inr, refl, sym, ap, subst, arith}
 use Rattle.std.specs.Map.{lookup, lookup_entry, remove_entry}

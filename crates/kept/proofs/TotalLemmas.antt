@@ -1,4 +1,4 @@
--- The cached number of all versions stays right when one more is stored.
+-- The kept number of all versions stays right when one more is stored.
 use Rattle.std.proofs.Common.{◌≡◌, ◌∙◌, ◌+◌, ℕ, cond, Option, Some, None, is_some, sym, ap}
 use Rattle.std.specs.FinMap as map
 use Rattle.world.specs.declared.entry.Entry.{Entry}

@@ -1,4 +1,4 @@
--- Cached zips stay right when one more is cached, when some are dropped, and when the world grows.
+-- Kept zips stay right when one more is kept, when some are dropped, and when the world grows.
 use Rattle.std.proofs.Common.{◌≡◌, ◌∙◌, ◌⊎◌, ℕ, List, [], ◌∷◌, true, Option, None, Some, inl, inr, refl, sym, ap, subst}
 use Rattle.std.specs.Prelude.{bytes_eq, IsTrue, IfSome}
 use Rattle.std.specs.FinMap as map

@@ -1,15 +1,15 @@
--- Cached paths at which shelves see no version.
+-- Kept paths at which shelves see no version.
 use Rattle.std.specs.Prelude.{ℕ, ◌≡◌, ◌≤◌, List, [], length, Contains, unwrap_or, IsTrue}
 use Rattle.std.specs.FinMap as map
 use Rattle.std.specs.FinSet as set
 use Rattle.world.specs.World.{World, text_cmp}
 use Rattle.world.specs.Versions.{versions_of}
 
--- for each cached path, the shelves that see no version of it
+-- for each kept path, the shelves that see no version of it
 abbrev pub Lacking : Type 0
 Lacking = map.FinMap text_cmp (set.FinSet text_cmp)
 
--- the shelves that are cached with a path
+-- the shelves that are kept with a path
 abbrev pub shelves_at : Lacking → List ℕ → set.FinSet text_cmp
 shelves_at lacking p = unwrap_or (map.get lacking p) set.empty
 

@@ -1,4 +1,4 @@
--- How many counts of versions are cached.
+-- How many counts of versions are kept.
 use Rattle.std.specs.Prelude.{ℕ, ◌≡◌, ◌≤◌, List, length, Contains, Some}
 use Rattle.world.specs.Counts.{Tally}
 use Rattle.world.specs.FinMaps.{get_under}

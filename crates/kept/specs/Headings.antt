@@ -1,4 +1,4 @@
--- Cached headings.
+-- Kept headings.
 use Rattle.std.specs.Prelude.{ℕ, ◌≡◌, ◌&&◌, List, Bool, Some, bytes_eq}
 use Rattle.world.specs.World.{World, view}
 use Rattle.outline.specs.Seen.{seen_heading}
@@ -9,6 +9,7 @@ use Rattle.kept.specs.Recent.{Holds}
 abbrev pub is_of : List ℕ → List ℕ → List ℕ → KeptHeading → Bool
 is_of s p v it = bytes_eq it.shelf s && bytes_eq it.path p && bytes_eq it.version v
 
--- each cached heading is what its shelf sees of its version
+-- each kept heading is what its shelf sees of its version
 abbrev pub AreHeadings : World → List (ℕ × (ℕ × KeptHeading)) → Type 0
-AreHeadings w headings = (it : KeptHeading) → Holds headings it → Some it.seen ≡ seen_heading (view w it.shelf it.path it.version)
+AreHeadings w headings = (it : KeptHeading) → Holds headings it
+    → Some it.seen ≡ seen_heading (view w it.shelf it.path it.version)

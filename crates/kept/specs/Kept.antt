@@ -1,4 +1,4 @@
--- What a store caches from call to call.
+-- What a store keeps from call to call.
 use Rattle.std.specs.Prelude.{◌≡◌, ◌≤◌, [], None}
 use Rattle.std.specs.FinMap as map
 use Rattle.world.specs.World.{World}
@@ -11,34 +11,36 @@ use Rattle.kept.specs.Keys.{AreKeys}
 use Rattle.kept.specs.Lists.{AreLists}
 use Rattle.kept.specs.Recent.{weighed_in}
 use Rattle.kept.specs.Total.{IsTotal}
-use Rattle.kept.specs.Weights.{list_weight, most_lists, zip_weight, most_zips, heading_weight, most_headings, key_weight, most_keys}
+use Rattle.kept.specs.Weights.{list_weight, most_lists, zip_weight, most_zips, heading_weight, most_headings}
+use Rattle.kept.specs.Weights.{key_weight, most_keys}
 use Rattle.kept.specs.Weights.{most_groups, most_counts, most_absences}
 use Rattle.kept.specs.Zips.{AreZips}
 use Rattle.kept.specs.declared.kept.Kept.{Kept}
 
--- what is cached of single versions and keys is true in the world
+-- what is kept of single versions and keys is true in the world
 abbrev pub AreFound : World → Kept → Type 0
 AreFound w kept = AreZips w kept.zips × AreHeadings w kept.headings × AreKeys w kept.keys
 
--- what is cached of numbers of versions is true in the world
+-- what is kept of numbers of versions is true in the world
 abbrev pub AreCounted : World → Kept → Type 0
 AreCounted w kept = AreCounts w kept.counts × IsTotal w kept.total
 
--- what is cached of shelves is true in the world: the groups that they have, and the paths at which they see no version
+-- what is kept of shelves is true in the world: the groups that they have, and the paths at which they see no version
 abbrev pub AreOfShelves : World → Kept → Type 0
 AreOfShelves w kept = AreGroups w kept.groups × AreAbsent w kept.absences
 
--- all that is cached is true in the world
+-- all that is kept is true in the world
 abbrev pub AreKept : World → Kept → Type 0
 AreKept w kept = AreCounted w kept × AreLists w kept.lists × AreOfShelves w kept × AreFound w kept
 
--- nothing is cached
+-- nothing is kept
 abbrev pub IsNothing : Kept → Type 0
 IsNothing kept =
-    (kept.counts ≡ map.empty) × (kept.lists ≡ []) × (kept.groups ≡ map.empty) × (kept.zips ≡ []) × (kept.headings ≡ []) × (kept.keys ≡ [])
+    (kept.counts ≡ map.empty) × (kept.lists ≡ []) × (kept.groups ≡ map.empty) × (kept.zips ≡ []) × (kept.headings ≡ [])
+    × (kept.keys ≡ [])
     × (kept.total ≡ None) × (kept.absences ≡ map.empty)
 
--- all that is cached weighs at most the figures of its kinds
+-- all that is kept weighs at most the figures of its kinds
 pub record WeighsAtMost (kept : Kept) : Type 0 where
   pub lists : weighed_in list_weight kept.lists ≤ most_lists
   pub zips : weighed_in zip_weight kept.zips ≤ most_zips

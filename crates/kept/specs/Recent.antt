@@ -1,8 +1,8 @@
--- Cached values, each under a hash and with its weight.
+-- Kept values, each under a hash and with its weight.
 use Rattle.std.specs.Prelude.{ℕ, ◌≡◌, ◌≤◌, ◌+◌, List, [], ◌∷◌, Contains}
 
 module _ {V : Type 0} where
-  -- the value is among those that are cached
+  -- the value is among those that are kept
   abbrev pub Holds : List (ℕ × (ℕ × V)) → V → Type 0
   Holds held v = (e : ℕ × (ℕ × V)) × Contains held e × (e.1.1 ≡ v)
 

@@ -1,4 +1,4 @@
--- What cached values weigh, and the most that all of a kind weigh together.
+-- What kept values weigh, and the most that all of a kind weigh together.
 use Rattle.std.specs.Prelude.{ℕ, ◌+◌, length}
 use Rattle.kept.specs.declared.headings.KeptHeading.{KeptHeading}
 use Rattle.kept.specs.declared.keys.KeptKey.{KeptKey}
@@ -34,14 +34,14 @@ key_weight it = 1
 abbrev pub most_keys : ℕ
 most_keys = 8192
 
--- the most shelves whose groups are cached
+-- the most shelves whose groups are kept
 abbrev pub most_groups : ℕ
 most_groups = 8192
 
--- the most counts of the versions of a path that are cached
+-- the most counts of the versions of a path that are kept
 abbrev pub most_counts : ℕ
 most_counts = 16384
 
--- the most pairs of a path and a shelf that are cached as absent
+-- the most pairs of a path and a shelf that are kept as absent
 abbrev pub most_absences : ℕ
 most_absences = 16384

@@ -1,4 +1,4 @@
--- Cached zips.
+-- Kept zips.
 use Rattle.std.specs.Prelude.{ℕ, ◌≡◌, ◌&&◌, List, Bool, Option, Some, None, bytes_eq}
 use Rattle.std.specs.FinMap as map
 use Rattle.world.specs.declared.entry.Entry.{Entry}
@@ -16,7 +16,7 @@ is_at q it = bytes_eq it.place.shelf q.shelf && bytes_eq it.place.path q.path &&
 abbrev pub IsZipAt : World → Place → List ℕ → Type 0
 IsZipAt w q zip = (e : Entry) × (map.get w.entries q ≡ Some e) × (e.zip ≡ zip)
 
--- each cached zip is that of the entry at its place
+-- each kept zip is that of the entry at its place
 abbrev pub AreZips : World → List (ℕ × (ℕ × KeptZip)) → Type 0
 AreZips w zips = (it : KeptZip) → Holds zips it → IsZipAt w it.place it.zip
 

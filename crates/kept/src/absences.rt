@@ -1,4 +1,4 @@
-//! Caches the paths at which shelves see no version.
+//! Keeps the paths at which shelves see no version.
 
 ghost use Rattle.std.specs.Prelude.{◌≡◌, ◌≤◌, ◌⊎◌, [], OnOk};
 ghost use Rattle.std.specs.FinMap as map;
@@ -14,11 +14,11 @@ use std::collections::BTreeMap;
 use std::marker::Model;
 use world::text_set::TextSet;
 
-/// The most pairs of a path and a shelf that are cached.
+/// The most pairs of a path and a shelf that are kept.
 /// The figure bounds the memory, not the answers: where one more has no room, all are forgotten and found again.
 const MOST_ABSENCES: usize = 16_384;
 
-/// Cached paths with the shelves that see no version of them, most of them paths of public modules. A publish forgets
+/// Kept paths with the shelves that see no version of them, most of them paths of public modules. A publish forgets
 /// its path without going over the others. Contracts see a map from paths to sets of shelves.
 #[derive(Drop)]
 pub struct Absences {
@@ -55,7 +55,7 @@ impl Absences {
         }
     }
 
-    /// Reports whether it is cached that a shelf sees no version of a path.
+    /// Reports whether it is kept that a shelf sees no version of a path.
     pub fn has(&self, shelf: &str, path: &str) -> bool
         ensures { result ≡ set.contains (shelves_at self.now path.now) shelf.now }
     {
@@ -73,7 +73,7 @@ impl Absences {
         self.number
     }
 
-    /// Caches that a shelf sees no version of a path. If memory runs out, it forgets all that is cached.
+    /// Keeps that a shelf sees no version of a path. If memory runs out, it forgets all that is kept.
     pub fn keep(&mut self, alloc: Global, shelf: &str, path: &str)
         ensures { (w : World) → AreAbsent w self.old → versions_of w shelf.now path.now ≡ [] → AreAbsent w self.new }
     {
@@ -96,7 +96,7 @@ impl Absences {
         drop(self.paths.remove(path));
     }
 
-    /// Forgets all that is cached if one more pair has no room.
+    /// Forgets all that is kept if one more pair has no room.
     fn make_room(&mut self, alloc: Global)
         ensures { (self.new ≡ self.old) ⊎ (self.new ≡ map.empty) }
     {
@@ -105,8 +105,8 @@ impl Absences {
         }
     }
 
-    /// Caches that a shelf sees no version of a path, if there is room. If memory runs out, it forgets all that is
-    /// cached.
+    /// Keeps that a shelf sees no version of a path, if there is room. If memory runs out, it forgets all that is
+    /// kept.
     fn add(&mut self, alloc: Global, shelf: &str, path: &str)
         ensures { (w : World) → AreAbsent w self.old → versions_of w shelf.now path.now ≡ [] → AreAbsent w self.new }
     {

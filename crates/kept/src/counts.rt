@@ -1,4 +1,4 @@
-//! Bounds how many counts of versions are cached.
+//! Bounds how many counts of versions are kept.
 
 ghost use Rattle.std.specs.Prelude.{◌≡◌, ◌≤◌, None};
 ghost use Rattle.std.specs.FinMap as map;
@@ -12,11 +12,11 @@ use std::alloc::Global;
 use std::marker::Model;
 use world::counts::Counts;
 
-/// The most counts that are cached. Each takes about 200 bytes.
+/// The most counts that are kept. Each takes about 200 bytes.
 /// The figure bounds the memory, not the answers: where one more has no room, all are forgotten and counted again.
 const MOST_COUNTS: usize = 16_384;
 
-/// Cached counts of versions, as those of `world::counts`, and how many they are at most.
+/// Kept counts of versions, as those of `world::counts`, and how many they are at most.
 #[derive(Drop)]
 pub struct KeptCounts {
     counts: Counts,
@@ -52,7 +52,7 @@ impl KeptCounts {
         }
     }
 
-    /// Returns the count of a path on a shelf, or None if it is not cached.
+    /// Returns the count of a path on a shelf, or None if it is not kept.
     pub fn get(&self, shelf: &str, path: &str) -> Option<u64>
         ensures { result ≡ get_under self.now shelf.now path.now }
     {
@@ -67,7 +67,7 @@ impl KeptCounts {
         self.number
     }
 
-    /// Caches the count of a path on a shelf. If memory runs out, it forgets all counts instead.
+    /// Keeps the count of a path on a shelf. If memory runs out, it forgets all counts instead.
     pub fn keep(&mut self, alloc: Global, shelf: &str, path: &str, number: u64)
         ensures counts { (w : World) → AreCounts w self.old
             → number ≡ count w shelf.now path.now → AreCounts w self.new }
@@ -80,7 +80,7 @@ impl KeptCounts {
         self.counts.keep(alloc, shelf, path, number);
     }
 
-    /// Counts one more version of a path on a shelf if that count is cached. If memory runs out or the count cannot
+    /// Counts one more version of a path on a shelf if that count is kept. If memory runs out or the count cannot
     /// grow, it forgets all counts instead.
     pub fn raise(&mut self, alloc: Global, shelf: &str, path: &str)
         ensures { (w : World) (v : _) (e : _) → map.get w.entries (place shelf.now path.now v) ≡ None

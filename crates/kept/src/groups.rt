@@ -1,4 +1,4 @@
-//! Caches the groups of shelves.
+//! Keeps the groups of shelves.
 
 ghost use Rattle.std.specs.Prelude.{◌≡◌, ◌≤◌, ◌<◌, ◌⊎◌, Some, option_copied, IfOk, OnOk};
 ghost use Rattle.std.specs.FinMap as map;
@@ -13,12 +13,12 @@ use std::marker::Model;
 use text::Text;
 use world::names::COMMON;
 
-/// The most shelves whose groups are cached. Each takes about 200 bytes.
+/// The most shelves whose groups are kept. Each takes about 200 bytes.
 /// The figure bounds the memory, not the answers: where one more has no room, all are forgotten and found again.
 const MOST_GROUPS: usize = 8_192;
 
-/// Cached groups of shelves, so that a store need not query the tables again. A shelf without a group is cached with
-/// None. A shelf's group never changes, so a cached one is never wrong. Contracts see a map from shelves to their
+/// Kept groups of shelves, so that a store need not query the tables again. A shelf without a group is kept with
+/// None. A shelf's group never changes, so a kept one is never wrong. Contracts see a map from shelves to their
 /// groups.
 #[derive(Drop)]
 pub struct Groups {
@@ -53,14 +53,14 @@ impl Groups {
         }
     }
 
-    /// Returns the group of a shelf, or None if it is not cached.
+    /// Returns the group of a shelf, or None if it is not kept.
     pub fn get(&self, shelf: &str) -> Option<&Option<Text>>
         ensures { option_copied result ≡ map.get self.now shelf.now }
     {
         self.shelves.get(shelf)
     }
 
-    /// Returns how many shelves are cached.
+    /// Returns how many shelves are kept.
     pub(crate) fn len(&self) -> usize
         ensures len { result ≡ map.len self.now }
         ensures at_most { result ≤ most_groups }
@@ -68,7 +68,7 @@ impl Groups {
         self.shelves.len()
     }
 
-    /// Caches the group of a shelf that exists. If memory runs out, it forgets all groups.
+    /// Keeps the group of a shelf that exists. If memory runs out, it forgets all groups.
     pub fn keep(&mut self, alloc: Global, shelf: &str, group: Option<&Text>)
         ensures { (w : World) → AreGroups w self.old → IsGroupOf w shelf.now (option_copied group.entry)
             → AreGroups w self.new }

@@ -1,4 +1,4 @@
-//! Caches what shelves see of versions.
+//! Keeps what shelves see of versions.
 
 ghost use Rattle.std.specs.Prelude.{◌≡◌, [], Some, IfOk, IfSome, IsTrue, option_copied};
 ghost use Rattle.world.specs.World.{World, view};
@@ -74,7 +74,7 @@ impl Weighed for KeptHeading {
     }
 }
 
-/// Cached headings. The cache makes room by dropping those that were asked for longest ago. A publish or a new team can
+/// Kept headings. The cache makes room by dropping those that were asked for longest ago. A publish or a new team can
 /// change what a shelf sees of a version, so each empties the cache.
 pub type Headings = Recent<KeptHeading>;
 
@@ -86,7 +86,7 @@ impl Recent<KeptHeading> {
         Recent::new()
     }
 
-    /// Returns a copy of what a shelf sees of a version, or None if it is not cached or memory runs out.
+    /// Returns a copy of what a shelf sees of a version, or None if it is not kept or memory runs out.
     pub fn seen(
         &mut self,
         alloc: Global,
@@ -106,7 +106,7 @@ impl Recent<KeptHeading> {
         }
     }
 
-    /// Caches a copy of what a shelf sees of a version, if it sees anything. If memory runs out, it is not cached.
+    /// Keeps a copy of what a shelf sees of a version, if it sees anything. If memory runs out, it is not kept.
     pub fn keep_seen(
         &mut self,
         alloc: Global,
@@ -126,7 +126,7 @@ impl Recent<KeptHeading> {
         }
     }
 
-    /// Returns what a shelf sees of a version, or None if it is not cached.
+    /// Returns what a shelf sees of a version, or None if it is not kept.
     fn kept_heading(&self, shelf: &str, path: &str, version: &str) -> Option<&KeptHeading>
         ensures held { IfSome result (λ it. Holds self.now it.now) }
         ensures names { IfSome result (λ it. IsTrue (is_of shelf.now path.now version.now it.now)) }

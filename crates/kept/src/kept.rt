@@ -54,7 +54,7 @@ impl Kept {
         }
     }
 
-    /// Returns a copy of the versions of a path that a shelf sees, or None if they are not cached or memory runs out.
+    /// Returns a copy of the versions of a path that a shelf sees, or None if they are not kept or memory runs out.
     pub fn versions(&mut self, alloc: Global, shelf: &str, path: &str) -> Option<Versions>
         ensures others { (w : World) → AreKept w self.old → AreKept w self.new }
         ensures found { IfSome result (λ versions. (w : World) → AreKept w self.old
@@ -66,7 +66,7 @@ impl Kept {
         self.lists.versions(alloc, shelf, path)
     }
 
-    /// Returns a copy of the latest version of a path that a shelf sees, or None if it is not cached or memory runs
+    /// Returns a copy of the latest version of a path that a shelf sees, or None if it is not kept or memory runs
     /// out.
     pub fn latest(&mut self, alloc: Global, shelf: &str, path: &str) -> Option<Option<Version>>
         ensures others { (w : World) → AreKept w self.old → AreKept w self.new }
@@ -79,8 +79,8 @@ impl Kept {
         self.lists.latest(alloc, shelf, path)
     }
 
-    /// Caches a copy of the versions of a path that a shelf sees, or that it sees none. If memory runs out, less is
-    /// cached.
+    /// Keeps a copy of the versions of a path that a shelf sees, or that it sees none. If memory runs out, less is
+    /// kept.
     pub fn keep_versions(&mut self, alloc: Global, shelf: &str, path: &str, versions: &[Version])
         ensures { (w : World) → AreKept w self.old
             → versions.now ≡ versions_of w shelf.now path.now → AreKept w self.new }
@@ -92,7 +92,7 @@ impl Kept {
         }
     }
 
-    /// Reports whether what is cached shows that a shelf does not see a version.
+    /// Reports whether what is kept shows that a shelf does not see a version.
     pub fn lacks(&mut self, shelf: &str, path: &str, version: &str) -> bool
         ensures others { (w : World) → AreKept w self.old → AreKept w self.new }
         ensures found { IsTrue result → (w : World) → IsWorld w → AreKept w self.old
@@ -105,15 +105,15 @@ impl Kept {
     }
 
     /// Reports whether a shelf looked for a version of a path in vain before, and the versions that it sees are not
-    /// cached. It says so once for each such look.
+    /// kept. It says so once for each such look.
     pub fn wants_versions(&mut self, shelf: &str, path: &str) -> bool
         ensures { (w : World) → AreKept w self.old → AreKept w self.new }
     {
         self.missed.take(shelf, path) && !self.lists.has(shelf, path)
     }
 
-    /// Caches a copy of what a shelf sees of a version, or notes that it sees nothing. If memory runs out, it is not
-    /// cached.
+    /// Keeps a copy of what a shelf sees of a version, or notes that it sees nothing. If memory runs out, it is not
+    /// kept.
     pub fn keep_seen(
         &mut self,
         alloc: Global,
@@ -132,7 +132,7 @@ impl Kept {
         }
     }
 
-    /// Shows that what is cached weighs at most the figures of its kinds, whatever was cached before.
+    /// Shows that what is kept weighs at most the figures of its kinds, whatever was kept before.
     pub fn bounds(&self)
         ensures { WeighsAtMost self.now }
     {

@@ -1,4 +1,4 @@
-//! Caches what keys hold.
+//! Keeps what keys hold.
 
 ghost use Rattle.std.specs.Prelude.{◌≡◌, [], Some, bytes_eq, IfOk, IfSome, IsTrue, option_copied};
 ghost use Rattle.std.specs.FinMap as map;
@@ -33,7 +33,7 @@ impl Weighed for KeptKey {
     }
 }
 
-/// Cached keys. The cache makes room by dropping the key that was used longest ago.
+/// Kept keys. The cache makes room by dropping the key that was used longest ago.
 pub type Keys = Recent<KeptKey>;
 
 impl Recent<KeptKey> {
@@ -44,7 +44,7 @@ impl Recent<KeptKey> {
         Recent::new()
     }
 
-    /// Returns a copy of what a key holds, or None if it is not cached or memory runs out.
+    /// Returns a copy of what a key holds, or None if it is not kept or memory runs out.
     pub fn holder(&mut self, alloc: Global, key: &str) -> Option<Holder>
         ensures others { (it : _) → Holds self.new it → Holds self.old it }
         ensures found { IfSome result
@@ -58,7 +58,7 @@ impl Recent<KeptKey> {
         }
     }
 
-    /// Caches a copy of what a key holds, if the key exists. If memory runs out, it is not cached.
+    /// Keeps a copy of what a key holds, if the key exists. If memory runs out, it is not kept.
     pub fn keep_holder(&mut self, alloc: Global, key: &str, holder: Option<&Holder>)
         ensures { (w : World) → AreKeys w self.old
             → map.get w.keys key.now ≡ option_copied holder.entry → AreKeys w self.new }
@@ -71,7 +71,7 @@ impl Recent<KeptKey> {
         }
     }
 
-    /// Returns the key with what it holds, or None if it is not cached.
+    /// Returns the key with what it holds, or None if it is not kept.
     fn kept_key(&self, key: &str) -> Option<&KeptKey>
         ensures held { IfSome result (λ it. Holds self.now it.now) }
         ensures name { IfSome result (λ it. IsTrue (bytes_eq it.now.key key.now)) }

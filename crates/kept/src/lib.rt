@@ -2,7 +2,7 @@
 //!
 //! | module | what it keeps | valid until |
 //! |---|---|---|
-//! | `lists` | the versions of a path that a shelf sees, and the latest of them | the path gets a version, or a team is added |
+//! | `lists` | the versions of a path that a shelf sees, their latest | the path gets a version, or a team is added |
 //! | `absences` | the paths at which a shelf sees no version | the path gets a version, or a team is added |
 //! | `missed` | at which paths a shelf looked for a version in vain | the shelf looks there again |
 //! | `counts` | how many versions of a path stand on a shelf | the path gets a version there, which raises it |

@@ -1,4 +1,4 @@
-//! Caches lists of versions, each with its latest version.
+//! Keeps lists of versions, each with its latest version.
 
 ghost use Rattle.std.specs.Prelude.{◌≡◌, ◌⊎◌, [], false, bytes_eq, Contains, None, option_copied, IfOk, IfSome, IsTrue};
 ghost use Rattle.modver.specs.SemanticVersion.{version_text};
@@ -92,7 +92,7 @@ impl Weighed for KeptList {
     }
 }
 
-/// Cached lists of the versions of paths that a shelf sees, in ascending precedence, and the latest of them. The cache
+/// Kept lists of the versions of paths that a shelf sees, in ascending precedence, and the latest of them. The cache
 /// makes room by dropping the lists that were asked for longest ago.
 pub type Lists = Recent<KeptList>;
 
@@ -104,7 +104,7 @@ impl Recent<KeptList> {
         Recent::new()
     }
 
-    /// Reports whether the versions of a path that a shelf sees are cached and few, and this is none of them.
+    /// Reports whether the versions of a path that a shelf sees are kept and few, and this is none of them.
     pub fn lacks(&mut self, shelf: &str, path: &str, version: &str) -> bool
         ensures others { (list : _) → Holds self.new list → Holds self.old list }
         ensures found { IsTrue result → (w : World) → IsWorld w → AreLists w self.old
@@ -117,12 +117,12 @@ impl Recent<KeptList> {
         list.lacks(version)
     }
 
-    /// Reports whether the versions of a path that a shelf sees are cached.
+    /// Reports whether the versions of a path that a shelf sees are kept.
     pub fn has(&self, shelf: &str, path: &str) -> bool {
         self.list(shelf, path).is_some()
     }
 
-    /// Returns a copy of the versions of a path that a shelf sees, or None if they are not cached or memory runs out.
+    /// Returns a copy of the versions of a path that a shelf sees, or None if they are not kept or memory runs out.
     pub fn versions(&mut self, alloc: Global, shelf: &str, path: &str) -> Option<Versions>
         ensures others { (list : _) → Holds self.new list → Holds self.old list }
         ensures found { IfSome result (λ versions. (w : World) → AreLists w self.old
@@ -136,7 +136,7 @@ impl Recent<KeptList> {
         }
     }
 
-    /// Returns a copy of the latest version of a path that a shelf sees, or None if it is not cached or memory runs
+    /// Returns a copy of the latest version of a path that a shelf sees, or None if it is not kept or memory runs
     /// out.
     pub fn latest(&mut self, alloc: Global, shelf: &str, path: &str) -> Option<Option<Version>>
         ensures others { (list : _) → Holds self.new list → Holds self.old list }
@@ -152,7 +152,7 @@ impl Recent<KeptList> {
     }
 
     /// Takes the versions of a path that a shelf sees out of the cache, and returns them. Returns None if they are not
-    /// cached.
+    /// kept.
     pub fn take_versions(&mut self, shelf: &str, path: &str) -> Option<Versions>
         ensures others { (list : _) → Holds self.new list → Holds self.old list }
         ensures taken { IfSome result (λ versions. (w : World) → AreLists w self.old
@@ -166,7 +166,7 @@ impl Recent<KeptList> {
         }
     }
 
-    /// Caches a copy of the versions of a path that a shelf sees. If memory runs out, they are not cached.
+    /// Keeps a copy of the versions of a path that a shelf sees. If memory runs out, they are not kept.
     pub fn keep_copy(&mut self, alloc: Global, shelf: &str, path: &str, versions: &[Version])
         ensures { (w : World) → AreLists w self.old
             → versions.now ≡ versions_of w shelf.now path.now → AreLists w self.new }
@@ -176,8 +176,8 @@ impl Recent<KeptList> {
         }
     }
 
-    /// Caches the versions of a path that a shelf sees, and a copy of the latest of them. If memory runs out, they are
-    /// not cached.
+    /// Keeps the versions of a path that a shelf sees, and a copy of the latest of them. If memory runs out, they are
+    /// not kept.
     pub fn keep_with_latest(
         &mut self,
         alloc: Global,
@@ -209,7 +209,7 @@ impl Recent<KeptList> {
 }
 
 impl Recent<KeptList> {
-    /// Returns the list of a shelf and a path, or None if it is not cached.
+    /// Returns the list of a shelf and a path, or None if it is not kept.
     fn list(&self, shelf: &str, path: &str) -> Option<&KeptList>
         ensures held { IfSome result (λ list. Holds self.now list.now) }
         ensures names { IfSome result (λ list. IsTrue (is_of shelf.now path.now list.now)) }
@@ -222,7 +222,7 @@ impl Recent<KeptList> {
         }
     }
 
-    /// Caches a list that is not empty: `absences` has the paths of empty ones. If memory runs out, it is not cached.
+    /// Keeps a list that is not empty: `absences` has the paths of empty ones. If memory runs out, it is not kept.
     fn keep_list(
         &mut self,
         alloc: Global,
@@ -275,7 +275,7 @@ impl Recent<KeptList> {
         Ok(hashes)
     }
 
-    /// Reports whether a list of a path is cached.
+    /// Reports whether a list of a path is kept.
     fn has_path(&self, path: &str) -> bool
         ensures { result ≡ false → (list : _) → Holds self.now list → bytes_eq list.path path.now ≡ false }
     {

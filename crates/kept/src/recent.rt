@@ -9,7 +9,7 @@ use std::alloc::{AllocError, Global};
 use std::hash::{FoldHasher, Hasher};
 use std::marker::Model;
 
-/// A kind of values that are cached. What a value weighs stands for the memory that it takes.
+/// A kind of values that are kept. What a value weighs stands for the memory that it takes.
 pub trait Weighed {
     ghost use Rattle.std.specs.Prelude.{ℕ, ◌≤◌};
 
@@ -18,8 +18,8 @@ pub trait Weighed {
 
     ghost MOST: { ℕ };
 
-    /// The most that all cached values of the kind weigh together. The figure bounds the memory, not the answers: what
-    /// is not cached is queried each time.
+    /// The most that all kept values of the kind weigh together. The figure bounds the memory, not the answers: what
+    /// is not kept is queried each time.
     const MOST: usize;
 
     /// Returns at least what a value weighs, or more than `MOST`.
@@ -105,7 +105,7 @@ impl<V: Weighed> Recent<V> {
 }
 
 impl<V: Weighed + Drop> Recent<V> {
-    /// Caches a value under a hash, instead of the one that was there. If memory runs out, the value is not cached. A
+    /// Keeps a value under a hash, instead of the one that was there. If memory runs out, the value is not kept. A
     /// value that alone weighs more than all may changes nothing.
     pub(crate) fn keep(&mut self, alloc: Global, hash: u64, value: V)
         ensures { (v : _) → Holds self.new v → Holds self.old v ⊎ (v ≡ value) }
@@ -189,7 +189,7 @@ fn cache_or_new<V>(alloc: Global, cache: Option<Cache<V>>) -> Result<Cache<V>, A
     }
 }
 
-/// Returns the hash under which a value with these names is cached. Values with the same hash replace each other, so
+/// Returns the hash under which a value with these names is kept. Values with the same hash replace each other, so
 /// each value holds its names, and a lookup compares them.
 pub(crate) fn hash_of(names: &[&str]) -> u64 {
     let mut hasher = FoldHasher::default();

@@ -5,7 +5,7 @@ ghost use Rattle.std.specs.FinMap as map;
 ghost use Rattle.world.specs.World.{World, with_entry};
 ghost use Rattle.kept.specs.Total.{IsTotal};
 
-/// Returns the number of all versions after one more was stored, or None if it is not cached or cannot grow.
+/// Returns the number of all versions after one more was stored, or None if it is not kept or cannot grow.
 pub fn raised(total: Option<u64>) -> Option<u64>
     ensures { (w : World) (q : _) (e : _) → map.get w.entries q ≡ None
         → IsTotal w total → IsTotal (with_entry w q e) result }

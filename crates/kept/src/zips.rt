@@ -1,4 +1,4 @@
-//! Caches zips.
+//! Keeps zips.
 
 ghost use Rattle.std.specs.Prelude.{◌≡◌, [], IfSome, IsTrue};
 ghost use Rattle.world.specs.World.{World, place};
@@ -58,7 +58,7 @@ impl Weighed for KeptZip {
     }
 }
 
-/// Cached zips of entries. An entry never changes, so a cached zip is never wrong. The cache makes room by dropping the
+/// Kept zips of entries. An entry never changes, so a kept zip is never wrong. The cache makes room by dropping the
 /// zips that were asked for longest ago. It finds a zip by the place of its entry, so all shelves that see the entry
 /// share the zip.
 pub type Zips = Recent<KeptZip>;
@@ -71,7 +71,7 @@ impl Recent<KeptZip> {
         Recent::new()
     }
 
-    /// Returns the zip of the entry at a place, which shares its memory with the cache, or None if it is not cached.
+    /// Returns the zip of the entry at a place, which shares its memory with the cache, or None if it is not kept.
     pub fn zip(&mut self, shelf: &str, path: &str, version: &str) -> Option<Bytes>
         ensures others { (it : _) → Holds self.new it → Holds self.old it }
         ensures found { IfSome result (λ zip. (w : World) → AreZips w self.old
@@ -82,8 +82,8 @@ impl Recent<KeptZip> {
         kept.zip.again()
     }
 
-    /// Caches the zip of what is seen of a version, if anything is, and returns what is seen, whose zip then shares its
-    /// memory with the cache. If memory runs out, it is not cached.
+    /// Keeps the zip of what is seen of a version, if anything is, and returns what is seen, whose zip then shares its
+    /// memory with the cache. If memory runs out, it is not kept.
     pub fn keep_seen(
         &mut self,
         alloc: Global,
@@ -106,7 +106,7 @@ impl Recent<KeptZip> {
         })
     }
 
-    /// Caches the zip of the entry at a place, and returns the zip, which then shares its memory with the cache.
+    /// Keeps the zip of the entry at a place, and returns the zip, which then shares its memory with the cache.
     fn keep_shared(
         &mut self,
         alloc: Global,
@@ -126,7 +126,7 @@ impl Recent<KeptZip> {
         zip
     }
 
-    /// Returns the zip of the entry at a place, or None if it is not cached.
+    /// Returns the zip of the entry at a place, or None if it is not kept.
     fn kept_zip(&self, shelf: &str, path: &str, version: &str) -> Option<&KeptZip>
         ensures held { IfSome result (λ it. Holds self.now it.now) }
         ensures place { IfSome result (λ it. IsTrue (is_at (place shelf.now path.now version.now) it.now)) }

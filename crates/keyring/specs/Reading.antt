@@ -10,5 +10,6 @@ filled (Ok u) items = Ok items
 filled (Err fault) items = Err fault
 
 -- a call added these items of the world behind those that were there, or failed; it changed nothing in the store
-abbrev pub Adds : {T : Type 0} → Shown → Shown → List T → List T → Result (Unit {0}) StoreFault → (World → List T) → Type 0
+abbrev pub Adds : {T : Type 0} → Shown → Shown → List T → List T → Result (Unit {0}) StoreFault → (World → List T)
+    → Type 0
 Adds old new before after told more = Reads old new (filled told after) (λ w. before ++ more w)

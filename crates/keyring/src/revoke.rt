@@ -27,8 +27,8 @@ pub fn revoke_with<S: Keyring>(
     }
 }
 
-/// Returns the key that has a fingerprint, or None if no key has it or several have. Fails if the store meets a fault or
-/// memory runs out.
+/// Returns the key that has a fingerprint, or None if no key has it or several have. Fails if the store meets a fault
+/// or memory runs out.
 pub fn key_with<S: Keyring>(
     alloc: Global,
     shelves: &mut S,

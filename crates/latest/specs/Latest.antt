@@ -77,4 +77,5 @@ IsBest vs m n (Some p) = (v : SemanticVersion) × (slice_get vs p ≡ Some v) ×
 abbrev pub TopIsOne : Type 0
 TopIsOne = (path : List ℕ) (vs : List SemanticVersion)
     → ((x : SemanticVersion) → Contains vs x → IsVersionOf path x) → (u v : SemanticVersion)
-    → (IsTop (among vs) u → IsTop (among vs) v → u ≡ v) × ((m : GoModule) → IsTop (unretracted vs m) u → IsTop (unretracted vs m) v → u ≡ v)
+    → (IsTop (among vs) u → IsTop (among vs) v → u ≡ v)
+    × ((m : GoModule) → IsTop (unretracted vs m) u → IsTop (unretracted vs m) v → u ≡ v)

@@ -28,7 +28,10 @@ pub record History : Type 0 where
 -- the call with this key or of this shelf, at this path and version, that had this outcome
 abbrev pub call_by : List ℕ → List ℕ → List ℕ → Outcome → Call
 call_by of path version outcome =
-    record { question = record { method = outcome.method; of = of; path = path; version = version }; fault = outcome.fault }
+    record {
+      question = record { method = outcome.method; of = of; path = path; version = version };
+      fault = outcome.fault;
+    }
 
 -- the history with one call more
 abbrev pub noted : History → Question → Option StoreFault → History

@@ -34,7 +34,8 @@ UnknownNeedsNothing =
 -- shelf, at which path and version, and in which order.
 abbrev pub NeedsAreAlike : Type 0
 NeedsAreAlike =
-    (w x : World) (s t k : List ℕ) (a : Ask) → IsWorld w → IsWorld x → Low w x s → sees w s t ≡ true → belongs w k t → key_of a ≡ Some k
+    (w x : World) (s t k : List ℕ) (a : Ask) → IsWorld w → IsWorld x → Low w x s → sees w s t ≡ true → belongs w k t
+    → key_of a ≡ Some k
     → needs w a ≡ needs x a
 
 -- each of these calls met the fault, or none, that its question meets by this
@@ -46,9 +47,11 @@ AreRefusedBy refuses (c ∷ calls) = (c.fault ≡ refuses c.question) × AreRefu
 -- that s sees meets the same fault, or none in both, unless memory ran out in one: the store's or the request's own.
 abbrev pub FaultsAreAlike : Type 0
 FaultsAreAlike =
-    (w x : World) (s t k : List ℕ) (a : Ask) (refuses : Question → Option StoreFault) (old new old_too new_too : History)
+    (w x : World) (s t k : List ℕ) (a : Ask) (refuses : Question → Option StoreFault)
+    (old new old_too new_too : History)
     (calls calls_too : List Call) (met met_too : Option StoreFault)
     → IsWorld w → IsWorld x → Low w x s → sees w s t ≡ true → belongs w k t → key_of a ≡ Some k
     → Meets old new (needs w a) met → new.calls ≡ old.calls ++ calls → AreRefusedBy refuses calls
-    → Meets old_too new_too (needs x a) met_too → new_too.calls ≡ old_too.calls ++ calls_too → AreRefusedBy refuses calls_too
+    → Meets old_too new_too (needs x a) met_too → new_too.calls ≡ old_too.calls ++ calls_too
+    → AreRefusedBy refuses calls_too
     → (met ≡ met_too) ⊎ ((met ≡ Some Memory) ⊎ (met_too ≡ Some Memory))

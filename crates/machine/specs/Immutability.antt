@@ -43,7 +43,8 @@ IsFound r = ⊥
 -- run on.
 abbrev pub StaysServed : Type 0
 StaysServed =
-    (old mid new : World) (s k later : List ℕ) (q : Query) (r : Reply) (events : List Event) (answers : List Answer) (a : Answer)
+    (old mid new : World) (s k later : List ℕ) (q : Query) (r : Reply) (events : List Event) (answers : List Answer)
+    (a : Answer)
     → IsWorld old → belongs old k s → IsOfVersion q → IsFound r
     → Run old (Asked (Get k q) ∷ events) (Replied r ∷ answers) mid
     → belongs mid later s → Run mid (Asked (Get later q) ∷ []) (a ∷ []) new
@@ -59,7 +60,8 @@ IsAccepted d = ⊥
 abbrev pub asks_back : Publish → Body → Query → Reply → Type 0
 asks_back p b (query.GoMod path version) r = (path ≡ p.path) × (version ≡ p.version) × (r ≡ reply.GoMod b.gomod)
 asks_back p b (query.Zip path version) r = (path ≡ p.path) × (version ≡ p.version) × (r ≡ reply.Zip b.zip)
-asks_back p b (query.Info path version) r = (path ≡ p.path) × (version ≡ p.version) × (r ≡ reply.Info version (entry_of p b).time)
+asks_back p b (query.Info path version) r = (path ≡ p.path) × (version ≡ p.version)
+    × (r ≡ reply.Info version (entry_of p b).time)
 asks_back p b q r = ⊥
 
 -- Once a publish with a key of s was accepted, then after any events each key that belongs to s gets its go.mod, its
@@ -100,7 +102,8 @@ AllSameOrFailed (a ∷ answers) = ((a ≡ Replied (reply.Decided Same)) ⊎ IsFa
 -- meets a fault.
 abbrev pub RepeatedListChangesNothing : Type 0
 RepeatedListChangesNothing =
-    (old mid later new : World) (s k again : List ℕ) (ps : List Publish) (events : List Event) (accepted told repeated : List Answer)
+    (old mid later new : World) (s k again : List ℕ) (ps : List Publish) (events : List Event)
+    (accepted told repeated : List Answer)
     → IsWorld old → belongs old k s → Run old (puts k ps) accepted mid → AllAccepted accepted
     → Run mid events told later → map.get later.keys again ≡ Some (record { shelf = s; right = Publishes })
     → Run later (puts again ps) repeated new

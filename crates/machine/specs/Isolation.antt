@@ -64,14 +64,16 @@ purge w ss es = marked (remaining w ss es) es
 pub record Agree (w x : World) (ss : List (List ℕ)) : Type 0 where
   pub keys : w.keys ≡ x.keys
   pub shelves : w.shelves ≡ x.shelves
-  pub seen : (t : List ℕ) → is_among ss t ≡ true → (p v : List ℕ) → map.get w.entries (place t p v) ≡ map.get x.entries (place t p v)
+  pub seen : (t : List ℕ) → is_among ss t ≡ true → (p v : List ℕ)
+      → map.get w.entries (place t p v) ≡ map.get x.entries (place t p v)
 
 -- A shelf gets the replies that it would get without the requests made with keys of shelves that it does not see: in
 -- each run, the replies to the remaining events are those of the machine over the purged list, from this world or from
 -- one that agrees with it on what the shelf sees. The worlds after them agree again.
 abbrev pub IsIsolated : Type 0
 IsIsolated =
-    (old old_too new : World) (s : List ℕ) (events : List Event) (answers : List Answer) → IsWorld old → Agree old old_too (chain new s)
+    (old old_too new : World) (s : List ℕ) (events : List Event) (answers : List Answer) → IsWorld old
+    → Agree old old_too (chain new s)
     → Run old events answers new → let asked : List Event = purge old (chain new s) (answered events answers) in
     (marked (remaining old (chain new s) (answered events answers)) (replies_of answers) ≡ replies old_too asked)
     × Agree new (after_all old_too asked) (chain new s)
@@ -85,7 +87,8 @@ IsAnsweredIfItRemains mark a = Unit {0}
 
 -- each remaining event was answered
 abbrev pub RemainingAnswered : World → List (List ℕ) → List Event → List Answer → Type 0
-RemainingAnswered w ss (e ∷ es) (a ∷ answers) = IsAnsweredIfItRemains (is_remaining w ss e) a × RemainingAnswered (after w e) ss es answers
+RemainingAnswered w ss (e ∷ es) (a ∷ answers) = IsAnsweredIfItRemains (is_remaining w ss e) a
+    × RemainingAnswered (after w e) ss es answers
 RemainingAnswered w ss es answers = Unit {0}
 
 -- the event was answered
@@ -101,7 +104,8 @@ AllReplied (a ∷ answers) = IsReplied a × AllReplied answers
 -- If no remaining event met a fault, purging the events gives the list that purging only the answered events gives.
 abbrev pub PurgeIsTheSame : Type 0
 PurgeIsTheSame =
-    (old new : World) (s : List ℕ) (events : List Event) (answers : List Answer) → IsWorld old → Run old events answers new
+    (old new : World) (s : List ℕ) (events : List Event) (answers : List Answer) → IsWorld old
+    → Run old events answers new
     → RemainingAnswered old (chain new s) events answers
     → purge old (chain new s) events ≡ purge old (chain new s) (answered events answers)
 
@@ -140,7 +144,8 @@ MarksAreAtTheirMoment =
 
 -- a request with a key that belongs to another shelf than these
 abbrev pub IsOfOthers : World → List (List ℕ) → Event → Type 0
-IsOfOthers w ss e = (k : List ℕ) × (h : Holder) × (asking_key e ≡ Some k) × (map.get w.keys k ≡ Some h) × (is_among ss h.shelf ≡ false)
+IsOfOthers w ss e = (k : List ℕ) × (h : Holder) × (asking_key e ≡ Some k) × (map.get w.keys k ≡ Some h)
+    × (is_among ss h.shelf ≡ false)
 
 -- An event is dropped exactly if it is a request with a key that belongs to another shelf than these.
 abbrev pub OnlyOthersGo : Type 0
@@ -152,7 +157,8 @@ OnlyOthersGo = (w : World) (ss : List (List ℕ)) (e : Event) → (is_remaining 
 pub record Low (w x : World) (s : List ℕ) : Type 0 where
   pub chains : chain w s ≡ chain x s
   pub entries : (t : List ℕ) → sees w s t ≡ true → on_shelf w t ≡ on_shelf x t
-  pub keys : (k : List ℕ) (h : Holder) → sees w s h.shelf ≡ true → (map.get w.keys k ≡ Some h) ↔ (map.get x.keys k ≡ Some h)
+  pub keys : (k : List ℕ) (h : Holder) → sees w s h.shelf ≡ true
+      → (map.get w.keys k ≡ Some h) ↔ (map.get x.keys k ≡ Some h)
 
 -- Worlds in which s sees the same shelves agree on those exactly if they are the same to s and have one registry.
 abbrev pub AgreeIsLow : Type 0
@@ -164,5 +170,6 @@ AgreeIsLow =
 -- that are again the same to s.
 abbrev pub IsBlind : Type 0
 IsBlind =
-    (w x : World) (s t k : List ℕ) (a : Ask) → IsWorld w → IsWorld x → Low w x s → sees w s t ≡ true → belongs w k t → key_of a ≡ Some k
+    (w x : World) (s t k : List ℕ) (a : Ask) → IsWorld w → IsWorld x → Low w x s → sees w s t ≡ true → belongs w k t
+    → key_of a ≡ Some k
     → (ask_reply w a ≡ ask_reply x a) × Low (after_ask w a) (after_ask x a) s

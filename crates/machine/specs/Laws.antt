@@ -17,7 +17,8 @@ WorldStays = (w : World) (e : Event) → IsWorld w → IsWorld (after w e)
 
 -- Each run leads from a world to a world.
 abbrev pub RunsKeepWorlds : Type 0
-RunsKeepWorlds = (old new : World) (events : List Event) (answers : List Answer) → IsWorld old → Run old events answers new → IsWorld new
+RunsKeepWorlds = (old new : World) (events : List Event) (answers : List Answer) → IsWorld old
+    → Run old events answers new → IsWorld new
 
 -- A shelf that exists still exists after any run, and sees the same shelves.
 abbrev pub ChainsStay : Type 0
@@ -44,7 +45,8 @@ OnlyChangesChange = (w : World) (e : Event) → IsChange (reply_to w e) ⊎ (aft
 abbrev pub RunsAreCut : Type 0
 RunsAreCut =
     (old new : World) (events more : List Event) (answers last : List Answer) → length events ≡ length answers
-    → Run old (events ++ more) (answers ++ last) new → (mid : World) × Run old events answers mid × Run mid more last new
+    → Run old (events ++ more) (answers ++ last) new
+    → (mid : World) × Run old events answers mid × Run mid more last new
 
 -- Runs that meet in a world can be joined.
 abbrev pub RunsAreJoined : Type 0

@@ -22,7 +22,8 @@ PartIsLow = (w : World) (s : List ℕ) → IsWorld w → Low w (part w s) s
 
 -- a request with a key of a shelf that s sees
 abbrev pub IsOwn : World → List ℕ → Event → Type 0
-IsOwn w s e = (k : List ℕ) × (h : Holder) × (asking_key e ≡ Some k) × (map.get w.keys k ≡ Some h) × (sees w s h.shelf ≡ true)
+IsOwn w s e = (k : List ℕ) × (h : Holder) × (asking_key e ≡ Some k) × (map.get w.keys k ≡ Some h)
+    × (sees w s h.shelf ≡ true)
 
 -- Each event is a request with a key of a shelf that s sees. No request changes what a key holds, so this holds at its
 -- moment too.

@@ -81,7 +81,8 @@ LatestIsTheTop = (w : World) (s p : List ℕ) (v : SemanticVersion) → IsWorld 
 
 -- In a world, there is no latest version exactly if there is no unretracted version.
 abbrev pub NoneIsLatest : Type 0
-NoneIsLatest = (w : World) (s p : List ℕ) → IsWorld w → (latest_of w s p ≡ None) ↔ ((v : SemanticVersion) → ¬ unretracted_versions w s p v)
+NoneIsLatest = (w : World) (s p : List ℕ) → IsWorld w
+    → (latest_of w s p ≡ None) ↔ ((v : SemanticVersion) → ¬ unretracted_versions w s p v)
 
 -- the shelf sees an entry of the version that has this time, or that has none
 abbrev pub HasTime : World → List ℕ → List ℕ → SemanticVersion → Option (List ℕ) → Type 0
@@ -92,7 +93,8 @@ HasTime w s p v time = (e : Seen) × (view w s p (version_text v) ≡ Some e) ×
 abbrev pub LatestIsTold : Type 0
 LatestIsTold =
     (w : World) (s p : List ℕ) (v : SemanticVersion) (time : Option (List ℕ)) → IsWorld w
-    → (query_reply w s (query.Latest p) ≡ reply.Info v time) ↔ (IsTop (unretracted_versions w s p) v × HasTime w s p v time)
+    → (query_reply w s (query.Latest p) ≡ reply.Info v time)
+    ↔ (IsTop (unretracted_versions w s p) v × HasTime w s p v time)
 
 -- In a world, the latest version is not found exactly if there is no unretracted version.
 abbrev pub LatestIsNotFound : Type 0

@@ -62,7 +62,8 @@ gomod_by known p = option_map (λ b. reading_by known b.gomod) p.body
 -- the decision on a publish by the holder of its key, by these keywords
 abbrev pub decision_by : Keywords → World → Option Holder → Publish → Decision
 decision_by known w None p = decided p None None standing.Absent 0
-decision_by known w (Some h) p = decided p (Some h.right) (gomod_by known p) (standing_of w h.shelf p) (count w h.shelf p.path)
+decision_by known w (Some h) p =
+    decided p (Some h.right) (gomod_by known p) (standing_of w h.shelf p) (count w h.shelf p.path)
 
 -- What the machine replies to an event if go.mods are read by these keywords.
 abbrev pub reply_by : Keywords → World → Event → Reply
@@ -105,4 +106,5 @@ pub record IsUnread (known : Keywords) (w : World) (e : Event) : Type 0 where
 -- In a world of the first profile, the second answers each event as the first does, except a publish whose go.mod the
 -- first does not read.
 abbrev pub Profile2KeepsAnswers : Type 0
-Profile2KeepsAnswers = (w : World) (e : Event) → IsWorldBy profile_1 w → AnswersAlike profile_1 profile_2 w e ⊎ IsUnread profile_1 w e
+Profile2KeepsAnswers = (w : World) (e : Event) → IsWorldBy profile_1 w
+    → AnswersAlike profile_1 profile_2 w e ⊎ IsUnread profile_1 w e

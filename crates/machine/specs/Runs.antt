@@ -15,7 +15,8 @@ AllKeep w es answers = Unit {0}
 
 -- some answered event changed the world, and each event after it was answered or would have changed nothing
 abbrev pub Settles : World → List Event → List Answer → Type 0
-Settles w (e ∷ es) (Replied r ∷ answers) = ((after w e ≢ w) × AnsweredOrIdle (after w e) es answers) ⊎ Settles (after w e) es answers
+Settles w (e ∷ es) (Replied r ∷ answers) = ((after w e ≢ w) × AnsweredOrIdle (after w e) es answers)
+    ⊎ Settles (after w e) es answers
 Settles w (e ∷ es) (Failed fault ∷ answers) = Settles w es answers
 Settles w es answers = ⊥
 
@@ -37,12 +38,14 @@ pub record RunsAt (old new : Shown) (w : World) (events : List Event) (answers :
   pub ends : new.stands (world_after w events answers)
   -- if a crash left only this world before, and no event that would have changed the world met a fault, it leaves only
   -- the one at the end
-  pub left : AnsweredOrIdle w events answers → old.leaves w w → new.leaves (world_after w events answers) (world_after w events answers)
+  pub left : AnsweredOrIdle w events answers → old.leaves w w
+      → new.leaves (world_after w events answers) (world_after w events answers)
   -- after an answered change, if no later change met a fault, a crash leaves only the world at the end, whatever it
   -- left before
   pub settled : Settles w events answers → new.leaves (world_after w events answers) (world_after w events answers)
   -- whatever events met a fault, a crash leaves the world at the end or one other
-  pub beside : (x : World) → old.leaves w x → (y : World) × new.leaves (world_after w events answers) y × MayLeave w events answers x y
+  pub beside : (x : World) → old.leaves w x
+      → (y : World) × new.leaves (world_after w events answers) y × MayLeave w events answers x y
 
 -- If the disks are honest, then in each world that the store stood for these answers to the events are those of a run.
 pub record Runs (old new : Shown) (events : List Event) (answers : List Answer) : Type 0 where

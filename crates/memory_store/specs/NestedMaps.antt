@@ -29,4 +29,5 @@ put_at m s p v e = map.insert m s (put_under (map_at m s) p v e)
 
 -- each path on a shelf has a version
 abbrev pub EachHasVersion : Nested → Type 0
-EachHasVersion m = (s p : List ℕ) (versions : map.FinMap text_cmp Entry) → get_under m s p ≡ Some versions → map.len versions ≡ 0 → ⊥
+EachHasVersion m = (s p : List ℕ) (versions : map.FinMap text_cmp Entry) → get_under m s p ≡ Some versions
+    → map.len versions ≡ 0 → ⊥

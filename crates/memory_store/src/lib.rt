@@ -1,9 +1,10 @@
 //! A store in memory: [`map_shelves::MapShelves`] keeps shelves in ordered maps.
 //!
-//! It implements the trait of a store, `world::shelves::Shelves`, and both traits over it, `outline::outlines::Outlines`
-//! and `keyring::Keyring`. Nothing of it is left when the program ends.
+//! It implements the trait of a store, `world::shelves::Shelves`, and both traits over it,
+//! `outline::outlines::Outlines` and `keyring::Keyring`. Nothing of it is left when the program ends.
 //!
-//! - [`map_shelves`]: the store, which contracts see as its world. It keeps the lists of versions that it was asked for.
+//! - [`map_shelves`]: the store, which contracts see as its world. It keeps the lists of versions that it was asked
+//!   for.
 //! - [`outlines`], [`named`]: the two traits over that of a store.
 #![tactic(auto)]
 

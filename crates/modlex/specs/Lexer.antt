@@ -4,7 +4,8 @@ use Rattle.std.specs.Prelude.{Option, Some, None, Result, Ok, Err, map, ◌++◌
 use Rattle.std.specs.Option.{option_map}
 use Rattle.std.specs.Str.{bytes_eq}
 use Rattle.modlex.specs.declared.lexer.Kind.{Kind}
-use Rattle.modlex.specs.declared.lexer.Kind.TheVariants.{Name, Quoted, Raw, Arrow, Comma, ParenLeft, ParenRight, BracketLeft, BracketRight}
+use Rattle.modlex.specs.declared.lexer.Kind.TheVariants.{Name, Quoted, Raw, Arrow, Comma, ParenLeft, ParenRight}
+use Rattle.modlex.specs.declared.lexer.Kind.TheVariants.{BracketLeft, BracketRight}
 use Rattle.modlex.specs.declared.lexer.Span.{Span}
 use Rattle.modlex.specs.declared.lexer.Token.{Token}
 use Rattle.modlex.specs.declared.lexer.TokenFault.{TokenFault}
@@ -54,7 +55,8 @@ views = map view
 
 -- the lexeme of this kind and this text at an offset
 abbrev pub lexeme : Kind → ℕ → ℕ → List ℕ → Lexeme
-lexeme kind line at text = record { kind = kind; line = line; span = record { start = at; end = at + length text }; text = text }
+lexeme kind line at text =
+    record { kind = kind; line = line; span = record { start = at; end = at + length text }; text = text }
 
 -- tokens, and then the tokens read after them, or the fault found there
 abbrev pub tokens_then : List Lexeme → Result (List Lexeme) TokenFault → Result (List Lexeme) TokenFault

@@ -3,7 +3,8 @@ use Rattle.std.specs.Prelude.{◌≡◌, ◌≢◌, ℕ, ◌+◌, ◌<◌, ◌�
 use Rattle.std.specs.Prelude.{[], ◌∷◌, ◌++◌, length, codes, slice_range, ◌⊎◌, MatchBool}
 use Rattle.std.specs.List.{AllByRecursion, flat_map}
 use Rattle.modlex.specs.declared.lexer.Kind.{Kind}
-use Rattle.modlex.specs.declared.lexer.Kind.TheVariants.{Name, Quoted, Raw, Arrow, Comma, ParenLeft, ParenRight, BracketLeft, BracketRight}
+use Rattle.modlex.specs.declared.lexer.Kind.TheVariants.{Name, Quoted, Raw, Arrow, Comma, ParenLeft, ParenRight}
+use Rattle.modlex.specs.declared.lexer.Kind.TheVariants.{BracketLeft, BracketRight}
 use Rattle.modlex.specs.Bytes.{is_blank, is_string_byte, is_name_byte, is_slash_and}
 use Rattle.modlex.specs.Lines.{lines}
 use Rattle.modlex.specs.Lexer.{Lexeme, lexeme}
@@ -26,7 +27,8 @@ abbrev pub IsQuoted : List ℕ → Type 0
 IsQuoted [] = Unit {0}
 IsQuoted (b ∷ []) = (is_string_byte b ≡ true) × (b ≢ 34) × (b ≢ 92)
 IsQuoted (b ∷ c ∷ bs) =
-    (is_string_byte b ≡ true) × (b ≢ 34) × MatchBool (b == 92) ((is_string_byte c ≡ true) × IsQuoted bs) (IsQuoted (c ∷ bs))
+    (is_string_byte b ≡ true) × (b ≢ 34)
+    × MatchBool (b == 92) ((is_string_byte c ≡ true) × IsQuoted bs) (IsQuoted (c ∷ bs))
 
 -- what a raw string may hold
 abbrev pub IsRaw : List ℕ → Type 0
@@ -67,7 +69,8 @@ AreTokensOf line at _ _ = ⊥
 
 -- the tokens of a text are those of its lines, one after another
 abbrev pub AreTextTokens : List ℕ → List Lexeme → Type 0
-AreTextTokens text ts = (tss : List (List Lexeme)) × AreTokensOf 1 0 (lines text) tss × (flat_map (λ line. line) tss ≡ ts)
+AreTextTokens text ts = (tss : List (List Lexeme)) × AreTokensOf 1 0 (lines text) tss
+    × (flat_map (λ line. line) tss ≡ ts)
 
 -- the number of the first line that cannot be split into tokens, wherever it begins
 pub record IsFirstWithout (text : List ℕ) (line : ℕ) : Type 0 where

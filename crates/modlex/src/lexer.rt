@@ -3,9 +3,11 @@
 ghost use Rattle.std.specs.Prelude.{◌≡◌, ◌+◌, ◌<◌, ◌≤◌, ◌^◌, ◌-◌, length, IsUtf8, MatchOption, IfOk, IfSome};
 ghost use Rattle.std.specs.Prelude.{IfNone, IsTrue, Some, None, false, slice_index, drop, take, [], ◌∷◌, ◌++◌};
 ghost use Rattle.std.specs.Str.{IsCharBoundary};
-ghost use Rattle.modlex.specs.Bytes.{is_blank, is_string_byte, is_name_byte, is_slash_and, quoted_len, raw_len, name_len};
+ghost use Rattle.modlex.specs.Bytes.{is_blank, is_string_byte, is_name_byte, is_slash_and, quoted_len};
+ghost use Rattle.modlex.specs.Bytes.{raw_len, name_len};
 ghost use Rattle.modlex.specs.Lines.{lines};
-ghost use Rattle.modlex.specs.Lexer.{punctuation_kind, name_kind, lexeme_at, view, views, line_tokens, first_of, text_tokens, Gives};
+ghost use Rattle.modlex.specs.Lexer.{punctuation_kind, name_kind, lexeme_at, view, views, line_tokens};
+ghost use Rattle.modlex.specs.Lexer.{first_of, text_tokens, Gives};
 
 use std::alloc::{AllocError, AllocFailed, Global};
 

@@ -1,6 +1,7 @@
 //! Tests of tokens, and their values.
 
-ghost use Rattle.std.specs.Prelude.{◌≡◌, ◌<◌, IfOk, IsOkAnd, string_bytes, MatchOption, encode_utf8, [], ◌∷◌, ◌++◌, IfSome, length};
+ghost use Rattle.std.specs.Prelude.{◌≡◌, ◌<◌, IfOk, IsOkAnd, string_bytes, MatchOption, encode_utf8, [], ◌∷◌};
+ghost use Rattle.std.specs.Prelude.{◌++◌, IfSome, length};
 ghost use Rattle.std.specs.Cow.{cow_str_bytes, IsBorrowedStr};
 ghost use Rattle.modlex.specs.Symbols.{symbol, is_word, is_name_kind, is_arrow_kind};
 ghost use Rattle.modlex.specs.Words.{inside, plain_text, value_of, HasBackslash, HasEscape};

@@ -228,15 +228,16 @@ found strict text f h = elim (fault-cases
           let a = both-passed _ _ major.0 in let b = both-passed _ _ a.0 in let u = unmet _ fault.Suffix f major.1 in
           at_suffix ((length_passes text).0 b.0, (elements_pass (elements text)).0 b.1) (not-true _ (tested _ _ a.1))
           (refutes _ _ (suffix_passes text) u.0) (sym u.1)
-      | inl h₁ ↦ elim (fault-cases (length_check text >> elements_check (elements text)) (first_check strict text) f h₁) [
-        | inr host ↦
-            let b = both-passed _ _ host.0 in let u = unmet _ fault.First f host.1 in
-            at_first ((length_passes text).0 b.0, (elements_pass (elements text)).0 b.1) (not-false _ u.0) (sym u.1)
-        | inl h₂ ↦ elim (fault-cases (length_check text) (elements_check (elements text)) f h₂) [
-          | inr es ↦ at_element ((length_passes text).0 es.0) es.1
-          | inl len ↦ at_length len
-        ]
-      ]
+      | inl h₁ ↦ elim (fault-cases (length_check text >> elements_check (elements text)) (first_check strict text) f
+          h₁) [
+            | inr host ↦
+                let b = both-passed _ _ host.0 in let u = unmet _ fault.First f host.1 in
+                at_first ((length_passes text).0 b.0, (elements_pass (elements text)).0 b.1) (not-false _ u.0) (sym u.1)
+            | inl h₂ ↦ elim (fault-cases (length_check text) (elements_check (elements text)) f h₂) [
+              | inr es ↦ at_element ((length_passes text).0 es.0) es.1
+              | inl len ↦ at_length len
+            ]
+          ]
     ]
 
 loose-found : (text : List ℕ) (f : PathFault) → Found false text f → BreaksLoose text f

@@ -46,8 +46,10 @@ HasDotEnd e = BeginsWith e (codes ".") ⊎ EndsWith e (codes ".")
 abbrev pub reserved_names : List (List ℕ)
 reserved_names =
     codes "CON" ∷ codes "PRN" ∷ codes "AUX" ∷ codes "NUL"
-    ∷ codes "COM1" ∷ codes "COM2" ∷ codes "COM3" ∷ codes "COM4" ∷ codes "COM5" ∷ codes "COM6" ∷ codes "COM7" ∷ codes "COM8" ∷ codes "COM9"
-    ∷ codes "LPT1" ∷ codes "LPT2" ∷ codes "LPT3" ∷ codes "LPT4" ∷ codes "LPT5" ∷ codes "LPT6" ∷ codes "LPT7" ∷ codes "LPT8" ∷ codes "LPT9"
+    ∷ codes "COM1" ∷ codes "COM2" ∷ codes "COM3" ∷ codes "COM4" ∷ codes "COM5" ∷ codes "COM6" ∷ codes "COM7"
+    ∷ codes "COM8" ∷ codes "COM9"
+    ∷ codes "LPT1" ∷ codes "LPT2" ∷ codes "LPT3" ∷ codes "LPT4" ∷ codes "LPT5" ∷ codes "LPT6" ∷ codes "LPT7"
+    ∷ codes "LPT8" ∷ codes "LPT9"
     ∷ []
 
 -- a reserved name, in any case
@@ -91,7 +93,8 @@ pub record LooksVersioned (text : List ℕ) : Type 0 where
 
 -- the major version suffix that a path has: `.vN` below `gopkg.in/`, otherwise `/vN` with N from 2 on, or none
 abbrev pub HasSuffix : List ℕ → Suffix → Type 0
-HasSuffix text (suffix.Dot n) = BeginsWith text (codes "gopkg.in/") × EndsWith text (codes ".v" ++ decimal n) × (n < 2 ^ 64)
+HasSuffix text (suffix.Dot n) = BeginsWith text (codes "gopkg.in/") × EndsWith text (codes ".v" ++ decimal n)
+    × (n < 2 ^ 64)
 HasSuffix text (suffix.Slash n) =
     (¬ BeginsWith text (codes "gopkg.in/")) × EndsWith text (codes "/v" ++ decimal n) × (2 ≤ n) × (n < 2 ^ 64)
 HasSuffix text suffix.None = (¬ BeginsWith text (codes "gopkg.in/")) × (¬ LooksVersioned text)

@@ -48,4 +48,5 @@ pub record HaveOwnKeys (u v : SemanticVersion) : Type 0 where
 
 -- no two versions that fit one path have equal keys
 abbrev pub KeysAreOneToOneAtAPath : Type 0
-KeysAreOneToOneAtAPath = (path : List ℕ) (u v : SemanticVersion) → IsVersionOf path u → IsVersionOf path v → HaveOwnKeys u v
+KeysAreOneToOneAtAPath = (path : List ℕ) (u v : SemanticVersion) → IsVersionOf path u → IsVersionOf path v
+    → HaveOwnKeys u v

@@ -19,7 +19,8 @@ pre_release_key (i ∷ rest) = flat_map identifier_key (i ∷ rest) ++ 0 ∷ []
 
 -- the three numbers in 8 bytes each, the most significant byte first, and then the pre-release; the mark does not enter
 unfoldable pub order_key_of : SemanticVersion → List ℕ
-order_key_of v = to_be_bytes w64 v.major ++ (to_be_bytes w64 v.minor ++ (to_be_bytes w64 v.patch ++ pre_release_key v.identifiers))
+order_key_of v = to_be_bytes w64 v.major
+    ++ (to_be_bytes w64 v.minor ++ (to_be_bytes w64 v.patch ++ pre_release_key v.identifiers))
 
 -- the rank of the class, and behind it the stamp of a pseudo-version
 abbrev pub class_key : SemanticVersion → List ℕ
@@ -54,7 +55,8 @@ front_identifiers (suc n) [] = []
 front_identifiers (suc n) (b ∷ rest) =
     if b == 1 then (take (slice_index rest 0) (drop 1 rest) ∷ front_identifiers n (drop (slice_index rest 0 + 1) rest))
     else (if b == 2
-    then (take (position_or_len (nat_eq 0) rest) rest ∷ front_identifiers n (drop (position_or_len (nat_eq 0) rest + 1) rest))
+    then (take (position_or_len (nat_eq 0) rest) rest
+    ∷ front_identifiers n (drop (position_or_len (nat_eq 0) rest + 1) rest))
     else [])
 
 -- the identifiers that a key was made of, also if more bytes follow it

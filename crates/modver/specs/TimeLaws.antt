@@ -1,6 +1,7 @@
 -- Laws of times and of stamps, over the definitions alone.
 use Rattle.std.specs.Prelude.{ℕ, ◌≡◌, ◌↔◌, ◌⊎◌, true, List}
-use Rattle.modver.specs.Time.{DateTime, Exists, HasDigits, IsStamp, IsTime, IsTimeFault, is_time, stamp_text, time_of_stamp, time_text}
+use Rattle.modver.specs.Time.{DateTime, Exists, HasDigits, IsStamp, IsTime, IsTimeFault, is_time, stamp_text}
+use Rattle.modver.specs.Time.{time_of_stamp, time_text}
 use Rattle.modver.specs.declared.time.TimeFault.{TimeFault}
 
 -- the computed test of a time is true exactly of the times

@@ -4,7 +4,8 @@ use Rattle.sqlite.specs.Kind.TheVariants.{Integer, Text, Blob}
 use Rattle.sqlite.specs.Table.{Table}
 use Rattle.sqlite.specs.Schema.{Schema}
 use Rattle.sqlite_schema.specs.declared.schema.Column.{Column}
-use Rattle.tables.specs.Schema.{given, optional, refers, plain_table, meta_table, access_table, version_table, piece_table}
+use Rattle.tables.specs.Schema.{given, optional, refers, plain_table, meta_table, access_table, version_table}
+use Rattle.tables.specs.Schema.{piece_table}
 use Rattle.tables.specs.Schema.{meta_index, shelf_index, access_index, version_index, store_schema}
 use Rattle.older.specs.declared.schema.Format.{Format}
 use Rattle.older.specs.declared.schema.Format.TheVariants.{One, Two}
@@ -16,7 +17,8 @@ shelf_table = plain_table (codes "shelf") 2 (given (codes "name") Text ∷ [])
 -- in schema 1 a version has no keys of order
 abbrev pub keyless_columns : List Column
 keyless_columns =
-    optional (codes "id") Integer ∷ given (codes "shelf") Text ∷ given (codes "path") Text ∷ given (codes "version") Text
+    optional (codes "id") Integer ∷ given (codes "shelf") Text ∷ given (codes "path") Text
+    ∷ given (codes "version") Text
     ∷ optional (codes "time") Text ∷ given (codes "mod") Blob ∷ []
 
 abbrev pub keyless_table : Table

@@ -6,7 +6,7 @@
 //! | table | a row is | columns |
 //! |---|---|---|
 //! | `shelf` | a shelf; each but `common` is a team without a group | `name` |
-//! | `version`, schema 1 | a version of a module on a shelf, its time and its go.mod | `id`, `shelf`, `path`, `version`, `time`, `mod` |
+//! | `version`, schema 1 | a version on a shelf | `id`, `shelf`, `path`, `version`, `time`, `mod` |
 //! | `body`, schema 1 | the zip of the version whose `id` it has | `id`, `zip` |
 //!
 //! The other tables are those of the crate `tables`; only the number in `meta` differs.

@@ -79,7 +79,8 @@ module _ (old : Database) (rows : List Row) (reads : Reads (command_of (understo
         (listed_rows (inner 6 end) two_columns by_place (overlay old.trees []) rows listed)
 
     sorted : InPlaces rows
-    sorted = listed_in_order (listing (inner 6 end) two_columns by_place) (overlay old.trees []) rows listed place_columns
+    sorted = listed_in_order (listing (inner 6 end) two_columns by_place) (overlay old.trees []) rows listed
+        place_columns
         (λ env. refl)
 
     module _ (start end : EntryRows) (db after : Trees) (own : start.format ≡ Two) (new : start.last ≡ None)
@@ -122,7 +123,8 @@ module _ (old : Database) (rows : List Row) (reads : Reads (command_of (understo
             let none : length it.0.1.zip ≡ 0 = ap length from.2.1.zip in
             omega (arith, has, none))
 
-      -- the walk over the versions of schema 2 adds their entries, without zips, to a world with the old shelves and keys
+      -- the walk over the versions of schema 2 adds their entries, without zips, to a world with the old shelves and
+      -- keys
       pub has_entries : HasRegistry old.trees db → HasEntries Two old.trees after
       has_entries was =
           let it = all_entered Two rows sorted start end db after own new visited was.world was.is was.stands

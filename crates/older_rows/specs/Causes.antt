@@ -26,11 +26,13 @@ HasReasonIf format old new (Fresh e) = Unit {0}
 
 -- a call over the tables of the format fails by the older store for a reason alone
 abbrev pub FailsAs : {X : Type 0} → Format → State → State → Result X CopyError → Type 0
-FailsAs format old new result = HonestlyOver (schema_of format) old new (λ old new. IfErr result (HasReasonIf format old new))
+FailsAs format old new result =
+    HonestlyOver (schema_of format) old new (λ old new. IfErr result (HasReasonIf format old new))
 
 -- ---- a query that is walked over
 
 -- only a limit on its steps refuses the query, and only a vast table makes it show too many rows
 pub record IsWalkableAs (format : Format) (sql : List ℕ) : Type 0 where
   pub query : IsAllowed (schema_of format) sql
-  pub vast : (db : Database) → db.schema ≡ schema_of format → ShowsTooManyOver (schema_of format) sql db → IsVastAs format db
+  pub vast : (db : Database) → db.schema ≡ schema_of format → ShowsTooManyOver (schema_of format) sql db
+      → IsVastAs format db

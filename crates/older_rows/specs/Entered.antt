@@ -23,8 +23,10 @@ pub record AreAlike (read : Row → Row) (rows others : List Row) : Type 0 where
 -- In schema 1 the old rows of `version` and of `body` are the entries of the world. In schema 2 the fresh rows of
 -- `version` show what the old ones show, and no version has a piece yet.
 abbrev pub AreEntered : Format → Trees → Trees → World → Type 0
-AreEntered One old after w = Tabulates (IsEntryIn One old) (old version_table.tree) (λ it. map.get w.entries it.0 ≡ Some it.1)
-AreEntered Two old after w = AreAlike version_read (old version_table.tree) (after version_table.tree) × (after piece_table.tree ≡ [])
+AreEntered One old after w =
+    Tabulates (IsEntryIn One old) (old version_table.tree) (λ it. map.get w.entries it.0 ≡ Some it.1)
+AreEntered Two old after w = AreAlike version_read (old version_table.tree) (after version_table.tree)
+    × (after piece_table.tree ≡ [])
 
 -- the tables stand for a world with the old shelves and keys, and the entries were put in
 pub record HasEntries (format : Format) (old after : Trees) : Type 0 where

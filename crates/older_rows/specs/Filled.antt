@@ -39,5 +39,6 @@ pub record Migrates (format : Format) (old old_new fresh fresh_new : State) (don
   pub reads : IsReadyAs format old → IsReadBy old old_new done
   pub clean_too : doubt fresh.is_clean ≤ doubt fresh_new.is_clean
   pub at :
-      HasCleanDisk old_new → HasCleanDisk fresh_new → IsReadyAs format old → IsOpenIfHonest fresh → Stands fresh only_common
+      HasCleanDisk old_new → HasCleanDisk fresh_new → IsReadyAs format old → IsOpenIfHonest fresh
+      → Stands fresh only_common
       → (w : World) × IsOfTables format old.now done w × ChangesAt fresh fresh_new done only_common w

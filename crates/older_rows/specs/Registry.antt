@@ -23,7 +23,8 @@ NamesSchema number row = (column row 0 ≡ Text (codes "schema")) × (column row
 
 -- `meta` names the schema and nothing else, and nothing is put in
 abbrev pub IsNamed : Format → Trees → Trees → Trees → Type 0
-IsNamed format old db after = Tabulates IsMeta (old meta_table.tree) (λ it. it ≡ (codes "schema", number_of format)) × (after ≡ db)
+IsNamed format old db after = Tabulates IsMeta (old meta_table.tree) (λ it. it ≡ (codes "schema", number_of format))
+    × (after ≡ db)
 
 -- ---- shelves
 
@@ -32,7 +33,8 @@ abbrev pub IsCommonRow : Row → Trees → Trees → Type 0
 IsCommonRow row db after = (column row 0 ≡ Text common) × (after ≡ db)
 
 -- a row shows a team that has not come before, and the team is put in without a group
-pub record IsTeamRow (names : set.FinSet text_cmp) (row : Row) (db after : Trees) (more : set.FinSet text_cmp) : Type 0 where
+pub record IsTeamRow (names : set.FinSet text_cmp) (row : Row) (db after : Trees)
+    (more : set.FinSet text_cmp) : Type 0 where
   pub name : List ℕ
   pub shows : column row 0 ≡ Text name
   pub good : is_team_name name ≡ true

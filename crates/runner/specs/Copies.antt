@@ -32,7 +32,8 @@ CountsIn shown old new count = (shown new).is_honest → (w : World) → (shown 
 
 module _ {S F : Type 0} (shown : S → Shown) (shown_too : F → Shown) where
   -- an open store was made a copy of the served one, or it was not, and the result says why
-  pub record CopiesInto (source source_new : S) (fresh fresh_new : F) (result : Result (Unit {0}) CopyRefusal) : Type 0 where
+  pub record CopiesInto (source source_new : S) (fresh fresh_new : F)
+      (result : Result (Unit {0}) CopyRefusal) : Type 0 where
     pub told : Result (Unit {0}) StoreRefusal
     pub copies : CopiesAll (shown source) (shown source_new) (shown_too fresh) (shown_too fresh_new) told
     pub cause : HasCauseInEither (shown source).failures (shown source_new).failures

@@ -12,7 +12,8 @@ use Rattle.runner.specs.Opened.{store_result, LeavesSource}
 
 module _ {S F : Type 0} (shown : S → Shown) (shown_too : F → Shown) (source source_new : S) where
   -- the teams' part of the source was put into an open store, or it was not, and the result says why
-  pub record ExtractsPart (fresh fresh_new : F) (teams : List (List ℕ)) (result : Result (Unit {0}) CommandRefusal) : Type 0 where
+  pub record ExtractsPart (fresh fresh_new : F) (teams : List (List ℕ))
+      (result : Result (Unit {0}) CommandRefusal) : Type 0 where
     pub told : Result (Unit {0}) StoreRefusal
     pub extracts : ExtractsTeams teams (shown source) (shown source_new) (shown_too fresh) (shown_too fresh_new) told
     pub cause : HasCauseInEither (shown source).failures (shown source_new).failures

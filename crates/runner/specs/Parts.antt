@@ -24,7 +24,8 @@ AllOf w ss (e ∷ es) =
 -- requests, each with a key of a shelf that one of the teams sees.
 abbrev pub TeamsAreToldTheSame : Type 0
 TeamsAreToldTheSame =
-    (w new other : World) (ts : List (List ℕ)) (first second : List Event) (told heard : List Answer) → IsWorld w → AreTeams w ts
+    (w new other : World) (ts : List (List ℕ)) (first second : List Event) (told heard : List Answer) → IsWorld w
+    → AreTeams w ts
     → Run w first told new → Run (part_of w (chains w ts)) second heard other
     → answered first told ≡ answered second heard → AllOf w (chains w ts) (answered first told)
     → replies_of told ≡ replies_of heard
@@ -32,5 +33,6 @@ TeamsAreToldTheSame =
 -- From the part, after any requests, a request whose key belongs to no shelf that one of the teams sees is not found.
 abbrev pub OthersOfTeamsAreNotFound : Type 0
 OthersOfTeamsAreNotFound =
-    (w : World) (ts : List (List ℕ)) (k : List ℕ) (before : List Event) (a : Ask) → is_held (chains w ts) (map.get w.keys k) ≡ false
+    (w : World) (ts : List (List ℕ)) (k : List ℕ) (before : List Event) (a : Ask)
+    → is_held (chains w ts) (map.get w.keys k) ≡ false
     → key_of a ≡ Some k → AllAsked before → IsNotFound (ask_reply (after_all (part_of w (chains w ts)) before) a)

@@ -20,7 +20,8 @@ use Rattle.runner.specs.Parts.{AllOf}
 abbrev pub TeamsAreWrittenTheSame : Type 0
 TeamsAreWrittenTheSame =
     (w new other : World) (ts : List (List ℕ)) (xs ys : List Happening) → IsWorld w → AreTeams w ts
-    → Run w (map event_at xs) (map answer_at xs) new → Run (part_of w (chains w ts)) (map event_at ys) (map answer_at ys) other
+    → Run w (map event_at xs) (map answer_at xs) new
+    → Run (part_of w (chains w ts)) (map event_at ys) (map answer_at ys) other
     → map coming_of (faultless xs) ≡ map coming_of (faultless ys) → AllOf w (chains w ts) (map event_at (faultless xs))
     → map text_at (faultless xs) ≡ map text_at (faultless ys)
 
@@ -30,5 +31,6 @@ abbrev pub OthersOfTeamsAreWrittenNotFound : Type 0
 OthersOfTeamsAreWrittenNotFound =
     (w mid new : World) (ts : List (List ℕ)) (k : List ℕ) (before : List Exchange) (x : Exchange)
     → is_held (chains w ts) (fin.get w.keys k) ≡ false → key_of (ask_of x.message) ≡ Some k
-    → Run (part_of w (chains w ts)) (map event_of before) (map answer_of before) mid → Run mid (event_of x ∷ []) (answer_of x ∷ []) new
+    → Run (part_of w (chains w ts)) (map event_of before) (map answer_of before) mid
+    → Run mid (event_of x ∷ []) (answer_of x ∷ []) new
     → (text_of x ≡ fixed_bytes NotFound) ⊎ (text_of x ≡ unavailable)

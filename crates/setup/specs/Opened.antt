@@ -30,7 +30,8 @@ pub record IsBad (db : Database) : Type 0 where
 
 -- a crash leaves what it left before or, if there were no tables, tables that stand for `common` alone
 abbrev pub LeavesFirst : State → State → Type 0
-LeavesFirst old new = (db : Trees) → new.may_leave db → old.may_leave db ⊎ ((old.now.schema ≡ no_schema) × StandFor db only_common)
+LeavesFirst old new = (db : Trees) → new.may_leave db
+    → old.may_leave db ⊎ ((old.now.schema ≡ no_schema) × StandFor db only_common)
 
 -- the refusals of a call that opens a store
 abbrev pub IsOfOpening : StoreRefusal → Type 0

@@ -1,5 +1,6 @@
 -- What a store goes through while connections are served.
-use Rattle.std.specs.Prelude.{ℕ, ◌≡◌, ◌<◌, ◌≤◌, ◌⊎◌, List, [], ◌∷◌, ◌++◌, length, map, All, Option, Some, None, Result, Ok, Err}
+use Rattle.std.specs.Prelude.{ℕ, ◌≡◌, ◌<◌, ◌≤◌, ◌⊎◌, List, [], ◌∷◌, ◌++◌, length, map, All, Option, Some, None, Result}
+use Rattle.std.specs.Prelude.{Ok, Err}
 use Rattle.std.specs.Io.KnownBytes.{Appends, Keeps}
 use Rattle.histories.specs.Account.{Account}
 use Rattle.histories.specs.Calls.{Reads, Writes}
@@ -76,7 +77,8 @@ module _ {P : Type 0} (heard : P → Account × Reads) (written : P → Option (
 
   -- The peers that came were answered one after another, each once, and at most as many as there are connections. Each
   -- was new, and what it sent was answered to it.
-  pub record AnswersEach (is_new : P → Type 0) (waiting left : Option (List P)) (old new : Shown) (connections : ℕ) : Type 0 where
+  pub record AnswersEach (is_new : P → Type 0) (waiting left : Option (List P)) (old new : Shown)
+      (connections : ℕ) : Type 0 where
     pub visits : List (Visit P)
     pub few : length visits ≤ connections
     pub came : Come waiting left (map peer_of visits)

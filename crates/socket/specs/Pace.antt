@@ -28,7 +28,8 @@ time_for_rest moved = rest_patience * 1000000000
 
 pub message_grows : (few many : ℕ) → few ≤ many → time_for_message few ≤ time_for_message many
 message_grows few many h =
-    let seconds = le-div (few / bytes_a_second) many bytes_a_second (omega arith) (omega (arith, div-mul-le_self few bytes_a_second, h)) in
+    let seconds = le-div (few / bytes_a_second) many bytes_a_second (omega arith)
+    (omega (arith, div-mul-le_self few bytes_a_second, h)) in
     omega (arith, seconds)
 
 pub rest_grows : (few many : ℕ) → few ≤ many → time_for_rest few ≤ time_for_rest many

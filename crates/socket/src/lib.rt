@@ -7,7 +7,7 @@
 //!
 //! | what | bound |
 //! |---|---|
-//! | all reads of a request; again all writes of a reply | 5 seconds, and one more for each 1,048,576 bytes that were moved |
+//! | all reads of a request; again all writes of a reply | 5 seconds, and one more for each 1,048,576 bytes moved |
 //! | what is read and dropped after the message | 2 seconds, and 33,554,432 bytes |
 //!
 //! Each wait is at most what is left, so one connection holds the others at most 12 seconds, and one more for each

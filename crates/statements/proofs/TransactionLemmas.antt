@@ -55,7 +55,8 @@ module _ (id : ℤ) (p : Place) (e : Entry) (rows pieces more : List Row)
           let passed = has_filtered (is_of row) more b h in
           elim ((adds (piece_read b)).0 (b, passed.0, refl)) [
             | inl was ↦ absurd (true≢false (sym (of_as row was.0 b (sym was.2) passed.1) ∙ none was.0 was.1))
-            | inr new ↦ (let it = ap (λ (r : Row). column r 1) new.2 in let bytes = ap (λ (r : Row). column r 2) new.2 in
+            | inr new ↦ (let it = ap (λ (r : Row). column r 1) new.2 in
+                let bytes = ap (λ (r : Row). column r 2) new.2 in
                 (new.0, record { number = it; bytes = bytes }, new.1))
           ];
       found = λ n has.

@@ -31,7 +31,8 @@ piece_values id zip n = Int id ∷ Int (pos n) ∷ Blob (piece zip n) ∷ []
 -- version and each piece had one row, each piece has one row after.
 pub record AddsZip (id : ℤ) (zip : List ℕ) (db after : Trees) : Type 0 where
   pub pieces : AddsRows piece_read
-      (λ values. (n : ℕ) × HasPiece zip n × (values ≡ piece_values id zip n)) (db piece_table.tree) (after piece_table.tree)
+      (λ values. (n : ℕ) × HasPiece zip n × (values ≡ piece_values id zip n)) (db piece_table.tree)
+      (after piece_table.tree)
   pub once : ((row : Row) → Has (db piece_table.tree) row → column row 1 ≢ Int id)
       → IsEachPieceOnce (db piece_table.tree) → IsEachPieceOnce (after piece_table.tree)
   pub tables : IsElseSame piece_table db after

@@ -46,7 +46,8 @@ pub record ChangesAt (old new : State) (done : Bool) (w next : World) : Type 0 w
   pub world : Stands old w → Stands new (if done then next else w)
   pub left : HasCleanDisk new → Stands old w → LeavesOnly old (λ x. x ≡ w) → LeavesOnly new (λ x. (x ≡ w) ⊎ (x ≡ next))
   pub alone : IsTrue done → HasCleanDisk new → Stands old w → LeavesOnly new (λ x. x ≡ next)
-  pub failed : done ≡ false → HasCleanDisk new → Stands old w → LeavesOnly new (λ x. (x ≡ w) ⊎ (x ≡ next)) ⊎ LeavesNoMore old new
+  pub failed : done ≡ false → HasCleanDisk new → Stands old w
+      → LeavesOnly new (λ x. (x ≡ w) ⊎ (x ≡ next)) ⊎ LeavesNoMore old new
 
 -- a call turned each world that the tables stood for into its next world, or left it as it was
 pub record Changes (old new : State) (done : Bool) (next : World → World) : Type 0 where

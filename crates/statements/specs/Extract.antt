@@ -1,5 +1,6 @@
 -- Copies of rows of one store into a second one, inside a transaction of the second.
-use Rattle.std.specs.Prelude.{ℕ, ◌≡◌, ◌≤◌, ◌⊎◌, List, [], ◌∷◌, ◌++◌, filter, Bool, Option, Some, None, IsTrue, pos, if◌then◌else◌}
+use Rattle.std.specs.Prelude.{ℕ, ◌≡◌, ◌≤◌, ◌⊎◌, List, [], ◌∷◌, ◌++◌, filter, Bool, Option, Some, None, IsTrue, pos}
+use Rattle.std.specs.Prelude.{if◌then◌else◌}
 use Rattle.std.specs.FinMap as map
 use Rattle.sqlite.specs.declared.types.Value.TheVariants.{Int, Text, Blob}
 use Rattle.sqlite.specs.Order.{Row, column}
@@ -33,7 +34,8 @@ pub record IsReadBy (old new : State) (done : Bool) : Type 0 where
 
 -- Rows of a source are put into a fresh store inside a transaction of it. If the call is done, `Makes` relates the
 -- tables of the source, the fresh tables before, and the fresh tables after.
-pub record Copies (Makes : Trees → Trees → Trees → Type 0) (source source_new fresh fresh_new : State) (done : Bool) : Type 0 where
+pub record Copies (Makes : Trees → Trees → Trees → Type 0) (source source_new fresh fresh_new : State)
+    (done : Bool) : Type 0 where
   pub clean : doubt source.is_clean ≤ doubt source_new.is_clean
   pub reads : IsReady source → IsReadBy source source_new done
   pub goes_on : GoesOn fresh fresh_new done
@@ -45,7 +47,8 @@ pub record Copies (Makes : Trees → Trees → Trees → Type 0) (source source_
 -- if the source means `w` and the fresh tables stood for `x`, they stand after for a world that `Makes` relates to
 -- these two
 abbrev pub OfWorlds : (World → World → World → Type 0) → Trees → Trees → Trees → Type 0
-OfWorlds Makes source db after = (w x : World) → Means source w → StandFor db x → (y : World) × Makes w x y × StandFor after y
+OfWorlds Makes source db after = (w x : World) → Means source w → StandFor db x
+    → (y : World) × Makes w x y × StandFor after y
 
 -- each row that the query shows of tables that mean a world satisfies `Fits`
 abbrev pub AllFit : (Row → Type 0) → List ℕ → Row → Type 0
@@ -118,7 +121,8 @@ CopiesPieces shelf source = PutsRows piece_table piece_read IsEachPieceOnce (IsP
 
 -- if its name is free, a shelf is put in with its parent
 abbrev pub PutsShelf : List ℕ → Option (List ℕ) → Trees → Trees → Type 0
-PutsShelf name parent db after = (x : World) → StandFor db x → map.get x.shelves name ≡ None → StandFor after (with_shelf x name parent)
+PutsShelf name parent db after = (x : World) → StandFor db x → map.get x.shelves name ≡ None
+    → StandFor after (with_shelf x name parent)
 
 -- P, and then Q
 abbrev pub Then : {X : Type 0} → (X → X → X → Type 0) → (X → X → X → Type 0) → X → X → X → Type 0

@@ -25,7 +25,8 @@ abbrev pub passes_both : List Term → Row → Row → Row → Bool
 passes_both filter params row other = list_all (holds (params ∷ row ∷ other ∷ [])) filter
 
 -- `out` has the pairs that pass, projected, and no others
-pub record ArePaired (rows others : List Row) (filter project : List Term) (params : Row) (out : List Row) : Type 0 where
+pub record ArePaired (rows others : List Row) (filter project : List Term) (params : Row)
+    (out : List Row) : Type 0 where
   pub sound : (x : Row) → Has out x → (row : Row) × (other : Row) × Has rows row × Has others other
       × (passes_both filter params row other ≡ true) × (x ≡ eval_all project (params ∷ row ∷ other ∷ []))
   pub complete : (row other : Row) → Has rows row → Has others other

@@ -67,7 +67,8 @@ pub record PutsPiece (values : Row) (db after : Trees) : Type 0 where
 -- what is read from a row of `version`
 abbrev pub version_read : Row → Row
 version_read row =
-    column row 0 ∷ column row 2 ∷ column row 3 ∷ column row 4 ∷ column row 5 ∷ column row 6 ∷ column row 7 ∷ column row 8 ∷ []
+    column row 0 ∷ column row 2 ∷ column row 3 ∷ column row 4 ∷ column row 5 ∷ column row 6 ∷ column row 7
+    ∷ column row 8 ∷ []
 
 -- what is read from a row of `piece`
 abbrev pub piece_read : Row → Row
@@ -100,7 +101,8 @@ pub record AreApart (Once : List Row → Type 0) (rows : List Row) : Type 0 wher
 
 -- Rows are put into one table: what is read from it is exactly what was read before or satisfies `IsSo`. Rows that were
 -- apart still are, and each other table is as it was.
-pub record PutsRows (table : Table) (read : Row → Row) (Once : List Row → Type 0) (IsSo : Row → Type 0) (db after : Trees) : Type 0 where
+pub record PutsRows (table : Table) (read : Row → Row) (Once : List Row → Type 0) (IsSo : Row → Type 0)
+    (db after : Trees) : Type 0 where
   pub rows : AddsRows read IsSo (db table.tree) (after table.tree)
   pub apart : AreApart Once (db table.tree) → AreApart Once (after table.tree)
   pub tables : IsElseSame table db after

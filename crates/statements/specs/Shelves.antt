@@ -47,4 +47,5 @@ ShowsShelf row s = (column row 1 ≡ Text s.name) × (column row 0 ≡ or_null T
 -- each shelf is shown by a row, and each row shows a shelf that is among them or `common`
 pub record ListsRows (rows : List Row) (shelves : List Shelf) : Type 0 where
   pub from : (s : Shelf) → Has shelves s → (row : Row) × Has rows row × ShowsShelf row s
-  pub to : (row : Row) → Has rows row → (s : Shelf) × ShowsShelf row s × (is_among (common ∷ names_of shelves) s.name ≡ true)
+  pub to : (row : Row) → Has rows row
+      → (s : Shelf) × ShowsShelf row s × (is_among (common ∷ names_of shelves) s.name ≡ true)

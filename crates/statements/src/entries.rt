@@ -1,6 +1,7 @@
 //! Finds, counts and adds entries in SQL tables.
 
-ghost use Rattle.std.specs.Prelude.{◌≡◌, ◌≤◌, [], ◌∷◌, map as each, pos, true, string_bytes, option_map, IfOk, OnOk, is_ok, IsTrue};
+ghost use Rattle.std.specs.Prelude.{◌≡◌, ◌≤◌, [], ◌∷◌, map as each, pos, true, string_bytes, option_map};
+ghost use Rattle.std.specs.Prelude.{IfOk, OnOk, is_ok, IsTrue};
 ghost use Rattle.std.specs.FinMap as map;
 ghost use Rattle.sqlite.specs.declared.types.Value.TheVariants.{Int, Text as StoredText, Blob};
 ghost use Rattle.sqlite.specs.Order.{column};

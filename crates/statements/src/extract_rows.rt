@@ -154,7 +154,8 @@ impl RowSink for Versions {
             row.get_ref(7)?,
         ];
         tx.execute(
-            "INSERT INTO version (id, shelf, path, version, time, mod, order_key, rank_key) VALUES (?1, ?2, ?3, ?4, ?5, ?6, ?7, ?8)",
+            "INSERT INTO version (id, shelf, path, version, time, mod, order_key, rank_key) \
+                VALUES (?1, ?2, ?3, ?4, ?5, ?6, ?7, ?8)",
             &values,
         )?;
         Ok(())

@@ -14,15 +14,15 @@
 //! | `shelves::find_shelves` | read all rows of `shelf` |
 //! | `named::find_keys` | read the token of each row of `access` |
 //! | `named::find_shelf_names` | read the name of each row of `shelf` |
-//! | `entries::find_seen` | read the row of `version` on each shelf in turn, up to the first that has one, and no row of `piece` |
-//! | `outlines::find_outline` | those of `find_seen`, then read the last row of `piece`, and look for one more after a full one |
-//! | `entries::find_entry` | those of `find_seen`, then read the last row of `piece` of the version, then all in order |
-//! | `compare::find_standing` | those of `find_seen`; if it is equal, read rows of `piece` by number, up to the first that differs |
+//! | `entries::find_seen` | read the row of `version` on each shelf, up to the first that has one; none of `piece` |
+//! | `outlines::find_outline` | those of `find_seen`, read the last row of `piece`, and one more after a full one |
+//! | `entries::find_entry` | those of `find_seen`, then read the last row of `piece`, then all in order |
+//! | `compare::find_standing` | those of `find_seen`; if equal, read rows of `piece`, up to the first that differs |
 //! | `visible::find_versions`, `find_paths` | read rows of `version` on each shelf in turn |
 //! | `entries::count_entries` | count the rows of `version` that the path has on the shelf |
 //! | `entries::count_versions` | count the rows of `version` |
-//! | `entries::add_entry` | choose a number (see the module `numbers`), then in one transaction write the rows of the entry |
-//! | `registry::add_team` | those of `find_shelf` for the name and for the group, if one is named, then write a row of `shelf` |
+//! | `entries::add_entry` | choose a number (module `numbers`), then write the rows in one transaction |
+//! | `registry::add_team` | those of `find_shelf` for the name and for a named group, then write a row of `shelf` |
 //! | `registry::add_group` | that of `find_shelf`, then write a row of `shelf` |
 //! | `registry::add_key` | those of `find_shelf` and `find_key`, then write a row of `access` |
 //! | `revoke::revoke_key` | that of `find_key`, then delete the row of `access` |
@@ -31,7 +31,7 @@
 //! | `rows::put_shelf` | write a row of `shelf` |
 //! | `rows::put_entry` | write the rows of an entry |
 //! | `pieces::insert_zip` | write a row of `piece` for each piece of the zip |
-//! | `extract_rows::copy_keys`, `copy_versions`, `copy_pieces` | read the rows of one shelf, and write each into another store |
+//! | `extract_rows::copy_keys`, `copy_versions`, `copy_pieces` | read the rows of a shelf and write each into another |
 //! | `extract_rows::RowSink::put` | write a row with the values of a row of another store |
 //!
 //! The rows of an entry are a row of `version`, with the order keys of the version, and a row of `piece` for each piece

@@ -64,7 +64,8 @@ fn put_version<'p, S: Alter>(
 {
     let time = time_text(&entry.time);
     tx.execute(
-        "INSERT INTO version (id, shelf, path, version, time, mod, order_key, rank_key) VALUES (?1, ?2, ?3, ?4, ?5, ?6, ?7, ?8)",
+        "INSERT INTO version (id, shelf, path, version, time, mod, order_key, rank_key) \
+            VALUES (?1, ?2, ?3, ?4, ?5, ?6, ?7, ?8)",
         params![
             number,
             shelf,

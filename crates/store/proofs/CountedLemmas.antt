@@ -1,4 +1,4 @@
--- The number of all versions that is cached from a count, and the count of failures.
+-- The number of all versions that is kept from a count, and the count of failures.
 use Rattle.std.proofs.Common.{◌≡◌, ◌≢◌, ◌<◌, ◌≤◌, ◌+◌, ◌∙◌, ℕ, Option, Some, ap, min, refl, arith}
 use Rattle.std.specs.FinMap as map
 use Rattle.world.specs.World.{World}

@@ -67,7 +67,7 @@ after_fill old new x next (Err e) clean stands change = record {
   ];
 }
 
--- what a crash leaves does not depend on what the store caches
+-- what a crash leaves does not depend on what the store keeps
 pub fill_kept : (old new : State) (kept kept_new : Kept) (n n_new : ℕ) (x next : World)
     (result : Result (Unit {0}) StoreRefusal)
     → AfterFill (shown_of old) (shown_of new) x result next
@@ -76,7 +76,7 @@ fill_kept old new kept kept_new n n_new x next result after =
     record { either = after.either; alone = after.alone; failed = after.failed }
 
 -- a change from x to the next world, done if the result is Ok, fills the store as `FillsAt` says, without what it
--- caches
+-- keeps
 pub fills_at : (old new : State) (There : Type 0) (next x : World) (result : Result (Unit {0}) StoreRefusal)
     → HasCleanDisk new → StandsFor old x → IsWorld next
     → ChangesAt old new (is_ok result) x next → SaysOfCopy There x result
@@ -94,7 +94,7 @@ fills_at old new There next x (Err e) clean stands is change tells = record {
   crash = after_fill old new x next (Err e) clean stands.0 change;
 }
 
--- ---- with what the stores cache
+-- ---- with what the stores keep
 
 on_ok_both : (A : Type 0) {B : Type 0} (r : Result (Unit {0}) StoreRefusal) → B → OnOk r A → OnOk r (A × B)
 on_ok_both A (Ok u) b a = (a, b)
@@ -104,7 +104,7 @@ on_err_both : (A : Type 0) {B : Type 0} (r : Result (Unit {0}) StoreRefusal) →
 on_err_both A (Ok u) b a = tt
 on_err_both A (Err e) b a = (a, b)
 
--- so does what `FillsAt` says, if the fresh store caches nothing
+-- so does what `FillsAt` says, if the fresh store keeps nothing
 pub fills_at_kept : (There : Type 0) (next x : World) (a b : State) (old new : Kept) (n m : ℕ)
     (r : Result (Unit {0}) StoreRefusal) → IsNothing new → FillsAt (shown_of a) (shown_of b) There next x r
     → FillsAt (shown_with a old n) (shown_with b new m) There next x r
@@ -124,7 +124,7 @@ read_kept a b old new n m none read = record {
   left = λ h w x y so. read.left h w x y so.0;
 }
 
--- a fill holds with what the stores cache too, if the source caches what it did, and the fresh store nothing
+-- a fill holds with what the stores keep too, if the source keeps what it did, and the fresh store nothing
 pub fills_kept : (There : World → Type 0) (next : World → World) (a a_new b b_new : State)
     (kept kept_new old new : Kept) (n n_new m m_new : ℕ) (r : Result (Unit {0}) StoreRefusal) → kept_new ≡ kept
     → IsNothing new → FillsBy There next (shown_of a) (shown_of a_new) (shown_of b) (shown_of b_new) r

@@ -124,7 +124,7 @@ world_of : (db : Database) (x w : World) → IsOldOr db x true w → IsWorld w
 world_of db x w (inl was) = was.1.is
 world_of db x w (inr rest) = absurd (true≢false rest.0)
 
--- a change from x to w, done if the result is Ok, migrates the store as `MigratesAt` says, with nothing cached after
+-- a change from x to w, done if the result is Ok, migrates the store as `MigratesAt` says, with nothing kept after
 at_end : (db : Database) (old new : State) (kept kept_new : Kept) (n n_new : ℕ) (x w : World)
     (r : Result (Unit {0}) StoreRefusal) → IsNothing kept_new → HasCleanDisk new → StandsFor old x
     → IsOldOr db x (is_ok r) w → ChangesAt old new (is_ok r) x w → SaysOfMigration x r
@@ -146,7 +146,7 @@ at_end db old new kept kept_new n n_new x w (Err e) none clean stands was change
   crash = fill_kept old new kept kept_new n n_new x w (Err e) (after_fill old new x w (Err e) clean stands.0 change);
 }
 
--- the result of the call follows from the outcome of the rows, and the fresh store caches nothing
+-- the result of the call follows from the outcome of the rows, and the fresh store keeps nothing
 module _ (s t f g : State) (kept kept_new : Kept) (n n_new : ℕ) (rows : Result Migrated CopyError)
     (r : Result (Unit {0}) StoreRefusal) (moved : MigratesRows s t f g rows) (none : IsNothing kept_new)
     (done : is_whole rows ≡ is_ok r) (full : r ≡ Err refusal.NotEmpty → rows ≡ Ok NotEmpty)

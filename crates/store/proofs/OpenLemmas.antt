@@ -125,7 +125,7 @@ no_database_is_no_store image none w is (inl held) = none (inl (held.0, held.1))
 no_database_is_no_store image none w is (inr (inl unmade, common)) = none (inr unmade)
 no_database_is_no_store image none w is (inr (inr bare, common)) = none (inl (bare.0, bare.1))
 
--- a store begins at a world with what it caches too, if it caches nothing
+-- a store begins at a world with what it keeps too, if it keeps nothing
 pub begins_empty : (s : State) (kept : Kept) (count : ℕ) (w : World) → IsNothing kept → BeginsAt (shown_of s) w
     → BeginsAt (shown_with s kept count) w
 begins_empty s kept count w none it =

@@ -1,4 +1,4 @@
--- A heading with its cached zip, and without its shelf.
+-- A heading with its kept zip, and without its shelf.
 use Rattle.std.proofs.Common.{◌≡◌, ◌∙◌, ℕ, List, Option, Some, None, refl, sym, ap}
 use Rattle.std.specs.Prelude.{option_map}
 use Rattle.std.specs.FinMap as map
@@ -22,7 +22,7 @@ pub none_seen : (seen : Option Seen) → None ≡ seen_heading seen → None ≡
 none_seen None is = refl
 none_seen (Some e) is = cc is
 
--- a heading that is seen, with the cached zip of its place, is the entry that is seen
+-- a heading that is seen, with the kept zip of its place, is the entry that is seen
 pub whole : (w : World) (ss : List (List ℕ)) (p v : List ℕ) (h : SeenHeading) (zip : List ℕ)
     → Some h ≡ seen_heading (first_on w ss p v) → IsZipAt w (place h.shelf p v) zip
     → Some (record { shelf = h.shelf; entry = entry_with h.heading zip }) ≡ first_on w ss p v

@@ -73,7 +73,7 @@ no_answer P (Ok x) failed = absurd (true≢false (sym failed))
 no_answer P (Err e) failed = tt
 
 module _ {T : Type 0} (old new : State) (kept after : Kept) (before now : ℕ) where
-  -- a read of the tables, which may cache what it found
+  -- a read of the tables, which may keep what it found
   pub reads_keeping : (r : Result T StoreFault) (value : World → T) → Spares old new
       → HasCause (shown_with old kept before) (shown_with new after now) r
       → (HasCleanDisk new → (w : World) → StandsFor old w → AreKept w kept
@@ -161,7 +161,7 @@ pub by_result : {T A B : Type 0} (r : Result T StoreFault) → A → B → OnOk 
 by_result (Ok x) a b = (a, tt)
 by_result (Err e) a b = (tt, b)
 
--- a read of the tables that caches nothing
+-- a read of the tables that keeps nothing
 pub reads : {T : Type 0} (old new : State) (kept : Kept) (before now : ℕ) (r : Result T StoreFault) (value : World → T)
     → Spares old new
     → HasCause (shown_with old kept before) (shown_with new kept now) r
@@ -171,7 +171,7 @@ reads old new kept before now r value spares cause answer =
     reads_keeping old new kept kept before now r value spares cause
     (λ clean w stands right. (answer clean w stands, right))
 
--- a read of the tables whose error is counted, and that caches nothing
+-- a read of the tables whose error is counted, and that keeps nothing
 pub reads_counted : {T : Type 0} (old new : State) (kept : Kept) (before now : ℕ) (given : Result T Error)
     (r : Result T StoreFault) (value : World → T)
     → Spares old new → IsCounted before now given r
@@ -181,7 +181,7 @@ reads_counted old new kept before now given r value spares counted answer =
     reads old new kept before now r value spares (counted_cause _ _ given r counted)
     (λ clean w stands. counted_ok given r (λ x. x ≡ value w) counted.ok (answer clean w stands.0))
 
--- a read of the tables whose error is counted and handed on, and that caches nothing
+-- a read of the tables whose error is counted and handed on, and that keeps nothing
 pub reads_counted_none : {T : Type 0} (old new : State) (kept : Kept) (before now : ℕ) (given : Result T Error)
     (fault : StoreFault) (r : Result T StoreFault) (value : World → T)
     → Spares old new → IsErr r × IsErrAnd r (λ e. e ≡ fault) → IsCounted before now given (Err fault)
@@ -191,7 +191,7 @@ reads_counted_none old new kept before now given fault r value spares failed cou
     (counted_cause _ _ given r (counted_on before now given fault r failed.1 counted))
     (λ _ w _. no_answer (λ x. x ≡ value w) r failed.0)
 
--- a read of what is cached, with no call on the tables
+-- a read of what is kept, with no call on the tables
 pub reads_kept : {T : Type 0} (old : State) (kept after : Kept) (count : ℕ) (x : T) (value : World → T)
     → ((w : World) → AreKept w kept → (x ≡ value w) × AreKept w after)
     → Reads (shown_with old kept count) (shown_with old after count) (Ok x) value

@@ -16,7 +16,8 @@ failures_after (Ok x) n = n
 failures_after (Err fault) n = counting fault n
 
 -- an answer stays as it is, and an error becomes a fault, which is counted unless memory ran out
-pub record IsCounted {T : Type 0} (before now : ℕ) (given : Result T Error) (result : Result T StoreFault) : Type 0 where
+pub record IsCounted {T : Type 0} (before now : ℕ) (given : Result T Error)
+    (result : Result T StoreFault) : Type 0 where
   pub ok : IfOk result (λ x. given ≡ Ok x)
   pub err : IfErr result (λ _. IsErr given)
   pub no_fewer : before ≤ now

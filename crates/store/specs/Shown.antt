@@ -7,7 +7,7 @@ use Rattle.kept.specs.declared.kept.Kept.{Kept}
 use Rattle.kept.specs.Kept.{AreKept}
 pub use Rattle.setup.specs.Shown.{LeavesEither, shown_of, BeginsAt}
 
--- What is known of a store from what its connection shows, from what it caches, which is true in each world that it
+-- What is known of a store from what its connection shows, from what it keeps, which is true in each world that it
 -- stands for, and from how many failures it has counted.
 abbrev pub shown_with : State → Kept → ℕ → Shown
 shown_with s kept failures = record {

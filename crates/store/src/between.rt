@@ -73,7 +73,7 @@ impl<S: Alter> SqlShelves<S> {
         self.copy_tables_between(fresh, pace, between)
     }
 
-    /// Copies the store into the tables of the fresh one, and leaves what that caches as it is. Fails as `copy_between`
+    /// Copies the store into the tables of the fresh one, and leaves what that keeps as it is. Fails as `copy_between`
     /// does.
     fn copy_tables_between<F: Alter, P: Pace, B: Between<SqlShelves<S>>>(
         &mut self,

@@ -18,7 +18,7 @@ use world::registry::StoreFault;
 const MOST_COUNTED: u64 = 9_223_372_036_854_775_807;
 
 impl<S: Alter> SqlShelves<S> {
-    /// Returns how many versions all shelves have, or 2^63 - 1 if there are more. Returns the cached number if there is
+    /// Returns how many versions all shelves have, or 2^63 - 1 if there are more. Returns the kept number if there is
     /// one, and otherwise reads each row of `version`, without its zip. Fails with `Memory` if memory ran out, and
     /// otherwise with `Device`.
     pub fn versions_kept(&mut self) -> Result<u64, StoreFault>

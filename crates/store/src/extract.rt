@@ -96,7 +96,7 @@ impl<S: Alter> SqlShelves<S> {
         self.fill(Wanted::All, fresh)
     }
 
-    /// Copies the wanted shelves into the fresh store, which first forgets what it cached. Fails as the public calls
+    /// Copies the wanted shelves into the fresh store, which first forgets what it kept. Fails as the public calls
     /// do.
     fn fill<F: Alter>(
         &mut self,
@@ -114,7 +114,7 @@ impl<S: Alter> SqlShelves<S> {
         self.fill_rows(wanted, fresh)
     }
 
-    /// Copies the wanted shelves into the tables of the fresh store, and leaves what both stores cache as it is. Fails
+    /// Copies the wanted shelves into the tables of the fresh store, and leaves what both stores keep as it is. Fails
     /// as `fill` does.
     fn fill_rows<F: Alter>(
         &mut self,

@@ -1,4 +1,4 @@
-//! Which keys and which shelves a store has, asked of the tables. Nothing is cached.
+//! Which keys and which shelves a store has, asked of the tables. Nothing is kept.
 
 use crate::store::{SqlShelves, counted};
 use keyring::Keyring;

@@ -75,8 +75,8 @@ impl<T: Start> SqlShelves<FileStore<FileFrom<T>>> {
     /// Fails with `BadSchema` if the files hold no database, other tables, or tables that stand for no world; with
     /// `Memory` if memory ran out; and with `Device` if the disk failed, the files cannot be opened (see
     /// [`StoreRefusal::Device`]), or a log stands where its database file is missing or empty. The files then come
-    /// back, if they were opened, and hold what they held; only where there were no tables may those of a new store stand, if
-    /// the disk failed or memory ran out. A log may be left beside them.
+    /// back, if they were opened, and hold what they held; only where there were no tables may those of a new store
+    /// stand, if the disk failed or memory ran out. A log may be left beside them.
     ///
     /// It assumes that a write that a crash tears leaves each byte old or new. As with SQLite's `synchronous=FULL`,
     /// most commits then sync once.

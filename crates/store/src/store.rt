@@ -50,7 +50,7 @@ use world::version_list::Versions;
 use world::versions::{highest, latest_left};
 
 /// Shelves whose entries and keys are rows of SQL tables. Once a fault has closed the connection, a call still returns
-/// what is cached, and fails with `Device` if it needs the tables. The store then stands for every world that agrees
+/// what is kept, and fails with `Device` if it needs the tables. The store then stands for every world that agrees
 /// with its cache.
 #[derive(Drop)]
 pub struct SqlShelves<S: Alter> {
@@ -337,7 +337,7 @@ impl<S: Alter> SqlShelves<S> {
         self.kept.bounds();
     }
 
-    /// Returns the group of a shelf, or None if it has none or does not exist. Copies the cached name if there is one,
+    /// Returns the group of a shelf, or None if it has none or does not exist. Copies the kept name if there is one,
     /// and queries the tables otherwise. Fails with `Memory` if memory ran out, and otherwise with `Device`.
     fn group_of(&mut self, shelf: &str) -> Result<Option<Text>, StoreFault>
         ensures reads { Reads (shown_with (state S.Store self.old.conn) self.old.kept self.old.failures)
@@ -357,7 +357,7 @@ impl<S: Alter> SqlShelves<S> {
     }
 
     /// Returns what a shelf sees of a version without its zip, with the shelf that its entry stands on, or None. Copies
-    /// the cached heading if there is one, returns None if what is cached of the path lacks the version, and queries
+    /// the kept heading if there is one, returns None if what is kept of the path lacks the version, and queries
     /// the tables otherwise. Fails as `group_of` does.
     fn seen(
         &mut self,
@@ -379,7 +379,7 @@ impl<S: Alter> SqlShelves<S> {
         self.find_heading(shelf, path, version)
     }
 
-    /// Caches which versions of a path a shelf sees, if it looked for one in vain before. The first such look does not
+    /// Keeps which versions of a path a shelf sees, if it looked for one in vain before. The first such look does not
     /// do it, so a path that is asked for once costs one look along the chain. Fails as `group_of` does.
     fn keep_if_missed(&mut self, shelf: &str, path: &str) -> Result<(), StoreFault>
         ensures reads { Reads (shown_with (state S.Store self.old.conn) self.old.kept self.old.failures)
@@ -394,7 +394,7 @@ impl<S: Alter> SqlShelves<S> {
         Ok(())
     }
 
-    /// Returns what a shelf sees of a version without its zip, with the shelf that its entry stands on, or None. Caches
+    /// Returns what a shelf sees of a version without its zip, with the shelf that its entry stands on, or None. Keeps
     /// what it sees, or notes that it looked in vain. Always queries the tables. Fails as `group_of` does.
     fn find_heading(
         &mut self,
@@ -428,7 +428,7 @@ impl<S: Alter> SqlShelves<S> {
     }
 
     /// Returns the versions of a path that a shelf sees, in ascending precedence. Takes the list out of the cache if it
-    /// is there, so the caller caches it again, and queries the tables otherwise. Fails as `group_of` does.
+    /// is there, so the caller keeps it again, and queries the tables otherwise. Fails as `group_of` does.
     fn take_versions(&mut self, shelf: &str, path: &str) -> Result<Versions, StoreFault>
         ensures reads { Reads (shown_with (state S.Store self.old.conn) self.old.kept self.old.failures)
             (shown_with (state S.Store self.new.conn) self.new.kept self.new.failures) result

@@ -86,7 +86,8 @@ module _ {K X : Type 0} {R : K → K → Ordering} (o : IsTotalOrder R) (exact :
         x.1,
         ap (λ (g : Option X). is_some g)
             (without m p x.0 (λ tied.
-            all_has (λ b. (q : K) → Names r q → Names b q → ⊥) rows row once.0 there p it.1 (subst (Names row) tied x.1)))
+            all_has (λ b. (q : K) → Names r q → Names b q → ⊥) rows row once.0 there p it.1
+            (subst (Names row) tied x.1)))
             ∙ x.2,
       ))
       (λ q h.

@@ -234,7 +234,8 @@ module _ (done : List Row) (row : Row) (up : (y : Row) → Has done y → place_
     here = place_in row
 
     -- a row of its path stands next to it
-    not_before : (p : Place) (n : ℕ) → IsRun done (Some p) n → is_on p.shelf p.path here ≡ false → (y : Row) → Has done y
+    not_before : (p : Place) (n : ℕ) → IsRun done (Some p) n → is_on p.shelf p.path here ≡ false → (y : Row)
+        → Has done y
         → (b : Bool) → is_on here.shelf here.path (place_in y) ≡ b → is_on here.shelf here.path (place_in y) ≡ false
     not_before p n is off y there false e = e
     not_before p n is off y there true e =
@@ -265,7 +266,8 @@ module _ (done : List Row) (row : Row) (up : (y : Row) → Has done y → place_
           rw off (omega (arith, more, zero), omega arith))
     ]
 
-    -- with one more row at a higher place that may follow, the count of the walk is still that of all of its path on its
+    -- with one more row at a higher place that may follow, the count of the walk is still that of all of its path on
+    -- its
     -- shelf
     run_more : (o : Option Place) (n : ℕ) → IsRun done o n → MayFollow o n here
         → IsRun (done ++ row ∷ []) (Some here) (run_with o n here)

@@ -61,9 +61,15 @@ module _ {S : Type 0} (g : Ghosts S) (start new : Held S) (e : Error) where
         | inr (next, count, step, rest, within) ↦ (
             let it = put_meta (state g mid) (state g next) count has a step.runs in
             let ran = ran_as first6 (state g mid) (state g next) store_schema has _ put6.0 put6.1 count step.runs in
-            last_step next most (further (state g start) (state g mid) (state g next) _ way step.survives ran.shown.is_open)
+            last_step next most (further (state g start) (state g mid) (state g next) _ way step.survives
+            ran.shown.is_open)
             within it.0 it.1
-            (it.2 ∙ b) (record { access = it.3 ∙ empty.access; version = it.4 ∙ empty.version; piece = it.5 ∙ empty.piece })
+            (it.2 ∙ b) (record {
+              access = it.3 ∙ empty.access;
+              version = it.4 ∙ empty.version;
+              piece = it.5
+                  ∙ empty.piece;
+            })
             rest)
       ]
 
@@ -76,15 +82,19 @@ module _ {S : Type 0} (g : Ghosts S) (start new : Held S) (e : Error) where
       elim (turn_or_stop g mid new e text5 first5 text6 (lit< tt) cut5.0 cut5.1 inside schema4 has CreateTable make5.0
       tt (suc (suc most)) run) [
         | inl stop ↦ excused_since (state g start) (state g mid) (state g new) e way (
-            make_excused schema4 first5 piece_text (record piece_table { tree = 0 }) make5.0 make5.1 alone5.0 alone5.1 able5
+            make_excused schema4 first5 piece_text (record piece_table { tree = 0 }) make5.0 make5.1 alone5.0 alone5.1
+            able5
             refl (state g mid) (state g new) e has stop)
         | inr (next, count, step, rest, within) ↦ (
             let it = makes schema4 schema5 first5 (record piece_table { tree = 0 }) make5.0 make5.1 make5.2 make5.3 refl
             (state g mid) (state g next) count has step.runs in
-            let ran = ran_as first5 (state g mid) (state g next) schema4 has CreateTable make5.0 make5.1 count step.runs in
-            meta_step next most (further (state g start) (state g mid) (state g next) _ way step.survives ran.shown.is_open)
+            let ran = ran_as first5 (state g mid) (state g next) schema4 has CreateTable make5.0 make5.1 count
+            step.runs in
+            meta_step next most (further (state g start) (state g mid) (state g next) _ way step.survives
+            ran.shown.is_open)
             within it.0
-            (it.2.0 ∙ a) (it.2.1.0 ∙ b) (record { access = it.2.1.1.0 ∙ c; version = it.2.1.1.1.0 ∙ d; piece = it.1 }) rest)
+            (it.2.0 ∙ a) (it.2.1.0 ∙ b) (record { access = it.2.1.1.0 ∙ c; version = it.2.1.1.1.0 ∙ d; piece = it.1 })
+            rest)
       ]
 
   -- an error at or after the statement that makes `version` is excused
@@ -95,12 +105,15 @@ module _ {S : Type 0} (g : Ghosts S) (start new : Held S) (e : Error) where
       elim (turn_or_stop g mid new e text4 first4 text5 (lit< tt) cut4.0 cut4.1 inside schema3 has CreateTable make4.0
       tt (suc (suc (suc most))) run) [
         | inl stop ↦ excused_since (state g start) (state g mid) (state g new) e way (
-            make_excused schema3 first4 version_text (record version_table { tree = 0 }) make4.0 make4.1 alone4.0 alone4.1
+            make_excused schema3 first4 version_text (record version_table { tree = 0 }) make4.0 make4.1 alone4.0
+            alone4.1
             able4 refl (state g mid) (state g new) e has stop)
         | inr (next, count, step, rest, within) ↦ (
-            let it = makes schema3 schema4 first4 (record version_table { tree = 0 }) make4.0 make4.1 make4.2 make4.3 refl
+            let it = makes schema3 schema4 first4 (record version_table { tree = 0 }) make4.0 make4.1 make4.2 make4.3
+            refl
             (state g mid) (state g next) count has step.runs in
-            let ran = ran_as first4 (state g mid) (state g next) schema3 has CreateTable make4.0 make4.1 count step.runs in
+            let ran = ran_as first4 (state g mid) (state g next) schema3 has CreateTable make4.0 make4.1 count
+            step.runs in
             piece_step next most (further (state g start) (state g mid) (state g next) _ way step.survives
             ran.shown.is_open) within it.0 (it.2.0 ∙ a) (it.2.1.0 ∙ b) (it.2.1.1.0 ∙ c) it.1 rest)
       ]
@@ -116,9 +129,11 @@ module _ {S : Type 0} (g : Ghosts S) (start new : Held S) (e : Error) where
             make_excused schema2 first3 access_text (record access_table { tree = 0 }) make3.0 make3.1 alone3.0 alone3.1
             able3 refl (state g mid) (state g new) e has stop)
         | inr (next, count, step, rest, within) ↦ (
-            let it = makes schema2 schema3 first3 (record access_table { tree = 0 }) make3.0 make3.1 make3.2 make3.3 refl
+            let it = makes schema2 schema3 first3 (record access_table { tree = 0 }) make3.0 make3.1 make3.2 make3.3
+            refl
             (state g mid) (state g next) count has step.runs in
-            let ran = ran_as first3 (state g mid) (state g next) schema2 has CreateTable make3.0 make3.1 count step.runs in
+            let ran = ran_as first3 (state g mid) (state g next) schema2 has CreateTable make3.0 make3.1 count
+            step.runs in
             version_step next most (further (state g start) (state g mid) (state g next) _ way step.survives
             ran.shown.is_open) within it.0 (it.2.0 ∙ a) (it.2.1.0 ∙ b) it.1 rest)
       ]
@@ -154,7 +169,8 @@ module _ {S : Type 0} (g : Ghosts S) (start new : Held S) (e : Error) where
             (state g start) (state g next) count has step.runs in
             let ran = ran_as first1 (state g start) (state g next) schema0 has CreateTable make1.0 make1.1 count
             step.runs in
-            shelf_step next (length text1 - 7) (on_its_way (state g start) (state g next) _ step.survives ran.shown.is_open)
+            shelf_step next (length text1 - 7)
+            (on_its_way (state g start) (state g next) _ step.survives ran.shown.is_open)
             within it.0 it.1 rest)
       ]
 

@@ -72,7 +72,8 @@ number_shown row = column row 0 ∷ []
 
 -- shelf, path, version, time, go.mod, order_key and rank_key of a row of `version`
 abbrev pub entry_shown : Row → Row
-entry_shown row = column row 2 ∷ column row 3 ∷ column row 4 ∷ column row 5 ∷ column row 6 ∷ column row 7 ∷ column row 8 ∷ []
+entry_shown row = column row 2 ∷ column row 3 ∷ column row 4 ∷ column row 5 ∷ column row 6 ∷ column row 7 ∷ column row 8
+    ∷ []
 
 -- how many values a walk reads of a row of `version`
 abbrev pub entry_width : ℕ
@@ -176,7 +177,11 @@ IsEntryRow row = (q : Place) × (e : Entry) × ShowsEntry row q e
 
 -- the place in the first three values of a row
 abbrev pub place_in : Row → Place
-place_in row = record { shelf = text_in (column row 0); path = text_in (column row 1); version = text_in (column row 2) }
+place_in row = record {
+  shelf = text_in (column row 0);
+  path = text_in (column row 1);
+  version = text_in (column row 2);
+}
 
 -- whether the place is one of this path on this shelf
 abbrev pub is_on : List ℕ → List ℕ → Place → Bool
@@ -202,7 +207,11 @@ piece_key row = (int_in (column row 0), nat_in (column row 1))
 -- what a walk keeps of the piece in a row
 abbrev pub piece_in : Row → LastPiece
 piece_in row =
-    record { version = int_in (column row 0); number = nat_in (column row 1); is_full = length (blob_in (column row 2)) == piece_size }
+    record {
+      version = int_in (column row 0);
+      number = nat_in (column row 1);
+      is_full = length (blob_in (column row 2)) == piece_size;
+    }
 
 -- what a walk keeps of a full piece
 abbrev pub full_piece : ℤ → ℕ → LastPiece

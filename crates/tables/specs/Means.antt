@@ -1,6 +1,7 @@
 -- The world that the tables stand for. It does not depend on the order of rows, and the number of a row only ties a
 -- version to its pieces.
-use Rattle.std.specs.Prelude.{ℕ, ℤ, Bool, true, false, pos, if◌then◌else◌, List, Option, Some, IsTrue, codes, filter, ◌≡◌}
+use Rattle.std.specs.Prelude.{ℕ, ℤ, Bool, true, false, pos, if◌then◌else◌, List, Option, Some, IsTrue, codes, filter}
+use Rattle.std.specs.Prelude.{◌≡◌}
 use Rattle.sqlite.specs.declared.types.Value.TheVariants.{Int, Text, Blob}
 use Rattle.sqlite.specs.Order.{Row, column}
 use Rattle.sqlite.specs.Values.{or_null}
@@ -110,7 +111,8 @@ pub record Means (db : Trees) (w : World) : Type 0 where
   pub shelves : Tabulates IsShelf (db shelf_table.tree) (λ it. map.get w.shelves it.0 ≡ Some it.1)
   pub access : Tabulates IsAccess (db access_table.tree) (λ it. map.get w.keys it.0 ≡ Some it.1)
   pub numbered : IsNumbered (db access_table.tree)
-  pub entries : Tabulates (IsVersion (db piece_table.tree)) (db version_table.tree) (λ it. map.get w.entries it.0 ≡ Some it.1)
+  pub entries : Tabulates (IsVersion (db piece_table.tree)) (db version_table.tree)
+      (λ it. map.get w.entries it.0 ≡ Some it.1)
   -- each shelf, each key, each place and each piece has one row
   pub names : IsEachNameOnce (db shelf_table.tree)
   pub tokens : IsEachTokenOnce (db access_table.tree)

@@ -42,9 +42,11 @@ module _ {X : Type 0} (Fits : X → Row → Type 0) (Keeps : X → Row → X →
 
   -- for true, each row that the query shows fits; for false, one of them does not, after rows that do
   abbrev pub Walks : List ℕ → Database → X → X → Bool → Type 0
-  Walks sql db start end true = (rows : List Row) × Reads (command_of (understood store_schema sql)) db [] rows × Pass start rows end
+  Walks sql db start end true = (rows : List Row) × Reads (command_of (understood store_schema sql)) db [] rows
+      × Pass start rows end
   Walks sql db start end false =
-      (rows : List Row) × (row : Row) × (noted : X) × ReadsFirst (command_of (understood store_schema sql)) db [] (rows ++ row ∷ [])
+      (rows : List Row) × (row : Row) × (noted : X)
+      × ReadsFirst (command_of (understood store_schema sql)) db [] (rows ++ row ∷ [])
       × Pass start rows noted × (Fits noted row → ⊥)
 
 -- ---- the queries that a walk can use

@@ -5,10 +5,10 @@
 //! | table | a row is | columns |
 //! |---|---|---|
 //! | `meta` | the number of the schema, 3, under the name `schema` | `name`, `value` |
-//! | `shelf` | a shelf and its parent, which is null for a group and for `common`; `common` is always there | `name`, `parent` |
+//! | `shelf` | a shelf and its parent, null for a group and `common`; `common` is always there | `name`, `parent` |
 //! | `access` | a key, the shelf that it belongs to and whether it may publish | `token`, `shelf`, `publish` |
-//! | `version` | a version on a shelf, its time and go.mod | `id`, `shelf`, `path`, `version`, `time`, `mod`, `order_key`, `rank_key` |
-//! | `piece` | a piece of the zip of the version whose `id` it names: 65,536 bytes, or fewer in the last | `version`, `number`, `bytes` |
+//! | `version` | a version on a shelf | `id`, `shelf`, `path`, `version`, `time`, `mod`, `order_key`, `rank_key` |
+//! | `piece` | 65,536 bytes of the zip of the `version` with this `id`, or fewer | `version`, `number`, `bytes` |
 //!
 //! Tables stand for at most one world: each row of `shelf` is a shelf, each row of `access` a key, and each row of
 //! `version` an entry, whose zip is the bytes of its rows of `piece`, joined in the order of their numbers 0, 1, 2 and

@@ -9,9 +9,12 @@ ghost use Rattle.sqlite_sql.specs.declared.ops.BinaryOp.TheVariants.{Compare};
 ghost use Rattle.sqlite_sql.specs.declared.ops.CompareOp.TheVariants.{Eq};
 ghost use Rattle.sqlite_value.specs.declared.keys.Collation.TheVariants.{Binary};
 ghost use Rattle.sqlite_value.specs.declared.value.Value.TheVariants.{Int};
-ghost use Rattle.tables.specs.Schema.{store_schema, no_schema, is_flag, meta_table, shelf_table, access_table, version_table};
-ghost use Rattle.tables.specs.Schema.{version_columns, piece_table, is_from_zero, no_stamps, IsBare, column_of, given, optional};
-ghost use Rattle.tables.specs.Schema.{refers, unique_index, meta_index, shelf_index, access_index, version_index, piece_index};
+ghost use Rattle.tables.specs.Schema.{store_schema, no_schema, is_flag, meta_table, shelf_table};
+ghost use Rattle.tables.specs.Schema.{access_table, version_table};
+ghost use Rattle.tables.specs.Schema.{version_columns, piece_table, is_from_zero, no_stamps, IsBare};
+ghost use Rattle.tables.specs.Schema.{column_of, given, optional};
+ghost use Rattle.tables.specs.Schema.{refers, unique_index, meta_index, shelf_index, access_index};
+ghost use Rattle.tables.specs.Schema.{version_index, piece_index};
 
 use sqlite_items::Items;
 use sqlite_schema::code::{Op, Terms};

@@ -5,7 +5,7 @@
 //! | `maps` | the scripts of `test_support`: calls of shelves, and the bytes that answer requests |
 //! | `kept_counts`, `version_sets` | what shelves in memory keep |
 //! | `entries`, `decisions`, `runs` | which entries may stand, decisions on publishes, runs of the machine |
-//! | `answers`, `sweeps` | answers to a stream however it is cut, and readers and writers that fail at each of their calls |
+//! | `answers`, `sweeps` | answers to a stream however it is cut, and readers and writers that fail at each call |
 //! | `connections`, `queue` | connections of this process to itself and in memory |
 //! | `in_time` | a peer's time |
 //!

@@ -1,6 +1,7 @@
 -- Module paths and versions in their escaped forms, around `/@`. (Go Modules Reference, "GOPROXY protocol".)
 use Rattle.std.specs.Prelude.{◌≡◌, ◌==◌, ℕ, ◌-◌, nat_lt, Bool, true, false, ◌&&◌, List, [], ◌∷◌, ◌++◌}
-use Rattle.std.specs.Prelude.{length, take, drop, bytes_eq, codes, Option, Some, None, is_none, not, option_map, if◌then◌else◌}
+use Rattle.std.specs.Prelude.{length, take, drop, bytes_eq, codes, Option, Some, None, is_none, not, option_map}
+use Rattle.std.specs.Prelude.{if◌then◌else◌}
 use Rattle.std.specs.Char.{is_ascii_uppercase}
 use Rattle.std.specs.Option.{option_and_then}
 use Rattle.std.specs.List.{before_first, after_first, position_or_len}
@@ -30,7 +31,8 @@ without_start start text = if bytes_eq (take (length start) text) start then Som
 
 abbrev pub without_end : List ℕ → List ℕ → Option (List ℕ)
 without_end ending text =
-    if bytes_eq (drop (length text - length ending) text) ending then Some (take (length text - length ending) text) else None
+    if bytes_eq (drop (length text - length ending) text) ending then Some (take (length text - length ending) text)
+    else None
 
 -- the texts before and after the first `byte` in a text, if there is one
 unfoldable pub around : ℕ → List ℕ → Option (List ℕ × List ℕ)

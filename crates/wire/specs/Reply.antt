@@ -85,5 +85,6 @@ line_bytes answer = code_digits (fixed_status answer) ++ codes " " ++ fixed_text
 
 -- the body of a version and its time, if it has one (Go Modules Reference, "GOPROXY protocol", `.info`)
 abbrev pub info_bytes : SemanticVersion → Option (List ℕ) → List ℕ
-info_bytes version (Some time) = codes "{\"Time\":\"" ++ time ++ codes "\",\"Version\":\"" ++ version_text version ++ codes "\"}"
+info_bytes version (Some time) =
+    codes "{\"Time\":\"" ++ time ++ codes "\",\"Version\":\"" ++ version_text version ++ codes "\"}"
 info_bytes version None = codes "{\"Version\":\"" ++ version_text version ++ codes "\"}"

@@ -50,7 +50,8 @@ asked_by p name = option_map (λ version. (version, p)) (without_end (ending_of 
 
 -- a name without its ending, and the file with this ending
 abbrev pub without_ending : List ℕ → Option (List ℕ × VersionFile)
-without_ending name = option_or (asked_by file.Info name) (option_or (asked_by file.GoMod name) (asked_by file.Zip name))
+without_ending name = option_or (asked_by file.Info name)
+    (option_or (asked_by file.GoMod name) (asked_by file.Zip name))
 
 -- a name after `v/` without its last ending, and the file with this ending
 abbrev pub split_file : List ℕ → Option (List ℕ × VersionFile)
@@ -64,7 +65,8 @@ resource_for file.Zip path version = resource.Zip path version
 -- what is asked of a version of the path
 abbrev pub of_version : List ℕ → List ℕ → Option Resource
 of_version path asked =
-    option_and_then (λ (found : List ℕ × VersionFile). option_map (λ v. resource_for found.1 path v) (version_from found.0))
+    option_and_then (λ (found : List ℕ × VersionFile).
+    option_map (λ v. resource_for found.1 path v) (version_from found.0))
     (split_file asked)
 
 -- what is asked of a path, by the text after `/@`
@@ -77,7 +79,8 @@ of_path path asked =
 -- what is asked of a module path
 unfoldable pub asked_of : List ℕ → Option Resource
 asked_of text =
-    option_and_then (λ (halves : List ℕ × List ℕ). option_and_then (λ path. of_path path halves.1) (path_of halves.0)) (cut_of text)
+    option_and_then (λ (halves : List ℕ × List ℕ). option_and_then (λ path. of_path path halves.1) (path_of halves.0))
+    (cut_of text)
 
 -- the go.sum line of a version
 abbrev pub sum_at : ModuleVersion → Resource

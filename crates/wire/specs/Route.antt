@@ -52,4 +52,5 @@ area_of rest =
 unfoldable pub routed_of : List ℕ → Option (Area × List ℕ × List ℕ)
 routed_of text =
     option_and_then
-    (λ (halves : List ℕ × List ℕ). option_map (λ (found : Area × List ℕ). (found.0, halves.0, found.1)) (area_of halves.1)) (split_of text)
+    (λ (halves : List ℕ × List ℕ).
+    option_map (λ (found : Area × List ℕ). (found.0, halves.0, found.1)) (area_of halves.1)) (split_of text)

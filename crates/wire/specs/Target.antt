@@ -1,6 +1,7 @@
 -- What a request asks for, by its method and its target. (Go Modules Reference, "GOPROXY protocol"; PUT is this
 -- server's own.)
-use Rattle.std.specs.Prelude.{◌≡◌, ◌==◌, ℕ, ◌<◌, false, List, [], ◌∷◌, ◌++◌, length, bytes_eq, codes, Option, Some, None, if◌then◌else◌}
+use Rattle.std.specs.Prelude.{◌≡◌, ◌==◌, ℕ, ◌<◌, false, List, [], ◌∷◌, ◌++◌, length, bytes_eq, codes, Option, Some}
+use Rattle.std.specs.Prelude.{None, if◌then◌else◌}
 use Rattle.std.specs.List.{list_any}
 use Rattle.std.specs.Str.{IsUtf8, is_utf8}
 use Rattle.percent_encoding.specs.Percent.{percent_decode}
@@ -24,9 +25,11 @@ pub record IsKeyed (text key rest : List ℕ) : Type 0 where
 -- what a request asks for
 abbrev pub Asks : List ℕ → List ℕ → Target → Type 0
 Asks method text target.Unreadable = ⊥
-Asks method text (target.Get key asked) = (method ≡ codes "GET") × ((rest : List ℕ) × IsKeyed text key rest × IsResource rest asked)
+Asks method text (target.Get key asked) = (method ≡ codes "GET")
+    × ((rest : List ℕ) × IsKeyed text key rest × IsResource rest asked)
 Asks method text (target.Put key path version) =
-    (method ≡ codes "PUT") × ((rest : List ℕ) × IsKeyed text key rest × IsModuleVersion (percent_decode rest) path version [])
+    (method ≡ codes "PUT") × ((rest : List ℕ) × IsKeyed text key rest
+    × IsModuleVersion (percent_decode rest) path version [])
 
 -- what a request reads as: what it asks for, or unreadable if it asks for nothing
 abbrev pub ReadsTarget : List ℕ → List ℕ → Target → Type 0

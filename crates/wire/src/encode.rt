@@ -6,8 +6,8 @@ use crate::reply::{Fixed, MediaType, phrase_of};
 use http::StatusCode;
 use itoa::Buffer;
 
-/// Writes the head of a 200 whose body has `len` bytes, with the empty line that ends it (RFC 9112, sections 4 and 5), to
-/// the front of the buffer, and returns the length of the head.
+/// Writes the head of a 200 whose body has `len` bytes, with the empty line that ends it (RFC 9112, sections 4 and 5),
+/// to the front of the buffer, and returns the length of the head.
 #[tactic(auto, unfolding(crate::specs::Reply::phrase))]
 pub fn encode_head(kind: MediaType, len: usize, buf: &mut [u8; 160]) -> usize
     ensures text { take result buf.new ≡ head_bytes 200 kind len }

@@ -2,7 +2,8 @@
 ghost use Rattle.std.specs.Prelude.{◌≡◌, None, Some, IfOk, MatchOption, option_map};
 ghost use Rattle.std.specs.Cow.{cow_str_bytes};
 ghost use Rattle.std.specs.List.{list_all};
-ghost use Rattle.wire.specs.ModuleVersion.{around, cut_of, module_version_of, path_of, plain_of, stands_for_itself, version_from};
+ghost use Rattle.wire.specs.ModuleVersion.{around, cut_of, module_version_of, path_of, plain_of};
+ghost use Rattle.wire.specs.ModuleVersion.{stands_for_itself, version_from};
 
 use framing::Memory;
 use modpath::{EscapeFault, ModulePath, PathError, unescape};

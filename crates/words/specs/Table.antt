@@ -1,6 +1,8 @@
 -- The commands with their options, and what the words after the name of the program give of them.
-use Rattle.std.specs.Prelude.{ℕ, Bool, true, false, List, [], ◌∷◌, map, fold, Option, Some, String, is_some, codes, string_bytes}
-use Rattle.clap.specs.Words.{App, Row, Rule, Shape, Text, fault_of, new_app, new_rule, subcommand_of, with_rule, with_subcommand}
+use Rattle.std.specs.Prelude.{ℕ, Bool, true, false, List, [], ◌∷◌, map, fold, Option, Some, String, is_some, codes}
+use Rattle.std.specs.Prelude.{string_bytes}
+use Rattle.clap.specs.Words.{App, Row, Rule, Shape, Text, fault_of, new_app, new_rule, subcommand_of, with_rule}
+use Rattle.clap.specs.Words.{with_subcommand}
 use Rattle.clap.specs.Kinds.{Kinds}
 use Rattle.clap.specs.declared.builder.action.ArgAction.TheVariants.{Append, SetTrue}
 use Rattle.clap.specs.declared.builder.value_parser.ValueParser.TheVariants.{Unsigned}
@@ -50,7 +52,8 @@ formed name options = record { name = name; options = options; has_forms = true 
 abbrev pub store_lines : List Line
 store_lines =
     plain (codes "init") (needs (codes "db") ∷ [])
-    ∷ formed (codes "team-add") (may (codes "db") ∷ may (codes "control") ∷ needs (codes "team") ∷ may (codes "group") ∷ [])
+    ∷ formed (codes "team-add")
+    (may (codes "db") ∷ may (codes "control") ∷ needs (codes "team") ∷ may (codes "group") ∷ [])
     ∷ formed (codes "group-add") (may (codes "db") ∷ may (codes "control") ∷ needs (codes "group") ∷ [])
     ∷ formed (codes "key-add") (may (codes "db") ∷ may (codes "control") ∷ needs (codes "shelf") ∷ may (codes "key")
     ∷ flag (codes "new") ∷ flag (codes "read-only") ∷ [])
@@ -58,12 +61,14 @@ store_lines =
     ∷ may (codes "fingerprint") ∷ may (codes "shelf") ∷ flag (codes "all") ∷ [])
     ∷ formed (codes "key-list") (may (codes "db") ∷ may (codes "control") ∷ [])
     ∷ formed (codes "shelf-list") (may (codes "db") ∷ may (codes "control") ∷ [])
-    ∷ plain (codes "publish") (needs (codes "db") ∷ needs (codes "key") ∷ needs (codes "module") ∷ needs (codes "version")
+    ∷ plain (codes "publish")
+    (needs (codes "db") ∷ needs (codes "key") ∷ needs (codes "module") ∷ needs (codes "version")
     ∷ needs (codes "mod") ∷ needs (codes "zip") ∷ may (codes "time") ∷ [])
     ∷ plain (codes "import") (needs (codes "db") ∷ needs (codes "key") ∷ needs (codes "list") ∷ [])
     ∷ plain (codes "inventory") (needs (codes "db") ∷ needs (codes "key") ∷ [])
     ∷ plain (codes "catalog") (needs (codes "db") ∷ needs (codes "key") ∷ [])
-    ∷ plain (codes "requires") (needs (codes "db") ∷ needs (codes "key") ∷ needs (codes "module") ∷ needs (codes "version") ∷ [])
+    ∷ plain (codes "requires")
+    (needs (codes "db") ∷ needs (codes "key") ∷ needs (codes "module") ∷ needs (codes "version") ∷ [])
     ∷ []
 
 -- the other commands

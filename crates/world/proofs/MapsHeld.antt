@@ -1,5 +1,6 @@
 -- A map of texts without the entries whose values fail a test.
-use Rattle.std.proofs.Common.{◌≡◌, List, ℕ, [], ◌∷◌, Bool, true, false, not, cond, refl, ◌∙◌, sym, ap, Option, Some, None}
+use Rattle.std.proofs.Common.{◌≡◌, List, ℕ, [], ◌∷◌, Bool, true, false, not, cond, refl, ◌∙◌, sym, ap, Option, Some}
+use Rattle.std.proofs.Common.{None}
 use Rattle.std.proofs.Common.{filter}
 use Rattle.std.specs.Prelude.{String, string_bytes, bytes_eq}
 use Rattle.std.specs.List.{IsDistinct}

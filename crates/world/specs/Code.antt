@@ -18,7 +18,8 @@ version_code =
     code_by (ℕ × (ℕ × (ℕ × (List (List ℕ) × Bool))))
     (coded× coded_ℕ (coded× coded_ℕ (coded× coded_ℕ (coded× (coded_list text_code) coded_bool))))
     (λ v. (v.major, (v.minor, (v.patch, (v.identifiers, v.marked)))))
-    (λ p. record { major = p.0; minor = p.1.0; patch = p.1.1.0; identifiers = p.1.1.1.0; marked = p.1.1.1.1 }) (λ _. refl)
+    (λ p. record { major = p.0; minor = p.1.0; patch = p.1.1.0; identifiers = p.1.1.1.0; marked = p.1.1.1.1 })
+    (λ _. refl)
 
 abbrev may_publish : Right → Bool
 may_publish Reads = false
@@ -37,7 +38,8 @@ right_code = code_by Bool coded_bool may_publish right_of right_back
 
 abbrev pub holder_code : Coded Holder
 holder_code =
-    code_by (List ℕ × Right) (coded× text_code right_code) (λ h. (h.shelf, h.right)) (λ p. record { shelf = p.0; right = p.1 }) (λ _. refl)
+    code_by (List ℕ × Right) (coded× text_code right_code) (λ h. (h.shelf, h.right))
+    (λ p. record { shelf = p.0; right = p.1 }) (λ _. refl)
 
 abbrev pub entry_code : Coded Entry
 entry_code =
@@ -51,5 +53,6 @@ place_code = code_by (List ℕ × (List ℕ × List ℕ)) (coded× text_code (co
 abbrev pub world_code : Coded World
 world_code =
     code_by (map.FinMap text_cmp Holder × (map.FinMap text_cmp (Option (List ℕ)) × map.FinMap place_cmp Entry))
-    (coded× (map.code text_code holder_code) (coded× (map.code text_code (coded_option text_code)) (map.code place_code entry_code)))
+    (coded× (map.code text_code holder_code)
+    (coded× (map.code text_code (coded_option text_code)) (map.code place_code entry_code)))
     (λ w. (w.keys, (w.shelves, w.entries))) (λ p. record { keys = p.0; shelves = p.1.0; entries = p.1.1 }) (λ _. refl)

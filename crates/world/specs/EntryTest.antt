@@ -100,4 +100,5 @@ fitting_version path version e = if is_entry path version e then version_of vers
 
 -- The test passes exactly those entries that may stand at the place, on whatever shelf.
 abbrev pub EntryTestIsExact : Type 0
-EntryTestIsExact = (s path version : List ℕ) (e : Entry) → (is_entry path version e ≡ true) ↔ IsEntry (place s path version) e
+EntryTestIsExact = (s path version : List ℕ) (e : Entry)
+    → (is_entry path version e ≡ true) ↔ IsEntry (place s path version) e

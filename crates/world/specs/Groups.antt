@@ -16,7 +16,8 @@ IsMember w s g = (map.get w.shelves s ≡ Some (Some g)) × (is_group w g ≡ tr
 
 -- A shelf sees itself, common, the group that it is a member of, and no other.
 abbrev pub SeesItsGroup : Type 0
-SeesItsGroup = (w : World) (s t : List ℕ) → IsWorld w → (sees w s t ≡ true) ↔ ((t ≡ s) ⊎ ((t ≡ common) ⊎ IsMember w s t))
+SeesItsGroup = (w : World) (s t : List ℕ) → IsWorld w
+    → (sees w s t ≡ true) ↔ ((t ≡ s) ⊎ ((t ≡ common) ⊎ IsMember w s t))
 
 -- the world has no group
 abbrev pub HasNoGroup : World → Type 0

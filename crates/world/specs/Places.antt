@@ -18,7 +18,8 @@ pub record PlaceReads (path version : List ℕ) : Type 0 where
 
 -- In a world the path and the version of each entry can be read.
 abbrev pub PlacesRead : Type 0
-PlacesRead = (w : World) (q : Place) (e : Entry) → IsWorld w → map.get w.entries q ≡ Some e → PlaceReads q.path q.version
+PlacesRead = (w : World) (q : Place) (e : Entry) → IsWorld w → map.get w.entries q ≡ Some e
+    → PlaceReads q.path q.version
 
 -- In a world the path and the version of each entry that a shelf sees can be read.
 abbrev pub SeenPlacesRead : Type 0

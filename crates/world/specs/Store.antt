@@ -34,7 +34,8 @@ pub record HasCause {T : Type 0} (old new : Shown) (result : Result T StoreFault
 -- What a crash leaves after a call that leads from the world w to the next one. It covers a crash in the middle of a
 -- call too: to the call that is a disk which fails from there on, so it ends with a fault, and `failed` says what is
 -- left.
-pub record AfterCrash {T : Type 0} (old new : Shown) (w : World) (result : Result T StoreFault) (next : World) : Type 0 where
+pub record AfterCrash {T : Type 0} (old new : Shown) (w : World) (result : Result T StoreFault)
+    (next : World) : Type 0 where
   -- if a crash before the call left only w, one after it leaves w or the next world
   pub either : old.leaves w w → new.leaves w next
   -- and after Ok only the next world
@@ -47,7 +48,8 @@ pub record AfterCrash {T : Type 0} (old new : Shown) (w : World) (result : Resul
 
 -- in this world, a call returns the value and leads to the next world, or fails and changes nothing, and a crash may
 -- follow
-pub record DoesAt {T : Type 0} (old new : Shown) (w : World) (result : Result T StoreFault) (value : T) (next : World) : Type 0 where
+pub record DoesAt {T : Type 0} (old new : Shown) (w : World) (result : Result T StoreFault) (value : T)
+    (next : World) : Type 0 where
   pub answer : IfOk result (λ x. x ≡ value)
   pub ok : OnOk result (new.stands next)
   pub err : OnErr result (new.stands w)

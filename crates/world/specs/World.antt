@@ -27,7 +27,8 @@ text_cmp = slice_cmp nat_cmp
 
 -- the order of places: by shelf, then by path, then by version, each as a text
 abbrev pub place_cmp : Place → Place → Ordering
-place_cmp a b = ordering_then (text_cmp a.shelf b.shelf) (ordering_then (text_cmp a.path b.path) (text_cmp a.version b.version))
+place_cmp a b = ordering_then (text_cmp a.shelf b.shelf)
+    (ordering_then (text_cmp a.path b.path) (text_cmp a.version b.version))
 
 -- the place of a shelf, a path and a version
 abbrev pub place : List ℕ → List ℕ → List ℕ → Place

@@ -5,7 +5,8 @@ use Rattle.control.proofs.TurnLemmas.{turns_none}
 use Rattle.control.proofs.obeying.hear.Goals as goal
 
 pub returns-in-Ok-clause-hears : goal.returns-in-Ok-clause-hears
-returns-in-Ok-clause-hears g c = hears_line _ _ _ _ _ _ _ _ c.in-Ok.ensures.reads (rw c.deref.ensures.value at c.heed.ensures.heeds)
+returns-in-Ok-clause-hears g c =
+    hears_line _ _ _ _ _ _ _ _ c.in-Ok.ensures.reads (rw c.deref.ensures.value at c.heed.ensures.heeds)
 
 pub returns-in-Err-Io-clause-hears : goal.returns-in-Err-Io-clause-hears
 returns-in-Err-Io-clause-hears g c = (refl, turns_none _)

@@ -7,7 +7,8 @@ use Rattle.control.proofs.HearingLemmas.{obeys_told, obeys_unread}
 use Rattle.control.proofs.obeying.obey.Goals as goal
 
 pub returns-in-Err-clause-obeys : goal.returns-in-Err-clause-obeys
-returns-in-Err-clause-obeys g c = obeys_unread _ _ _ _ _ _ _ _ _ c.in-Err.ensures.hears.0 c.in-Err.ensures.hears.1 (Keeps-refl _)
+returns-in-Err-clause-obeys g c =
+    obeys_unread _ _ _ _ _ _ _ _ _ c.in-Err.ensures.hears.0 c.in-Err.ensures.hears.1 (Keeps-refl _)
 
 pub returns-in-Ok-tell_line-clause-obeys : goal.returns-in-Ok-tell_line-clause-obeys
 returns-in-Ok-tell_line-clause-obeys g c =

@@ -3,7 +3,8 @@ use Rattle.control.proofs.PingLemmas.{pings_counted, tells_counted}
 use Rattle.control.proofs.pinging.ping.Goals as goal
 
 pub returns-in-Ok-clause-pings : goal.returns-in-Ok-clause-pings
-returns-in-Ok-clause-pings g c = pings_counted _ g.K.Copies.counted c.args.tally.now c.args.shelves.now c.versions.new.shelves _ _
+returns-in-Ok-clause-pings g c =
+    pings_counted _ g.K.Copies.counted c.args.tally.now c.args.shelves.now c.versions.new.shelves _ _
     c.in-Ok.ensures.reads (refl, c.failures.ensures, c.in-Ok.ensures.counted) c.tell.ensures
 
 pub returns-in-Ok-clause-figures : goal.returns-in-Ok-clause-figures

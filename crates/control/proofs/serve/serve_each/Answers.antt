@@ -18,14 +18,15 @@ loop-preserved g c =
     let left_is = c.if-left-eq0.false in
     let holds = c.loop.invariant in
     elim c.match-next.branch [
-      | in-Ok-Operator+else-ends w ↦ rw (w.left-is, w.watched-is, w.tally-is, w.errors-is, w.tell_next.ensures.same) (record {
-        some = holds.some;
-        notes = notices_more _ _ _ holds.notes w.tell_next.ensures.notes;
-        all = each_operator _ _ _ _ _ _ _ _ _ _ _ _ _ _ _ _ _ _ _ holds.all _ _
-            (rw w.in-Ok-Operator.field-0-is at w.in-Ok-Operator.ensures.takes)
-            (rw w.in-Ok-Operator.field-0-is at w.in-Ok-Operator.ensures.fresh) w.obey_on-ends.ensures w.if-ends.false
-            (omega arith);
-      })
+      | in-Ok-Operator+else-ends w ↦
+          rw (w.left-is, w.watched-is, w.tally-is, w.errors-is, w.tell_next.ensures.same) (record {
+            some = holds.some;
+            notes = notices_more _ _ _ holds.notes w.tell_next.ensures.notes;
+            all = each_operator _ _ _ _ _ _ _ _ _ _ _ _ _ _ _ _ _ _ _ holds.all _ _
+                (rw w.in-Ok-Operator.field-0-is at w.in-Ok-Operator.ensures.takes)
+                (rw w.in-Ok-Operator.field-0-is at w.in-Ok-Operator.ensures.fresh) w.obey_on-ends.ensures w.if-ends.false
+                (omega arith);
+          })
       | in-Ok-Peer w ↦ rw (
         w.left-is,
         w.watched-is,

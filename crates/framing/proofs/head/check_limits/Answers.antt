@@ -3,6 +3,7 @@ use Rattle.framing.proofs.HeadLemmas.{never_from_long, never_from_encoded, never
 use Rattle.framing.proofs.StreamLemmas.{bad_head, too_large_ends}
 use Rattle.framing.proofs.head.check_limits.Goals as goal
 use Rattle.framing.proofs.head.check_limits.Goals.{then-spans-gt-HEAD_LIMIT-via-then-spans-gt-HEAD_LIMIT}
+use Rattle.framing.proofs.head.check_limits.Goals.{}
 use Rattle.framing.proofs.head.check_limits.Goals.{then-spans-gt-HEAD_LIMIT-via-else-spans-gt-HEAD_LIMIT+then-is_encoded}
 
 pub returns-then-spans-gt-HEAD_LIMIT : goal.returns-then-spans-gt-HEAD_LIMIT

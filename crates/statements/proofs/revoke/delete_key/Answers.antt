@@ -16,7 +16,8 @@ returns-in-Err-clause-changes g c opened w =
     let new = state g.S.Store c.execute.new.self in
     let token = c.args.token.now in
     let ran = rw c.params-to_sql.ensures at c.in-Err.ensures in
-    failed_changes _ (revoke_params token) (Delete 2 (keys_by by_token)) refl (refl, refl) (deleting 2 (keys_by by_token)) old new
+    failed_changes _ (revoke_params token) (Delete 2 (keys_by by_token)) refl (refl, refl)
+    (deleting 2 (keys_by by_token)) old new
     (g.met.S.Store.settled c.args.conn.now.store) opened w (without_key w token) (revoke_turns w token old) ran.survives
     c.in-Err.error ran.runs
 
@@ -27,6 +28,7 @@ returns-in-Ok-clause-changes g c opened w =
     let new = state g.S.Store c.execute.new.self in
     let token = c.args.token.now in
     let ran = rw c.params-to_sql.ensures at c.in-Ok.ensures in
-    done_changes _ (revoke_params token) (Delete 2 (keys_by by_token)) refl (refl, refl) (deleting 2 (keys_by by_token)) old new
+    done_changes _ (revoke_params token) (Delete 2 (keys_by by_token)) refl (refl, refl) (deleting 2 (keys_by by_token))
+    old new
     (g.met.S.Store.settled c.execute.new.self.store) opened w (without_key w token) (revoke_turns w token old)
     ran.survives c.in-Ok.field-0 ran.runs

@@ -16,8 +16,10 @@ returns-in-Err-clause-changes g c opened w =
     let new = state g.S.Store c.execute.new.self in
     let shelf = c.args.shelf.now in
     let ran = rw c.params-to_sql.ensures at c.in-Err.ensures in
-    failed_changes _ (revoke_params shelf) (Delete 2 (keys_by by_shelf)) refl (refl, refl) (deleting 2 (keys_by by_shelf)) old new
-    (g.met.S.Store.settled c.args.conn.now.store) opened w (without_keys_on w shelf) (revoke_all_turns w shelf old) ran.survives
+    failed_changes _ (revoke_params shelf) (Delete 2 (keys_by by_shelf)) refl (refl, refl)
+    (deleting 2 (keys_by by_shelf)) old new
+    (g.met.S.Store.settled c.args.conn.now.store) opened w (without_keys_on w shelf) (revoke_all_turns w shelf old)
+    ran.survives
     c.in-Err.error ran.runs
 
 pub returns-in-Ok-clause-changes : goal.returns-in-Ok-clause-changes
@@ -27,6 +29,7 @@ returns-in-Ok-clause-changes g c opened w =
     let new = state g.S.Store c.execute.new.self in
     let shelf = c.args.shelf.now in
     let ran = rw c.params-to_sql.ensures at c.in-Ok.ensures in
-    done_changes _ (revoke_params shelf) (Delete 2 (keys_by by_shelf)) refl (refl, refl) (deleting 2 (keys_by by_shelf)) old new
+    done_changes _ (revoke_params shelf) (Delete 2 (keys_by by_shelf)) refl (refl, refl) (deleting 2 (keys_by by_shelf))
+    old new
     (g.met.S.Store.settled c.execute.new.self.store) opened w (without_keys_on w shelf) (revoke_all_turns w shelf old)
     ran.survives c.in-Ok.field-0 ran.runs

@@ -21,7 +21,8 @@ returns-then-is_none-clause-changes g c =
     let old = state g.S.Store c.args.conn.now in
     let new = state g.S.Store c.find_shelf.new.conn in
     let shelf = c.args.shelf.now in
-    refused old new (with_keys_revoked shelf) (g.met.S.Store.settled c.find_shelf.new.conn.store) c.find_shelf.ensures.spares
+    refused old new (with_keys_revoked shelf) (g.met.S.Store.settled c.find_shelf.new.conn.store)
+    c.find_shelf.ensures.spares
     (λ clean w stands.
     let h = c.in_ok-find_shelf.ensures.answer clean w stands in
     let free : map.contains_key w.shelves shelf ≡ false = sym (ap is_some h.2)
@@ -39,7 +40,8 @@ returns-clause-changes g c =
     let h = c.in_ok-find_shelf.ensures.answer (was_clean mid new c.delete_keys.ensures.clean clean) w stands in
     let there : map.contains_key w.shelves shelf ≡ true = sym (ap is_some h.2)
     ∙ (c.is_none.ensures ∙ ap not c.if-is_none.false) in
-    subst (ChangesAt mid new true w) (sym (shelf_emptied w shelf there)) (c.in_ok-delete_keys.ensures.changes (λ _. h.1) w))
+    subst (ChangesAt mid new true w) (sym (shelf_emptied w shelf there))
+    (c.in_ok-delete_keys.ensures.changes (λ _. h.1) w))
 
 pub returns-in_err-delete_keys-clause-changes : goal.returns-in_err-delete_keys-clause-changes
 returns-in_err-delete_keys-clause-changes g c =

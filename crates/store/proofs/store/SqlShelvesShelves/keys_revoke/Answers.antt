@@ -6,7 +6,8 @@ use Rattle.store.proofs.store.SqlShelvesShelves.keys_revoke.Goals as goal
 pub returns : goal.returns
 returns g c =
     record {
-      does = changes (state g.S.Store c.args.self.now.conn) (state g.S.Store c.revoke_keys.new.conn) c.args.self.now.kept
+      does = changes (state g.S.Store c.args.self.now.conn) (state g.S.Store c.revoke_keys.new.conn)
+          c.args.self.now.kept
           (record c.args.self.now.kept { keys = c.no_keys.result }) c.args.self.now.failures _ c.revoke_keys.result
           c.counted.result _ _ _ c.counted.ensures c.revoke_keys.ensures.changes.clean
           (λ clean w stands _. (

@@ -1,1 +1,2 @@
 pub mod MeanwhileLemmas
+pub mod NotedLemmas

@@ -1,1 +1,2 @@
 pub mod Meanwhile
+pub mod Noted

@@ -54,10 +54,10 @@ use Rattle.tables.specs.Means.{Means, IsAt}
 use Rattle.tables.specs.Schema.{store_schema, version_table}
 use Rattle.tables.proofs.Maps.{none_in_empty, put_splits}
 use Rattle.tables.proofs.ValueLemmas.{equals_itself, fresh_before}
-use Rattle.statements.specs.Added.{AddsZip, HasAdded, version_row}
+use Rattle.statements.specs.Added.{AddsZip, AddsUpTo, HasAdded, version_row}
 use Rattle.statements.specs.Reading.{IsZip}
 use Rattle.statements.specs.Rows.{Filling, Writing, PutsVersion}
-use Rattle.statements.proofs.AddZipLemmas.{AddsUpTo, adds_nothing}
+use Rattle.statements.proofs.AddZipLemmas.{adds_nothing}
 use Rattle.statements.proofs.DifferLemmas.{differ_is}
 use Rattle.statements.proofs.RowLemmas.{writing_of}
 use Rattle.statements.proofs.TransactionLemmas.{entry_means}

@@ -15,12 +15,11 @@ use Rattle.tables.specs.Inserted.{Inserted}
 use Rattle.tables.specs.Means.{Stands, StandFor}
 use Rattle.tables.specs.Pieces.{HasPiece, piece}
 use Rattle.tables.specs.Schema.{version_table}
-use Rattle.statements.specs.Added.{AddsZip, version_row}
+use Rattle.statements.specs.Added.{AddsZip, AddsUpTo, version_row}
 use Rattle.statements.specs.Extract.{ShowsVersion}
 use Rattle.statements.specs.Reading.{IsZip}
 use Rattle.statements.specs.Rows.{Filling, Writing}
 use Rattle.statements.specs.declared.extract_rows.CopyError.{CopyError}
-use Rattle.statements.proofs.AddZipLemmas.{AddsUpTo}
 use Rattle.slices.specs.declared.cursor.Cursor.{Cursor}
 use Rattle.slices.specs.declared.versions.Version.{Version}
 

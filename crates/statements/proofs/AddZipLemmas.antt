@@ -15,7 +15,7 @@ use Rattle.tables.specs.Schema.{piece_table}
 use Rattle.tables.specs.Pieces.{piece_size, begin, HasPiece, piece}
 use Rattle.tables.specs.Means.{IsEachPieceOnce}
 use Rattle.statements.specs.Rows.{AddsRows, IsElseSame, PutsPiece, piece_of, piece_read}
-use Rattle.statements.specs.Added.{AddsZip, piece_values}
+use Rattle.statements.specs.Added.{AddsZip, AddsUpTo, piece_values}
 use Rattle.statements.proofs.RowLemmas.{adds_one, adds_none, adds_then, adds_as, else_itself, else_then, read_columns}
 use Rattle.statements.proofs.TabulateLemmas.{put_apart}
 
@@ -60,13 +60,6 @@ rest_cut zip rest n is =
     ]
 
 -- ---- up to a number
-
--- a row is put in for each piece of the zip that is numbered below this
-pub record AddsUpTo (id : ℤ) (zip : List ℕ) (k : ℕ) (db after : Trees) : Type 0 where
-  pub pieces : AddsRows piece_read (λ values. (n : ℕ) × (n < k) × HasPiece zip n × (values ≡ piece_values id zip n))
-      (db 8) (after 8)
-  pub once : ((row : Row) → Has (db 8) row → column row 1 ≢ Int id) → IsEachPieceOnce (db 8) → IsEachPieceOnce (after 8)
-  pub tables : IsElseSame piece_table db after
 
 pub adds_nothing : (id : ℤ) (zip : List ℕ) (db : Trees) → AddsUpTo id zip 0 db db
 adds_nothing id zip db = record {

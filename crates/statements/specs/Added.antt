@@ -1,5 +1,5 @@
 -- What the tables become when the rows of an entry are put in.
-use Rattle.std.specs.Prelude.{◌≡◌, ◌≢◌, ℕ, ℤ, pos, List, [], ◌∷◌, Option, IfSome}
+use Rattle.std.specs.Prelude.{◌≡◌, ◌≢◌, ◌<◌, ℕ, ℤ, pos, List, [], ◌∷◌, Option, IfSome}
 use Rattle.sqlite.specs.declared.types.Value.TheVariants.{Null, Int, Text, Blob}
 use Rattle.sqlite.specs.Order.{Row, column}
 use Rattle.sqlite.specs.Values.{or_null}
@@ -33,6 +33,14 @@ pub record AddsZip (id : ℤ) (zip : List ℕ) (db after : Trees) : Type 0 where
   pub pieces : AddsRows piece_read
       (λ values. (n : ℕ) × HasPiece zip n × (values ≡ piece_values id zip n)) (db piece_table.tree)
       (after piece_table.tree)
+  pub once : ((row : Row) → Has (db piece_table.tree) row → column row 1 ≢ Int id)
+      → IsEachPieceOnce (db piece_table.tree) → IsEachPieceOnce (after piece_table.tree)
+  pub tables : IsElseSame piece_table db after
+
+-- of the pieces of the zip, those that are numbered below this are put in
+pub record AddsUpTo (id : ℤ) (zip : List ℕ) (k : ℕ) (db after : Trees) : Type 0 where
+  pub pieces : AddsRows piece_read (λ values. (n : ℕ) × (n < k) × HasPiece zip n × (values ≡ piece_values id zip n))
+      (db piece_table.tree) (after piece_table.tree)
   pub once : ((row : Row) → Has (db piece_table.tree) row → column row 1 ≢ Int id)
       → IsEachPieceOnce (db piece_table.tree) → IsEachPieceOnce (after piece_table.tree)
   pub tables : IsElseSame piece_table db after

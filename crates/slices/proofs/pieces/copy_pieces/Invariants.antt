@@ -7,7 +7,7 @@ use Rattle.tables.specs.Means.{Stands}
 use Rattle.statements.specs.Calls.{Spares}
 use Rattle.statements.specs.Reading.{IsZip}
 use Rattle.statements.specs.Rows.{Filling, GoesOn}
-use Rattle.statements.proofs.AddZipLemmas.{AddsUpTo}
+use Rattle.statements.specs.Added.{AddsUpTo}
 use Rattle.slices.proofs.pieces.copy_pieces.Given as goal
 
 -- the source is as it was, and the pieces so far were put in

@@ -3,7 +3,7 @@ use Rattle.sqlite.specs.State.{HasCleanDisk}
 use Rattle.sqlite.specs.Held.{state}
 use Rattle.tables.specs.Pieces.{begin}
 use Rattle.statements.specs.Rows.{Filling, GoesOn}
-use Rattle.statements.proofs.AddZipLemmas.{AddsUpTo}
+use Rattle.statements.specs.Added.{AddsUpTo}
 use Rattle.statements.proofs.pieces.insert_zip.Given as goal
 
 abbrev pub invariant-loop-number : goal.invariant-loop-number

@@ -144,7 +144,8 @@ module _ (was : World → Type 0) (before : set.FinSet place_cmp) where
   lost_all false now w is = absurd (false≢true is)
 
   module _ (now later : set.FinSet place_cmp) (lost lost_new : Bool) (q : Place) (e : Entry) (w : World)
-      (notes : NotesPlace now later lost lost_new q) (room : IsRoomFor w q e) (noted : IsNoted lost was before now w) where
+      (notes : NotesPlace now later lost lost_new q) (room : IsRoomFor w q e)
+      (noted : IsNoted lost was before now w) where
     -- the place of an entry was noted, and the entry is there now
     pub noted_insert : IsNoted lost_new was before later (with_entry w q e)
     noted_insert = elim notes [

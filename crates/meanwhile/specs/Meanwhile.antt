@@ -11,18 +11,19 @@ abbrev pub IsSince : World → World → set.FinSet place_cmp → Type 0
 IsSince w later newcomers =
     (q : Place) → map.get w.entries q ≡ (if set.contains newcomers q then None else map.get later.entries q)
 
--- Of each world `at` that the store stood for before the turn, or of another one that it stood for then, a world is
--- left that is as late as it: what was since the newcomers before the turn is since those after it.
-pub record NotesAt (old new : Shown) (before after : set.FinSet place_cmp) (at : World) : Type 0 where
+-- Of a world that the store stood for before the turn, a world is left that is as late as it: what was since the
+-- newcomers before the turn is since those after it.
+pub record NotesOne (old new : Shown) (before after : set.FinSet place_cmp) : Type 0 where
   pub was : World
   pub stood : old.stands was
   pub later : World
   pub stands : new.stands later
   pub since : (w : World) → IsSince w was before → IsSince w later after
 
--- the places that were published in a turn are among the newcomers after it, if the disks are honest
+-- if the store stood for a world, the places that were published in a turn are among the newcomers after it, if the
+-- disks are honest
 abbrev pub Notes : Shown → Shown → set.FinSet place_cmp → set.FinSet place_cmp → Type 0
-Notes old new before after = new.is_honest → (w : World) → old.stands w → NotesAt old new before after w
+Notes old new before after = new.is_honest → (w : World) → old.stands w → NotesOne old new before after
 
 -- The store still stands for each world that it stood for, if a crash left one of two worlds, it still leaves one of
 -- the two, and no failure was counted.

@@ -15,7 +15,7 @@ from lib.messages import get, put, raw_replies, reply
 from lib.older import ORDER_KEY, RANK_KEY, SCHEMA_1, SCHEMA_2
 from lib.program import run, words_of
 from lib.scratch import in_new_folders, read, write
-from lib.servers import CONTROL, Server
+from lib.servers import CONTROL, NEW_STORE, Server
 from lib.stores import new_store
 from lib.suite import Suite
 from lib.tables import PIECE
@@ -86,8 +86,6 @@ WRONG_KEYS = {
 
 # names that are not opened as files: of a folder, and those that sqlite takes for something else
 NO_FILES = ("folder", ":memory:", "", "file:a.db")
-# what serve says of a store whose file is missing or empty
-NEW_STORE = "new store: the file of --db is missing or empty; without a key, each request gets a 404\n"
 
 
 def changed(name, sql):

@@ -12,6 +12,8 @@ from lib.program import PROGRAM
 # the socket for operators, in the folder of a suite
 CONTROL = "control"
 TIME = "2024-01-31T12:00:00Z"
+# what `serve` says of a file that is missing or empty
+NEW_STORE = "new store: the file of --db is missing or empty; without a key, each request gets a 404\n"
 
 
 class Server:

@@ -50,6 +50,7 @@ SUITES = (
     listed("control_sockets"),
     listed("copies", is_long=True),
     listed("departures", "go"),
+    listed("doctor"),
     listed("extract_full_disk"),
     listed("extracts"),
     listed("go_client", "go"),

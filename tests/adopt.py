@@ -12,13 +12,12 @@ import re
 import shutil
 import subprocess
 import sys
-import tempfile
 
 from lib.modules import escaped, h1, zipped
 from lib.pages import blocks
 from lib.program import PROGRAM, run
 from lib.repositories import ADOPT, KEY, READER, TIME, Room, module, shell
-from lib.scratch import write
+from lib.scratch import in_a_folder, write
 from lib.servers import Server
 from lib.stores import new_store
 from lib.suite import Suite
@@ -204,11 +203,5 @@ def session(folder):
     of_folders(room)
 
 
-def main():
-    with tempfile.TemporaryDirectory(prefix="goshelf-adopt-") as folder:
-        session(folder)
-    return SUITE.end()
-
-
 if __name__ == "__main__":
-    sys.exit(main())
+    sys.exit(in_a_folder(SUITE, session))

@@ -17,7 +17,7 @@ from lib.modules import escaped
 from lib.pages import blocks
 from lib.program import ROOT, run
 from lib.repositories import KEY, PUBLISH, READER, TIME, UNASKED, Repository, Room, code, greet_of, module, shell
-from lib.scratch import write
+from lib.scratch import in_a_folder, write
 from lib.servers import Server
 from lib.stores import new_store
 from lib.suite import Suite
@@ -287,11 +287,5 @@ def published(rows):
     }
 
 
-def main():
-    with tempfile.TemporaryDirectory(prefix="goshelf-publish-") as folder:
-        session(folder)
-    return SUITE.end()
-
-
 if __name__ == "__main__":
-    sys.exit(main())
+    sys.exit(in_a_folder(SUITE, session))

@@ -17,7 +17,7 @@ import threading
 import urllib.parse
 
 from lib.modules import escaped, sums, zipped
-from lib.peers import fetched
+from lib.peers import Quiet, fetched
 from lib.program import ROOT
 
 NAME, STORE = "proxy.golang.org", "storage.googleapis.com"
@@ -79,7 +79,7 @@ class NameServer(threading.Thread):
                 self.socket.sendto(query[:2] + b"\x81\x80\0\1\0\1\0\0\0\0" + query[12 : end + 5] + address, peer)
 
 
-class Handler(http.server.BaseHTTPRequestHandler):
+class Handler(Quiet):
     """A connection to the public proxy or to where it keeps its zips."""
 
     protocol_version = "HTTP/1.1"
@@ -111,9 +111,6 @@ class Handler(http.server.BaseHTTPRequestHandler):
     def reply(self, status, kind, body, *headers):
         self.head(status, ("Content-Type", kind), ("Content-Length", str(len(body))), *headers)
         self.wfile.write(body)
-
-    def log_message(self, *_):
-        pass
 
 
 class Listener(http.server.ThreadingHTTPServer):

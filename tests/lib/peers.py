@@ -74,15 +74,19 @@ class NoModules(http.server.ThreadingHTTPServer):
         threading.Thread(target=self.serve_forever, daemon=True).start()
 
 
-class NotFound(http.server.BaseHTTPRequestHandler):
+class Quiet(http.server.BaseHTTPRequestHandler):
+    """A connection to a server that prints nothing of what it is asked."""
+
+    def log_message(self, *_):
+        pass
+
+
+class NotFound(Quiet):
     """A connection to a proxy that has no module."""
 
     def do_GET(self):
         self.server.asked.append(self.path)
         self.send_error(404)
-
-    def log_message(self, *_):
-        pass
 
 
 def by_false_server(words, told):

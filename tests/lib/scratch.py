@@ -1,5 +1,6 @@
 """Folders and files of a suite's own, and disks that are small."""
 
+import contextlib
 import os
 import subprocess
 import tempfile
@@ -14,6 +15,17 @@ def mounted(at, size):
     )
 
 
+@contextlib.contextmanager
+def small_disk(at, size):
+    """Gives a folder a disk of a size, until the block ends. Yields whether this machine could."""
+    is_there = mounted(at, size)
+    try:
+        yield is_there
+    finally:
+        if is_there:
+            subprocess.run(["umount", at], check=True)
+
+
 def in_new_folders(suite, *parts):
     """Calls each part with the suite, in a new folder of its own, and ends the suite."""
     for part in parts:
@@ -21,6 +33,13 @@ def in_new_folders(suite, *parts):
             os.chdir(folder)
             part(suite)
             os.chdir("/")
+    return suite.end()
+
+
+def in_a_folder(suite, session):
+    """Calls a session with a new folder, and ends the suite."""
+    with tempfile.TemporaryDirectory(prefix="goshelf-") as folder:
+        session(folder)
     return suite.end()
 
 

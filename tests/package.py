@@ -1,312 +1,35 @@
 #!/usr/bin/env python3
-"""The release of tools/release: its files, and its Debian package under systemd.
+"""The Debian package of tools/release under systemd: it is installed, upgraded, removed and purged.
 
-It packs the program of this checkout, which `./goshelf --version` builds, or the one that GOSHELF names. The package is
-installed, upgraded, removed and purged. It goes to a copy of this machine: the same files under an overlay, with
-processes, a network and a systemd of its own. The copy vanishes with the suite, and the machine stays as it is. The
-commands that set goshelf up are those of docs/OPERATING.md, and those for a second shard of docs/DEPLOYMENTS.md.
+It goes to a copy of this machine, which vanishes with the suite, and the machine stays as it is. The commands that set
+goshelf up are those of docs/OPERATING.md, and those for a second shard of docs/DEPLOYMENTS.md.
 """
 
-import hashlib
 import os
 import re
-import shutil
 import subprocess
 import sys
-import tarfile
 import tempfile
 import time
 
 from lib.keys import KEY
-from lib.pages import block
-from lib.program import PROGRAM, ROOT
-from lib.scratch import read, write
+from lib.pages import block, read_page
+from lib.program import ROOT
+from lib.releases import about, lines_of, packed, release
+from lib.scratch import read
 from lib.suite import Suite
+from lib.systemd import Copy, groups
 
-RELEASE = os.path.join(ROOT, "tools", "release")
-VERSION = os.path.join(ROOT, "crates", "cli", "src", "version.rt")
 UNIT = os.path.join(ROOT, "deploy", "systemd", "goshelf.service")
-# files that a release has among others
-WANTED = {
-    "README.md",
-    "copyright",
-    "docs/OPERATING.md",
-    "docs/TROUBLE.md",
-    "docs/REFERENCE.md",
-    "bench/RESULTS.md",
-    "deploy/systemd/goshelf.service",
-    "deploy/warm/goshelf-warm",
-    "deploy/goshelf-paths",
-    "deploy/nginx/paths.map",
-    "deploy/nginx/elsewhere.conf",
-    "deploy/nginx/public.conf",
-    "tools/catalog",
-    "tools/catalog_lib/catalog.css",
-    "docs/catalog.png",
-}
 # the commands that the package installs
 DEPLOY = os.path.join(ROOT, "deploy")
 SCRIPTS = [it for at in ("", "warm") for it in os.listdir(os.path.join(DEPLOY, at)) if it.startswith("goshelf-")]
 COMMANDS = sorted(["goshelf", *SCRIPTS])
-# the settings of a command on the copy
-SETTINGS = [
-    "PATH=/usr/local/sbin:/usr/local/bin:/usr/sbin:/usr/bin:/sbin:/bin",
-    "DEBIAN_FRONTEND=noninteractive",
-    "LC_ALL=C",
-    "HOME=/root",
-]
 # the rating of systemd-analyze below which the unit has to stay
 SAFE = 2.5
-UNPROVED = "this program was built unproved, with a sanitizer"
 AT = "example.com/lib/@v"
 LEFT = "/etc/default/goshelf /var/lib/goshelf: shelves.db shelves.db-wal"
 KEPT = "goshelf: kept /var/lib/goshelf and the user goshelf. A purge with GOSHELF_REMOVE_DATA=yes removes both.\n"
-# Starts systemd over a copy of the files of this machine, with nothing that runs at boot, in the namespaces of
-# `unshare`.
-BOOT = """
-mount --make-rprivate /
-mount -t tmpfs tmpfs "$0"
-mkdir "$0/upper" "$0/work" "$0/root"
-mount -t overlay overlay -o "lowerdir=/,upperdir=$0/upper,workdir=$0/work" "$0/root"
-cd "$0/root"
-rm -rf usr/lib/systemd/system/*.wants etc/systemd/system/*.wants
-mount -t proc proc proc
-mount -t sysfs -o ro sysfs sys
-mount -t cgroup2 cgroup2 sys/fs/cgroup
-mount -t tmpfs tmpfs run
-mount -t tmpfs -o mode=755 tmpfs dev
-mkdir dev/pts dev/shm
-ln -s pts/ptmx dev/ptmx
-for it in null zero full random urandom; do touch "dev/$it"; mount --bind "/dev/$it" "dev/$it"; done
-pivot_root . mnt
-cd /
-umount -l mnt
-exec env -i container=other PATH=/usr/sbin:/usr/bin:/sbin:/bin /lib/systemd/systemd --unit=multi-user.target \
---show-status=no
-"""
-
-
-def groups():
-    """The folder of the control groups of version 2, or None."""
-    places = ("/sys/fs/cgroup/unified", "/sys/fs/cgroup")
-    return next((it for it in places if os.path.exists(f"{it}/cgroup.controllers")), None)
-
-
-class Copy:
-    """A copy of this machine that systemd runs."""
-
-    def __init__(self, folder, groups):
-        self.group = os.path.join(groups, os.path.basename(folder))
-        words = [
-            "unshare",
-            "--mount",
-            "--pid",
-            "--uts",
-            "--ipc",
-            "--net",
-            "--cgroup",
-            "--fork",
-            "--kill-child",
-            "sh",
-            "-euc",
-            BOOT,
-            folder,
-        ]
-        join = ["sh", "-euc", 'mkdir "$0"; echo $$ > "$0/cgroup.procs"; exec "$@"', self.group]
-        self.log = tempfile.TemporaryFile()
-        self.child = subprocess.Popen(
-            [*join, *words], stdin=subprocess.DEVNULL, stdout=self.log, stderr=self.log, start_new_session=True
-        )
-        self.first = None
-
-    def starts(self):
-        """Waits until systemd runs. Returns None then, and otherwise why it does not."""
-        for _ in range(600):
-            if self.child.poll() is not None:
-                self.log.seek(0)
-                return self.log.read().decode(errors="replace").strip()[-300:] or "it ended"
-            with open(f"/proc/{self.child.pid}/task/{self.child.pid}/children", encoding="ascii") as file:
-                self.first = file.read().strip() or None
-            if self.first and self.sh("systemctl is-system-running")[1] in ("running\n", "degraded\n"):
-                return None
-            time.sleep(0.1)
-        return "systemd did not come up in a minute"
-
-    def sh(self, script, **settings):
-        """Runs a script on the copy, as root. Returns its exit status, and what it prints on standard output and on
-        standard error."""
-        spaces = ["--mount", "--pid", "--uts", "--ipc", "--net", "--cgroup", "--root", "--wd"]
-        env = ["env", "-i", "--chdir=/", *SETTINGS, *(f"{name}={value}" for name, value in settings.items())]
-        words = ["nsenter", "--target", self.first, *spaces, *env, "sh", "-euc", script]
-        ran = subprocess.run(
-            words, stdin=subprocess.DEVNULL, capture_output=True, text=True, errors="replace", timeout=120
-        )
-        return ran.returncode, ran.stdout, ran.stderr
-
-    def prints(self, script):
-        """What a script prints on the copy, whatever its status, on one line."""
-        return " ".join(self.sh(f"set +e\n{script}")[1].split())
-
-    def put(self, file):
-        """Copies a file to the copy, and returns its name there."""
-        name = os.path.basename(file)
-        shutil.copyfile(file, f"/proc/{self.first}/root/root/{name}")
-        return f"/root/{name}"
-
-    def close(self):
-        """Ends all that runs on the copy, and takes its group away."""
-        if self.first:
-            os.kill(int(self.first), 9)
-        self.child.kill()
-        self.child.wait()
-        self.log.close()
-        for _ in range(100):
-            groups = [at for at, _, _ in os.walk(self.group, topdown=False)]
-            if not groups:
-                return
-            for at in groups:
-                try:
-                    os.rmdir(at)
-                except OSError:
-                    time.sleep(0.05)
-
-
-def lines_of(text):
-    """The lines `name: value` of a text."""
-    return dict(line.split(": ", 1) for line in text.splitlines() if ": " in line)
-
-
-def released(suite, folder):
-    """Makes a release twice, and returns the names of its tar file and its package."""
-    names = {}
-    for way in ("one", "two"):
-        ran = subprocess.run([RELEASE, "--program", PROGRAM, "--to", f"{folder}/{way}"], capture_output=True, text=True)
-        if not suite.holds(f"a release is made ({way})", ran.returncode == 0, ran.stderr):
-            return None
-        names[way] = {
-            it: hashlib.sha256(read(f"{folder}/{way}/{it}")).hexdigest() for it in sorted(os.listdir(f"{folder}/{way}"))
-        }
-    suite.equal("a second one has the same bytes", names["two"], names["one"])
-    sums = "".join(f"{names['one'][it]}  {it}\n" for it in sorted(names["one"]) if it != "SHA256SUMS")
-    suite.equal("SHA256SUMS has the sum of each file", read(f"{folder}/one/SHA256SUMS").decode(), sums)
-    tar, package = (
-        next(f"{folder}/one/{it}" for it in names["one"] if it.endswith(end)) for end in (".tar.gz", ".deb")
-    )
-    return tar, package
-
-
-def unpacked(suite, tar, folder):
-    """Looks at the files of a release, and returns what it says of itself."""
-    with tarfile.open(tar) as held:
-        members = held.getmembers()
-        held.extractall(f"{folder}/tar", filter="tar")
-    top = os.path.basename(tar).removesuffix(".tar.gz")
-    at = f"{folder}/tar/{top}"
-    suite.equal("it unpacks into one folder", [it.name for it in members if it.name.split("/")[0] != top], [])
-    suite.equal("its files are root's", {(it.uid, it.gid, it.mode & 0o22) for it in members}, {(0, 0, 0)})
-    suite.equal(
-        "its sums are right", subprocess.run(["sha256sum", "--quiet", "-c", "SHA256SUMS"], cwd=at).returncode, 0
-    )
-    summed = {line.split("  ./", 1)[1] for line in read(f"{at}/SHA256SUMS").decode().splitlines()}
-    files = {os.path.relpath(os.path.join(where, it), at) for where, _, them in os.walk(at) for it in them}
-    suite.equal("each file has a sum", files - summed, {"SHA256SUMS"})
-    suite.holds("it has the program", read(f"{at}/goshelf") == read(PROGRAM))
-    suite.equal("it has the pages and the unit", WANTED - files, set())
-    about = lines_of(read(f"{at}/BUILD").decode())
-    commit = subprocess.run(["git", "rev-parse", "HEAD"], cwd=ROOT, capture_output=True, text=True).stdout.strip()
-    suite.equal("BUILD names the commit", about["commit"], commit)
-    suite.equal("BUILD says what was gated", (about["gate"], about["suites"]), ("not run", "not run"))
-    form = rf"[\d.]+\+git\d{{14}}\.{commit[:12]}~ungated"
-    suite.holds("the version names the commit", re.fullmatch(form, about["version"]), about["version"])
-    return about
-
-
-def is_instrumented():
-    """Whether the program is one that `rt try` built, with a sanitizer. It needs more libraries."""
-    return b"AddressSanitizer" in read(PROGRAM)
-
-
-def needs(suite, about):
-    """The libraries of the program."""
-    libraries, _, glibc = about["libraries"].partition(", of ")
-    suite.holds(f"docs/OPERATING.md names {glibc}", glibc in read(os.path.join(ROOT, "docs", "OPERATING.md")).decode())
-    if is_instrumented():
-        suite.skip("the program needs the C library alone", UNPROVED)
-    else:
-        suite.equal("the program needs the C library alone", libraries, "libc.so.6")
-
-
-# Stands in for `rt`: its `ci` makes a program that prints VERSION, and otherwise the version of the tree.
-GATE = """#!/bin/sh
-[ "$1" = ci ] || exec echo a kit
-version=${VERSION:-$(sed -n 's/.*"\\(.*\\)".*/\\1/p' crates/cli/src/version.rt)}
-mkdir -p crates/goshelf/out
-printf '#include <stdio.h>\\nint main(void) { puts("goshelf %s"); }\\n' "$version" | cc -x c -o \
-crates/goshelf/out/goshelf -
-echo $GATE
-"""
-
-
-def gated(suite, folder):
-    """Without --program the gate and the suites decide. Here they are scripts that print what they are told."""
-    clone, path = f"{folder}/clone", f"{folder}/bin:{os.environ['PATH']}"
-    subprocess.run(["git", "clone", "-q", ROOT, clone], check=True)
-    os.mkdir(f"{folder}/bin")
-    for at, text in ((f"{folder}/bin/rt", GATE), (f"{clone}/tests/all", '#!/bin/sh\neval "$WHILE"\necho $SUITES\n')):
-        write({at: text})
-        os.chmod(at, 0o755)
-    for it in (RELEASE, VERSION):
-        shutil.copy2(it, f"{clone}/{os.path.relpath(it, ROOT)}")
-
-    def release(*words, **settings):
-        env = {
-            **os.environ,
-            "PATH": path,
-            "LC_ALL": "C",
-            "GATE": "59 passed, 0 failed",
-            "SUITES": "9 passed, 0 failed, 1 skipped",
-            **settings,
-        }
-        ran = subprocess.run(
-            [f"{clone}/tools/release", *words], cwd=clone, capture_output=True, text=True, timeout=300, env=env
-        )
-        return ran.returncode, ran.stderr
-
-    differs = "files differ from the commit: commit or remove them first"
-    suite.equal("a release of changed files", release(), (1, f"tools/release: {differs}\n"))
-    user = ["-c", "user.name=release", "-c", "user.email=release@localhost"]
-    subprocess.run(["git", "add", "-A"], cwd=clone, check=True)
-    subprocess.run(["git", *user, "commit", "-qm", "scripts"], cwd=clone, check=True)
-    for name, words, settings, said in (
-        ("--program without a name", ["--program"], {}, "tools/release: --program needs a name\n"),
-        ("a program that does not exist", ["--program", "/none"], {}, "realpath: /none: No such file or directory\n"),
-        ("a gate that failed", [], {"GATE": "58 passed, 1 failed"}, "tools/release: no release: rt ci\n"),
-        ("a suite that failed", [], {"SUITES": "8 passed, 1 failed"}, "tools/release: no release: tests/all\n"),
-        ("a gate that says nothing", [], {"GATE": ""}, "tools/release: no release: rt ci\n"),
-        (
-            "a suite that changes a file",
-            [],
-            {"WHILE": "echo >> README.md"},
-            "tools/release: the gate or the suites changed files\n",
-        ),
-        ("a program of another version", [], {"VERSION": "0.1.0"}, "tools/release: the program has another version\n"),
-    ):
-        suite.equal(f"a release with {name}", release(*words, **settings), (1, said))
-    suite.holds("a refused release writes nothing", not os.path.exists(f"{clone}/out"))
-    if not suite.equal("a release of what passed", release(), (0, "")):
-        return
-    tar = next(it for it in os.listdir(f"{clone}/out") if it.endswith(".tar.gz"))
-    with tarfile.open(f"{clone}/out/{tar}") as held:
-        held.extractall(f"{folder}/gated", filter="tar")
-    at = f"{folder}/gated/{tar.removesuffix('.tar.gz')}"
-    about = lines_of(read(f"{at}/BUILD").decode())
-    found = about["kit"], about["gate"], about["suites"], about["version"].endswith("~ungated")
-    suite.equal("its BUILD", found, ("a kit", "59 passed, 0 failed", "9 passed, 0 failed, 1 skipped", False))
-    printed = subprocess.run([f"{at}/goshelf", "--version"], capture_output=True, text=True).stdout
-    suite.equal("its program prints its version", printed, f"goshelf {about['version']}\n")
-    commit = subprocess.run(["git", "rev-parse", "HEAD"], cwd=clone, capture_output=True, text=True).stdout.strip()
-    suite.holds("which names the commit", about["commit"] == commit and about["version"].endswith(commit[:12]), about)
-    suite.equal("the checkout stays as it was", read(f"{clone}/{os.path.relpath(VERSION, ROOT)}"), read(VERSION))
 
 
 def rated(suite):
@@ -334,13 +57,7 @@ def later(package, folder):
 
 def commands(first):
     """The shell commands of docs/OPERATING.md of the block that has these words."""
-    found = [
-        it
-        for it in re.findall(r"```sh\n(.*?)```", read(os.path.join(ROOT, "docs", "OPERATING.md")).decode(), re.S)
-        if first in it
-    ]
-    assert len(found) == 1, (first, len(found))
-    return found[0]
+    return block("sh", first, "OPERATING.md")
 
 
 def ask(copy, rest, port=8080, how=""):
@@ -482,6 +199,7 @@ def by_socket(suite, copy):
     suite.holds("none is refused", not any(it.endswith(" 7") for it in told), sorted({*told}))
     suite.holds("at most those in hand are lost", len(told) - told.count("200 0") <= 4, sorted({*told}))
     stopped(suite, copy)
+    by_scripts(suite, copy)
     undo = (
         "systemctl disable --now goshelf.socket; systemctl stop goshelf; rm -r /etc/systemd/system/goshelf.s*;"
         " systemctl daemon-reload"
@@ -492,6 +210,7 @@ def by_socket(suite, copy):
     )
 
 
+ARE_ACTIVE, BOTH = "systemctl is-active goshelf goshelf.socket", ("active active", "v1.0.0 200")
 # Takes the place of `cat`, by which the user of the store copies a file of it: a connection comes before each copy, and
 # how it ends is noted. (curl's 7 says that it was refused.)
 COPYING = """: > /tmp/during
@@ -507,47 +226,50 @@ chmod 755 /usr/local/bin/cat"""
 
 
 def stopped(suite, copy):
-    """While systemd holds the port, a connection starts a goshelf that was stopped alone; the word of the page and
-    the scripts stop the port too."""
-    are = "systemctl is-active goshelf goshelf.socket"
+    """While systemd holds the port, a connection starts a goshelf that was stopped alone; the word of the page and a
+    removal stop the port too."""
     copy.sh("systemctl stop goshelf")
     answer = ask(copy, f"{AT}/list")
     # (it answers a moment before systemd has heard that it does)
     copy.sh("for it in $(seq 100); do ! systemctl is-active -q goshelf || exit 0; sleep 0.1; done")
-    told = answer, copy.prints(are)
+    told = answer, copy.prints(ARE_ACTIVE)
     suite.equal("a connection starts a goshelf that was stopped", told, ("v1.0.0 200", "active active"))
-    page = read(os.path.join(ROOT, "docs", "OPERATING.md")).decode()
     word = "systemctl stop goshelf.socket goshelf"
-    suite.holds("the page has a word for both", f"`{word}`" in page)
+    suite.holds("the page has a word for both", f"`{word}`" in read_page("OPERATING.md"))
     connect = "curl -s http://127.0.0.1:8080/ || echo $?"
     for name, script in (("that word", word), ("a removal", "/var/lib/dpkg/info/goshelf.prerm remove")):
         status, printed, errors = copy.sh(f"{script}\n{connect}")
         suite.equal(
             f"{name} stops both, and a connection starts neither",
-            (status, printed, errors, copy.prints(are)),
+            (status, printed, errors, copy.prints(ARE_ACTIVE)),
             (0, "7\n", "", "inactive inactive"),
         )
         suite.equal(
             f"a start after {name} starts both",
-            (copy.sh("systemctl start goshelf"), copy.prints(are), ask(copy, f"{AT}/list")),
-            ((0, "", ""), "active active", "v1.0.0 200"),
+            (copy.sh("systemctl start goshelf"), *both(copy)),
+            ((0, "", ""), *BOTH),
         )
+
+
+def both(copy):
+    """Whether goshelf and its port are active, and what a connection gets."""
+    return copy.prints(ARE_ACTIVE), ask(copy, f"{AT}/list")
+
+
+def by_scripts(suite, copy):
+    """The scripts stop the port too while they copy or change the store, and then both run again."""
     copy.sh(COPYING)
     suite.equal("a backup that stops goshelf prints nothing", copy.sh("goshelf-backup stop"), (0, "", ""))
     suite.equal("no connection starts it while files are copied", copy.prints("cat /tmp/during"), "7 7")
-    suite.equal("and then both run again", (copy.prints(are), ask(copy, f"{AT}/list")), ("active active", "v1.0.0 200"))
+    suite.equal("and then both run again", both(copy), BOTH)
     copy.sh("rm /usr/local/bin/cat")
     told = copy.sh("goshelf-restore --yes last")
     suite.holds("a restore ends well", told[0] == 0 and "lacks 0 versions" in told[1], told)
     suite.equal("its files are goshelf's", copy.prints("stat -c '%U %a' /var/lib/goshelf/shelves.db"), "goshelf 600")
-    suite.equal(
-        "and both run again after it", (copy.prints(are), ask(copy, f"{AT}/list")), ("active active", "v1.0.0 200")
-    )
+    suite.equal("and both run again after it", both(copy), BOTH)
     told = copy.sh("goshelf-forget --yes alpha example.com/lib v9.9.9")
     suite.holds("nothing to take out", told[0] == 1 and "Nothing was taken out" in told[2], told)
-    suite.equal(
-        "and both run again after that", (copy.prints(are), ask(copy, f"{AT}/list")), ("active active", "v1.0.0 200")
-    )
+    suite.equal("and both run again after that", both(copy), BOTH)
     copy.sh("rm -r /var/backups/goshelf /var/lib/goshelf/aside-*")
 
 
@@ -628,34 +350,28 @@ def upgraded(suite, copy, first, second, version):
         ("an upgrade", over, f"{version}.later"),
         ("the way back", back, version),
     ):
-        before = first_process(copy)
         for word, file in names.items():
             script = script.replace(word, file)
-        status, printed, errors = copy.sh(f"cd /root\n{script}")
-        suite.holds(
-            f"{name}: the commands of the page end well",
-            status == 0 and "error" not in errors.lower(),
-            (status, errors),
-        )
-        suite.equal(f"{name}: the version", copy.prints("dpkg-query -W -f '${Version}' goshelf"), wanted)
-        suite.equal(f"{name} restarts it", first_process(copy) not in (before, "0"), name != "a try")
-        suite.equal(f"{name} keeps settings and store", ask(copy, f"{AT}/list", 8181), "v1.0.0 200")
-        suite.holds(
-            f"{name}: what the new program sees", name != "a try" or "example.com/lib,v1.0.0,alpha," in printed, printed
-        )
-    suite.equal(
-        "the backup is there",
-        copy.prints("cut -d'|' -f 1-3 /var/backups/goshelf/2*/versions"),
-        "alpha|example.com/lib|v1.0.0",
-    )
+        step(suite, copy, name, script, wanted)
+    found = copy.prints("cut -d'|' -f 1-3 /var/backups/goshelf/2*/versions")
+    suite.equal("the backup is there", found, "alpha|example.com/lib|v1.0.0")
     copy.sh("systemctl stop goshelf")
     copy.sh(f"dpkg -i {old}")
-    suite.equal(
-        "one that was stopped stays so",
-        copy.prints("systemctl is-active goshelf; systemctl is-enabled goshelf"),
-        "inactive enabled",
-    )
+    found = copy.prints("systemctl is-active goshelf; systemctl is-enabled goshelf")
+    suite.equal("one that was stopped stays so", found, "inactive enabled")
     copy.sh("systemctl start goshelf; rm -r /var/backups/goshelf")
+
+
+def step(suite, copy, name, script, wanted):
+    """A step of an upgrade, and the version that is installed then. All but a try restart goshelf."""
+    is_try, before = name == "a try", first_process(copy)
+    status, printed, errors = copy.sh(f"cd /root\n{script}")
+    is_right = status == 0 and "error" not in errors.lower()
+    suite.holds(f"{name}: the commands of the page end well", is_right, (status, errors))
+    suite.equal(f"{name}: the version", copy.prints("dpkg-query -W -f '${Version}' goshelf"), wanted)
+    suite.equal(f"{name} restarts it", first_process(copy) not in (before, "0"), not is_try)
+    suite.equal(f"{name} keeps settings and store", ask(copy, f"{AT}/list", 8181), "v1.0.0 200")
+    suite.holds(f"{name}: what the new program sees", not is_try or "example.com/lib,v1.0.0,alpha," in printed, printed)
 
 
 def by_apt(copy, words, **settings):
@@ -745,11 +461,10 @@ def main():
     suite = Suite()
     with tempfile.TemporaryDirectory(prefix="goshelf-package-") as folder:
         rated(suite)
-        gated(suite, folder)
-        if made := released(suite, folder):
-            about = unpacked(suite, made[0], folder)
-            needs(suite, about)
-            on_a_copy(suite, *made, about["version"], folder)
+        why = release(f"{folder}/release")
+        assert not why, why
+        tar, package = packed(f"{folder}/release")
+        on_a_copy(suite, tar, package, about(tar)["version"], folder)
     return suite.end()
 
 

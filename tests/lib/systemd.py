@@ -1,0 +1,123 @@
+"""A copy of this machine, run by systemd: the same files under an overlay, with processes and a network of its own."""
+
+import os
+import shutil
+import subprocess
+import tempfile
+import time
+
+# the settings of a command on the copy
+SETTINGS = [
+    "PATH=/usr/local/sbin:/usr/local/bin:/usr/sbin:/usr/bin:/sbin:/bin",
+    "DEBIAN_FRONTEND=noninteractive",
+    "LC_ALL=C",
+    "HOME=/root",
+]
+# Starts systemd over a copy of the files of this machine, with nothing that runs at boot, in the namespaces of
+# `unshare`.
+BOOT = """
+mount --make-rprivate /
+mount -t tmpfs tmpfs "$0"
+mkdir "$0/upper" "$0/work" "$0/root"
+mount -t overlay overlay -o "lowerdir=/,upperdir=$0/upper,workdir=$0/work" "$0/root"
+cd "$0/root"
+rm -rf usr/lib/systemd/system/*.wants etc/systemd/system/*.wants
+mount -t proc proc proc
+mount -t sysfs -o ro sysfs sys
+mount -t cgroup2 cgroup2 sys/fs/cgroup
+mount -t tmpfs tmpfs run
+mount -t tmpfs -o mode=755 tmpfs dev
+mkdir dev/pts dev/shm
+ln -s pts/ptmx dev/ptmx
+for it in null zero full random urandom; do touch "dev/$it"; mount --bind "/dev/$it" "dev/$it"; done
+pivot_root . mnt
+cd /
+umount -l mnt
+exec env -i container=other PATH=/usr/sbin:/usr/bin:/sbin:/bin /lib/systemd/systemd --unit=multi-user.target \
+--show-status=no
+"""
+
+
+def groups():
+    """The folder of the control groups of version 2, or None."""
+    places = ("/sys/fs/cgroup/unified", "/sys/fs/cgroup")
+    return next((it for it in places if os.path.exists(f"{it}/cgroup.controllers")), None)
+
+
+class Copy:
+    """A copy of this machine that systemd runs."""
+
+    def __init__(self, folder, groups):
+        self.group = os.path.join(groups, os.path.basename(folder))
+        words = [
+            "unshare",
+            "--mount",
+            "--pid",
+            "--uts",
+            "--ipc",
+            "--net",
+            "--cgroup",
+            "--fork",
+            "--kill-child",
+            "sh",
+            "-euc",
+            BOOT,
+            folder,
+        ]
+        join = ["sh", "-euc", 'mkdir "$0"; echo $$ > "$0/cgroup.procs"; exec "$@"', self.group]
+        self.log = tempfile.TemporaryFile()
+        self.child = subprocess.Popen(
+            [*join, *words], stdin=subprocess.DEVNULL, stdout=self.log, stderr=self.log, start_new_session=True
+        )
+        self.first = None
+
+    def starts(self):
+        """Waits until systemd runs. Returns None then, and otherwise why it does not."""
+        for _ in range(600):
+            if self.child.poll() is not None:
+                self.log.seek(0)
+                return self.log.read().decode(errors="replace").strip()[-300:] or "it ended"
+            with open(f"/proc/{self.child.pid}/task/{self.child.pid}/children", encoding="ascii") as file:
+                self.first = file.read().strip() or None
+            if self.first and self.sh("systemctl is-system-running")[1] in ("running\n", "degraded\n"):
+                return None
+            time.sleep(0.1)
+        return "systemd did not come up in a minute"
+
+    def sh(self, script, **settings):
+        """Runs a script on the copy, as root. Returns its exit status, and what it prints on standard output and on
+        standard error."""
+        spaces = ["--mount", "--pid", "--uts", "--ipc", "--net", "--cgroup", "--root", "--wd"]
+        env = ["env", "-i", "--chdir=/", *SETTINGS, *(f"{name}={value}" for name, value in settings.items())]
+        words = ["nsenter", "--target", self.first, *spaces, *env, "sh", "-euc", script]
+        ran = subprocess.run(
+            words, stdin=subprocess.DEVNULL, capture_output=True, text=True, errors="replace", timeout=120
+        )
+        return ran.returncode, ran.stdout, ran.stderr
+
+    def prints(self, script):
+        """What a script prints on the copy, whatever its status, on one line."""
+        return " ".join(self.sh(f"set +e\n{script}")[1].split())
+
+    def put(self, file):
+        """Copies a file to the copy, and returns its name there."""
+        name = os.path.basename(file)
+        shutil.copyfile(file, f"/proc/{self.first}/root/root/{name}")
+        return f"/root/{name}"
+
+    def close(self):
+        """Ends all that runs on the copy, and takes its group away."""
+        if self.first:
+            os.kill(int(self.first), 9)
+        self.child.kill()
+        self.child.wait()
+        self.log.close()
+        for _ in range(100):
+            groups = [at for at, _, _ in os.walk(self.group, topdown=False)]
+            if not groups:
+                return
+            for at in groups:
+                try:
+                    os.rmdir(at)
+                except OSError:
+                    time.sleep(0.05)

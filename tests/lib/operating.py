@@ -2,13 +2,13 @@
 
 import os
 
+from lib.keys import KEYS
 from lib.messages import get
 from lib.pages import block
 from lib.program import answered, run
 from lib.stores import new_store
 
-ALPHA, READER, BETA, COMMON = "alphakey00000001", "alphareader00001", "betakey000000001", "commonkey0000001"
-GROUP, MEMBER = "platformkey00001", "gammakey00000001"
+ALPHA, READER, BETA, COMMON, GROUP, MEMBER = (KEYS[it] for it in "ARBCPM")
 SECRET = os.urandom(150_000)
 # shelf's key, path, version, and the zip
 PUBLISHED = [
@@ -61,6 +61,13 @@ def runs(machine):
 def copies(machine):
     """The good copies, the oldest first."""
     return sorted(it for it in os.listdir(f"{machine.folder}/var/backups/goshelf") if it.startswith("2"))
+
+
+def cron_lines(machine):
+    """The lines of the files that the blocks for cron write, run once or twice."""
+    return [
+        line for it in ("backup", "watch", "metrics") for line in machine.read(f"etc/cron.d/goshelf-{it}").splitlines()
+    ]
 
 
 def answers_of(file, *targets, key=ALPHA):

@@ -1,5 +1,7 @@
 """Stores in files, made by the program's commands."""
 
+import os
+
 from lib.keys import MEMBERS, PLATFORM
 from lib.program import done
 
@@ -12,6 +14,13 @@ def new_store(file, *shelves, groups=()):
         add_group(file, *group)
     for shelf in shelves:
         add_shelf(file, *shelf)
+
+
+def remove_store(file):
+    """Removes those of a store's files that are there."""
+    for name in (file, f"{file}-wal"):
+        if os.path.exists(name):
+            os.remove(name)
 
 
 def add_shelf(file, shelf, key, reader="", group=""):

@@ -16,7 +16,6 @@ from lib.company import DESK, FIRST, KEPT, equal, told_over_reloads
 from lib.modules import module
 from lib.pages import block
 from lib.ports import wait_until
-from lib.program import done
 from lib.scratch import play, read, write
 from lib.suite import Suite
 from lib.warm import BOTH, COPY, ELSEWHERE, HOME, NOT_WHOLE, PAGE, SECOND_WAY, WARM, Warm, publishes, store_of
@@ -54,6 +53,10 @@ def first_copy(suite, company):
     }
     suite.equal("only their owner may read them", set(modes.values()), {0})
     suite.equal("nothing is left at the first host", os.listdir(f"{company.first.folder}/var/backups/goshelf"), [])
+
+
+def answers_of_copy(suite, company):
+    """The copy's files come without the first host, for users alone; all else as the first host has it."""
     wanted = equal(suite, company, "a copy")
     begun = len(company.lines(FIRST, 0))
     kept = {it: answer for it, answer in wanted.items() if answer[0] == 200 and KEPT.search(it[1])}
@@ -135,62 +138,58 @@ def go_goes_on(suite, company):
         suite.skip("the go command while a host is down", "the machine has no go")
         return
     path, version, gomod, zipped = module("example.com/greet", "v1.0.0")
-    told = company.desk.ask(
-        WARM, "pub", f"/{path}/@v/{version}", "PUT", gomod + zipped, {"Mod-Length": str(len(gomod))}
-    )
+    lengths = {"Mod-Length": str(len(gomod))}
+    told = company.desk.ask(WARM, "pub", f"/{path}/@v/{version}", "PUT", gomod + zipped, lengths)
     suite.equal("a module for the go command", told[0], 201)
     company.copy()
+    settings, hosts = go_settings(company), f"/etc/netns/{company.hosts[DESK].namespace}/hosts"
+    names = read(hosts).decode()
+    for down, up in (FIRST, WARM), (WARM, FIRST):
+        write({hosts: names + "".join(f"{company.hosts[it].address} {BOTH}\n" for it in (down, up))})
+        company.hosts[down].stop_nginx()
+        go_without(suite, company, down, settings)
+        company.hosts[down].start_nginx()
+    write({hosts: names})
+    company.back()
+
+
+def go_settings(company):
+    """The settings of the go command at the desk: those of the page, and a folder for what is public."""
     desk = company.hosts[DESK]
     public = static(f"{desk.folder}/public", module("golang.example/tool", "v1.0.0"))
     desk.write("root/.netrc", f"machine {BOTH} login ann password {company.desk.passwords['ann']}\n")
-    write(
-        {
-            f"{desk.folder}/etc/ssl/hosts.pem": "".join(
-                company.hosts[name].read("etc/ssl/goshelf.pem") for name in company.fronts
-            )
-        }
-    )
-    proxies = (
-        shlex.split(block("sh", f"GOPROXY=https://{BOTH}", PAGE))[-1].removeprefix("GOPROXY=") + f",file://{public}"
-    )
-    settings = {
-        "GOPROXY": proxies,
+    certificates = "".join(company.hosts[name].read("etc/ssl/goshelf.pem") for name in company.fronts)
+    write({f"{desk.folder}/etc/ssl/hosts.pem": certificates})
+    proxies = shlex.split(block("sh", f"GOPROXY=https://{BOTH}", PAGE))[-1].removeprefix("GOPROXY=")
+    return {
+        "GOPROXY": f"{proxies},file://{public}",
         "GONOSUMDB": "*",
         "GOFLAGS": "-modcacherw",
         "GOTOOLCHAIN": "local",
+        "GOCACHE": f"{desk.folder}/gocache",
         "SSL_CERT_FILE": f"{desk.folder}/etc/ssl/hosts.pem",
     }
-    app = (
-        "mkdir -p app; cd app; printf 'module app\\n\\ngo 1.17\\n\\nrequire (\\n\\texample.com/greet"
-        " v1.0.0\\n\\tgolang.example/tool v1.0.0\\n)\\n' > go.mod; go mod download all"
-    )
-    hosts, names = f"/etc/netns/{desk.namespace}/hosts", read(f"/etc/netns/{desk.namespace}/hosts").decode()
-    for down, stops, starts in (
-        (FIRST, company.first.stop_nginx, company.first.start_nginx),
-        (WARM, company.warm.stop_nginx, company.warm.start_nginx),
-    ):
-        up = next(it for it in company.fronts if it != down)
-        write({hosts: names + "".join(f"{company.hosts[it].address} {BOTH}\n" for it in (down, up))})
-        stops()
-        cache = f"{desk.folder}/go-{down}"
-        told = desk.sh(app, GOPATH=cache, GOCACHE=f"{desk.folder}/gocache", **settings)
-        have = [
-            os.path.exists(f"{cache}/pkg/mod/cache/download/{it}/@v/v1.0.0.zip")
-            for it in ("example.com/greet", "golang.example/tool")
-        ]
-        suite.equal(
-            f"the go command fetches a shelf's module and another while {down} is down",
-            (told[0], have),
-            (0, [True, True]),
-        ) or print(told)
-        status, printed, errors = desk.sh(
-            "go list -m -versions example.com/greet", GOPATH=cache, GOCACHE=f"{desk.folder}/gocache", **settings
-        )
-        wanted = (1, "", True) if down == FIRST else (0, "example.com/greet v1.0.0\n", False)
-        suite.equal(f"a list while {down} is down", (status, printed, "502" in errors), wanted)
-        starts()
-    write({hosts: names})
-    company.back()
+
+
+# a module that needs one of a shelf and one that is public
+APP = (
+    "mkdir -p app; cd app; printf 'module app\\n\\ngo 1.17\\n\\nrequire (\\n\\texample.com/greet"
+    " v1.0.0\\n\\tgolang.example/tool v1.0.0\\n)\\n' > go.mod; go mod download all"
+)
+
+
+def go_without(suite, company, down, settings):
+    """What the go command fetches and lists while a host is down."""
+    desk = company.hosts[DESK]
+    cache = f"{desk.folder}/go-{down}"
+    told = desk.sh(APP, GOPATH=cache, **settings)
+    files = (f"{it}/@v/v1.0.0.zip" for it in ("example.com/greet", "golang.example/tool"))
+    have = [os.path.exists(f"{cache}/pkg/mod/cache/download/{it}") for it in files]
+    name = f"the go command fetches a shelf's module and another while {down} is down"
+    suite.equal(name, (told[0], have), (0, [True, True])) or print(told)
+    status, printed, errors = desk.sh("go list -m -versions example.com/greet", GOPATH=cache, **settings)
+    wanted = (1, "", True) if down == FIRST else (0, "example.com/greet v1.0.0\n", False)
+    suite.equal(f"a list while {down} is down", (status, printed, "502" in errors), wanted)
 
 
 def static(folder, them):
@@ -209,10 +208,10 @@ def static(folder, them):
     return folder
 
 
-def under_way(suite, company):
-    """The first goshelf is killed, and the first host cut off, while a large publish is under way at the warm host."""
-    company.copy()
-    first, outcomes = company.first, []
+def harms(company):
+    """What is done while a publish is under way: behind half of it or so many seconds after all of it was sent, goshelf
+    is killed, or the line is cut."""
+    first = company.first
 
     def kill():
         company.kill()
@@ -224,35 +223,37 @@ def under_way(suite, company):
         time.sleep(1)
         first.link(True)
 
-    harms = [
-        (True, 0, kill),
-        *((False, it, kill) for it in (0, 0.03, 0.06, 0.1, 0.2, 0.4)),
-        (False, 0, cut),
-        (False, 0.03, cut),
-    ]
-    for number, (half, wait, harm) in enumerate(harms):
-        path, body = f"example.com/large{number}", company.seed.randbytes(8_000_000)
-        told = sent(company, path, body, half, wait, harm)
-        company.back()
-        mine = company.own("pub", f"/{path}/@v/v1.0.0.zip")
-        is_there = mine[0] == 200 and mine[2] == body
-        again = [company.put("pub", path, "v1.0.0", body=body) for _ in range(2)]
-        outcomes.append((told, mine[0]))
-        good = (is_there or mine[0] == 404) and (told != 201 or is_there) and told in (201, 502, 504)
-        name = (
-            f"{harm.__name__} {wait} s after {'half of ' if half else ''}a publish was sent (it got {told}, then the"
-            f" version {'is there' if is_there else 'is not there'})"
-        )
-        suite.equal(
-            f"{name}: whole or not at all, and again",
-            (good, [it[0] for it in again]),
-            (True, [200 if is_there else 201, 200]),
-        )
-        found = [company.desk.ask(at, "ann", f"/{path}/@v/v1.0.0.zip")[2] == body for at in company.fronts]
-        suite.equal("both hosts have its bytes then", found, [True, True])
-    suite.holds("some were lost and some kept", len({status for _, status in outcomes}) == 2, outcomes)
+    kills = [(False, it, kill) for it in (0, 0.03, 0.06, 0.1, 0.2, 0.4)]
+    return [(True, 0, kill), *kills, (False, 0, cut), (False, 0.03, cut)]
+
+
+def under_way(suite, company):
+    """The first goshelf is killed, and the first host cut off, while a large publish is under way at the warm host."""
+    company.copy()
+    kept = [harmed(suite, company, f"example.com/large{number}", *it) for number, it in enumerate(harms(company))]
+    suite.holds("some were lost and some kept", len(set(kept)) == 2, kept)
     company.published -= {(f"example.com/large{number}", "v1.0.0") for number in range(1, 9)}
     equal(suite, company, "publishes under way")
+
+
+def harmed(suite, company, path, half, wait, harm):
+    """A publish under way is whole or not there, and another goes well. Returns the status of its zip in between."""
+    body = company.seed.randbytes(8_000_000)
+    told = sent(company, path, body, half, wait, harm)
+    company.back()
+    mine = company.own("pub", f"/{path}/@v/v1.0.0.zip")
+    is_there = mine[0] == 200 and mine[2] == body
+    again = [company.put("pub", path, "v1.0.0", body=body) for _ in range(2)]
+    good = (is_there or mine[0] == 404) and (told != 201 or is_there) and told in (201, 502, 504)
+    name = (
+        f"{harm.__name__} {wait} s after {'half of ' if half else ''}a publish was sent (it got {told}, then the"
+        f" version {'is there' if is_there else 'is not there'})"
+    )
+    wanted = True, [200 if is_there else 201, 200]
+    suite.equal(f"{name}: whole or not at all, and again", (good, [it[0] for it in again]), wanted)
+    found = [company.desk.ask(at, "ann", f"/{path}/@v/v1.0.0.zip")[2] == body for at in company.fronts]
+    suite.equal("both hosts have its bytes then", found, [True, True])
+    return mine[0]
 
 
 def sent(company, path, body, is_half, wait, harm):
@@ -272,122 +273,6 @@ def sent(company, path, body, is_half, wait, harm):
         held.sendall(whole[len(whole) // 2 :] if is_half else b"")
         reply = held.makefile("rb").readline().split()
         return int(reply[1]) if reply else 0
-
-
-def removed(suite, company):
-    """A user who is removed, one removed while the warm host is cut off, and maps that nginx refuses."""
-    first, warm, zip_file = company.first, company.warm, "/example.com/lib/@v/v1.0.0.zip"
-    remove = block("sh", "goshelf-user remove ann").replace("ann", "tom")
-    company.copy()
-    company.desk.add(first, "tom", "alpha", "read")
-    first.reload()
-    suite.equal(
-        "a new user is known here with the maps",
-        [company.desk.ask(it, "tom", zip_file)[0] for it in company.fronts],
-        [200, 401],
-    )
-    company.maps()
-    suite.equal("then also here", [company.desk.ask(it, "tom", zip_file)[0] for it in company.fronts], [200] * 2)
-    first.does(remove)
-    first.reload()
-    suite.equal("removed: at the first host", company.desk.ask(FIRST, "tom", zip_file)[0], 401)
-    suite.equal("what the copy lacks", company.desk.ask(WARM, "tom", "/example.com/lib/@v/list")[0], 401)
-    suite.equal("what the copy has, until the maps come", company.desk.ask(WARM, "tom", zip_file)[0], 200)
-    company.maps()
-    suite.equal(
-        "and once they came",
-        [company.desk.ask(WARM, "tom", it)[0] for it in (zip_file, "/example.com/lib/@v/list")],
-        [401, 401],
-    )
-    company.desk.add(first, "tom", "alpha", "read")
-    first.reload()
-    company.maps()
-    warm.link(False)
-    first.does(remove)
-    first.reload()
-    told = warm.sh("goshelf-warm maps")
-    suite.holds(
-        "no maps come while the host is cut off, and it says so",
-        told[0] == 1 and "no whole copy of the first host's maps came" in told[1],
-        told,
-    )
-    warm.link(True)
-    wait_until(lambda: company.desk.ask(WARM, "tom", zip_file)[0] == 200)
-    suite.holds("until it is back and they come, the copy answers", True)
-    company.maps()
-    suite.equal("then nothing", company.desk.ask(WARM, "tom", zip_file)[0], 401)
-    good = first.read("etc/nginx/goshelf/users.map")
-    first.write("etc/nginx/goshelf/users.map", good + '"Basic QQ==" "half a line')
-    told = warm.sh("goshelf-warm maps")
-    suite.holds(
-        "maps that nginx refuses are named",
-        told[0] == 1 and told[1] == "goshelf-warm: nginx refuses the first host's maps: the old ones stay\n",
-        told,
-    )
-    suite.equal(
-        "the old ones stay",
-        (
-            warm.read("etc/nginx/goshelf/users.map") == good,
-            warm.sh("nginx -q -t")[0],
-            sorted(os.listdir(f"{warm.folder}/etc/nginx/goshelf")),
-        ),
-        (True, 0, ["elsewhere.conf", "keys.map", "paths.map", "public.conf", "users.map"]),
-    )
-    first.write("etc/nginx/goshelf/users.map", good)
-    suite.equal("the same maps again", warm.sh("goshelf-warm maps"), (0, "", ""))
-    warm.stop_nginx()
-    company.desk.add(first, "tim", "alpha", "read")
-    told = warm.sh("goshelf-warm maps")
-    stay = told[:2] == (1, "goshelf-warm: nginx does not run: the old maps stay\n")
-    suite.holds("without an nginx the old maps stay", stay and warm.read("etc/nginx/goshelf/users.map") == good, told)
-    warm.start_nginx()
-    company.maps()
-    suite.equal("so the next run brings the new ones", company.desk.ask(WARM, "tim", zip_file)[0], 200)
-    paths = "etc/nginx/goshelf/paths.map"
-    good = first.read(paths)
-    first.write(paths, good + '"golang.org/x/mod" "alpha";\n')
-    told = warm.sh("goshelf-warm maps")
-    suite.equal("a change of paths.map alone comes too", (told, warm.read(paths)), ((0, "", ""), first.read(paths)))
-    first.write(paths, good)
-    first.does(remove.replace("tom", "tim"))
-    company.maps()
-    equal(suite, company, "users")
-
-
-def key_revoked(suite, company):
-    """A key that the store alone revoked: the copy answers it until its line leaves the map, or the next copy."""
-    first, old = company.first, company.key("bob")
-    wanted, copied = company.answers(("bob",)), company.copy()
-    first.does("systemctl stop goshelf")
-    done("key-revoke", "--db", first.store, "--key", old)
-    first.does("systemctl start goshelf")
-    found = {it: company.desk.ask(WARM, *it) for it in wanted}
-    wrong = [it for it, answer in found.items() if answer != wanted[it] and (it in copied or answer[0] != 404)]
-    suite.equal("a key that the store revoked: the copy's files as before, all else a 404", wrong, [])
-    first.edit("etc/nginx/goshelf/keys.map", (f'"beta read" {old};\n', ""))
-    first.reload()
-    company.maps()
-    time.sleep(2)
-    statuses = {company.desk.ask(WARM, "bob", target)[0] for _, target in wanted}
-    suite.holds("its line is out of the map: nothing", statuses <= {401, 429}, statuses)
-    first.edit("etc/nginx/goshelf/keys.map", ('"beta publish"', f'"beta read" {old};\n"beta publish"'))
-    first.reload()
-    company.maps()
-    company.warm.does("goshelf-warm store")
-    wanted = {it: company.desk.ask(FIRST, *it) for it in wanted}
-    suite.equal(
-        "its line is back, with a copy made since: what the first host answers", company.differing(wanted, (WARM,)), []
-    )
-    new = "betasnewkey00001"
-    first.does("systemctl stop goshelf")
-    done("key-add", "--db", first.store, "--shelf", "beta", "--key", new, "--read-only")
-    first.does("systemctl start goshelf")
-    first.edit("etc/nginx/goshelf/keys.map", (f'"beta read" {old};', f'"beta read" {new};'))
-    first.reload()
-    company.maps()
-    equal(suite, company, "a new key, which the copy lacks")
-    company.copy()
-    equal(suite, company, "a new key, which the copy has")
 
 
 def restored(suite, company):
@@ -481,13 +366,12 @@ if __name__ == "__main__":
     parts = (
         before_the_copy,
         first_copy,
+        answers_of_copy,
         old_copy,
         first_reloaded,
         copy_down,
         go_goes_on,
         public_modules,
-        removed,
-        key_revoked,
     )
     sys.exit(
         play(Suite(), "deploy/warm", "network namespaces need root", Warm, (*parts, restored, under_way, promoted))

@@ -211,24 +211,24 @@ def killed_runs(suite, company):
             read(f"{home}/{COPY[0]}") == before,
         )
         suite.equal(f"a run was killed when {name}: the old copy is served", found, (1, True, [], [], False, True))
-    program = f"{warm.folder}/usr/local/bin/goshelf"
+
+
+def no_start(suite, company):
+    """goshelf does not start over the new copy: the old one comes back."""
+    warm = company.warm
+    program, file = f"{warm.folder}/usr/local/bin/goshelf", f"{warm.folder}/{HOME}/{COPY[0]}"
+    wanted = {it: company.own(*it) for it in SAMPLE}
     os.remove(program)
     warm.command("goshelf", BROKEN.replace("PROGRAM", PROGRAM))
     warm.write("broken", "")
     suite.equal("a publish", company.put("pub", "example.com/lib", "v1.3.0")[0], 201)
-    before = read(f"{home}/{COPY[0]}")
+    before = read(file)
     status, printed, _ = warm.sh("goshelf-warm store")
-    suite.equal(
-        "goshelf does not start over the new copy",
-        (status, printed),
-        (1, "goshelf-warm: goshelf does not answer over the new copy: the old one is back\n"),
-    )
+    said = "goshelf-warm: goshelf does not answer over the new copy: the old one is back\n"
+    suite.equal("goshelf does not start over the new copy", (status, printed), (1, said))
     begun = len(company.lines(FIRST, 0))
-    suite.equal(
-        "the old one is served",
-        (company.differing(wanted, (WARM,)), company.lines(FIRST, begun), read(f"{home}/{COPY[0]}") == before),
-        ([], [], True),
-    )
+    found = company.differing(wanted, (WARM,)), company.lines(FIRST, begun), read(file) == before
+    suite.equal("the old one is served", found, ([], [], True))
     company.copy()
     equal(suite, company, "the next copy")
 
@@ -250,40 +250,37 @@ def full_disks(suite, company):
             warm.does("systemctl start goshelf")
             continue
         try:
-            if host is warm:
-                company.copy()
-            else:
-                warm.does("systemctl start goshelf")
-            suite.equal(
-                "a publish", company.put("pub", "example.com/lib", f"v1.{len(company.published)}.0", 2_000_000)[0], 201
-            )
-            fill(f"{at}/other")
-            wanted = company.answers(("ann", "com"))
-            status, printed, errors = warm.sh("goshelf-warm store")
-            suite.holds(
-                f"the disk of {host.name} is full: it says so",
-                status == 1 and NOT_WHOLE in printed and "No space left" in errors,
-                (status, printed, errors),
-            )
-            suite.equal("the old copy is served, and the first host answers the rest", company.differing(wanted), [])
-            suite.holds(
-                "nothing of the new one is left",
-                not os.path.exists(f"{warm.folder}/{HOME}/new")
-                and not [it for it in os.listdir(at) if it.startswith("copy-")],
-            )
-            suite.equal(
-                "publishes go on", company.put("pub", "example.com/lib", f"v1.{len(company.published)}.0")[0], 201
-            )
-            if host is warm:
-                os.unlink(f"{at}/other")
-                company.copy()
-                equal(suite, company, "the disk has room again", users=("ann", "com"))
+            full_disk(suite, company, host, at)
         finally:
             warm.does("systemctl stop goshelf")
             subprocess.run(["umount", at], check=True)
             warm.does("systemctl start goshelf")
     company.copy()
     equal(suite, company, "disks with room")
+
+
+def full_disk(suite, company, host, at):
+    """A folder of a host has a disk of its own, which is filled."""
+    warm = company.warm
+    if host is warm:
+        company.copy()
+    else:
+        warm.does("systemctl start goshelf")
+    put = lambda *size: company.put("pub", "example.com/lib", f"v1.{len(company.published)}.0", *size)[0]
+    suite.equal("a publish", put(2_000_000), 201)
+    fill(f"{at}/other")
+    wanted = company.answers(("ann", "com"))
+    status, printed, errors = warm.sh("goshelf-warm store")
+    is_said = status == 1 and NOT_WHOLE in printed and "No space left" in errors
+    suite.holds(f"the disk of {host.name} is full: it says so", is_said, (status, printed, errors))
+    suite.equal("the old copy is served, and the first host answers the rest", company.differing(wanted), [])
+    left = os.path.exists(f"{warm.folder}/{HOME}/new"), [it for it in os.listdir(at) if it.startswith("copy-")]
+    suite.equal("nothing of the new one is left", left, (False, []))
+    suite.equal("publishes go on", put(), 201)
+    if host is warm:
+        os.unlink(f"{at}/other")
+        company.copy()
+        equal(suite, company, "the disk has room again", users=("ann", "com"))
 
 
 def rush(suite, company):
@@ -325,6 +322,6 @@ if __name__ == "__main__":
             "deploy/warm",
             "network namespaces need root",
             Warm,
-            (start, bad_copies, cut_line, killed_runs, full_disks, rush),
+            (start, bad_copies, cut_line, killed_runs, no_start, full_disks, rush),
         )
     )

@@ -92,6 +92,7 @@ SUITES = (
     listed("users", "nginx openssl curl sqlite3"),
     listed("warm", "curl flock ip nginx openssl pgrep setpriv sqlite3"),
     listed("warm_copies", "curl flock ip nginx openssl pgrep setpriv sqlite3 umount"),
+    listed("warm_users", "curl flock ip nginx openssl pgrep setpriv sqlite3"),
     listed("watching", "sqlite3 openssl curl"),
     listed("worked_rows"),
 )

@@ -16,7 +16,7 @@ import sys
 import tempfile
 import time
 
-from extract import made, removed, rows, spread
+from extract import OF_A_PATH, TEAMS, made, removed, rows, spread
 from store import gomod, keys
 
 sys.path.insert(0, os.path.join(os.path.dirname(os.path.abspath(__file__)), "..", "tests"))
@@ -26,8 +26,6 @@ from lib.tables import PIECE
 
 # a zip of one piece: 100,000 of them are 1 GiB
 ZIP = bytes(range(256)) * 41 + b"z" * 241
-TEAMS = [f"team{n}" for n in range(10)]
-OF_A_PATH = 4000
 
 
 def filled(file, schema, entries):
@@ -106,47 +104,41 @@ def copied(old, new, schema):
     return seconds
 
 
+def measured(folder, schema, entries, rounds):
+    """Migrates a store of a schema by the program and by sqlite3, so many times each, and prints what both take."""
+    old, ours, theirs, other = (
+        os.path.join(folder, f"{name}{schema}.db") for name in ("old", "ours", "theirs", "other")
+    )
+    filled(old, schema, entries)
+    turns = [(*migrated(old, ours), *copied(old, theirs, schema)) for _ in range(rounds)]
+    if rows(ours) != rows(theirs):
+        sys.exit("the program and sqlite3 do not make the same rows")
+    seconds, used, peaks, beside, used_beside = zip(*turns)
+    size = os.path.getsize(old) >> 20
+    print(f"schema {schema}, {entries:,} versions, {size} MiB, medians of {rounds} turns:", end=" ")
+    print(f"migrated in {spread(seconds, '.2f')} s, by sqlite3 in {spread(beside, '.2f')} s,", end=" ")
+    print(f"{spread(ratios(seconds, beside), '.2f')} times its time")
+    print(f"    of the processor {spread(used, '.2f')} s and {spread(used_beside, '.2f')} s", end=", ")
+    print(f"{spread(ratios(used, used_beside), '.2f')} times as much")
+    subprocess.run([PROGRAM, "team-add", "--db", other, "--team", "alpha"], check=True)
+    old_alone = ran(1, "migrate", "--from", old, "--to", other)[2]
+    new_alone = ran(1, "key-revoke", "--db", ours, "--key", "nosuchkey0000001")[2]
+    print(f"    peak {max(peaks):.1f} MiB; opening the old store alone {old_alone:.1f} MiB,", end=" ")
+    print(f"the new one alone {new_alone:.1f} MiB; three entries of the largest size are 51 MiB", flush=True)
+    for name in (old, ours, theirs, other):
+        removed(name)
+
+
+def ratios(ones, others):
+    return [one / other for one, other in zip(ones, others)]
+
+
 def main(words):
     entries = 10_000 if "--quick" in words else 100_000
     rounds = int(words[words.index("--rounds") + 1]) if "--rounds" in words else 5
     with tempfile.TemporaryDirectory(prefix="goshelf-migrate-") as folder:
         for schema in (1, 2):
-            old, ours, theirs, other = (
-                os.path.join(folder, f"{name}{schema}.db") for name in ("old", "ours", "theirs", "other")
-            )
-            filled(old, schema, entries)
-            turns = [(*migrated(old, ours), *copied(old, theirs, schema)) for _ in range(rounds)]
-            if rows(ours) != rows(theirs):
-                sys.exit("the program and sqlite3 do not make the same rows")
-            seconds, used, peaks, beside, used_beside = zip(*turns)
-            print(
-                (
-                    f"schema {schema}, {entries:,} versions, {os.path.getsize(old) >> 20} MiB, medians of"
-                    f" {rounds} turns: migrated in {spread(seconds, '.2f')} s,"
-                ),
-                end=" ",
-            )
-            print(
-                f"by sqlite3 in {spread(beside, '.2f')} s,"
-                f" {spread([one / other for one, other in zip(seconds, beside)], '.2f')} times its time"
-            )
-            print(f"    of the processor {spread(used, '.2f')} s and {spread(used_beside, '.2f')} s", end=", ")
-            print(f"{spread([one / other for one, other in zip(used, used_beside)], '.2f')} times as much")
-            subprocess.run([PROGRAM, "team-add", "--db", other, "--team", "alpha"], check=True)
-            alone = (
-                ran(1, "migrate", "--from", old, "--to", other)[2],
-                ran(1, "key-revoke", "--db", ours, "--key", "nosuchkey0000001")[2],
-            )
-            print(
-                (
-                    f"    peak {max(peaks):.1f} MiB; opening the old store alone {alone[0]:.1f} MiB, the new one alone"
-                    f" {alone[1]:.1f} MiB;"
-                ),
-                end=" ",
-            )
-            print("three entries of the largest size are 51 MiB", flush=True)
-            for name in (old, ours, theirs, other):
-                removed(name)
+            measured(folder, schema, entries, rounds)
 
 
 if __name__ == "__main__":

@@ -19,12 +19,13 @@ import time
 from concurrent.futures import ThreadPoolExecutor
 
 from lib.front import AT, GOMOD, LIB, UNUSED, ZIP, keys_of, set_up, settle
+from lib.go_command import settings
 from lib.modules import zipped
 from lib.pages import block, read_page
 from lib.peers import NoModules, rest_of
 from lib.ports import wait_until
 from lib.program import ROOT
-from lib.scratch import play
+from lib.scratch import play, write
 from lib.suite import Suite
 
 # more than all buffers of sockets on the way hold
@@ -351,47 +352,37 @@ def go(client, behind, netrc, *words):
     proxies = f"https://localhost:{client.machine.front},{behind.url}"
     code = 'package main\n\nimport "example.com/greet"\n\nfunc main() { println(greet.Text) }\n'
     with tempfile.TemporaryDirectory(prefix="goshelf-go-") as folder:
-        for name, text in (("go.mod", "module example.com/hello\n\ngo 1.19\n"), (".netrc", netrc), ("main.go", code)):
-            with open(f"{folder}/{name}", "w", encoding="utf-8") as file:
-                file.write(text)
-        clean = {name: text for name, text in os.environ.items() if not name.startswith("GO") and name != "NETRC"}
-        own = {
-            "HOME": folder,
-            "GOPATH": f"{folder}/go",
-            "GOFLAGS": "-modcacherw",
-            "GOPROXY": proxies,
-            "GONOSUMDB": "example.com",
-            "GOTOOLCHAIN": "local",
-            "CGO_ENABLED": "0",
-            "SSL_CERT_FILE": client.pem,
-        }
-        ran = subprocess.run(
-            ["go", *words], cwd=folder, env={**clean, **own}, capture_output=True, text=True, timeout=300
-        )
+        files = {"go.mod": "module example.com/hello\n\ngo 1.19\n", ".netrc": netrc, "main.go": code}
+        write({f"{folder}/{name}": text for name, text in files.items()})
+        env = settings(folder, GOPROXY=proxies, GONOSUMDB="example.com", SSL_CERT_FILE=client.pem)
+        ran = subprocess.run(["go", *words], cwd=folder, env=env, capture_output=True, text=True, timeout=300)
     return ran.returncode == 0, ran.stdout + ran.stderr, list(behind.asked)
 
 
-def go_command(suite, client):
-    """The go command logs in by ~/.netrc, and a 401 ends it before it asks the public proxy."""
-    behind = NoModules()
-    gomod = "module example.com/greet\n"
-    zip_bytes = zipped(
-        "example.com/greet", "v1.0.0", {"go.mod": gomod, "greet.go": "package greet\n\nconst Text = 1\n"}
-    )
+GREET = "module example.com/greet\n"
+
+
+def put_greet(suite, client):
+    """curl publishes a module by ~/.netrc, by the command of the page."""
+    text = "package greet\n\nconst Text = 1\n"
+    zip_bytes = zipped("example.com/greet", "v1.0.0", {"go.mod": GREET, "greet.go": text})
     with tempfile.TemporaryDirectory(prefix="goshelf-put-") as folder:
-        with open(f"{folder}/go.mod", "w", encoding="utf-8") as file:
-            file.write(gomod)
-        with open(f"{folder}/body", "wb") as file:
-            file.write(gomod.encode() + zip_bytes)
+        write({f"{folder}/go.mod": GREET, f"{folder}/body": GREET.encode() + zip_bytes})
         client.machine.write("root/.netrc", f"machine localhost login pub password {client.passwords['pub']}\n")
         publish = (
             block("sh", "curl --netrc --fail-with-body")
             .replace("curl ", "curl -sS --cacert /etc/ssl/goshelf.pem ")
             .replace("shelf.example.com", f"localhost:{client.machine.front}")
         )
-        settings = {"module": "example.com/greet", "version": "v1.0.0", "time": "2024-01-31T12:00:00Z"}
-        told = client.machine.does(f"cd {folder}\n{publish}", **settings)
+        words = {"module": "example.com/greet", "version": "v1.0.0", "time": "2024-01-31T12:00:00Z"}
+        told = client.machine.does(f"cd {folder}\n{publish}", **words)
     suite.equal("curl publishes by ~/.netrc", told, "published\n")
+
+
+def go_command(suite, client):
+    """The go command logs in by ~/.netrc, and a 401 ends it before it asks the public proxy."""
+    behind = NoModules()
+    put_greet(suite, client)
     line = "machine localhost login ann password {}\n"
     good, wrong = line.format(client.passwords["ann"]), line.format("wrong")
     ended, told, asked = go(client, behind, good, "run", "-mod=mod", ".")
@@ -416,47 +407,35 @@ def go_command(suite, client):
     behind.shutdown()
 
 
+def by_user(client, folder, name, script):
+    """Runs a script in a folder as a user with a home of its own, who logs in by ~/.netrc."""
+    home = f"{folder}/{name}"
+    os.mkdir(home)
+    write({f"{home}/.netrc": f"machine localhost login {name} password {client.passwords[name]}\n"})
+    env = settings(home, SSL_CERT_FILE=client.pem, CURL_CA_BUNDLE=client.pem)
+    words = ["sh", "-euc", script]
+    return subprocess.run(words, cwd=folder, env=env, capture_output=True, text=True, timeout=300)
+
+
 def three_modules(suite, client):
     """A user publishes the tutorial's repository of three modules by the page's commands, and another, who only
     reads, builds with them."""
     made, uses = (block("sh run", it, "TUTORIAL.md") for it in ("mkdir -p team/log", 'import "example.com/team/log"'))
-    publish, wanted = block("sh", "--netrc --repository team"), block(
-        "output", "published example.com/team v1.0.0", "TUTORIAL.md"
-    )
+    wanted = block("output", "published example.com/team v1.0.0", "TUTORIAL.md")
     url = f"https://localhost:{client.machine.front}"
-    settings = "chmod 600 ~/.netrc\n" + block("sh", "needed only where GOPRIVATE is set")
-    publish, settings = (it.replace("https://shelf.example.com", url) for it in (publish, settings))
+    publish = block("sh", "--netrc --repository team")
+    prepare = "chmod 600 ~/.netrc\n" + block("sh", "needed only where GOPRIVATE is set")
+    publish, prepare = (it.replace("https://shelf.example.com", url) for it in (publish, prepare))
     with tempfile.TemporaryDirectory(prefix="goshelf-team-") as folder:
-        clean = {
-            name: text for name, text in os.environ.items() if not name.startswith(("GO", "GIT_")) and name != "NETRC"
-        }
         os.symlink(os.path.join(ROOT, "tools"), f"{folder}/tools")
-
-        def user(name, script):
-            os.mkdir(f"{folder}/{name}")
-            with open(f"{folder}/{name}/.netrc", "w", encoding="utf-8") as file:
-                file.write(f"machine localhost login {name} password {client.passwords[name]}\n")
-            own = {
-                "HOME": f"{folder}/{name}",
-                "GOPATH": f"{folder}/{name}/go",
-                "GOFLAGS": "-modcacherw",
-                "GOTOOLCHAIN": "local",
-                "CGO_ENABLED": "0",
-            }
-            env = {**clean, **own, "SSL_CERT_FILE": client.pem, "CURL_CA_BUNDLE": client.pem}
-            return subprocess.run(
-                ["sh", "-euc", script], cwd=folder, env=env, capture_output=True, text=True, timeout=300
-            )
-
         begun = time.time()
-        ran = user("pub", made + publish)
-        suite.equal("three modules are published by ~/.netrc", (ran.stdout, ran.returncode), (wanted, 0)) or print(
-            ran.stderr
-        )
-        ran = user("ann", settings + f"mkdir hello\ncd hello\ngo mod init example.com/hello\ncd ..\n{uses}")
-        suite.equal(
-            "a consumer builds with them by ~/.netrc", (ran.stdout, ran.returncode), ("log and team 2\n", 0)
-        ) or print(ran.stderr)
+        ran = by_user(client, folder, "pub", made + publish)
+        told = ran.stdout, ran.returncode
+        suite.equal("three modules are published by ~/.netrc", told, (wanted, 0)) or print(ran.stderr)
+        script = prepare + f"mkdir hello\ncd hello\ngo mod init example.com/hello\ncd ..\n{uses}"
+        ran = by_user(client, folder, "ann", script)
+        told = ran.stdout, ran.returncode
+        suite.equal("a consumer builds with them by ~/.netrc", told, ("log and team 2\n", 0)) or print(ran.stderr)
         suite.holds("both take less than five minutes", time.time() - begun < 300, time.time() - begun)
 
 

@@ -7,7 +7,6 @@ Modules Reference) and sums that are made here from the zips.
 
 import os
 import sys
-import tempfile
 
 from lib.go_sessions import (
     ALPHA,
@@ -26,13 +25,15 @@ from lib.go_sessions import (
     lists,
     teams,
 )
+from lib.keys import KEYS
 from lib.modules import module, sums
 from lib.program import done, run
+from lib.scratch import in_a_folder, read, write
 from lib.servers import Server
 from lib.stores import new_store
 from lib.suite import Suite
 
-GROUP, MEMBER = "platformkey00001", "gammakey00000001"
+GROUP, MEMBER = KEYS["P"], KEYS["M"]
 SUITE = Suite()
 
 
@@ -40,11 +41,8 @@ def two_contents(server, alpha, beta):
     """A version that `common` publishes after a team did: the team keeps its own, and a go.sum of one fails at the
     other."""
     path = "example.com/shared"
-    of_alpha, of_common, next_one = (
-        module(path, "v1.5.0"),
-        module(path, "v1.5.0", more="// of common\n"),
-        module(path, "v1.5.1"),
-    )
+    of_alpha, next_one = module(path, "v1.5.0"), module(path, "v1.5.1")
+    of_common = module(path, "v1.5.0", more="// of common\n")
     told = [
         server.put(key, *it)[0]
         for key, it in (
@@ -61,29 +59,29 @@ def two_contents(server, alpha, beta):
     downloads(beta, [of_common, next_one])
     mod_sum, zip_sum = sums(*of_alpha[2:])
     lines = f"{path} v1.5.0 {zip_sum}\n{path} v1.5.0/go.mod {mod_sum}\n"
-    for client, name, wanted in ((alpha, "same", True), (beta, "other", False)):
-        client.module(
-            name,
-            f"module example.com/{name}\n\ngo 1.17\n\nrequire {path} v1.5.0\n",
-            f'package main\n\nimport _ "{path}"\n\nfunc main() {{}}\n',
-        )
-        with open(os.path.join(client.folder, name, "go.sum"), "w") as held:
-            held.write(lines)
-        status, _, errors = client.go("build", at=name)
-        said = "checksum mismatch" in errors and "SECURITY ERROR" in errors
-        SUITE.holds(
-            f"alpha's go.sum, by {client.key}", (status == 0, said) == (wanted, not wanted), f"{status} {errors}"
-        )
-        client.go("mod", "edit", f"-require={path}@v1.5.1", at=name)
-        os.remove(os.path.join(client.folder, name, "go.sum"))
-        status, _, errors = client.go("mod", "tidy", at=name)
-        with open(os.path.join(client.folder, name, "go.sum")) as held:
-            text = held.read()
-        SUITE.holds(
-            f"the next version, by {client.key}",
-            status == 0 and "v1.5.1 h1:" in text and "v1.5.0" not in text,
-            f"{text} {errors}",
-        )
+    by_go_sum(alpha, "same", path, lines, True)
+    by_go_sum(beta, "other", path, lines, False)
+
+
+def by_go_sum(client, name, path, lines, is_right):
+    """A module builds over alpha's go.sum by who has alpha's version alone, and the next version by each."""
+    gomod = f"module example.com/{name}\n\ngo 1.17\n\nrequire {path} v1.5.0\n"
+    client.module(name, gomod, f'package main\n\nimport _ "{path}"\n\nfunc main() {{}}\n')
+    file = os.path.join(client.folder, name, "go.sum")
+    write({file: lines})
+    status, _, errors = client.go("build", at=name)
+    said = "checksum mismatch" in errors and "SECURITY ERROR" in errors
+    wanted = is_right, not is_right
+    SUITE.holds(f"alpha's go.sum, by {client.key}", (status == 0, said) == wanted, f"{status} {errors}")
+    client.go("mod", "edit", f"-require={path}@v1.5.1", at=name)
+    os.remove(file)
+    status, _, errors = client.go("mod", "tidy", at=name)
+    text = read(file).decode()
+    SUITE.holds(
+        f"the next version, by {client.key}",
+        status == 0 and "v1.5.1 h1:" in text and "v1.5.0" not in text,
+        f"{text} {errors}",
+    )
 
 
 def group(server, member, of_group, alpha):
@@ -170,11 +168,5 @@ def session(folder):
     server.stop()
 
 
-def main():
-    with tempfile.TemporaryDirectory() as folder:
-        session(folder)
-    return SUITE.end()
-
-
 if __name__ == "__main__":
-    sys.exit(main())
+    sys.exit(in_a_folder(SUITE, session))

@@ -45,12 +45,10 @@ def zip_of(size):
     return (unit * (size // len(unit) + 1))[:size]
 
 
-def sizes(reader):
-    """The largest files, and each with a byte more."""
-    path, gomod, zip_bytes = "example.com/m", filled("example.com/m", GOMOD), zip_of(ZIP)
-    other = zip_bytes[:-1] + b"!"
+def too_large():
+    """A go.mod or a zip of a byte too many, behind which nothing stands."""
+    path, gomod = "example.com/m", filled("example.com/m", GOMOD)
     mod, modules = get(f"{path}/@v/v1.0.0.mod"), get("-/modules")
-    small = f"module {path}\n".encode()
     return [
         (
             "a go.mod of one byte too many",
@@ -73,12 +71,21 @@ def sizes(reader):
             [TOO_LARGE],
         ),
         ("after all these nothing stands", [modules, mod], [NO_MODULE, NOT_FOUND]),
+    ]
+
+
+def sizes(reader):
+    """The largest files, and each with a byte more."""
+    path, gomod, zip_bytes = "example.com/m", filled("example.com/m", GOMOD), zip_of(ZIP)
+    other, small = zip_bytes[:-1] + b"!", f"module {path}\n".encode()
+    return [
+        *too_large(),
         (
             "the largest go.mod and the largest zip",
-            [put(path, "v1.0.0", gomod, zip_bytes), modules],
+            [put(path, "v1.0.0", gomod, zip_bytes), get("-/modules")],
             [PUBLISHED, reply(200, f"{path}\n".encode())],
         ),
-        ("the go.mod comes back", [mod], [reply(200, gomod)]),
+        ("the go.mod comes back", [get(f"{path}/@v/v1.0.0.mod")], [reply(200, gomod)]),
         ("the zip comes back", [get(f"{path}/@v/v1.0.0.zip", reader)], [zipped(zip_bytes)]),
         ("they are the same again", [put(path, "v1.0.0", gomod, zip_bytes)], [AGAIN]),
         ("another last byte conflicts", [put(path, "v1.0.0", gomod, other)], [CONFLICT]),

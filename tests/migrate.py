@@ -10,14 +10,14 @@ is read-only, or has rows in its log alone.
 import fcntl
 import os
 import shutil
-import subprocess
 import sys
 
 from lib.keys import KEYS
 from lib.messages import get, put
 from lib.older import LONG, filled, older, put_entry, with_log
-from lib.program import NOBODY, can_be_nobody, run
-from lib.scratch import files_of, in_new_folders, mounted, read, write
+from lib.program import NOBODY, can_be_nobody, refusal, run
+from lib.scratch import files_of, in_new_folders, read, small_disk, write
+from lib.stores import remove_store
 from lib.suite import Suite
 from lib.tables import connected, order_key, rank_key, rows_of, settled
 from lib.worked import everything, replies_of
@@ -162,9 +162,8 @@ def is_refused(suite, about, good):
         run(["migrate", "--from", good, "--to", "fresh.db"]),
         (0, b"", ""),
     )
-    for name in ("fresh.db", "fresh.db-wal", "bad.db", "bad.db-wal"):
-        if os.path.exists(name):
-            os.remove(name)
+    remove_store("fresh.db")
+    remove_store("bad.db")
 
 
 FAULTS = """
@@ -274,9 +273,9 @@ def full_disk(suite):
     room = os.path.getsize("kept/old.db")
     os.mkdir("small")
     for size, what in ((room // 2, "the file"), (room + 4096, "the log")):
-        if not mounted("small", str(size)):
-            return suite.skip("a full disk", "no tmpfs can be mounted here")
-        try:
+        with small_disk("small", str(size)) as is_there:
+            if not is_there:
+                return suite.skip("a full disk", "no tmpfs can be mounted here")
             for kind, files in (("a missing", {}), ("an empty", {"small/new.db": b""})):
                 write(files)
                 before = files_of("kept"), files_of("small")
@@ -288,8 +287,6 @@ def full_disk(suite):
                     left == before,
                     [sorted(it) for it in left],
                 )
-        finally:
-            subprocess.run(["umount", "small"], check=True)
 
 
 def held(suite):
@@ -310,6 +307,17 @@ def held(suite):
         suite.holds(f"with {name}: the files are as they were", files_of() == before, sorted(files_of()))
 
 
+# the rights of a folder and of the files in it, and whose they are
+RIGHTS = (
+    (0o555, 0o444, 0),
+    (0o755, 0o444, 0),
+    (0o755, 0o444, 65534),
+    (0o555, 0o644, 65534),
+    (0o555, 0o444, 65534),
+    (0o777, 0o666, 0),
+)
+
+
 def read_only(suite):
     """A read-only older store: by its file, by its folder, by both; by its owner, and by somebody else."""
     if not can_be_nobody():
@@ -320,63 +328,60 @@ def read_only(suite):
     os.chmod("room", 0o777)
     os.chmod(".", 0o755)
     older("plain.db", 2)
-    turn = 0
-    for kind in ("no log", "a log"):
-        for mode, of_file, owner in (
-            (0o555, 0o444, 0),
-            (0o755, 0o444, 0),
-            (0o755, 0o444, 65534),
-            (0o555, 0o644, 65534),
-            (0o555, 0o444, 65534),
-            (0o777, 0o666, 0),
-        ):
-            turn += 1
-            folder, new = f"fixed{turn}", f"room/new{turn}.db"
-            if kind == "a log":
-                with_log(folder, 2)
-                os.remove("kept.db")
-            else:
-                os.mkdir(folder)
-                shutil.copy("plain.db", f"{folder}/old.db")
-            for name in ("", *os.listdir(folder)):
-                os.chown(f"{folder}/{name}", owner, owner)
-                os.chmod(f"{folder}/{name}", of_file if name else mode)
-            about = f"{kind}, a file {of_file:o} in a folder {mode:o} of {'root' if owner == 0 else 'nobody'}"
-            before = files_of(folder)
-            suite.equal(
-                f"{about}: it migrates",
-                run(["migrate", "--from", f"{folder}/old.db", "--to", new], before=NOBODY),
-                (0, b"", ""),
-            )
-            suite.holds(f"{about}: the folder is as it was", files_of(folder) == before, sorted(files_of(folder)))
-            suite.equal(
-                f"{about}: nothing is left beside the new store",
-                [it for it in os.listdir("room") if it.startswith("goshelf-")],
-                [],
-            )
-            suite.holds(f"{about}: each reply is as it was", answers_of(new) == wanted)
+    turns = [(has_log, *rights) for has_log in (False, True) for rights in RIGHTS]
+    for turn, (has_log, mode, of_file, owner) in enumerate(turns, 1):
+        fixed_store(f"fixed{turn}", has_log, mode, of_file, owner)
+        kind, whose = "a log" if has_log else "no log", "root" if owner == 0 else "nobody"
+        about = f"{kind}, a file {of_file:o} in a folder {mode:o} of {whose}"
+        migrates(suite, about, f"fixed{turn}", f"room/new{turn}.db", wanted)
     suite.equal("root too", run(["migrate", "--from", "fixed1/old.db", "--to", "root.db"]), (0, b"", ""))
+    refused_to_nobody(suite)
+
+
+def fixed_store(folder, has_log, mode, of_file, owner):
+    """Makes a folder with an older store, with or without a log, and gives both these rights and this owner."""
+    if has_log:
+        with_log(folder, 2)
+        os.remove("kept.db")
+    else:
+        os.mkdir(folder)
+        shutil.copy("plain.db", f"{folder}/old.db")
+    for name in ("", *os.listdir(folder)):
+        os.chown(f"{folder}/{name}", owner, owner)
+        os.chmod(f"{folder}/{name}", of_file if name else mode)
+
+
+def migrates(suite, about, folder, new, wanted):
+    """Nobody migrates the older store of a folder, which stays as it was."""
+    before = files_of(folder)
+    told = run(["migrate", "--from", f"{folder}/old.db", "--to", new], before=NOBODY)
+    suite.equal(f"{about}: it migrates", told, (0, b"", ""))
+    suite.holds(f"{about}: the folder is as it was", files_of(folder) == before, sorted(files_of(folder)))
+    left = [it for it in os.listdir("room") if it.startswith("goshelf-")]
+    suite.equal(f"{about}: nothing is left beside the new store", left, [])
+    suite.holds(f"{about}: each reply is as it was", answers_of(new) == wanted)
+
+
+def refused_to_nobody(suite):
+    """What nobody may not do with a read-only older store."""
+
+    def told(to):
+        return run(["migrate", "--from", "fixed1/old.db", "--to", to], before=NOBODY)
+
     os.chmod("fixed1/old.db", 0o400)
-    told = run(["migrate", "--from", "fixed1/old.db", "--to", "room/unread.db"], before=NOBODY)
-    suite.equal("a file that may not be read", told, (1, b"", "goshelf: device\n"))
+    suite.equal("a file that may not be read", told("room/unread.db"), refusal("device"))
     os.chmod("fixed1/old.db", 0o444)
-    told = run(["migrate", "--from", "fixed1/old.db", "--to", "fixed1/new.db"], before=NOBODY)
-    suite.equal("a folder where nothing may be made", told, (1, b"", "goshelf: device\n"))
-    told = run(["migrate", "--from", "fixed1/old.db", "--to", "fixed1/old.db"], before=NOBODY)
-    suite.equal("a read-only file, into itself", told, (1, b"", "goshelf: not-empty\n"))
+    suite.equal("a folder where nothing may be made", told("fixed1/new.db"), refusal("device"))
+    suite.equal("a read-only file, into itself", told("fixed1/old.db"), refusal("not-empty"))
     with open("fixed1/old.db", "r+b") as held:
         fcntl.lockf(held, fcntl.LOCK_EX, 512, 1 << 30)
-        told = run(["migrate", "--from", "fixed1/old.db", "--to", "room/locked.db"], before=NOBODY)
-        suite.equal("a read-only file that another program has open", told, (1, b"", "goshelf: device\n"))
+        suite.equal("a read-only file that another program has open", told("room/locked.db"), refusal("device"))
     write({"fixed1/old.db-journal": b"\xd9"})
-    told = run(["migrate", "--from", "fixed1/old.db", "--to", "room/journal.db"], before=NOBODY)
-    suite.equal("a read-only file with a journal that is not played back", told, (1, b"", "goshelf: device\n"))
+    name = "a read-only file with a journal that is not played back"
+    suite.equal(name, told("room/journal.db"), refusal("device"))
     os.remove("fixed1/old.db-journal")
-    suite.equal(
-        "and nothing is left beside the new store",
-        [it for it in os.listdir("room") if it.startswith("goshelf-") or "locked" in it],
-        [],
-    )
+    left = [it for it in os.listdir("room") if it.startswith("goshelf-") or "locked" in it]
+    suite.equal("and nothing is left beside the new store", left, [])
 
 
 if __name__ == "__main__":

@@ -18,6 +18,7 @@ from lib.messages import get, raw_replies
 from lib.older import OWN, SHARED, put_entry
 from lib.program import PROGRAM, run
 from lib.scratch import files_of, in_new_folders, mounted
+from lib.stores import remove_store
 from lib.suite import Suite
 from lib.tables import connected, order_key, rank_key, rows_of, settled
 
@@ -104,42 +105,51 @@ def killed(words, wait):
         return False
 
 
-def kills(suite):
-    """A kill at any moment: the old store is as it was, and the new one is `common` alone, which is taken, or the
-    whole."""
-    requests = small_zips("old.db", 30)
-    before = files_of()
-    begun = time.monotonic()
-    assert run(["migrate", "--from", "old.db", "--to", "first.db"]) == (0, b"", "")
-    whole_run = time.monotonic() - begun
-    wanted, whole = run(["answer", "--db", "first.db"], requests), rows_of("first.db")
-    count, ends = (1_000 if "--long" in sys.argv else 100), {"none": 0, "common": 0, "whole": 0, "copy": 0}
-    for turn in range(count):
-        words = ["migrate", "--from", "old.db", "--to", f"{turn}.db"]
-        was_done = killed(words, whole_run * 1.1 * random.random())
+class Kills:
+    """Runs of a migration that are killed, and what each left: no new store, one that is `common` alone, the whole, or
+    a copy of the old one."""
+
+    def __init__(self):
+        self.requests = small_zips("old.db", 30)
+        self.before, self.ends = files_of(), {"none": 0, "common": 0, "whole": 0, "copy": 0}
+        begun = time.monotonic()
+        assert run(["migrate", "--from", "old.db", "--to", "first.db"]) == (0, b"", "")
+        self.seconds = time.monotonic() - begun
+        self.answers, self.rows = run(["answer", "--db", "first.db"], self.requests), rows_of("first.db")
+
+    def kill(self, new):
+        """Kills a run at any moment, and runs it again. Returns what is wrong, or None."""
+        words = ["migrate", "--from", "old.db", "--to", new]
+        was_done = killed(words, self.seconds * 1.1 * random.random())
         # a kill while it copies leaves the copy
         for name in filter(lambda it: it.startswith("goshelf-"), os.listdir(".")):
             os.remove(name)
-            ends["copy"] += 1
-        wrong = None
-        if {name: it for name, it in files_of().items() if name.startswith("old.db")} != before:
-            wrong = "the old store is changed"
-        is_there = os.path.exists(f"{turn}.db")
+            self.ends["copy"] += 1
+        if {name: it for name, it in files_of().items() if name.startswith("old.db")} != self.before:
+            return "the old store is changed"
+        is_there = os.path.exists(new)
         again = run(words)
         if again == (0, b"", "") and not was_done:
-            ends["common" if is_there else "none"] += 1
+            self.ends["common" if is_there else "none"] += 1
         elif again == (1, b"", "goshelf: not-empty\n"):
-            ends["whole"] += 1
+            self.ends["whole"] += 1
         else:
-            wrong = f"the run after it ended as {again}"
-        if not wrong and rows_of(f"{turn}.db") != whole:
-            wrong = "the new store is not whole"
-        if not wrong and run(["answer", "--db", f"{turn}.db"], requests) != wanted:
-            wrong = "the new store answers otherwise"
-        suite.counts(f"kill {turn}", wrong)
-        for end in ("", "-wal"):
-            if os.path.exists(f"{turn}.db{end}"):
-                os.remove(f"{turn}.db{end}")
+            return f"the run after it ended as {again}"
+        if rows_of(new) != self.rows:
+            return "the new store is not whole"
+        if run(["answer", "--db", new], self.requests) != self.answers:
+            return "the new store answers otherwise"
+        return None
+
+
+def kills(suite):
+    """A kill at any moment: the old store is as it was, and the new one is `common` alone, which is taken, or the
+    whole."""
+    them, count = Kills(), 1_000 if "--long" in sys.argv else 100
+    for turn in range(count):
+        suite.counts(f"kill {turn}", them.kill(f"{turn}.db"))
+        remove_store(f"{turn}.db")
+    ends = them.ends
     print(
         f"{count} kills: the new store was missing {ends['none']} times, not whole and taken {ends['common']} times,"
         f" whole {ends['whole']} times; {ends['copy']} copies were left"

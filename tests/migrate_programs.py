@@ -153,50 +153,54 @@ def by_programs(suite):
     the same bytes."""
     two, one = os.environ.get("OLD_GOSHELF"), os.environ.get("OLDEST_GOSHELF")
     kept = []
-    if not two:
+    if two:
+        schema_2(suite, two)
+        kept = go_traffic(suite, two)
+    else:
         suite.skip("a store of a program of schema 2", "OLD_GOSHELF names none")
+    if one:
+        schema_1(suite, one, [request for request, _ in kept])
     else:
-        write(FILES)
-        made_by(two, "two.db", SHELVES)
-        for letter, lines in (("B", "beta.csv"), ("A", "alpha.csv"), ("C", "common.csv")):
-            told_done(two, "import", "--db", "two.db", "--key", KEYS[letter], "--list", lines)
-        targets = everything()
-        is_as_before(
-            suite,
-            "schema 2",
-            two,
-            "two.db",
-            "two-new.db",
-            [get(it, KEYS[letter]) for letter in "ARBCN" for it in targets],
-        )
-        if not shutil.which("go"):
-            suite.skip("the go command's traffic", "there is no go command")
-        else:
-            kept = of_go(suite, two, "go.db")
-            requests = [request for request, _ in kept]
-            suite.holds(f"the go command made {len(kept)} requests", len(kept) > 50)
-            is_as_before(suite, "what the go command asked of schema 2", two, "go.db", "go-new.db", requests)
-            serving = Server("go-new.db")
-            unlike = [at for at, (request, wanted) in enumerate(kept) if exchanged(serving.port, request) != wanted]
-            serving.stop()
-            suite.equal("each reply that the go command got from the old program, byte for byte", unlike, [])
-    if not one:
         suite.skip("a store of a program of schema 1", "OLDEST_GOSHELF names none")
-    else:
-        made_by(one, "one.db", OF_GO)
-        assert {it.split()[1] for it in replied(one, "one.db", [publishes()])} == {b"201"}
-        paths = [(escaped(path), escaped(version)) for _, entries in PUBLISHED for path, version, _, _ in entries]
-        targets = sorted(
-            {
-                f"{path}/{it}".format(version)
-                for path, version in paths
-                for it in ("@v/list", "@v/{}.info", "@v/{}.mod", "@v/{}.zip", "@latest")
-            }
-        )
-        asked_of_it = [
-            get(it, key) for key in (ALPHA, READER, BETA, COMMON, KEYS["N"]) for it in (*targets, "-/modules")
-        ]
-        is_as_before(suite, "schema 1", one, "one.db", "one-new.db", [*asked_of_it, *(request for request, _ in kept)])
+
+
+def schema_2(suite, two):
+    """The worked rows in a store of a program of schema 2."""
+    write(FILES)
+    made_by(two, "two.db", SHELVES)
+    for letter, lines in (("B", "beta.csv"), ("A", "alpha.csv"), ("C", "common.csv")):
+        told_done(two, "import", "--db", "two.db", "--key", KEYS[letter], "--list", lines)
+    targets = everything()
+    requests = [get(it, KEYS[letter]) for letter in "ARBCN" for it in targets]
+    is_as_before(suite, "schema 2", two, "two.db", "two-new.db", requests)
+
+
+def go_traffic(suite, two):
+    """What the go command asks a program of schema 2 is answered alike after a migration. Returns its requests and
+    replies."""
+    if not shutil.which("go"):
+        suite.skip("the go command's traffic", "there is no go command")
+        return []
+    kept = of_go(suite, two, "go.db")
+    requests = [request for request, _ in kept]
+    suite.holds(f"the go command made {len(kept)} requests", len(kept) > 50)
+    is_as_before(suite, "what the go command asked of schema 2", two, "go.db", "go-new.db", requests)
+    serving = Server("go-new.db")
+    unlike = [at for at, (request, wanted) in enumerate(kept) if exchanged(serving.port, request) != wanted]
+    serving.stop()
+    suite.equal("each reply that the go command got from the old program, byte for byte", unlike, [])
+    return kept
+
+
+def schema_1(suite, one, requests):
+    """The go command's modules in a store of a program of schema 1, each file of them, and these requests."""
+    made_by(one, "one.db", OF_GO)
+    assert {it.split()[1] for it in replied(one, "one.db", [publishes()])} == {b"201"}
+    paths = [(escaped(path), escaped(version)) for _, entries in PUBLISHED for path, version, _, _ in entries]
+    files = ("@v/list", "@v/{}.info", "@v/{}.mod", "@v/{}.zip", "@latest")
+    targets = sorted({f"{path}/{it}".format(version) for path, version in paths for it in files})
+    asked_of_it = [get(it, key) for key in (ALPHA, READER, BETA, COMMON, KEYS["N"]) for it in (*targets, "-/modules")]
+    is_as_before(suite, "schema 1", one, "one.db", "one-new.db", [*asked_of_it, *requests])
 
 
 if __name__ == "__main__":

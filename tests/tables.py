@@ -19,9 +19,9 @@ from lib.keys import KEY, KEYS
 from lib.messages import get
 from lib.program import answered, run
 from lib.scratch import read
-from lib.stores import add_platform
+from lib.stores import add_platform, remove_store
 from lib.suite import Suite
-from lib.tables import PIECE, PSEUDO, order_key, rank_key
+from lib.tables import PIECE, PSEUDO, connected, order_key, rank_key
 
 PATH = "example.com/m"
 GOMOD = f"module {PATH}\n".encode()
@@ -89,17 +89,11 @@ def new_store(file):
     stores.new_store(file, ("alpha", KEY))
 
 
-def opened(file):
-    conn = sqlite3.connect(file, isolation_level=None)
-    conn.execute("PRAGMA foreign_keys = OFF")
-    return conn
-
-
 def read_by_sqlite(suite):
     new_store("f.db")
     told = answered(["--db", "f.db"], map(put, VERSIONS))
     suite.equal("each version is published", [status for status, _ in told], [201] * len(VERSIONS))
-    conn = opened("f.db")
+    conn = connected("f.db")
     suite.equal("integrity_check", conn.execute("PRAGMA integrity_check").fetchall(), [("ok",)])
     suite.equal("foreign_key_check", conn.execute("PRAGMA foreign_key_check").fetchall(), [])
     suite.equal("schema 3", conn.execute("SELECT name, value FROM meta").fetchall(), [("schema", 3)])
@@ -161,7 +155,7 @@ def shelves_read(suite):
     suite.equal(
         "each shelf publishes", [status for status, _ in answered(["--db", "shelves.db"], puts)], [201] * len(puts)
     )
-    conn = opened("shelves.db")
+    conn = connected("shelves.db")
     suite.equal(
         "each shelf has its parent", conn.execute("SELECT name, parent FROM shelf ORDER BY name").fetchall(), SHELVES
     )
@@ -180,11 +174,9 @@ def shelves_read(suite):
 
 def changed(file, statements):
     """Copies shelves.db to a file and runs statements there."""
-    for name in (file, file + "-wal"):
-        if os.path.exists(name):
-            os.remove(name)
+    remove_store(file)
     shutil.copy("shelves.db", file)
-    conn = opened(file)
+    conn = connected(file)
     for statement in statements.split(";"):
         conn.execute(statement)
     conn.execute("PRAGMA wal_checkpoint(TRUNCATE)")
@@ -196,7 +188,7 @@ def second_row(file, parent, is_in_index):
     is put back, either over an index that has both rows, or over the one that has the first alone."""
     key, table = "sqlite_autoindex_shelf_1", "CREATE TABLE shelf (name TEXT, parent TEXT) STRICT"
     changed(file, "SELECT 1")
-    conn = opened(file)
+    conn = connected(file)
     rows = conn.execute(
         "SELECT rowid, type, name, tbl_name, rootpage, sql FROM sqlite_schema WHERE tbl_name = 'shelf'"
     ).fetchall()
@@ -205,7 +197,7 @@ def second_row(file, parent, is_in_index):
         f" '{table}' WHERE name = 'shelf'"
     )
     conn.close()
-    conn = opened(file)
+    conn = connected(file)
     conn.execute("INSERT INTO shelf VALUES ('alpha', ?)", (parent,))
     if is_in_index:
         conn.execute("CREATE INDEX both ON shelf (name)")
@@ -359,46 +351,50 @@ def shelves_changed(suite):
             )
 
 
+# statements after which a file is no store, and what each makes
+OF = "(SELECT id FROM version WHERE version = 'v1.0.5')"
+SPOILT = (
+    ("a gap in the numbers", f"UPDATE piece SET number = 2 WHERE number = 1 AND version = {OF}"),
+    ("no first piece", f"DELETE FROM piece WHERE number = 0 AND version = {OF}"),
+    (
+        "a piece behind the last that is not full",
+        "INSERT INTO piece SELECT id, 1, X'5A' FROM version WHERE version = 'v1.0.1'",
+    ),
+    (
+        "a short piece before another",
+        f"UPDATE piece SET bytes = substr(bytes, 2) WHERE number = 0 AND version = {OF}",
+    ),
+    (
+        "a piece of a byte too many",
+        f"UPDATE piece SET bytes = CAST(bytes || X'5A' AS BLOB) WHERE number = 1 AND version = {OF}",
+    ),
+    ("an empty piece", f"INSERT INTO piece VALUES ({OF}, 2, X'')"),
+    ("an empty piece of an empty zip", "INSERT INTO piece SELECT id, 0, X'' FROM version WHERE version = 'v1.0.0'"),
+    ("a zip of a byte too many", "INSERT INTO piece SELECT id, 256, X'5A' FROM version WHERE version = 'v1.0.6'"),
+    ("a piece without its version", "INSERT INTO piece VALUES (99, 0, X'5A')"),
+    ("pieces whose version is gone", "DELETE FROM version WHERE version = 'v1.0.5'"),
+    (
+        "pieces of a version taken by another",
+        (
+            f"UPDATE piece SET version = {OF} WHERE number > 2 AND version = (SELECT id FROM version WHERE version"
+            " = 'v1.0.6')"
+        ),
+    ),
+    (
+        "an order_key of another version",
+        f"UPDATE version SET order_key = X'{order_key('v1.0.4').hex()}' WHERE version = 'v1.0.5'",
+    ),
+    ("a rank_key that is the order_key", "UPDATE version SET rank_key = order_key WHERE version = 'v1.0.5'"),
+    ("schema 1 by its number", "UPDATE meta SET value = 1"),
+    ("schema 2 by its number", "UPDATE meta SET value = 2"),
+    ("schema 4 by its number", "UPDATE meta SET value = 4"),
+)
+
+
 def refused(suite):
-    of = "(SELECT id FROM version WHERE version = 'v1.0.5')"
-    for cause, statement in (
-        ("a gap in the numbers", f"UPDATE piece SET number = 2 WHERE number = 1 AND version = {of}"),
-        ("no first piece", f"DELETE FROM piece WHERE number = 0 AND version = {of}"),
-        (
-            "a piece behind the last that is not full",
-            "INSERT INTO piece SELECT id, 1, X'5A' FROM version WHERE version = 'v1.0.1'",
-        ),
-        (
-            "a short piece before another",
-            f"UPDATE piece SET bytes = substr(bytes, 2) WHERE number = 0 AND version = {of}",
-        ),
-        (
-            "a piece of a byte too many",
-            f"UPDATE piece SET bytes = CAST(bytes || X'5A' AS BLOB) WHERE number = 1 AND version = {of}",
-        ),
-        ("an empty piece", f"INSERT INTO piece VALUES ({of}, 2, X'')"),
-        ("an empty piece of an empty zip", "INSERT INTO piece SELECT id, 0, X'' FROM version WHERE version = 'v1.0.0'"),
-        ("a zip of a byte too many", "INSERT INTO piece SELECT id, 256, X'5A' FROM version WHERE version = 'v1.0.6'"),
-        ("a piece without its version", "INSERT INTO piece VALUES (99, 0, X'5A')"),
-        ("pieces whose version is gone", "DELETE FROM version WHERE version = 'v1.0.5'"),
-        (
-            "pieces of a version taken by another",
-            (
-                f"UPDATE piece SET version = {of} WHERE number > 2 AND version = (SELECT id FROM version WHERE version"
-                " = 'v1.0.6')"
-            ),
-        ),
-        (
-            "an order_key of another version",
-            f"UPDATE version SET order_key = X'{order_key('v1.0.4').hex()}' WHERE version = 'v1.0.5'",
-        ),
-        ("a rank_key that is the order_key", "UPDATE version SET rank_key = order_key WHERE version = 'v1.0.5'"),
-        ("schema 1 by its number", "UPDATE meta SET value = 1"),
-        ("schema 2 by its number", "UPDATE meta SET value = 2"),
-        ("schema 4 by its number", "UPDATE meta SET value = 4"),
-    ):
+    for cause, statement in SPOILT:
         shutil.copy("f.db", "bad.db")
-        conn = opened("bad.db")
+        conn = connected("bad.db")
         try:
             conn.execute(statement)
         except sqlite3.IntegrityError as error:
@@ -409,38 +405,32 @@ def refused(suite):
         is_refused(suite, cause, "bad.db")
 
 
+def put_version(conn, number, shelf, path, version, gomod, time=None):
+    """Adds a row of a version, as goshelf does."""
+    row = (number, shelf, path, version, time, gomod, order_key(version), rank_key(version))
+    columns = "id, shelf, path, version, time, mod, order_key, rank_key"
+    conn.execute(f"INSERT INTO version ({columns}) VALUES (?, ?, ?, ?, ?, ?, ?, ?)", row)
+
+
+def put_zip(conn, number, zip):
+    """Adds the pieces of a zip, the last one first: the order of rows means nothing."""
+    for at in reversed(range(0, len(zip), PIECE)):
+        piece = (number, at // PIECE, zip[at : at + PIECE])
+        conn.execute("INSERT INTO piece (version, number, bytes) VALUES (?, ?, ?)", piece)
+
+
 def made_by_sqlite(suite):
     new_store("made.db")
-    conn = opened("made.db")
+    conn = connected("made.db")
     conn.execute("BEGIN")
     # the team first, and then its group: the order of rows means nothing
     conn.execute("INSERT INTO shelf (name, parent) VALUES ('gamma', 'platform'), ('platform', NULL)")
     conn.execute("INSERT INTO access (token, shelf, publish) VALUES (?, 'gamma', 0)", (KEYS["M"],))
-    row = (b"module example.com/p\n", order_key("v1.0.0"), rank_key("v1.0.0"))
-    conn.execute(
-        (
-            "INSERT INTO version (id, shelf, path, version, mod, order_key, rank_key) VALUES (-5, 'platform',"
-            " 'example.com/p', 'v1.0.0', ?, ?, ?)"
-        ),
-        row,
-    )
+    put_version(conn, -5, "platform", "example.com/p", "v1.0.0", b"module example.com/p\n")
     for number, version in enumerate(VERSIONS, 7):
         time = stamp_time(version) if PSEUDO.match(version) else None
-        row = (number, "alpha", PATH, version, time, GOMOD, order_key(version), rank_key(version))
-        conn.execute(
-            (
-                "INSERT INTO version (id, shelf, path, version, time, mod, order_key, rank_key) VALUES (?, ?, ?, ?, ?,"
-                " ?, ?, ?)"
-            ),
-            row,
-        )
-        zip = zip_of(version)
-        # the last piece first: the order of rows means nothing
-        for at in reversed(range(0, len(zip), PIECE)):
-            conn.execute(
-                "INSERT INTO piece (version, number, bytes) VALUES (?, ?, ?)",
-                (number, at // PIECE, zip[at : at + PIECE]),
-            )
+        put_version(conn, number, "alpha", PATH, version, GOMOD, time)
+        put_zip(conn, number, zip_of(version))
     conn.execute("COMMIT")
     conn.execute("PRAGMA wal_checkpoint(TRUNCATE)")
     conn.close()

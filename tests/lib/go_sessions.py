@@ -7,9 +7,10 @@ import json
 import os
 import subprocess
 
+from lib.keys import KEYS
 from lib.modules import module, sums
 
-ALPHA, READER, BETA, COMMON = "alphakey00000001", "alphareader00001", "betakey000000001", "commonkey0000001"
+ALPHA, READER, BETA, COMMON = (KEYS[it] for it in "ARBC")
 PSEUDO = "v0.0.0-20240131120000-abcdefabcdef"
 
 

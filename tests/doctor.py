@@ -18,7 +18,7 @@ import time
 from lib.older import SCHEMA_1, SCHEMA_2
 from lib.program import NOBODY, PROGRAM, can_be_nobody, done
 from lib.refusals import DOCTOR, Refusals, doctor, new_store, word
-from lib.scratch import fill, in_new_folders, mounted, read, write
+from lib.scratch import fill, in_new_folders, read, small_disk, write
 from lib.tables import change, reordered
 
 # what docs/REFERENCE.md has sqlite3 run in a new store, to take over the rows of a file f
@@ -153,10 +153,9 @@ def rights(suite):
 
 def full_disk(suite):
     os.mkdir("small")
-    if not mounted("small", "1m"):
-        suite.skip("a full disk", "no tmpfs can be mounted here")
-        return
-    try:
+    with small_disk("small", "1m") as is_there:
+        if not is_there:
+            return suite.skip("a full disk", "no tmpfs can be mounted here")
         new_store("source.db")
         shutil.copy("source.db", "small/f.db")
         if os.path.exists("source.db-wal"):
@@ -168,8 +167,6 @@ def full_disk(suite):
         os.remove("small/filler")
         suite.wants("the disk has room again", "", word("team-add --db small/f.db --team gamma"))
         suite.wants("nothing was lost", "taken", word("team-add --db small/f.db --team alpha"))
-    finally:
-        subprocess.run(["umount", "small"], check=True)
 
 
 # rows and tables that sqlite3 puts into a store: the cause, the statement, and what the doctor says of it

@@ -11,7 +11,8 @@ import subprocess
 import sys
 import tempfile
 
-from lib.keys import KEY
+from lib.go_command import settings
+from lib.keys import KEY, KEYS
 from lib.modules import zipped
 from lib.pages import blocks
 from lib.peers import NoModules
@@ -21,7 +22,7 @@ from lib.servers import Server
 from lib.stores import new_store
 from lib.suite import Suite
 
-READER = "alphareader00001"
+READER = KEYS["R"]
 AT = "example.com/greet@v1.0.0"
 FILES = {
     "go.mod": "module example.com/greet\n",
@@ -53,26 +54,15 @@ def filled(folder):
     return store
 
 
-def go_asks(behind, proxies, imported, *words, **settings):
+def go_asks(behind, proxies, imported, *words, **more):
     """Runs the go command in a module that imports this package, with no cache: whether it ended well, and the paths
     that the proxy behind was asked."""
     behind.asked.clear()
     with tempfile.TemporaryDirectory(prefix="goshelf-go-") as folder:
-        with open(f"{folder}/go.mod", "w", encoding="utf-8") as file:
-            file.write("module example.com/hello\n\ngo 1.19\n")
-        with open(f"{folder}/main.go", "w", encoding="utf-8") as file:
-            file.write(f'package main\n\nimport it "{imported}"\n\nfunc main() {{ println(it.Text) }}\n')
-        own = {
-            "HOME": folder,
-            "GOPATH": f"{folder}/go",
-            "GOFLAGS": "-modcacherw",
-            "GOPROXY": proxies,
-            "GONOSUMDB": "example.com",
-        }
-        clean = {name: text for name, text in os.environ.items() if not name.startswith("GO")}
-        ran = subprocess.run(
-            ["go", *words], cwd=folder, env={**clean, **own, **settings}, capture_output=True, timeout=120
-        )
+        main = f'package main\n\nimport it "{imported}"\n\nfunc main() {{ println(it.Text) }}\n'
+        write({f"{folder}/go.mod": "module example.com/hello\n\ngo 1.19\n", f"{folder}/main.go": main})
+        env = settings(folder, **{"GOPROXY": proxies, "GONOSUMDB": "example.com", **more})
+        ran = subprocess.run(["go", *words], cwd=folder, env=env, capture_output=True, timeout=120)
     return ran.returncode == 0, {it.split("/@v/")[0].strip("/") for it in behind.asked}
 
 

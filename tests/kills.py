@@ -21,7 +21,7 @@ from lib.keys import KEY
 from lib.kills import MODULE, MOST, count_of, fetch, files_of, is_kept, kill_after, publish
 from lib.messages import replies
 from lib.program import NOBODY, PROGRAM, can_be_nobody, run
-from lib.scratch import mounted
+from lib.scratch import small_disk
 from lib.suite import Suite
 
 SHORT, LONG = 100, 1_000
@@ -142,10 +142,9 @@ def full_disk(suite, folder):
     """Publishes into a tmpfs of 1 MiB until it is full, and opens the store again with more room."""
     at = os.path.join(folder, "small")
     os.mkdir(at)
-    if not mounted(at, "1m"):
-        suite.skip("full disk", "no tmpfs can be mounted")
-        return
-    try:
+    with small_disk(at, "1m") as is_there:
+        if not is_there:
+            return suite.skip("full disk", "no tmpfs can be mounted")
         store, requests = new_store(at, "full.db"), b"".join(publish(number) for number in range(60))
         status, written, _ = run(["answer", "--db", store], requests)
         statuses = [status for status, _ in replies(written)]
@@ -157,8 +156,6 @@ def full_disk(suite, folder):
         again = {status for status, _ in replies(run(["answer", "--db", store], requests)[1])}
         suite.holds("with more room all are taken", again <= {200, 201}, again)
         suite.equal("and all 60 are there", is_kept(store, [*range(60)], []), (False, None))
-    finally:
-        subprocess.run(["umount", at], check=False)
 
 
 def only_read(suite, folder):

@@ -15,6 +15,7 @@ import time
 from lib.older import filled, older, with_log
 from lib.program import NOBODY, PROGRAM, can_be_nobody, run
 from lib.scratch import files_of, in_new_folders, read
+from lib.stores import remove_store
 from lib.suite import Suite
 from lib.tables import connected, rows_of
 
@@ -104,9 +105,8 @@ def races(suite, about, make, to=None):
             wrong = "the new store has other keys"
         suite.counts(f"{about}, behind call {turn}", wrong)
         shutil.rmtree("folder")
-        for end in ("", "-wal"):
-            if to is None and os.path.exists(f"new.db{end}"):
-                os.remove(f"new.db{end}")
+        if to is None:
+            remove_store("new.db")
         if not is_reached:
             break
         tried += 1
@@ -139,9 +139,7 @@ def reader(suite):
         wrong = None if (committed, keys_of("folder")) == ((0, ""), base | {KEY}) and is_whole else (ended, committed)
         suite.counts(f"a read-only file, behind call {turn}", wrong)
         shutil.rmtree("folder")
-        for end in ("", "-wal"):
-            if os.path.exists(f"new.db{end}"):
-                os.remove(f"new.db{end}")
+        remove_store("new.db")
         if not is_reached:
             break
         tried += 1

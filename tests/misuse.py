@@ -13,7 +13,8 @@ import sys
 from lib.machine import Machine
 from lib.operating import copies, prepared
 from lib.program import PROGRAM, ROOT, done
-from lib.scratch import mounted, play, read, write
+from lib.scratch import play, read, small_disk, write
+from lib.stores import remove_store
 from lib.suite import Suite
 
 BACKUPS, OWN = "var/backups/goshelf", "2019 goshelf-kept goshelf-own"
@@ -57,11 +58,10 @@ def full_disk(suite, machine):
     at, small = f"{machine.folder}/{BACKUPS}", f"{machine.folder}/root/small"
     os.mkdir(small)
     os.remove(at)
-    if not mounted(small, "64k"):
-        suite.skip("a full disk", "this needs to mount a tmpfs")
-        os.mkdir(at)
-        return
-    try:
+    with small_disk(small, "64k") as is_there:
+        if not is_there:
+            os.mkdir(at)
+            return suite.skip("a full disk", "this needs to mount a tmpfs")
         os.symlink(small, at)
         told = machine.sh("goshelf-backup")
         suite.equal("a full disk: no backup, and nothing of one", (told[0], os.listdir(small)), (1, []))
@@ -71,8 +71,6 @@ def full_disk(suite, machine):
         told = machine.sh("goshelf-metrics --to /root/small/it.prom")
         left = machine.read("root/small/it.prom"), sorted(os.listdir(small))
         suite.equal("metrics on a full disk", (told[0], left), (1, (before, ["filler", "it.prom"])))
-    finally:
-        subprocess.run(["umount", small], check=True)
     os.remove(at)
     os.rename(f"{at}.there", at)
 
@@ -150,9 +148,7 @@ def shards(suite, machine):
     told = machine.sh(f"{TOOL} make shards.conf {machine.store} ''")
     suite.equal("tools/shards make in no folder", told, (2, "", "shards: a word is empty\n"))
     suite.equal("it makes nothing", os.path.exists(made), False)
-    for it in (made, f"{made}-wal"):
-        if os.path.exists(it):
-            os.remove(it)
+    remove_store(made)
 
 
 def doctor(suite, machine):

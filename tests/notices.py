@@ -7,7 +7,6 @@ at most is it told, and a standard error that takes nothing changes nothing else
 
 import hashlib
 import os
-import subprocess
 import sys
 import time
 
@@ -15,7 +14,7 @@ from lib.keys import KEY, KEYS
 from lib.messages import get, put
 from lib.peers import GOMOD, LIST
 from lib.program import run
-from lib.scratch import in_new_folders, mounted, read
+from lib.scratch import in_new_folders, read, small_disk
 from lib.servers import CONTROL, Server
 from lib.stores import new_store
 from lib.suite import Suite
@@ -126,10 +125,9 @@ def unheard(suite):
 def faults(suite):
     """A fault is told with what it met, and the same fault once a minute at most."""
     os.mkdir("small")
-    if not mounted("small", "1m"):
-        suite.skip("faults on a full disk", "this needs to mount a tmpfs")
-        return
-    try:
+    with small_disk("small", "1m") as is_there:
+        if not is_there:
+            return suite.skip("faults on a full disk", "this needs to mount a tmpfs")
         new_store("small/served.db", ("alpha", KEY))
         with open("errors", "wb") as errors:
             server = Server("small/served.db", CONTROL, errors=errors)
@@ -147,8 +145,6 @@ def faults(suite):
         suite.equal("an order is answered", server.order(b"nonsense\n"), b"bad\n")
         suite.equal("and told still", lines_like([*faults_told, "order: bad"])[-1], "order: bad")
         server.kill()
-    finally:
-        subprocess.run(["umount", "small"], check=True)
 
 
 if __name__ == "__main__":

@@ -29,7 +29,7 @@ from lib.company import (
 )
 from lib.pages import block
 from lib.program import done
-from lib.scratch import fill, mounted, play
+from lib.scratch import fill, mounted, play, read
 from lib.suite import Suite
 
 
@@ -92,11 +92,6 @@ def no_secrets(suite, company):
             for it in names
         ]
         suite.holds(f"no disk of {at} has a login", not any(login in text for login in logins for text in texts))
-
-
-def read(name):
-    with open(name, "rb") as file:
-        return file.read()
 
 
 def publishes_are_seen(suite, company):

@@ -12,12 +12,12 @@ import subprocess
 import sys
 import tempfile
 
+from lib.keys import KEY
 from lib.program import ROOT, answered
 from lib.suite import Suite
 
 SUITE = Suite()
 SEED = random.Random(20261128)
-KEY = "alphakey00000001"
 COUNT = 6_000
 PROGRAM = re.compile(r"/check\.go\" <<'GO'\n(.*?)\nGO\n", re.S)
 DIRECTIVES = "module go toolchain require exclude replace retract tool godebug ignore".split()

@@ -21,7 +21,7 @@ from lib import messages
 from lib.keys import KEY, MEMORY, PLATFORM
 from lib.messages import put
 from lib.program import PROGRAM
-from lib.stores import new_store
+from lib.stores import new_store, remove_store
 from lib.suite import Suite
 
 # in the short form, one in this many allocations over a file
@@ -88,11 +88,9 @@ class Runs:
 
     def run(self, requests, **more):
         if self.has_file:
-            for end in ("", "-wal"):
-                if os.path.exists(self.file + end):
-                    os.remove(self.file + end)
-                if os.path.exists(self.fresh + end):
-                    shutil.copy(self.fresh + end, self.file + end)
+            remove_store(self.file)
+            for end in filter(lambda end: os.path.exists(self.fresh + end), ("", "-wal")):
+                shutil.copy(self.fresh + end, self.file + end)
         return self.again(requests, **more)
 
     @functools.cache

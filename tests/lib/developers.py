@@ -8,6 +8,7 @@ import os
 import re
 import subprocess
 
+from lib import go_command
 from lib.front import Client, settle, start
 from lib.machine import AUTHORITIES, Machine
 from lib.modules import escaped
@@ -123,14 +124,14 @@ class Developers:
         if user in self.client.passwords:
             write({f"{home}/.netrc": f"machine localhost login {user} password {self.client.passwords[user]}\n"})
         own = {
-            "HOME": home, "GOPATH": f"{home}/go", "GOMODCACHE": cache or f"{home}/cache",
+            "GOMODCACHE": cache or f"{home}/cache",
             "GOCACHE": self.outside.build_cache,
-            "GOPROXY": self.url, "GONOSUMDB": "example.com,forge.example/corp", "GOSUMDB": self.outside.verifies,
-            "GOFLAGS": "-modcacherw", "GOTOOLCHAIN": "local", "CGO_ENABLED": "0",
+            "GOPROXY": self.url,
+            "GONOSUMDB": "example.com,forge.example/corp",
+            "GOSUMDB": self.outside.verifies,
             "SSL_CERT_FILE": f"{self.folder}/trusted.pem",
-        }  # fmt: skip
-        clean = {name: text for name, text in os.environ.items() if not name.startswith("GO") and name != "NETRC"}
-        env = {**clean, **own, **settings}
+        }
+        env = go_command.settings(home, **{**own, **settings})
         ran = subprocess.run(["go", *words], cwd=at, env=env, capture_output=True, text=True, timeout=120)
         return ran.returncode == 0, ran.stdout, ran.stderr
 

@@ -1,6 +1,5 @@
 """A machine with goshelf behind nginx, by the page's commands, and its users."""
 
-import base64
 import http.client
 import os
 import re
@@ -8,6 +7,7 @@ import socket
 import ssl
 import time
 
+from lib.logins import Logins
 from lib.machine import Machine
 from lib.pages import block
 from lib.ports import wait_for
@@ -29,11 +29,12 @@ USERS = [
 ]
 
 
-class Client:
+class Client(Logins):
     """What the users of the front see of it."""
 
     def __init__(self, machine):
-        self.machine, self.passwords = machine, {}
+        super().__init__()
+        self.machine = machine
         self.pem = f"{machine.folder}/etc/ssl/goshelf.pem"
         self.context = ssl.create_default_context(cafile=self.pem)
 
@@ -41,15 +42,7 @@ class Client:
         self.machine.close()
 
     def add(self, user, shelf, right):
-        """Adds a user by the page's commands, and keeps the password that they print."""
-        script = block("sh", "goshelf-user add ann")
-        line = self.machine.does(script.replace("ann alpha read", f"{user} {shelf} {right}"))
-        assert line.split()[:4] == ["machine", "localhost", "login", user], line
-        self.passwords[user] = line.split()[5]
-
-    def login(self, user):
-        """The header by which a user logs in."""
-        return "Basic " + base64.b64encode(f"{user}:{self.passwords[user]}".encode()).decode()
+        self.add_at(self.machine, "localhost", user, shelf, right)
 
     def ask(self, method, target, header, body=None, headers=None):
         reply = self.reply(method, target, header, body, headers)

@@ -3,7 +3,6 @@
 Nothing of it is seen outside: the bridge is in a namespace too. A host resolves the names of the others. Root only.
 """
 
-import base64
 import contextlib
 import copy
 import ctypes
@@ -15,8 +14,8 @@ import ssl
 import subprocess
 import time
 
+from lib.logins import Logins
 from lib.machine import Machine
-from lib.pages import block
 from lib.peers import over
 from lib.ports import wait_until
 
@@ -149,11 +148,12 @@ class Network:
             shutil.rmtree(f"/etc/netns/{name}", ignore_errors=True)
 
 
-class Desk:
+class Desk(Logins):
     """Who asks from a host: users with passwords."""
 
     def __init__(self, network, at, certificates):
-        self.network, self.namespace, self.passwords, self.kept = network, network.hosts[at].namespace, {}, {}
+        super().__init__()
+        self.network, self.namespace, self.kept = network, network.hosts[at].namespace, {}
         self.context = ssl.create_default_context(cadata="".join(certificates))
 
     def another(self):
@@ -163,14 +163,7 @@ class Desk:
         return desk
 
     def add(self, first, user, shelf, right):
-        """Adds a user by the commands of NGINX, and keeps the password that they print."""
-        line = first.does(block("sh", "goshelf-user add ann").replace("ann alpha read", f"{user} {shelf} {right}"))
-        assert line.split()[:4] == ["machine", first.name, "login", user], line
-        self.passwords[user] = line.split()[5]
-
-    def login(self, user):
-        """The header by which a user logs in."""
-        return "Basic " + base64.b64encode(f"{user}:{self.passwords[user]}".encode()).decode()
+        self.add_at(first, first.name, user, shelf, right)
 
     def connect(self, name, seconds=30):
         """A connection to a host's port 443."""

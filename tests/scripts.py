@@ -2,7 +2,7 @@
 """The scripts that users and operators run, and tests/all: each prints its usage, and refuses an unknown option.
 
 Those in sh pass shellcheck, as the package's own do, and all files in Python pyflakes and black, which lays them out
-by pyproject.toml. The registry lists each suite, and no suite imports another.
+by pyproject.toml. The registry lists each suite, as docs/TESTING.md does, and no suite imports another.
 """
 
 import ast
@@ -22,7 +22,7 @@ COMMANDS = sorted(glob.glob("deploy/**/goshelf-*", root_dir=ROOT, recursive=True
 SCRIPTS = ["tools/adopt", "tools/catalog", "tools/publish", "tools/release", "tools/shards", "tests/all", *COMMANDS]
 # folders with files in Python
 FOLDERS = ("tests", "tools", "bench", "deploy")
-LONGEST_LINE = 120
+LONGEST_LINE, LONGEST_FILE = 120, 500
 # the black of Debian 12: another may lay files out otherwise
 BLACK = "black, 23."
 
@@ -57,6 +57,8 @@ def python(files):
         f"{it}:{at}" for it in files for at, line in enumerate(read(it).split("\n"), 1) if len(line) > LONGEST_LINE
     ]
     SUITE.equal(f"no line in Python has more than {LONGEST_LINE} characters", long_lines, [])
+    long_files = [it for it in files if read(it).count("\n") > LONGEST_FILE]
+    SUITE.equal(f"no file in Python has more than {LONGEST_FILE} lines", long_files, [])
     if shutil.which("pyflakes3"):
         SUITE.equal("pyflakes", ran("pyflakes3", *files), (0, "", ""))
     else:
@@ -73,6 +75,8 @@ def suites():
     names = [it.removesuffix(".py") for it in sorted(os.listdir(os.path.join(ROOT, "tests"))) if it.endswith(".py")]
     SUITE.equal("the registry lists each suite", [it.name for it in SUITES], names)
     SUITE.equal("and each says what it shows", [it.name for it in SUITES if not it.shows.endswith(".")], [])
+    table = read("docs/TESTING.md").partition("| subject | suites |\n")[2].partition("\n\n")[0]
+    SUITE.equal("docs/TESTING.md has each suite once", sorted(re.findall(r"`(\w+)`", table)), sorted(names))
     above = [f"tests/{it}" for it in os.listdir(os.path.join(ROOT, "tests")) if it.endswith(".py")]
     within = [f"tests/lib/{it}" for it in os.listdir(os.path.join(ROOT, "tests", "lib")) if it.endswith(".py")]
     SUITE.equal("no suite is imported", [it for it in sorted([*above, *within]) if imported(it) & {*names}], [])

@@ -15,7 +15,7 @@ use Rattle.machine.specs.declared.reply.Reply.TheVariants.{Registry}
 use Rattle.control.specs.Asking.{Asks}
 use Rattle.control.specs.Copying.{GoesThroughSteps}
 use Rattle.control.specs.Hearing.{Heard, Carried, Copied, Listed, Pinged, Named, Stop, NoOrder, NoMemory}
-use Rattle.control.specs.Hearing.{IsHeardIn, steps_heard}
+use Rattle.control.specs.Hearing.{GoesAs, IsHeardIn, steps_heard}
 use Rattle.control.specs.Hearing.{told_heard}
 use Rattle.control.specs.Line.{IsSaid, IsSent, IsCopyTo, copy_words, named_words}
 use Rattle.control.specs.Order.{Orders, said_in, event_of, outcome_in}
@@ -108,55 +108,55 @@ outcome_in_told (spoken.Outcome outcome) = outcome
 outcome_in_told (spoken.Health line) = outcome.Bad
 outcome_in_told (spoken.List lines) = outcome.Bad
 
-module _ (old new : Shown) (sent : List ℕ) (order asked : Order) (result : Result (Unit {0}) CommandRefusal) (w : World)
-  where
-    carried : new.is_honest → old.stands w → IsWorld w → ComeToTheSame asked order → IsSent sent asked → (other : Order)
-        → IsSent sent other
-        → (told : Result RegistryReply StoreFault) → result ≡ told_ending (unsayable asked) (Ok (outcome_of told))
-        → GoesThroughSteps old new (steps_heard (Carried other told)) → EndsAt new w order result
-    carried honest stands is same asks other heard (Ok r) ends through =
-        let run = through.runs.at honest w stands in
-        let event = same_event sent asked other asks heard in
-        let outcome = ap registered_in (run.run.0 ∙ ap (reply_to w) (sym event)) ∙ replied w asked ∙ (same w is).0 in
-        inl (
-          ends ∙ ap (λ r. told_ending (unsayable asked) (Ok (outcome_of (Ok r)))) outcome,
-          subst new.stands (ap (after w) (sym event) ∙ (same w is).1) run.ends,
-        )
-    carried honest stands is same asks other heard (Err fault) ends through =
-        inr (fault, ends, (through.runs.at honest w stands).ends)
+module _ (idle meanwhile : Type 0) (old new : Shown) (sent : List ℕ) (order asked : Order)
+    (result : Result (Unit {0}) CommandRefusal) (w : World) where
+  carried : new.is_honest → old.stands w → IsWorld w → ComeToTheSame asked order → IsSent sent asked → (other : Order)
+      → IsSent sent other
+      → (told : Result RegistryReply StoreFault) → result ≡ told_ending (unsayable asked) (Ok (outcome_of told))
+      → GoesThroughSteps old new (steps_heard (Carried other told)) → EndsAt new w order result
+  carried honest stands is same asks other heard (Ok r) ends through =
+      let run = through.runs.at honest w stands in
+      let event = same_event sent asked other asks heard in
+      let outcome = ap registered_in (run.run.0 ∙ ap (reply_to w) (sym event)) ∙ replied w asked ∙ (same w is).0 in
+      inl (
+        ends ∙ ap (λ r. told_ending (unsayable asked) (Ok (outcome_of (Ok r)))) outcome,
+        subst new.stands (ap (after w) (sym event) ∙ (same w is).1) run.ends,
+      )
+  carried honest stands is same asks other heard (Err fault) ends through =
+      inr (fault, ends, (through.runs.at honest w stands).ends)
 
-    heard_so : new.is_honest → old.stands w → IsWorld w → ComeToTheSame asked order → IsSent sent asked
-        → (heard : Heard) → IsHeardIn sent heard
-        → (outcome : Outcome) → spoken.Outcome outcome ≡ told_heard heard
-        → result ≡ told_ending (unsayable asked) (Ok outcome)
-        → GoesThroughSteps old new (steps_heard heard)
-        → EndsAt new w order result
-    heard_so honest stands is same asks (Carried other told) from outcome tells ends through =
-        carried honest stands is same asks other from told
-        (ends ∙ ap (λ o. told_ending (unsayable asked) (Ok o)) (ap outcome_in_told tells)) through
-    heard_so honest stands is same asks (Copied path told) from outcome tells ends through =
-        absurd (no_copy sent path asked asks from)
-    heard_so honest stands is same asks (Pinged told) from outcome tells ends through =
-        absurd (no_word (codes "ping") refl (said_in asked) (subst (λ got. IsSent got asked) from asks))
-    heard_so honest stands is same asks (Listed Keys told) from outcome tells ends through =
-        absurd (no_word (codes "key-list") refl (said_in asked) (subst (λ got. IsSent got asked) from asks))
-    heard_so honest stands is same asks (Listed Shelves told) from outcome tells ends through =
-        absurd (no_word (codes "shelf-list") refl (said_in asked) (subst (λ got. IsSent got asked) from asks))
-    heard_so honest stands is same asks (Named f naming) from outcome tells ends through =
-        absurd (no_named_words f asked (same_said sent (named_words f) (said_in asked) from asks))
-    heard_so honest stands is same asks Stop from outcome tells ends through =
-        absurd (no_word (codes "stop") refl (said_in asked) (subst (λ got. IsSent got asked) from asks))
-    heard_so honest stands is same asks NoOrder from outcome tells ends through = absurd (from.0 asked asks)
-    heard_so honest stands is same asks NoMemory from outcome tells ends through = absurd from
+  heard_so : new.is_honest → old.stands w → IsWorld w → ComeToTheSame asked order → IsSent sent asked
+      → (heard : Heard) → IsHeardIn sent heard
+      → (outcome : Outcome) → spoken.Outcome outcome ≡ told_heard heard
+      → result ≡ told_ending (unsayable asked) (Ok outcome)
+      → GoesAs idle meanwhile old new heard
+      → EndsAt new w order result
+  heard_so honest stands is same asks (Carried other told) from outcome tells ends through =
+      carried honest stands is same asks other from told
+      (ends ∙ ap (λ o. told_ending (unsayable asked) (Ok o)) (ap outcome_in_told tells)) through.1
+  heard_so honest stands is same asks (Copied path told) from outcome tells ends through =
+      absurd (no_copy sent path asked asks from)
+  heard_so honest stands is same asks (Pinged told) from outcome tells ends through =
+      absurd (no_word (codes "ping") refl (said_in asked) (subst (λ got. IsSent got asked) from asks))
+  heard_so honest stands is same asks (Listed Keys told) from outcome tells ends through =
+      absurd (no_word (codes "key-list") refl (said_in asked) (subst (λ got. IsSent got asked) from asks))
+  heard_so honest stands is same asks (Listed Shelves told) from outcome tells ends through =
+      absurd (no_word (codes "shelf-list") refl (said_in asked) (subst (λ got. IsSent got asked) from asks))
+  heard_so honest stands is same asks (Named f naming) from outcome tells ends through =
+      absurd (no_named_words f asked (same_said sent (named_words f) (said_in asked) from asks))
+  heard_so honest stands is same asks Stop from outcome tells ends through =
+      absurd (no_word (codes "stop") refl (said_in asked) (subst (λ got. IsSent got asked) from asks))
+  heard_so honest stands is same asks NoOrder from outcome tells ends through = absurd (from.0 asked asks)
+  heard_so honest stands is same asks NoMemory from outcome tells ends through = absurd from
 
 pub ends_as_on_the_store : (copied : List ℕ → Result (Unit {0}) CopyRefusal → Type 0)
-    (pinged : Result Health StoreFault → Type 0) (old new : Shown)
-    → ((w : World) → old.stands w → IsWorld w) → EndsAsOnTheStore copied pinged old new
-ends_as_on_the_store copied pinged old new sound order result w two honest stands =
+    (pinged : Result Health StoreFault → Type 0) (idle meanwhile : Type 0) (old new : Shown)
+    → ((w : World) → old.stands w → IsWorld w) → EndsAsOnTheStore copied pinged idle meanwhile old new
+ends_as_on_the_store copied pinged idle meanwhile old new sound order result w two honest stands =
     let asked = two.command.asked in
     let asks = subst (λ told. Asks two.unread two.unread_new (Some []) (Some two.sent) asked told) two.heard
     two.command.asks in
     let sends : IsSent two.sent asked = subst (λ got. IsSent got asked) (sym asks.2) asks.1 in
-    heard_so old new two.sent order asked result w honest stands (sound w stands) two.command.same sends
-    two.server.heard two.server.from
+    heard_so idle meanwhile old new two.sent order asked result w honest stands (sound w stands) two.command.same
+    sends two.server.heard two.server.from
     two.told two.server.tells (two.command.ends ∙ ap (told_ending (unsayable asked)) two.heard) two.server.through

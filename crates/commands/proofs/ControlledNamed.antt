@@ -10,7 +10,7 @@ use Rattle.world.specs.declared.registry.StoreFault.{StoreFault}
 use Rattle.control.specs.Asking.{AsksToRevoke}
 use Rattle.control.specs.Copying.{GoesThroughSteps}
 use Rattle.control.specs.Hearing.{Heard, Carried, Copied, Listed, Pinged, Named, Stop, NoOrder, NoMemory}
-use Rattle.control.specs.Hearing.{IsHeardIn, ListsBy, steps_heard, told_heard}
+use Rattle.control.specs.Hearing.{GoesAs, IsHeardIn, ListsBy, told_heard}
 use Rattle.control.specs.Line.{IsNaming, copy_words, named_words}
 use Rattle.control.specs.Naming.{Finds, Naming, NamesOne, NamesNone, Unread, named_result, named_steps}
 use Rattle.control.specs.Order.{said_in}
@@ -40,7 +40,8 @@ ends_so : (told : Result RegistryReply StoreFault) → told_ending NoKey (Ok (ou
 ends_so (Ok r) = refl
 ends_so (Err fault) = refl
 
-module _ (old new : Shown) (f : List ℕ) (result : Result (Unit {0}) CommandRefusal) (w : World) where
+module _ (idle meanwhile : Type 0) (old new : Shown) (f : List ℕ) (result : Result (Unit {0}) CommandRefusal)
+    (w : World) where
   named : new.is_honest → old.stands w → (naming : Naming) → Finds old new f naming
       → GoesThroughSteps old new (named_steps f naming) → result ≡ ending (named_result naming)
       → RevokesAt new w f result
@@ -64,11 +65,11 @@ module _ (old new : Shown) (f : List ℕ) (result : Result (Unit {0}) CommandRef
 
   heard_so : (sent : List ℕ) → new.is_honest → old.stands w → IsNaming sent f → (heard : Heard) → IsHeardIn sent heard
       → (outcome : Outcome) → spoken.Outcome outcome ≡ told_heard heard → result ≡ told_ending NoKey (Ok outcome)
-      → GoesThroughSteps old new (steps_heard heard) → ListsBy old new heard → RevokesAt new w f result
+      → GoesAs idle meanwhile old new heard → ListsBy old new heard → RevokesAt new w f result
   heard_so sent honest stands asks (Named g naming) from outcome tells ends through finds =
       let same = ap (λ (s : Said). s.first) (same_said sent (named_words g) (named_words f) from asks) in
       let both = subst (λ (x : List ℕ). Finds old new x naming × GoesThroughSteps old new (named_steps x naming)) same
-      (finds, through) in
+      (finds, through.1) in
       named honest stands naming both.0 both.1
       (ends ∙ ap (λ o. told_ending NoKey (Ok o)) (ap outcome_in_told tells) ∙ ends_so (named_result naming))
   heard_so sent honest stands asks (Carried order told) from outcome tells ends through lists =
@@ -87,10 +88,11 @@ module _ (old new : Shown) (f : List ℕ) (result : Result (Unit {0}) CommandRef
   heard_so sent honest stands asks NoMemory from outcome tells ends through lists = absurd from
 
 pub revokes_as_on_the_store : (copied : List ℕ → Result (Unit {0}) CopyRefusal → Type 0)
-    (pinged : Result Health StoreFault → Type 0) (old new : Shown) → RevokesAsOnTheStore copied pinged old new
-revokes_as_on_the_store copied pinged old new f result w two honest stands =
+    (pinged : Result Health StoreFault → Type 0) (idle meanwhile : Type 0) (old new : Shown)
+    → RevokesAsOnTheStore copied pinged idle meanwhile old new
+revokes_as_on_the_store copied pinged idle meanwhile old new f result w two honest stands =
     let asks = subst (λ told. AsksToRevoke two.unread two.unread_new (Some []) (Some two.sent) f told) two.heard
     two.command.asks in
     let sends : IsNaming two.sent f = subst (λ got. IsNaming got f) (sym asks.2) asks.1 in
-    heard_so old new f result w two.sent honest stands sends two.server.heard two.server.from two.told
+    heard_so idle meanwhile old new f result w two.sent honest stands sends two.server.heard two.server.from two.told
     two.server.tells (two.command.ends ∙ ap (told_ending NoKey) two.heard) two.server.through two.server.lists

@@ -10,7 +10,6 @@ pub mod Inventory
 pub mod Rows
 pub mod Lines
 pub mod Listing
-pub mod Moment
 pub mod NewKey
 pub mod Opening
 pub mod Order

@@ -15,8 +15,8 @@ use Rattle.control.specs.declared.outcome.Outcome.{Outcome}
 use Rattle.control.specs.declared.outcome.Outcome.TheVariants as outcome
 use Rattle.commands.specs.Ending.{ending}
 use Rattle.commands.specs.declared.refusal.CommandRefusal.{CommandRefusal}
-use Rattle.commands.specs.declared.refusal.CommandRefusal.TheVariants.{Name, NoTeam, NoKey, NotEmpty, Device, Memory}
-use Rattle.commands.specs.declared.refusal.CommandRefusal.TheVariants.{Io}
+use Rattle.commands.specs.declared.refusal.CommandRefusal.TheVariants.{Name, NoTeam, NoKey, NotEmpty, Busy, Ended}
+use Rattle.commands.specs.declared.refusal.CommandRefusal.TheVariants.{Device, Memory, Io}
 
 -- ---- what is sent
 
@@ -57,6 +57,8 @@ abbrev pub told_ending : CommandRefusal → Result Outcome Untold → Result (Un
 told_ending unsaid (Ok (outcome.RegistryReply registered)) = ending (Ok registered)
 told_ending unsaid (Ok (outcome.Failed fault)) = ending (Err fault)
 told_ending unsaid (Ok outcome.NotEmpty) = Err Io
+told_ending unsaid (Ok outcome.Busy) = Err Io
+told_ending unsaid (Ok outcome.Ended) = Err Io
 told_ending unsaid (Ok outcome.Stopping) = Err Io
 told_ending unsaid (Ok outcome.Bad) = Err Io
 told_ending unsaid (Err untold.Words) = Err unsaid
@@ -112,6 +114,8 @@ abbrev pub copy_ending : Result Outcome Untold → Result (Unit {0}) CommandRefu
 copy_ending (Ok (outcome.RegistryReply registered)) = ending (Ok registered)
 copy_ending (Ok (outcome.Failed fault)) = ending (Err fault)
 copy_ending (Ok outcome.NotEmpty) = Err NotEmpty
+copy_ending (Ok outcome.Busy) = Err Busy
+copy_ending (Ok outcome.Ended) = Err Ended
 copy_ending (Ok outcome.Stopping) = Err Io
 copy_ending (Ok outcome.Bad) = Err Io
 copy_ending (Err untold.Words) = Err Name
@@ -138,6 +142,8 @@ stop_ending (Ok outcome.Stopping) = Ok tt
 stop_ending (Ok (outcome.Failed fault)) = ending (Err fault)
 stop_ending (Ok (outcome.RegistryReply registered)) = Err Io
 stop_ending (Ok outcome.NotEmpty) = Err Io
+stop_ending (Ok outcome.Busy) = Err Io
+stop_ending (Ok outcome.Ended) = Err Io
 stop_ending (Ok outcome.Bad) = Err Io
 stop_ending (Err why) = Err Io
 

@@ -19,6 +19,8 @@ refusal_of (outcome.Failed fault.Device) = Device
 refusal_of (outcome.Failed fault.Memory) = Memory
 refusal_of (outcome.RegistryReply registered) = Io
 refusal_of outcome.NotEmpty = Io
+refusal_of outcome.Busy = Io
+refusal_of outcome.Ended = Io
 refusal_of outcome.Stopping = Io
 refusal_of outcome.Bad = Io
 

@@ -3,9 +3,9 @@ use Rattle.std.specs.Prelude.{ℕ, ◌≡◌, ◌≢◌, ◌++◌, List, codes, 
 use Rattle.std.specs.Io.KnownBytes.{Appends}
 use Rattle.world.specs.Store.{Shown}
 use Rattle.socket.specs.Connections.{GoesThroughMost}
+use Rattle.control.specs.Calendar.{Shows}
 use Rattle.control.specs.Copying.{GoesOnRead}
 use Rattle.control.specs.declared.copies.CopyRefusal.{CopyRefusal}
-use Rattle.commands.specs.Moment.{Shows}
 use Rattle.commands.specs.Printed.{PrintsFront}
 use Rattle.commands.specs.declared.refusal.CommandRefusal.{CommandRefusal}
 use Rattle.commands.specs.declared.refusal.CommandRefusal.TheVariants.{Io}
@@ -60,9 +60,8 @@ abbrev pub Counted : Type 0 → Type 1
 Counted S = S → S → ℕ → Type 0
 
 -- The calendar showed one time more, and each ping was told that the server began then. The store went through at most
--- as many requests as there are connections, with orders between them, and copies of the machine's world at that
--- moment,
--- and versions counted in it.
+-- as many requests as there are connections, with orders between them, and copies of the machine's world at the moment
+-- of each order, and versions counted in that of each ping.
 pub record ServesSince {S : Type 0} (shown : S → Shown) (copied : Copied S) (counted : Counted S)
     (times times_new : List (List ℕ)) (old new : S) (connections : ℕ) : Type 0 where
   pub since : List ℕ

@@ -83,7 +83,7 @@ pub enum Action<'a> {
 pub fn act_on<S: Outlines + Keyring, K: Copies<S>, I: Hear, O: Tell>(
     rt: &HostRuntime,
     shelves: &mut S,
-    copies: &mut K,
+    copies: &K,
     action: &Action,
     input: &mut I,
     output: &mut O,

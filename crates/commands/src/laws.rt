@@ -1,11 +1,12 @@
 //! What holds of every inventory, of every import, and of every order that is sent.
+ghost use Rattle.std.specs.Prelude.{◌≡◌};
 ghost use Rattle.control.specs.Health.{IsPinged};
 ghost use Rattle.control.specs.declared.tally.Tally.{Tally};
 ghost use Rattle.commands.specs.Controlled.{EndsAsOnTheStore, RevokesAsOnTheStore};
 ghost use Rattle.commands.specs.Rows.{RowsAreWhole};
 ghost use Rattle.commands.specs.Repetition.{RepeatedImportChangesNothing};
 
-use control::Copies;
+use control::CopyOrders;
 use world::shelves::Shelves;
 
 /// A list that was imported whole changes nothing when it is imported again, with the same files and by a key that may
@@ -23,15 +24,17 @@ pub fn rows_are_whole()
 /// A command with `--control`, whose line a `serve` carried out and whose outcome came, ends as the same command does
 /// on the store of a file: by the machine's reply to its order in the world that the store stood for, and the store
 /// stands for the world after it; or by a fault of the store, which changes nothing.
-pub fn orders_end_as_on_the_store<S: Shelves, K: Copies<S>>()
-    ensures { (old new : S) (tally : Tally) → EndsAsOnTheStore (K.copied old new)
-        (IsPinged tally (S.shown old).failures (S.shown new).failures (K.counted old new)) (S.shown old) (S.shown new) }
+pub fn orders_end_as_on_the_store<S: Shelves, K: CopyOrders<S>>()
+    ensures { (old new : S) (copies copies_new : K) (tally : Tally) → EndsAsOnTheStore (K.copied old new)
+        (IsPinged tally (S.shown old).failures (S.shown new).failures (K.counted old new))
+        (copies_new ≡ copies) (K.meanwhile copies copies_new old new) (S.shown old) (S.shown new) }
 {}
 
 /// `key-revoke --fingerprint` with `--control`, whose line a `serve` carried out and whose outcome came, ends as it
 /// does on the store of a file: the key that has the fingerprint in the world that the store stood for is revoked, or
 /// it ends with `no-key` if no key has it or several have; or by a fault of the store, which changes nothing.
-pub fn revocations_end_as_on_the_store<S: Shelves, K: Copies<S>>()
-    ensures { (old new : S) (tally : Tally) → RevokesAsOnTheStore (K.copied old new)
-        (IsPinged tally (S.shown old).failures (S.shown new).failures (K.counted old new)) (S.shown old) (S.shown new) }
+pub fn revocations_end_as_on_the_store<S: Shelves, K: CopyOrders<S>>()
+    ensures { (old new : S) (copies copies_new : K) (tally : Tally) → RevokesAsOnTheStore (K.copied old new)
+        (IsPinged tally (S.shown old).failures (S.shown new).failures (K.counted old new))
+        (copies_new ≡ copies) (K.meanwhile copies copies_new old new) (S.shown old) (S.shown new) }
 {}

@@ -1,23 +1,11 @@
-//! The time, and what shows it.
+//! The clock of the system, as a calendar.
 ghost use Rattle.std.specs.Prelude.{◌≡◌, []};
 
 use crate::ledger::Ledger;
+use control::Calendar;
 use jiff::Timestamp;
 use modver::{TimeText, read_time};
 use std::rt::HostRuntime;
-
-/// What shows the time, and keeps account of what it showed.
-pub trait Calendar {
-    ghost use Rattle.std.specs.Prelude.{ℕ, List};
-    ghost use Rattle.commands.specs.Moment.{Shows};
-
-    /// The times that it showed so far, the oldest first.
-    ghost shown: { Self → List (List ℕ) };
-
-    /// Returns the time in UTC, to the second. None if it can't be read.
-    fn time_now(&mut self) -> Option<TimeText>
-        ensures { Shows (shown self.old) (shown self.new) result };
-}
 
 /// The clock of the system.
 #[derive(Drop)]

@@ -79,7 +79,8 @@ fn told_ending(
     match told {
         Ok(Outcome::RegistryReply(registered)) => ending(Ok(registered)),
         Ok(Outcome::Failed(fault)) => ending(Err(fault)),
-        Ok(Outcome::NotEmpty | Outcome::Stopping | Outcome::Bad) => Err(CommandRefusal::Io),
+        Ok(Outcome::NotEmpty | Outcome::Busy | Outcome::Ended) => Err(CommandRefusal::Io),
+        Ok(Outcome::Stopping | Outcome::Bad) => Err(CommandRefusal::Io),
         Err(Untold::Words) => Err(unsayable),
         Err(Untold::Memory) => Err(CommandRefusal::Memory),
         Err(Untold::Io) => Err(CommandRefusal::Io),
@@ -141,8 +142,9 @@ pub fn revoke_over<R: Hear, W: Tell>(
 /// Has the `serve` that listens at a socket copy its store into the file of a path, as that server sees it, and waits
 /// for that as long as it takes. `NotEmpty` if the file has more than an empty store or is that of the served store.
 /// `Device` if nobody listens there, the system refuses the connection, the file can't be opened, SQLite has a use for
-/// it beside a database, or a disk failed. `Memory` if memory ran out there, or here for the line. `Name` if no line
-/// can carry the path: nothing was sent. `Io` if no outcome of a copy came.
+/// it beside a database, or a disk failed. `Memory` if memory ran out there, or here for the line. `Busy` if the server
+/// is making another copy, and `Ended` if it ended this one. `Name` if no line can carry the path: nothing was sent.
+/// `Io` if no outcome of a copy came.
 pub fn copy_at(rt: &HostRuntime, control: &str, path: &str) -> Result<(), CommandRefusal>
     ensures { spec.CopiesThere path.now result }
 {
@@ -186,6 +188,8 @@ fn copy_ending(told: Result<Outcome, Untold>) -> Result<(), CommandRefusal>
         Ok(Outcome::RegistryReply(registered)) => ending(Ok(registered)),
         Ok(Outcome::Failed(fault)) => ending(Err(fault)),
         Ok(Outcome::NotEmpty) => Err(CommandRefusal::NotEmpty),
+        Ok(Outcome::Busy) => Err(CommandRefusal::Busy),
+        Ok(Outcome::Ended) => Err(CommandRefusal::Ended),
         Ok(Outcome::Stopping | Outcome::Bad) | Err(Untold::Io) => Err(CommandRefusal::Io),
         Err(Untold::Words) => Err(CommandRefusal::Name),
         Err(Untold::Memory) => Err(CommandRefusal::Memory),
@@ -229,7 +233,7 @@ fn stop_ending(told: Result<Outcome, Untold>) -> Result<(), CommandRefusal>
         Ok(Outcome::Stopping) => Ok(()),
         Ok(Outcome::Failed(fault)) => ending(Err(fault)),
         Ok(Outcome::RegistryReply(_)) => Err(CommandRefusal::Io),
-        Ok(Outcome::NotEmpty) => Err(CommandRefusal::Io),
+        Ok(Outcome::NotEmpty | Outcome::Busy | Outcome::Ended) => Err(CommandRefusal::Io),
         Ok(Outcome::Bad) => Err(CommandRefusal::Io),
         Err(_) => Err(CommandRefusal::Io),
     }

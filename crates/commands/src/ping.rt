@@ -74,9 +74,12 @@ pub(crate) fn refusal_of(outcome: Outcome) -> CommandRefusal
     match outcome {
         Outcome::Failed(StoreFault::Device) => CommandRefusal::Device,
         Outcome::Failed(StoreFault::Memory) => CommandRefusal::Memory,
-        Outcome::RegistryReply(_) | Outcome::NotEmpty | Outcome::Stopping | Outcome::Bad => {
-            CommandRefusal::Io
-        }
+        Outcome::RegistryReply(_)
+        | Outcome::NotEmpty
+        | Outcome::Busy
+        | Outcome::Ended
+        | Outcome::Stopping
+        | Outcome::Bad => CommandRefusal::Io,
     }
 }
 

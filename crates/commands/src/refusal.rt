@@ -31,6 +31,11 @@ pub enum CommandRefusal {
     /// For `init`, the file has bytes already; for `extract`, `migrate` and `copy`, the new store has more than
     /// `common`, or its file is that of the other store.
     NotEmpty,
+    /// For `copy`, the server is making another copy.
+    Busy,
+    /// For `copy`, the server ended it, because the server ends or memory ran out there for what was published
+    /// meanwhile.
+    Ended,
     /// The path or the version is invalid, there is no such key, or its shelf does not see the version.
     NotFound,
     /// A list has another header, or a row that is not UTF-8 or does not have five fields.
@@ -55,6 +60,8 @@ impl CommandRefusal {
             CommandRefusal::Memory => "memory",
             CommandRefusal::BadSchema => "bad-schema",
             CommandRefusal::NotEmpty => "not-empty",
+            CommandRefusal::Busy => "busy",
+            CommandRefusal::Ended => "ended",
             CommandRefusal::NotFound => "not-found",
             CommandRefusal::BadRow => "bad-row",
             CommandRefusal::Io => "io",

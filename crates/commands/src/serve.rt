@@ -6,10 +6,12 @@ ghost use Rattle.commands.specs.Printed.{PrintsText};
 ghost use Rattle.commands.specs.Serve.{Announces, AnnouncesFront, ListensToBoth, ListensAs};
 ghost use Rattle.commands.specs.Serve.{PrintsPort, PrintsPortFront, input_line, port_line};
 
-use crate::moment::Calendar;
+use crate::moment::SystemCalendar;
 use crate::printing::{print_both, print_one};
 use crate::refusal::CommandRefusal;
-use control::{Copies, Doors, ended, opened, operators_at, remove_socket, serve_both, tell};
+use control::{
+    Calendar, Copies, Doors, ended, opened, operators_at, remove_socket, serve_both, tell,
+};
 use engine::Io;
 use engine::write::write_bytes;
 use histories::Tell;
@@ -38,16 +40,16 @@ pub enum Entrance {
 /// Prints the line of the entrance, and serves the connections that come in: the store goes through at most as many
 /// requests as there are connections. If a socket `control` is named, the orders of operators who connect to it are
 /// carried out between them, copies by `copies`, and do not count; a ping is told the versions that `copies` counts,
-/// and when the server began: the time that `calendar` shows before the socket is made. What happens is then told on
-/// `errors`, in lines without a key; if that fails, nothing else changes. `Io` if the entrance or the socket can't be
-/// opened, the clock can't be read for the start time, the output fails, or memory runs out before it serves: then
-/// nothing of the line is printed, a beginning or all of it, and the store stays as it was. A connection that fails
-/// only counts.
+/// and when the server began: the time that `calendar` shows before the socket is made. The clock of the system shows
+/// when a copy was made. What happens is then told on `errors`, in lines without a key; if that fails, nothing else
+/// changes. `Io` if the entrance or the socket can't be opened, the clock can't be read for the start time, the output
+/// fails, or memory runs out before it serves: then nothing of the line is printed, a beginning or all of it, and the
+/// store stays as it was. A connection that fails only counts.
 pub fn serve<D: Calendar, S: Keyring, K: Copies<S>, O: Tell, E: Tell>(
     rt: &HostRuntime,
     calendar: &mut D,
     shelves: &mut S,
-    copies: &mut K,
+    copies: &K,
     entrance: Entrance,
     connections: u32,
     control: Option<&str>,
@@ -89,7 +91,7 @@ fn serve_operators<D: Calendar, S: Keyring, K: Copies<S>, O: Tell, E: Tell>(
     rt: &HostRuntime,
     calendar: &mut D,
     shelves: &mut S,
-    copies: &mut K,
+    copies: &K,
     entrance: Entrance,
     connections: u32,
     path: &str,
@@ -125,7 +127,7 @@ fn serve_told<S: Keyring, K: Copies<S>, E: Tell>(
     rt: &HostRuntime,
     doors: &mut Doors,
     shelves: &mut S,
-    copies: &mut K,
+    copies: &K,
     since: TimeText,
     connections: u32,
     errors: &mut E,
@@ -142,6 +144,7 @@ fn serve_told<S: Keyring, K: Copies<S>, E: Tell>(
         doors,
         shelves,
         copies,
+        SystemCalendar::new(rt),
         since,
         connections,
         errors,

@@ -1,5 +1,5 @@
 -- The words that order a copy, and lines that are sent.
-use Rattle.std.proofs.Common.{◌≡◌, ℕ, List, Option, Some, None, Result, Ok, Err, MatchOption, sym, ap, subst}
+use Rattle.std.proofs.Common.{◌≡◌, ℕ, List, Option, None, Result, Ok, Err, MatchOption, sym, ap, subst}
 use Rattle.std.specs.Prelude.{option_copied, IfOk, IfErr}
 use denote.Ref.{Bor}
 use Rattle.control.specs.Asking.{AsksBy, IsUnwritten, Sends}

@@ -15,4 +15,7 @@ pub mod StepLemmas
 pub mod TallyLemmas
 pub mod NoticeLemmas
 pub mod ServeLemmas
+pub mod CallsLemmas
+pub mod ServingLemmas
+pub mod UnnotedLemmas
 pub mod IsolatedLemmas

@@ -1,5 +1,5 @@
 -- Reading a list of a store.
-use Rattle.std.proofs.Common.{◌≡◌, ℕ, List, Result, Ok, Err, sym, subst, inl, inr, refl}
+use Rattle.std.proofs.Common.{ℕ, List, Result, Ok, Err, subst, inl, inr, refl}
 use Rattle.keyring.specs.KeyList.{IsInOrder, ListsKeys, Puts, key_lines}
 use Rattle.world.specs.Store.{Shown, Reads, HasCause}
 use Rattle.world.specs.World.{World}

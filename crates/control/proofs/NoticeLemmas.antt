@@ -160,6 +160,8 @@ calm_outcome told = calm_within (outcome.word_of told) (line_end ∷ []) (word t
     word (case.Failed fault.Device) = refl
     word (case.Failed fault.Memory) = refl
     word case.NotEmpty = refl
+    word case.Busy = refl
+    word case.Ended = refl
     word case.Stopping = refl
     word case.Bad = refl
 

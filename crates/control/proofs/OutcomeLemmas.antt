@@ -19,6 +19,8 @@ read_as line =
     else if bytes_eq line (codes "device\n") then outcome.Failed fault.Device
     else if bytes_eq line (codes "memory\n") then outcome.Failed fault.Memory
     else if bytes_eq line (codes "not-empty\n") then outcome.NotEmpty
+    else if bytes_eq line (codes "busy\n") then outcome.Busy
+    else if bytes_eq line (codes "ended\n") then outcome.Ended
     else if bytes_eq line (codes "stopping\n") then outcome.Stopping
     else outcome.Bad
 
@@ -33,6 +35,8 @@ tells_itself (outcome.RegistryReply registered.NoKey) = refl
 tells_itself (outcome.Failed fault.Device) = refl
 tells_itself (outcome.Failed fault.Memory) = refl
 tells_itself outcome.NotEmpty = refl
+tells_itself outcome.Busy = refl
+tells_itself outcome.Ended = refl
 tells_itself outcome.Stopping = refl
 tells_itself outcome.Bad = refl
 

@@ -21,7 +21,7 @@ use Rattle.control.proofs.TurnLemmas.{messages_append, turns_more}
 
 -- ---- some steps, and then others
 
-turns_append : (xs ys : List Step) → turns_in (xs ++ ys) ≡ turns_in xs ++ turns_in ys
+pub turns_append : (xs ys : List Step) → turns_in (xs ++ ys) ≡ turns_in xs ++ turns_in ys
 turns_append [] ys = refl
 turns_append (Turned t ∷ xs) ys = ap (λ ts. t ∷ ts) (turns_append xs ys)
 turns_append (Copied path told ∷ xs) ys = turns_append xs ys
@@ -29,7 +29,7 @@ turns_append (Counted told ∷ xs) ys = turns_append xs ys
 turns_append (Listed listing told ∷ xs) ys = turns_append xs ys
 turns_append (LookedUp f found ∷ xs) ys = turns_append xs ys
 
-read_append : (xs ys : List Step) → has_read (xs ++ ys) ≡ (has_read xs || has_read ys)
+pub read_append : (xs ys : List Step) → has_read (xs ++ ys) ≡ (has_read xs || has_read ys)
 read_append [] ys = refl
 read_append (Turned t ∷ xs) ys = read_append xs ys
 read_append (Copied path told ∷ xs) ys = refl

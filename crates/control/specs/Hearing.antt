@@ -104,6 +104,12 @@ ListsBy old new (Listed listing told) = ReadsList old new listing told
 ListsBy old new (Named f naming) = Finds old new f naming
 ListsBy old new other = Unit {0}
 
+-- The store went through the steps of what was ordered, and the copies were idle; where that was a copy, this happened
+-- meanwhile.
+abbrev pub GoesAs : (idle meanwhile : Type 0) → Shown → Shown → Heard → Type 0
+GoesAs idle meanwhile old new (Copied path told) = meanwhile
+GoesAs idle meanwhile old new heard = idle × GoesThroughSteps old new (steps_heard heard)
+
 module _ (copied : List ℕ → Result (Unit {0}) CopyRefusal → Type 0) (pinged : Result Health StoreFault → Type 0) where
   -- where an operator ordered a copy or asked for the health, this came of it
   abbrev pub CameOf : Heard → Type 0
@@ -116,51 +122,53 @@ module _ (copied : List ℕ → Result (Unit {0}) CopyRefusal → Type 0) (pinge
   CameOf NoOrder = Unit {0}
   CameOf NoMemory = Unit {0}
 
-  -- What was ordered was done, and this came of it. `is_from` says where the order came from.
-  pub record Follows (is_from : Heard → Type 0) (old new : Shown) (told : Told) : Type 0 where
-    pub heard : Heard
-    pub from : is_from heard
-    pub tells : told ≡ told_heard heard
-    pub through : GoesThroughSteps old new (steps_heard heard)
-    pub came : CameOf heard
-    pub lists : ListsBy old new heard
+  module _ (idle meanwhile : Type 0) where
+    -- What was ordered was done, and this came of it. `is_from` says where the order came from.
+    pub record Follows (is_from : Heard → Type 0) (old new : Shown) (told : Told) : Type 0 where
+      pub heard : Heard
+      pub from : is_from heard
+      pub tells : told ≡ told_heard heard
+      pub through : GoesAs idle meanwhile old new heard
+      pub came : CameOf heard
+      pub lists : ListsBy old new heard
 
-  -- what the bytes order was done, and this came of it
-  abbrev pub Heeds : Shown → Shown → List ℕ → Told → Type 0
-  Heeds old new got told = Follows (IsHeardIn got) old new told
+    -- what the bytes order was done, and this came of it
+    abbrev pub Heeds : Shown → Shown → List ℕ → Told → Type 0
+    Heeds old new got told = Follows (IsHeardIn got) old new told
 
-  -- A line was read, what it orders was done, and this came of it.
-  abbrev pub Hears : Shown → Shown → Account → Account → Told → Type 0
-  Hears old new came came_new told = Follows (IsHeard came came_new) old new told
+    -- A line was read, what it orders was done, and this came of it.
+    abbrev pub Hears : Shown → Shown → Account → Account → Told → Type 0
+    Hears old new came came_new told = Follows (IsHeard came came_new) old new told
 
-  -- so it was, or a read failed, and nothing was done
-  abbrev pub HearsOrFails : Shown → Shown → Account → Account → Result Told Io → Type 0
-  HearsOrFails old new came came_new (Ok told) = Hears old new came came_new told
-  HearsOrFails old new came came_new (Err e) = (e ≡ io.Read) × GoesThroughSteps old new []
+    -- so it was, or a read failed, and nothing was done
+    abbrev pub HearsOrFails : Shown → Shown → Account → Account → Result Told Io → Type 0
+    HearsOrFails old new came came_new (Ok told) = Hears old new came came_new told
+    HearsOrFails old new came came_new (Err e) = (e ≡ io.Read) × idle × GoesThroughSteps old new []
 
-  -- A line was read, what it orders was done, and what came of it was written; where a write or the flush failed, a
-  -- beginning of that or all of it. Or a read failed, and nothing was done, and nothing written.
-  abbrev pub Obeys :
-      Shown → Shown → Account → Account → Option (List ℕ) → Option (List ℕ) → Result Told Io → Type 0
-  Obeys old new came came_new written written_new (Ok told) =
-      Hears old new came came_new told × Appends written written_new (bytes_told told)
-  Obeys old new came came_new written written_new (Err io.Read) =
-      GoesThroughSteps old new [] × Keeps written written_new
-  Obeys old new came came_new written written_new (Err io.Write) =
-      (told : Told) × Hears old new came came_new told × WritesSome written written_new (bytes_told told)
+    -- A line was read, what it orders was done, and what came of it was written; where a write or the flush failed, a
+    -- beginning of that or all of it. Or a read failed, and nothing was done, and nothing written.
+    abbrev pub Obeys :
+        Shown → Shown → Account → Account → Option (List ℕ) → Option (List ℕ) → Result Told Io → Type 0
+    Obeys old new came came_new written written_new (Ok told) =
+        Hears old new came came_new told × Appends written written_new (bytes_told told)
+    Obeys old new came came_new written written_new (Err io.Read) =
+        idle × GoesThroughSteps old new [] × Keeps written written_new
+    Obeys old new came came_new written written_new (Err io.Write) =
+        (told : Told) × Hears old new came came_new told × WritesSome written written_new (bytes_told told)
 
 -- So it was between two stores, by what is known of copies and counts, with the tally of the moment.
-module _ {S : Type 0} (shown : S → Shown) (copied : S → S → List ℕ → Result (Unit {0}) CopyRefusal → Type 0)
-    (counted : S → S → ℕ → Type 0) (tally : Tally) (old new : S) where
+module _ {S K : Type 0} (shown : S → Shown) (copied : S → S → List ℕ → Result (Unit {0}) CopyRefusal → Type 0)
+    (counted : S → S → ℕ → Type 0) (meanwhile : K → K → S → S → Type 0) (tally : Tally) (copies copies_new : K)
+    (old new : S) where
   abbrev pub HeedsBy : List ℕ → Told → Type 0
   HeedsBy = Heeds (copied old new) (IsPinged tally (shown old).failures (shown new).failures (counted old new))
-      (shown old) (shown new)
+      (copies_new ≡ copies) (meanwhile copies copies_new old new) (shown old) (shown new)
 
   abbrev pub HearsBy : Account → Account → Result Told Io → Type 0
   HearsBy =
       HearsOrFails (copied old new) (IsPinged tally (shown old).failures (shown new).failures (counted old new))
-      (shown old) (shown new)
+      (copies_new ≡ copies) (meanwhile copies copies_new old new) (shown old) (shown new)
 
   abbrev pub ObeysBy : Account → Account → Option (List ℕ) → Option (List ℕ) → Result Told Io → Type 0
   ObeysBy = Obeys (copied old new) (IsPinged tally (shown old).failures (shown new).failures (counted old new))
-      (shown old) (shown new)
+      (copies_new ≡ copies) (meanwhile copies copies_new old new) (shown old) (shown new)

@@ -1,4 +1,5 @@
 pub mod Asking
+pub mod Calendar
 pub mod Copying
 pub mod Figures
 pub mod Health
@@ -14,6 +15,8 @@ pub mod Order
 pub mod Outcome
 pub mod Pace
 pub mod Pinging
+pub mod Progress
+pub mod Serving
 pub mod Told
 pub mod Traffic
 pub mod Turns

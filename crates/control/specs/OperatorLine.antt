@@ -3,7 +3,7 @@ use Rattle.std.specs.Prelude.{ℕ, ◌≡◌, ◌≢◌, ◌≤◌, List, length
 use Rattle.control.specs.Line.{IsCopyTo, IsNaming, IsNoCopy, IsNoNaming, IsNoOrder, IsSent}
 use Rattle.control.specs.Line.{copy_words, longest, named_words, ping_line, stop_line}
 use Rattle.control.specs.Listing.{AsksForNone, line_for}
-use Rattle.control.specs.Order.{Orders, said_in}
+use Rattle.control.specs.Order.{Orders}
 use Rattle.control.specs.Words.{IsTextOf}
 use Rattle.control.specs.declared.operator_line.Line.{Line}
 use Rattle.control.specs.declared.operator_line.Line.TheVariants as line

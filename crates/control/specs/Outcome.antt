@@ -21,6 +21,8 @@ outcome_of_copy (Ok done) = outcome.RegistryReply registered.Done
 outcome_of_copy (Err copy.NotEmpty) = outcome.NotEmpty
 outcome_of_copy (Err copy.Device) = outcome.Failed fault.Device
 outcome_of_copy (Err copy.Memory) = outcome.Failed fault.Memory
+outcome_of_copy (Err copy.Busy) = outcome.Busy
+outcome_of_copy (Err copy.Ended) = outcome.Ended
 
 abbrev pub word_of : Outcome → List ℕ
 word_of (outcome.RegistryReply registered.Done) = codes "done"
@@ -32,6 +34,8 @@ word_of (outcome.RegistryReply registered.NoKey) = codes "no-key"
 word_of (outcome.Failed fault.Device) = codes "device"
 word_of (outcome.Failed fault.Memory) = codes "memory"
 word_of outcome.NotEmpty = codes "not-empty"
+word_of outcome.Busy = codes "busy"
+word_of outcome.Ended = codes "ended"
 word_of outcome.Stopping = codes "stopping"
 word_of outcome.Bad = codes "bad"
 

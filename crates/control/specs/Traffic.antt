@@ -26,15 +26,18 @@ abbrev pub with_one : Transfer → ShelfTraffic → ShelfTraffic
 with_one Publish t = record { publishes = one_more t.publishes; fetches = t.fetches }
 with_one Fetch t = record { publishes = t.publishes; fetches = one_more t.fetches }
 
--- a transfer of this shelf was counted, and nothing else; or the shelf had no counts, and got none for want of memory
+-- a transfer of this shelf was counted, and nothing else
 abbrev pub CountsOne : Transfer → List ℕ → Traffic → Traffic → Type 0
 CountsOne transfer shelf old new =
-    (new.shelves ≡ map.insert old.shelves shelf (with_one transfer (unwrap_or (map.get old.shelves shelf) none)))
-    ⊎ ((map.get old.shelves shelf ≡ None) × (new ≡ old))
+    new.shelves ≡ map.insert old.shelves shelf (with_one transfer (unwrap_or (map.get old.shelves shelf) none))
 
--- a transfer was counted if this is true, and nothing was otherwise
+-- the shelf had no counts, and got none
+abbrev pub StaysUncounted : List ℕ → Traffic → Traffic → Type 0
+StaysUncounted shelf old new = (map.get old.shelves shelf ≡ None) × (new ≡ old)
+
+-- a transfer was counted if this is true, or the shelf stays without counts for want of memory; nothing was otherwise
 abbrev pub CountsIf : Bool → Transfer → List ℕ → Traffic → Traffic → Type 0
-CountsIf true transfer shelf old new = CountsOne transfer shelf old new
+CountsIf true transfer shelf old new = CountsOne transfer shelf old new ⊎ StaysUncounted shelf old new
 CountsIf false transfer shelf old new = new ≡ old
 
 -- whether the store kept what was published

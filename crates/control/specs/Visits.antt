@@ -15,7 +15,7 @@ use Rattle.socket.specs.Connections.{Visit, Come, exchanges_of}
 use Rattle.socket.specs.Connections as socket
 use Rattle.control.specs.Copying.{Step, Turned, AllRead, GoesThroughSteps}
 use Rattle.control.specs.Health.{Answered, IsPinged, tally_of}
-use Rattle.control.specs.Hearing.{Heard, Pinged, CameOf, IsHeard, ListsBy, WritesSome, steps_heard, told_heard}
+use Rattle.control.specs.Hearing.{Heard, Pinged, CameOf, GoesAs, IsHeard, ListsBy, WritesSome, steps_heard, told_heard}
 use Rattle.control.specs.Line.{most_tries}
 use Rattle.control.specs.Told.{bytes_told}
 use Rattle.control.specs.Turns.{Asked}
@@ -60,6 +60,11 @@ module _ {P O : Type 0} (came : P → Account) (written : P → Option (List ℕ
 abbrev pub steps_if : Option Heard → List Step
 steps_if None = []
 steps_if (Some heard) = steps_heard heard
+
+-- the store went through what a line ordered, or nothing happened if no line was read
+abbrev pub GoesIf : (idle meanwhile : Type 0) → Shown → Shown → Option Heard → Type 0
+GoesIf idle meanwhile old new None = idle × GoesThroughSteps old new []
+GoesIf idle meanwhile old new (Some heard) = GoesAs idle meanwhile old new heard
 
 -- the steps of one caller: at most two
 abbrev pub steps_of : {P O : Type 0} → Call P O → List Step
@@ -169,24 +174,25 @@ module _ {O : Type 0} (heeded : O → Account × Reads) (told : O → Option (Li
   -- This operator was obeyed, and the store went through its order. The flag says whether it was told that the server
   -- ends.
   pub record ObeysOne (copied : List ℕ → Result (Unit {0}) CopyRefusal → Type 0)
-      (pinged : Result Health StoreFault → Type 0)
+      (pinged : Result Health StoreFault → Type 0) (idle meanwhile : Type 0)
       (operator : O) (stops : Bool) (old new : Shown) : Type 0 where
     pub audience : Audience O
     pub begins : audience.before ≡ operator
     pub there : IsToldThere audience.before audience.after audience.heard audience.told
     pub stopped : IsTrue stops ↔ (audience.told ≡ Ok (spoken.Outcome Stopping))
-    pub through : GoesThroughSteps old new (steps_if audience.heard)
+    pub through : GoesIf idle meanwhile old new audience.heard
     pub came : CameIf copied pinged audience.heard
     pub lists : ListsIf old new audience.heard
 
   -- so it was between two stores, by what is known of copies and counts, with the tally of the moment
-  abbrev pub ObeysOneBy : {S : Type 0} (shown : S → Shown)
-      (copied : S → S → List ℕ → Result (Unit {0}) CopyRefusal → Type 0) (counted : S → S → ℕ → Type 0) (tally : Tally)
-      (operator : O) (stops : Bool) (old new : S) → Type 0
-  ObeysOneBy shown copied counted tally operator stops old new =
+  abbrev pub ObeysOneBy : {S K : Type 0} (shown : S → Shown)
+      (copied : S → S → List ℕ → Result (Unit {0}) CopyRefusal → Type 0) (counted : S → S → ℕ → Type 0)
+      (meanwhile : K → K → S → S → Type 0) (tally : Tally) (operator : O) (stops : Bool) (copies copies_new : K)
+      (old new : S) → Type 0
+  ObeysOneBy shown copied counted meanwhile tally operator stops copies copies_new old new =
       ObeysOne (copied old new)
-      (IsPinged tally (shown old).failures (shown new).failures (counted old new)) operator stops (shown old)
-      (shown new)
+      (IsPinged tally (shown old).failures (shown new).failures (counted old new)) (copies_new ≡ copies)
+      (meanwhile copies copies_new old new) operator stops (shown old) (shown new)
 
   module _ {P : Type 0} (heard : P → Account × Reads) (written : P → Option (List ℕ) × Writes) where
     abbrev pub IsCallThere : Call P O → Type 0

@@ -9,7 +9,7 @@ ghost use Rattle.control.specs.Pace.{time_for_order};
 ghost use Rattle.control.specs.Pinging.{TellsPing};
 ghost use Rattle.control.specs.Visits.{IsUnheard};
 
-use crate::copies::Copies;
+use crate::copies::CopyOrders;
 use crate::obeying::obey;
 use crate::patience::ForOrder;
 use crate::tally::Tally;
@@ -81,7 +81,7 @@ pub trait Operator {
     ghost write_calls: { Self → List Call };
 
     /// Carries out its order, as `obey` does. A ping gets this tally, and the figures that `copies` has.
-    fn obeyed<C: Clock, S: Keyring, K: Copies<S>>(
+    fn obeyed<C: Clock, S: Keyring, K: CopyOrders<S>>(
         self,
         alloc: Global,
         clock: &C,
@@ -91,8 +91,9 @@ pub trait Operator {
     ) -> Obeyed<Self>
     where
         Self: Sized,
-        ensures obeys { ObeysBy S.shown K.copied K.counted tally.now shelves.old shelves.new
-            (came self) (came result.operator) (written self) (written result.operator) result.told }
+        ensures obeys { ObeysBy S.shown K.copied K.counted K.meanwhile tally.now copies.old copies.new
+            shelves.old shelves.new (came self) (came result.operator) (written self) (written result.operator)
+            result.told }
         // A ping is told what `copies` knows of the store, and nothing else.
         ensures figures { IfOk result.told (TellsPing (K.figured shelves.new) (IsPinged tally.now
             (S.shown shelves.old).failures (S.shown shelves.new).failures (K.counted shelves.old shelves.new))) }
@@ -120,7 +121,7 @@ impl<R: BoundRead + Drop, W: BoundWrite + Drop> Operator for Connection<R, W> {
     ghost write_calls = { λ o. ⟦<Telling<W> as HasCalls>⟧.calls o.writer };
 
     /// All reads of the line together have 2 seconds, and so have all writes of the outcome.
-    fn obeyed<C: Clock, S: Keyring, K: Copies<S>>(
+    fn obeyed<C: Clock, S: Keyring, K: CopyOrders<S>>(
         self,
         alloc: Global,
         clock: &C,
@@ -141,7 +142,7 @@ fn obey_since<
     R: BoundRead + Drop,
     W: BoundWrite + Drop,
     S: Keyring,
-    K: Copies<S>,
+    K: CopyOrders<S>,
 >(
     alloc: Global,
     clock: &C,
@@ -152,7 +153,8 @@ fn obey_since<
 ) -> Obeyed<Connection<R, W>>
     requires reads { ⟦<Hearing<R> as HasCalls>⟧.calls operator.reader ≡ I.calls }
     requires writes { ⟦<Telling<W> as HasCalls>⟧.calls operator.writer ≡ J.calls }
-    ensures obeys { ObeysBy S.shown K.copied K.counted tally.now shelves.old shelves.new
+    ensures obeys { ObeysBy S.shown K.copied K.counted K.meanwhile tally.now copies.old copies.new
+        shelves.old shelves.new
         (⟦<Hearing<R> as Hear>⟧.account operator.reader) (⟦<Hearing<R> as Hear>⟧.account result.operator.reader)
         (⟦<Telling<W> as Write>⟧.contents operator.writer) (⟦<Telling<W> as Write>⟧.contents result.operator.writer)
         result.told }
@@ -182,7 +184,7 @@ fn obey_since<
 
 /// A source of peers and operators.
 pub trait Callers<P, O> {
-    ghost use Rattle.std.specs.Prelude.{List, Option, IfOk};
+    ghost use Rattle.std.specs.Prelude.{◌≡◌, List, Option, IfOk, IfSome, MatchOption};
     ghost use Rattle.socket.specs.Connections.{Accepts};
     ghost use Rattle.control.specs.declared.callers.Caller.{Caller};
 
@@ -197,6 +199,20 @@ pub trait Callers<P, O> {
     fn next(&mut self) -> io::Result<Caller<P, O>>
         ensures takes { Accepts (waiting self.old) (waiting self.new) result }
         ensures fresh { IfOk result (λ caller. is_new caller) };
+
+    /// Returns the caller of a connection that waits to be taken, or None if there is none, and waits for none. Fails
+    /// if the connection can't be taken.
+    fn next_waiting(&mut self) -> Option<io::Result<Caller<P, O>>>
+        ensures takes { MatchOption result (waiting self.new ≡ waiting self.old)
+            (λ next. Accepts (waiting self.old) (waiting self.new) next) }
+        ensures fresh { IfSome result (λ next. IfOk next (λ caller. is_new caller)) };
+
+    /// Watches the operator who was taken last, so that `has_left` can tell of it.
+    fn watch_operator(&mut self)
+        ensures same { waiting self.new ≡ waiting self.old };
+
+    /// Whether the operator who is watched was seen to close its connection.
+    fn has_left(&self) -> bool;
 }
 
 /// A peer of a port, or an operator of a Unix socket.
@@ -209,6 +225,9 @@ const PEERS: Token = Token(0);
 
 const OPERATORS: Token = Token(1);
 
+/// The operator who is watched.
+const OPERATOR: Token = Token(2);
+
 /// A port for peers and a socket for operators, which one thread waits on.
 #[derive(Drop)]
 pub struct Doors {
@@ -220,6 +239,10 @@ pub struct Doors {
     peer_waits: bool,
     /// Whether an operator may.
     operator_waits: bool,
+    /// The descriptor of the operator who was taken last, or -1 before the first.
+    taken: i32,
+    /// Whether the operator who is watched was seen to close its connection.
+    left: bool,
 }
 
 impl Doors {
@@ -228,7 +251,7 @@ impl Doors {
         peers.set_nonblocking(true)?;
         operators.set_nonblocking(true)?;
         let poll = Poll::new(rt)?;
-        let events = Events::with_capacity(rt.alloc(), 2)?;
+        let events = Events::with_capacity(rt.alloc(), 3)?;
         watch(&poll, peers.as_raw_fd(), PEERS)?;
         watch(&poll, operators.as_raw_fd(), OPERATORS)?;
         Ok(Doors {
@@ -238,21 +261,31 @@ impl Doors {
             operators,
             peer_waits: false,
             operator_waits: false,
+            taken: -1,
+            left: false,
         })
     }
 
-    /// Notes which listeners somebody has connected to, and waits for that if nobody is known to wait at one. Fails if
-    /// the system does.
-    fn look(&mut self) -> io::Result<()> {
-        let longest = if self.peer_waits || self.operator_waits {
+    /// How long to wait for somebody to connect: not at all if somebody is known to wait, and otherwise as long as it
+    /// takes.
+    fn longest(&self) -> Option<Duration> {
+        if self.peer_waits || self.operator_waits {
             Some(Duration::ZERO)
         } else {
             None
-        };
+        }
+    }
+
+    /// Notes which listeners somebody has connected to, and whether the operator who is watched has left. Waits for
+    /// that at most so long. Fails if the system does.
+    fn look(&mut self, longest: Option<Duration>) -> io::Result<()> {
         self.poll.poll(&mut self.events, longest)?;
         for event in self.events.iter() {
-            if event.token() == OPERATORS {
+            let token = event.token();
+            if token == OPERATORS {
                 self.operator_waits = true;
+            } else if token == OPERATOR {
+                self.left |= event.is_write_closed();
             } else {
                 self.peer_waits = true;
             }
@@ -275,6 +308,7 @@ impl Doors {
         if self.operator_waits {
             match self.operators.accept() {
                 Ok((stream, _)) => {
+                    self.taken = stream.as_raw_fd();
                     let fd = self.operators.as_raw_fd();
                     self.operator_waits = !watch_anew(&self.poll, fd, OPERATORS);
                     return Ok(Some(Caller::Operator(over_unix(stream)?)));
@@ -313,12 +347,34 @@ impl Callers<Connection<TcpStream, TcpStream>, Connection<UnixStream, UnixStream
     /// Takes an operator before a peer.
     fn next(&mut self) -> io::Result<SystemCaller> {
         for _ in 0..u64::MAX {
-            self.look()?;
+            self.look(self.longest())?;
             if let Some(caller) = self.accept()? {
                 return Ok(caller);
             }
         }
         Err(io::Error::from(ErrorKind::Other))
+    }
+
+    /// Takes an operator before a peer.
+    fn next_waiting(&mut self) -> Option<io::Result<SystemCaller>> {
+        if let Err(e) = self.look(Some(Duration::ZERO)) {
+            return Some(Err(e));
+        }
+        match self.accept() {
+            Ok(Some(caller)) => Some(Ok(caller)),
+            Ok(None) => None,
+            Err(e) => Some(Err(e)),
+        }
+    }
+
+    /// If the system refuses to watch it, nobody is seen to leave.
+    fn watch_operator(&mut self) {
+        self.left = false;
+        let _ = watch(&self.poll, self.taken, OPERATOR);
+    }
+
+    fn has_left(&self) -> bool {
+        self.left
     }
 }
 

@@ -1,6 +1,6 @@
 //! What reads a store that is served: copies of it, and how much it keeps.
 use crate::health::Figures;
-use modver::TimeText;
+use meanwhile::between::Between;
 use world::registry::StoreFault;
 use world::shelves::Shelves;
 
@@ -13,13 +13,18 @@ pub enum CopyRefusal {
     Device,
     /// Memory ran out.
     Memory,
+    /// Another copy is being made.
+    Busy,
+    /// The server ends, the operator has left, or memory ran out for what was published meanwhile.
+    Ended,
 }
 
-/// What copies a store between two requests, and counts what it keeps.
+/// What copies a store while it is served, and counts what it keeps.
 pub trait Copies<S: Shelves> {
-    ghost use Rattle.std.specs.Prelude.{ℕ, ◌≡◌, List, [], ◌∷◌, ◌++◌, Result, IfOk, IfSome};
+    ghost use Rattle.std.specs.Prelude.{ℕ, ◌≤◌, ◌≢◌, List, Result, Err, IfErr, IfOk};
     ghost use Rattle.control.specs.Copying.{IsOnlyRead};
     ghost use Rattle.control.specs.declared.copies.CopyRefusal.{CopyRefusal};
+    ghost use Rattle.control.specs.declared.copies.CopyRefusal.TheVariants.{Busy};
     ghost use Rattle.control.specs.declared.health.Figures.{Figures};
     ghost use Rattle.world.specs.Store.{HasCause};
 
@@ -32,25 +37,32 @@ pub trait Copies<S: Shelves> {
     /// What is known of the figures of a served store, by the store.
     ghost figured: { S → Figures → Type 0 };
 
-    /// The times that it showed so far, the oldest first.
-    ghost times: { Self → List (List ℕ) };
-
     /// Returns the name of the file of the served store, for those who read it.
     fn served(&self) -> &str;
 
-    /// Makes the store of a file, with this path, one of the served store as it is at this moment. The served store is
-    /// only read.
+    /// Makes the store of a file, with this path, one of the served store as it is at this moment. It copies a slice at
+    /// a time, and has `between` take a turn after each slice. Beside these turns, the served store is only read.
     ///
     /// Fails with `NotEmpty` if the file has more than an empty store, or is that of the served store; with `Device` if
-    /// it can't be opened, SQLite has a use for it beside a database, or a disk failed; and with `Memory` if memory ran
-    /// out.
-    fn copy(&mut self, shelves: &mut S, path: &str) -> Result<(), CopyRefusal>
-        ensures reads { IsOnlyRead (S.shown shelves.old) (S.shown shelves.new) }
-        ensures came { copied shelves.old shelves.new path.now result };
+    /// it can't be opened, SQLite has a use for it beside a database, or a disk failed; with `Memory` if memory ran
+    /// out; and with `Ended` if `between` ended it.
+    fn copy<B: Between<S>>(
+        &self,
+        shelves: &mut S,
+        path: &str,
+        between: &mut B,
+    ) -> Result<(), CopyRefusal>
+        // No turn lowers the count of failures.
+        requires no_fewer { (a b : B) (s t : S) → B.went a b s t → (S.shown s).failures ≤ (S.shown t).failures }
+        ensures turns { (mid : S) × B.went between.old between.new shelves.old mid
+            × IsOnlyRead (S.shown mid) (S.shown shelves.new) }
+        ensures came { copied shelves.old shelves.new path.now result }
+        // It is begun, so none that is being made is why it fails.
+        ensures begun { IfErr result (λ why. why ≢ Busy) };
 
     /// Returns how many versions the served store keeps at this moment. The served store is only read. Fails with
     /// `Device` if a disk failed, and with `Memory` if memory ran out.
-    fn versions(&mut self, shelves: &mut S) -> Result<u64, StoreFault>
+    fn versions(&self, shelves: &mut S) -> Result<u64, StoreFault>
         ensures reads { IsOnlyRead (S.shown shelves.old) (S.shown shelves.new) }
         ensures cause { HasCause (S.shown shelves.old) (S.shown shelves.new) result }
         ensures counted { IfOk result (λ n. counted shelves.old shelves.new n) };
@@ -59,7 +71,45 @@ pub trait Copies<S: Shelves> {
     fn figures<'s>(&self, shelves: &'s S) -> Figures<'s>
         ensures { figured shelves.now result };
 
-    /// Returns the time in UTC, to the second. None if it can't be read.
-    fn time_now(&mut self) -> Option<TimeText>
-        ensures { IfSome result (λ time. times self.new ≡ times self.old ++ time ∷ []) };
+    // An order to copy that comes while a copy is made does nothing.
+    ghost busy: { (s : S) (path : List ℕ) → copied s s path (Err Busy) };
+}
+
+/// What carries out the orders to copy a store, and counts what it keeps.
+pub trait CopyOrders<S: Shelves> {
+    ghost use Rattle.std.specs.Prelude.{ℕ, List, Result, IfOk};
+    ghost use Rattle.control.specs.Copying.{IsOnlyRead};
+    ghost use Rattle.control.specs.declared.copies.CopyRefusal.{CopyRefusal};
+    ghost use Rattle.control.specs.declared.health.Figures.{Figures};
+    ghost use Rattle.world.specs.Store.{HasCause};
+
+    /// What a copy does: relates the store before and after it, the path, and the result.
+    ghost copied: { S → S → List ℕ → Result (Unit {0}) CopyRefusal → Type 0 };
+
+    /// What a count says, by the store before and after it, and the number.
+    ghost counted: { S → S → ℕ → Type 0 };
+
+    /// What is known of the figures of a store, by the store.
+    ghost figured: { S → Figures → Type 0 };
+
+    /// What happens while an order to copy is carried out: relates this value before and after it to the store before
+    /// and after it.
+    ghost meanwhile: { Self → Self → S → S → Type 0 };
+
+    /// Makes the store of a file, with this path, one of the store as it is at this moment. Fails as `Copies::copy`
+    /// does, and with `Busy` if another copy is being made.
+    fn copy_to(&mut self, shelves: &mut S, path: &str) -> Result<(), CopyRefusal>
+        ensures meanwhile { meanwhile self.old self.new shelves.old shelves.new }
+        ensures came { copied shelves.old shelves.new path.now result };
+
+    /// Returns how many versions the store keeps at this moment. The store is only read. Fails with `Device` if a disk
+    /// failed, and with `Memory` if memory ran out.
+    fn versions(&self, shelves: &mut S) -> Result<u64, StoreFault>
+        ensures reads { IsOnlyRead (S.shown shelves.old) (S.shown shelves.new) }
+        ensures cause { HasCause (S.shown shelves.old) (S.shown shelves.new) result }
+        ensures counted { IfOk result (λ n. counted shelves.old shelves.new n) };
+
+    /// Returns what is known of the store beside its versions. Does not open its file.
+    fn figures<'s>(&self, shelves: &'s S) -> Figures<'s>
+        ensures { figured shelves.now result };
 }

@@ -4,7 +4,8 @@
 //! | what | where |
 //! |---|---|
 //! | the lines of operators, and which one some bytes are | [`Line`], [`line_of_bytes`] |
-//! | the orders that change a store, and what makes a copy of it | [`Order`], [`Copies`] |
+//! | the orders that change a store | [`Order`] |
+//! | what makes copies of it, and what shows when | [`Copies`], [`CopyOrders`], [`Calendar`] |
 //! | what a ping is told: how connections were answered, what was counted by shelf, and more | [`Tally`], [`Health`] |
 //! | the lists of keys and of shelves | [`Listing`] |
 //! | what came of an order, and the line that tells it | [`Outcome`], [`Told`] |
@@ -16,6 +17,7 @@
 //! | what it asks to be told | [`ask_for_health`], [`ask_for_list`] |
 #![tactic(auto)]
 
+mod calendar;
 mod callers;
 mod carry;
 mod client;
@@ -34,22 +36,26 @@ mod order;
 mod outcome;
 mod patience;
 mod pinging;
+mod progress;
 mod serve;
+mod serving;
 mod socket_file;
 mod tally;
 mod telling;
 mod told;
 mod traffic;
+mod turn;
 mod two_words;
 mod watched;
 mod words;
 
+pub use calendar::Calendar;
 pub use callers::{Caller, Callers, Doors, Obeyed, Operator, SystemCaller};
 pub use carry::carry_out;
 pub use client::{
     Untold, ask, ask_for_health, ask_for_list, ask_to_copy, ask_to_revoke, ask_to_stop,
 };
-pub use copies::{Copies, CopyRefusal};
+pub use copies::{Copies, CopyOrders, CopyRefusal};
 pub use health::{Figures, Health};
 pub use listing::Listing;
 pub use notice::{Notice, ended, opened};

@@ -7,7 +7,7 @@ ghost use Rattle.control.specs.Line.{most_tries};
 ghost use Rattle.control.specs.Pinging.{TellsPing};
 
 use crate::carry::carry_out;
-use crate::copies::Copies;
+use crate::copies::CopyOrders;
 use crate::line::{Unread, read_line};
 use crate::listing::list;
 use crate::naming::revoke_named;
@@ -32,7 +32,7 @@ use world::registry::StoreFault;
 ///
 /// `Io::Read`: nothing was done, and nothing written. `Io::Write`: a write or the flush failed; a beginning of the line
 /// was written or all of it, and the shelves are as after the order.
-pub fn obey<R: Hear, W: Tell, S: Keyring, K: Copies<S>>(
+pub fn obey<R: Hear, W: Tell, S: Keyring, K: CopyOrders<S>>(
     alloc: Global,
     reader: &mut R,
     writer: &mut W,
@@ -40,8 +40,9 @@ pub fn obey<R: Hear, W: Tell, S: Keyring, K: Copies<S>>(
     shelves: &mut S,
     copies: &mut K,
 ) -> Result<Told, Io>
-    ensures obeys { ObeysBy S.shown K.copied K.counted tally.now shelves.old shelves.new
-        (R.account reader.old) (R.account reader.new) (W.contents writer.old) (W.contents writer.new) result }
+    ensures obeys { ObeysBy S.shown K.copied K.counted K.meanwhile tally.now copies.old copies.new
+        shelves.old shelves.new (R.account reader.old) (R.account reader.new)
+        (W.contents writer.old) (W.contents writer.new) result }
     // A ping is told what `copies` knows of the store, and nothing else.
     ensures figures { IfOk result (TellsPing (K.figured shelves.new) (IsPinged tally.now (S.shown shelves.old).failures
         (S.shown shelves.new).failures (K.counted shelves.old shelves.new))) }
@@ -76,15 +77,15 @@ fn tell_line<W: Tell>(writer: &mut W, line: &[u8]) -> Result<(), Io>
 
 /// Reads a line, does what it orders, and returns what the operator gets. Fails with `Io::Read` if the line can't be
 /// read, and then nothing was done.
-fn hear<R: Hear, S: Keyring, K: Copies<S>>(
+fn hear<R: Hear, S: Keyring, K: CopyOrders<S>>(
     alloc: Global,
     reader: &mut R,
     tally: &Tally,
     shelves: &mut S,
     copies: &mut K,
 ) -> Result<Told, Io>
-    ensures hears { HearsBy S.shown K.copied K.counted tally.now shelves.old shelves.new
-        (R.account reader.old) (R.account reader.new) result }
+    ensures hears { HearsBy S.shown K.copied K.counted K.meanwhile tally.now copies.old copies.new
+        shelves.old shelves.new (R.account reader.old) (R.account reader.new) result }
     ensures figures { IfOk result (TellsPing (K.figured shelves.new) (IsPinged tally.now (S.shown shelves.old).failures
         (S.shown shelves.new).failures (K.counted shelves.old shelves.new))) }
     ensures cause { IfErr result (λ _. IsUnreadable most_tries (R.reads reader.old) (R.reads reader.new)) }
@@ -97,21 +98,22 @@ fn hear<R: Hear, S: Keyring, K: Copies<S>>(
 }
 
 /// Does what a line orders, and returns what the operator gets: `Outcome::Bad` if the line is no order.
-fn heed<S: Keyring, K: Copies<S>>(
+fn heed<S: Keyring, K: CopyOrders<S>>(
     alloc: Global,
     got: &[u8],
     tally: &Tally,
     shelves: &mut S,
     copies: &mut K,
 ) -> Told
-    ensures heeds { HeedsBy S.shown K.copied K.counted tally.now shelves.old shelves.new got.now result }
+    ensures heeds { HeedsBy S.shown K.copied K.counted K.meanwhile tally.now copies.old copies.new
+        shelves.old shelves.new got.now result }
     ensures figures { TellsPing (K.figured shelves.new) (IsPinged tally.now (S.shown shelves.old).failures
         (S.shown shelves.new).failures (K.counted shelves.old shelves.new)) result }
 {
     match line_of_bytes(got) {
         Some(Line::Stop) => Told::Outcome(Outcome::Stopping),
         Some(Line::Ping) => ping(alloc, tally, shelves, copies),
-        Some(Line::Copy(path)) => Told::Outcome(outcome_of_copy(copies.copy(shelves, path))),
+        Some(Line::Copy(path)) => Told::Outcome(outcome_of_copy(copies.copy_to(shelves, path))),
         Some(Line::List(listing)) => list(alloc, shelves, listing),
         Some(Line::RevokeNamed(fingerprint)) => Told::Outcome(revoke_named(
             alloc,

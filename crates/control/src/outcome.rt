@@ -15,6 +15,10 @@ pub enum Outcome {
     Failed(StoreFault),
     /// No copy was made: the file has more than an empty store, or is that of the served store.
     NotEmpty,
+    /// No copy was made: another one is being made.
+    Busy,
+    /// No copy was made: the server ends, or memory ran out for what was published meanwhile.
+    Ended,
     /// The server ends.
     Stopping,
     /// What came is no order's line, and nothing was done.
@@ -40,6 +44,8 @@ pub(crate) fn outcome_of_copy(told: Result<(), CopyRefusal>) -> Outcome
         Err(CopyRefusal::NotEmpty) => Outcome::NotEmpty,
         Err(CopyRefusal::Device) => Outcome::Failed(StoreFault::Device),
         Err(CopyRefusal::Memory) => Outcome::Failed(StoreFault::Memory),
+        Err(CopyRefusal::Busy) => Outcome::Busy,
+        Err(CopyRefusal::Ended) => Outcome::Ended,
     }
 }
 
@@ -58,6 +64,8 @@ impl Outcome {
             Outcome::Failed(StoreFault::Device) => "device\n",
             Outcome::Failed(StoreFault::Memory) => "memory\n",
             Outcome::NotEmpty => "not-empty\n",
+            Outcome::Busy => "busy\n",
+            Outcome::Ended => "ended\n",
             Outcome::Stopping => "stopping\n",
             Outcome::Bad => "bad\n",
         }
@@ -77,6 +85,8 @@ impl Outcome {
             "device" => Some(Outcome::Failed(StoreFault::Device)),
             "memory" => Some(Outcome::Failed(StoreFault::Memory)),
             "not-empty" => Some(Outcome::NotEmpty),
+            "busy" => Some(Outcome::Busy),
+            "ended" => Some(Outcome::Ended),
             "stopping" => Some(Outcome::Stopping),
             "bad" => Some(Outcome::Bad),
             _ => None,

@@ -3,7 +3,7 @@ ghost use Rattle.std.specs.Prelude.{◌≡◌};
 ghost use Rattle.control.specs.Health.{IsPinged};
 ghost use Rattle.control.specs.Pinging.{Pings, IsLineFor, TellsPing};
 
-use crate::copies::Copies;
+use crate::copies::CopyOrders;
 use crate::health::Health;
 use crate::outcome::Outcome;
 use crate::tally::Tally;
@@ -15,11 +15,11 @@ use world::shelves::Shelves;
 /// Counts the versions that the store keeps, and returns what a ping gets: the lines of the health, with the tally, the
 /// failures of the store, and the figures that `copies` has of it. Returns `Outcome::Failed` if the count fails or
 /// memory runs out for the lines.
-pub(crate) fn ping<S: Shelves, K: Copies<S>>(
+pub(crate) fn ping<S: Shelves, K: CopyOrders<S>>(
     alloc: Global,
     tally: &Tally,
     shelves: &mut S,
-    copies: &mut K,
+    copies: &K,
 ) -> Told
     ensures pings { Pings S.shown K.counted tally.now shelves.old shelves.new result }
     ensures figures { TellsPing (K.figured shelves.new) (IsPinged tally.now (S.shown shelves.old).failures

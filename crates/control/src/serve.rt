@@ -1,33 +1,33 @@
 //! One caller after another.
-ghost use Rattle.std.specs.Prelude.{◌≡◌, ◌↔◌, IsTrue, Ok};
-ghost use Rattle.socket.specs.Connections.{both};
+ghost use Rattle.std.specs.Prelude.{◌≡◌, ◌≤◌, ◌+◌, List, [], ◌∷◌, Option, false};
+ghost use Rattle.socket.specs.Connections.{Come, both};
 ghost use Rattle.control.specs.Notices.{WritesNotices};
+ghost use Rattle.control.specs.Progress.{IsGoing, IsOver};
+ghost use Rattle.control.specs.Serving.{Serves};
 ghost use Rattle.control.specs.Turns.{GoesOn};
-ghost use Rattle.control.specs.Visits.{AnswersOne, EndsEach, ObeysOneBy, ReadsEach, ServesEach};
+ghost use Rattle.control.specs.Visits.{EndsEach, ReadsEach, ServesEach};
+ghost use Rattle.control.specs.declared.callers.Caller.{Caller};
+ghost use Rattle.control.specs.declared.callers.Caller.TheVariants.{Operator};
 
+use crate::calendar::Calendar;
 use crate::callers::{Caller, Callers, Operator};
 use crate::copies::Copies;
-use crate::faults::RecentFaults;
-use crate::outcome::Outcome;
-use crate::tally::Tally;
-use crate::telling::tell_next;
-use crate::told::Told;
-use crate::watched::{CopiesOfWatched, Loan, Watched};
-use engine::Io;
+use crate::serving::{Server, is_stopping};
+use crate::watched::{Loan, Watched};
 use histories::Tell;
 use keyring::Keyring;
 use modver::TimeText;
-use socket::{After, Peer};
+use socket::Peer;
 use std::alloc::Global;
 use std::marker::Brand;
 use std::time::Clock;
-use wire::RouteTable;
 use world::shelves::Shelves;
 
 /// Takes `connections` connections of peers, one after another, and answers the first message on each. Between them it
-/// carries out the orders of operators, who do not count; `copies` makes their copies. A ping gets the counts of the
-/// connections since the server began, which was at `since`. It waits for the next caller as long as that takes. It
-/// returns after the last peer, or once `Stopping` was written to an operator.
+/// carries out the orders of operators, who do not count; `copies` makes their copies, and `calendar` shows when each
+/// was made. While a copy is made, those who connect are served. A ping gets the counts of the connections since the
+/// server began, which was at `since`. It waits for the next caller as long as that takes. It returns after the last
+/// peer, or once `Stopping` was written to an operator.
 ///
 /// What came of each order, and which faults the store met, is written to `errors`; if that fails, nothing else
 /// changes.
@@ -41,13 +41,15 @@ pub fn serve_both<
     L: Callers<P, O>,
     S: Keyring,
     K: Copies<S>,
+    D: Calendar + Drop,
     E: Tell,
 >(
     alloc: Global,
     clock: &C,
     callers: &mut L,
     shelves: &mut S,
-    copies: &mut K,
+    copies: &K,
+    calendar: D,
     since: TimeText,
     connections: u32,
     errors: &mut E,
@@ -71,19 +73,28 @@ pub fn serve_both<
     // Only notices are written to `errors`.
     ensures notes { WritesNotices (E.contents errors.old) (E.contents errors.new) }
 {
-    let _lent = serve_lent::<C, P, O, L, S, K, E, Brand>(
+    let _lent = serve_lent::<C, P, O, L, S, K, D, E, Brand>(
         alloc,
         clock,
         callers,
         shelves,
         copies,
+        calendar,
         since,
         connections,
         errors,
     );
 }
 
-/// Serves as `serve_both` does, and returns the loan of the store.
+/// What was lent to a server.
+#[derive(Drop)]
+struct Lent<'a, L, S, E> {
+    callers: &'a mut L,
+    shelves: &'a mut S,
+    errors: &'a mut E,
+}
+
+/// Serves as `serve_both` does, and returns the loans.
 fn serve_lent<
     'a,
     C: Clock,
@@ -92,47 +103,57 @@ fn serve_lent<
     L: Callers<P, O>,
     S: Keyring,
     K: Copies<S>,
+    D: Calendar + Drop,
     E: Tell,
     N: Loan,
 >(
     alloc: Global,
-    clock: &C,
-    callers: &mut L,
+    clock: &'a C,
+    callers: &'a mut L,
     shelves: &'a mut S,
-    copies: &mut K,
+    copies: &'a K,
+    calendar: D,
     since: TimeText,
     connections: u32,
-    errors: &mut E,
-) -> &'a mut S
+    errors: &'a mut E,
+) -> Lent<'a, L, S, E>
     requires { shelves.ghost_name ≡ N.name }
-    ensures same { result.ghost_name ≡ shelves.entry.ghost_name }
-    ensures goes { GoesOn (S.shown shelves.old) (S.shown result.now) connections }
+    ensures same { result.shelves.ghost_name ≡ shelves.entry.ghost_name }
+    ensures same_callers { result.callers.ghost_name ≡ callers.entry.ghost_name }
+    ensures same_errors { result.errors.ghost_name ≡ errors.entry.ghost_name }
+    ensures goes { GoesOn (S.shown shelves.old) (S.shown result.shelves.now) connections }
     ensures each { ServesEach (both O.came O.reads) (both O.written O.writes)
-        (both P.came P.reads) (both P.written P.writes) L.is_new (L.waiting callers.old) (L.waiting callers.new)
-        (S.shown shelves.old) (S.shown result.now) connections }
+        (both P.came P.reads) (both P.written P.writes) L.is_new (L.waiting callers.old) (L.waiting result.callers.now)
+        (S.shown shelves.old) (S.shown result.shelves.now) connections }
     ensures reads { ReadsEach (both O.came O.reads) (both O.written O.writes)
         (both P.came P.reads) (both P.written P.writes) S.shown K.copied K.counted L.is_new (L.waiting callers.old)
-        (L.waiting callers.new) shelves.old result.now since connections }
+        (L.waiting result.callers.now) shelves.old result.shelves.now since connections }
     ensures ends { EndsEach (both O.came O.reads) (both O.written O.writes)
         (both P.came P.reads) (both P.written P.writes) S.shown K.copied K.counted L.is_new (L.waiting callers.old)
-        (L.waiting callers.new) shelves.old result.now since connections }
-    ensures notes { WritesNotices (E.contents errors.old) (E.contents errors.new) }
+        (L.waiting result.callers.now) shelves.old result.shelves.now since connections }
+    ensures notes { WritesNotices (E.contents errors.old) (E.contents result.errors.now) }
 {
-    let mut watched: Watched<'a, N, S> = Watched::new(alloc, shelves);
-    serve_each(
+    let mut server = Server::new(
         alloc,
         clock,
         callers,
-        &mut watched,
         copies,
+        calendar,
+        errors,
         since,
         connections,
-        errors,
     );
-    watched.into_inner()
+    let mut watched: Watched<'a, N, S> = Watched::new(alloc, shelves);
+    serve_each(&mut server, &mut watched);
+    let (callers, errors) = server.into_parts();
+    Lent {
+        callers,
+        shelves: watched.into_inner(),
+        errors,
+    }
 }
 
-/// Serves as `serve_both` does, over a store that is watched.
+/// Serves callers, one after another, until no more are to be taken.
 fn serve_each<
     C: Clock,
     P: Peer + Drop,
@@ -140,96 +161,62 @@ fn serve_each<
     L: Callers<P, O>,
     S: Keyring,
     K: Copies<S>,
+    D: Calendar + Drop,
     E: Tell,
     N: Loan,
->(
-    alloc: Global,
-    clock: &C,
-    callers: &mut L,
-    watched: &mut Watched<'_, N, S>,
-    copies: &mut K,
-    since: TimeText,
-    connections: u32,
-    errors: &mut E,
-)
-    ensures goes { GoesOn (S.shown watched.old.inner.now) (S.shown watched.new.inner.now) connections }
-    ensures each { ServesEach (both O.came O.reads) (both O.written O.writes)
-        (both P.came P.reads) (both P.written P.writes) L.is_new (L.waiting callers.old) (L.waiting callers.new)
-        (S.shown watched.old.inner.now) (S.shown watched.new.inner.now) connections }
-    ensures reads { ReadsEach (both O.came O.reads) (both O.written O.writes)
-        (both P.came P.reads) (both P.written P.writes) S.shown K.copied K.counted L.is_new (L.waiting callers.old)
-        (L.waiting callers.new) watched.old.inner.now watched.new.inner.now since connections }
-    ensures ends { EndsEach (both O.came O.reads) (both O.written O.writes)
-        (both P.came P.reads) (both P.written P.writes) S.shown K.copied K.counted L.is_new (L.waiting callers.old)
-        (L.waiting callers.new) watched.old.inner.now watched.new.inner.now since connections }
-    ensures notes { WritesNotices (E.contents errors.old) (E.contents errors.new) }
+>(server: &mut Server<'_, C, P, O, L, K, D, E>, watched: &mut Watched<'_, N, S>)
+    requires { server.old.progress.taken ≡ 0 }
+    ensures serves { Serves (both O.came O.reads) (both O.written O.writes)
+        (both P.came P.reads) (both P.written P.writes) L.is_new S.shown K.copied K.counted false
+        (L.waiting server.old.callers.now) (L.waiting server.new.callers.now)
+        server.old.progress server.new.progress watched.old.inner.now watched.new.inner.now }
+    ensures over { IsOver server.new.progress.stops server.new.progress.left server.new.progress.taken }
+    ensures same { server.new.callers.ghost_name ≡ server.old.callers.ghost_name }
+    ensures same_errors { server.new.errors.ghost_name ≡ server.old.errors.ghost_name }
+    ensures notes { WritesNotices (E.contents server.old.errors.now) (E.contents server.new.errors.now) }
 {
-    let mut routes = RouteTable::new(alloc);
-    let mut faults = RecentFaults::new(alloc);
-    let mut tally = Tally::new(since);
-    let mut left = connections;
     for _ in 0..u64::MAX {
-        if left == 0 {
+        if server.progress.is_over() {
             return;
         }
-        match callers.next() {
-            Ok(Caller::Operator(operator)) => {
-                let ends = obey_on(alloc, clock, operator, &tally, watched, copies);
-                tell_next(alloc, clock, watched, &mut faults, errors);
-                if ends {
-                    return;
-                }
-            }
-            Ok(Caller::Peer(peer)) => {
-                left -= 1;
-                tally.count(answer_on(alloc, clock, &mut routes, peer, watched));
-                tell_next(alloc, clock, watched, &mut faults, errors);
-            }
-            Err(_) => left -= 1,
+        match server.callers.next() {
+            Ok(Caller::Operator(operator)) => obey_on(server, operator, watched),
+            Ok(Caller::Peer(peer)) => server.answer(peer, watched),
+            Err(_) => server.progress.count_untaken(),
         }
     }
 }
 
-/// Answers the first message of a peer, ends the connection if that wrote a status, and returns the result of
-/// `Peer::answer`.
-fn answer_on<C: Clock, P: Peer + Drop, N: Loan, S: Shelves>(
-    alloc: Global,
-    clock: &C,
-    routes: &mut RouteTable,
-    peer: P,
-    watched: &mut Watched<'_, N, S>,
-) -> Result<Option<u16>, Io>
-    ensures { AnswersOne (both P.came P.reads) (both P.written P.writes) peer
-        (S.shown watched.old.inner.now) (S.shown watched.new.inner.now) result }
+/// Carries out the order of an operator. While a copy is made for it, others are served. Ignores failures of the
+/// connection.
+fn obey_on<
+    C: Clock,
+    P: Peer + Drop,
+    O: Operator + Drop,
+    L: Callers<P, O>,
+    S: Keyring,
+    K: Copies<S>,
+    D: Calendar + Drop,
+    E: Tell,
+    N: Loan,
+>(server: &mut Server<'_, C, P, O, L, K, D, E>, operator: O, watched: &mut Watched<'_, N, S>)
+    requires { IsGoing server.old.progress.stops server.old.progress.left server.old.progress.taken }
+    ensures serves { (waiting : Option (List (Caller P O)))
+        → Come waiting (L.waiting server.old.callers.now) (Operator operator ∷ [])
+        → L.is_new (Operator operator)
+        → Serves (both O.came O.reads) (both O.written O.writes)
+        (both P.came P.reads) (both P.written P.writes) L.is_new S.shown K.copied K.counted false
+        waiting (L.waiting server.new.callers.now)
+        server.old.progress server.new.progress watched.old.inner.now watched.new.inner.now }
+    ensures taken { server.old.progress.taken + 1 ≤ server.new.progress.taken }
+    ensures same { server.new.callers.ghost_name ≡ server.old.callers.ghost_name }
+    ensures same_errors { server.new.errors.ghost_name ≡ server.old.errors.ghost_name }
+    ensures notes { WritesNotices (E.contents server.old.errors.now) (E.contents server.new.errors.now) }
 {
-    let After { peer, status } = peer.answer(alloc, clock, routes, watched);
-    if let Ok(Some(number)) = status {
-        let _ = peer.end(clock, number);
-    }
-    status
-}
-
-/// Carries out one order of an operator, and returns whether the server is to end. Ignores failures of the connection.
-fn obey_on<C: Clock, O: Operator + Drop, N: Loan, S: Keyring, K: Copies<S>>(
-    alloc: Global,
-    clock: &C,
-    operator: O,
-    tally: &Tally,
-    watched: &mut Watched<'_, N, S>,
-    copies: &mut K,
-) -> bool
-    ensures { ObeysOneBy (both O.came O.reads) (both O.written O.writes) S.shown K.copied K.counted tally.now operator
-        result watched.old.inner.now watched.new.inner.now }
-{
-    let mut copies = CopiesOfWatched { inner: copies };
-    let after = operator.obeyed(alloc, clock, tally, watched, &mut copies);
+    server.progress.count_operator();
+    let (alloc, clock, tally) = (server.alloc, server.clock, server.progress.tally);
+    let after = operator.obeyed(alloc, clock, &tally, watched, server);
     watched.note_told(&after.told);
-    is_stopping(after.told)
-}
-
-/// Whether `Stopping` was written to an operator.
-fn is_stopping(told: Result<Told, Io>) -> bool
-    ensures { IsTrue result ↔ (told ≡ Ok (Told.Outcome Outcome.Stopping)) }
-{
-    matches!(told, Ok(Told::Outcome(Outcome::Stopping)))
+    server.progress.end_if(is_stopping(after.told));
+    server.tell(watched);
 }

@@ -1,8 +1,8 @@
 //! How often each shelf was published to and fetched from.
-ghost use Rattle.std.specs.Prelude.{◌≡◌, ◌++◌, IsTrue, OnOk, option_copied, string_bytes};
+ghost use Rattle.std.specs.Prelude.{◌≡◌, ◌++◌, IsTrue, OnErr, OnOk, option_copied, string_bytes};
 ghost use Rattle.std.specs.FinMap as map;
 ghost use Rattle.control.specs.Traffic as spec;
-ghost use Rattle.control.specs.Traffic.{CountsOne, HasNames};
+ghost use Rattle.control.specs.Traffic.{CountsOne, HasNames, StaysUncounted};
 
 use std::alloc::{AllocError, Global};
 use world::names::{COMMON, is_team_name};
@@ -68,20 +68,24 @@ impl Traffic {
         }
     }
 
-    /// Counts one transfer of a shelf. If the shelf has no counts and memory runs out for them, it stays without.
-    pub(crate) fn count(&mut self, alloc: Global, shelf: &str, transfer: Transfer)
-        ensures { CountsOne transfer shelf.now self.old self.new }
+    /// Counts one transfer of a shelf. Fails only if the shelf has no counts and memory runs out for them; the shelf
+    /// then stays without.
+    pub(crate) fn count(
+        &mut self,
+        alloc: Global,
+        shelf: &str,
+        transfer: Transfer,
+    ) -> Result<(), AllocError>
+        ensures counted { OnOk result (CountsOne transfer shelf.now self.old self.new) }
+        ensures uncounted { OnErr result (StaysUncounted shelf.now self.old self.new) }
     {
         if let Some(counts) = self.shelves.get_mut(shelf) {
             *counts = counts.with_one(transfer);
-            return;
+            return Ok(());
         }
-        let Ok(shelf) = String::from_str(alloc, shelf) else {
-            return;
-        };
-        let _ = self
-            .shelves
-            .insert(shelf, ShelfTraffic::none().with_one(transfer));
+        let shelf = String::from_str(alloc, shelf)?;
+        self.shelves
+            .insert(shelf, ShelfTraffic::none().with_one(transfer))
     }
 
     /// Returns how many shelves have counts.

@@ -1,8 +1,7 @@
 //! A store that is served, with what has to be said of it.
 ghost use Rattle.std.specs.Prelude.{◌≡◌, IfErr, IfSome, None, option_copied};
 ghost use Rattle.std.specs.FinMap as map;
-ghost use Rattle.control.specs.Copying.{IsOnlyRead};
-ghost use Rattle.control.specs.Figures.{NotesTime, TellsKept};
+ghost use Rattle.control.specs.Figures.{TellsKept};
 ghost use Rattle.control.specs.Notices.{Copied, Met, Ordered, line_of};
 ghost use Rattle.control.specs.Traffic.{CountsIf, was_found, was_published};
 ghost use Rattle.modver.specs.SemanticVersion.{version_text};
@@ -15,7 +14,7 @@ ghost use Rattle.world.specs.Versions.{versions_of};
 ghost use Rattle.world.specs.Visible.{paths_seen};
 ghost use Rattle.world.specs.World.{count, heading, place, view, with_entry};
 
-use crate::copies::{Copies, CopyRefusal};
+use crate::copies::CopyRefusal;
 use crate::errand::Errand;
 use crate::health::Figures;
 use crate::notice::{Notice, answered, copied, met, ordered};
@@ -53,11 +52,11 @@ impl Loan for Brand {
 #[derive(Drop)]
 pub(crate) struct Watched<'a, N: Loan, S: Shelves> {
     alloc: Global,
-    inner: &'a mut S,
+    pub(crate) inner: &'a mut S,
     notice: Option<Notice>,
-    traffic: Traffic,
+    pub(crate) traffic: Traffic,
     /// When the last copy was made, if one was and the time could be read then.
-    copied: Option<TimeText>,
+    pub(crate) copied: Option<TimeText>,
     loan: PhantomData<N>,
     ghost same: { inner.ghost_name ≡ N.name },
 }
@@ -133,7 +132,7 @@ impl<'a, N: Loan, S: Shelves> Watched<'a, N, S> {
     }
 
     /// Notes a copy that was ordered.
-    fn note_copy(&mut self, path: &str, told: Result<(), CopyRefusal>)
+    pub(crate) fn note_copy(&mut self, path: &str, told: Result<(), CopyRefusal>)
         ensures same { self.new.inner ≡ self.old.inner }
         ensures counts { self.new.traffic ≡ self.old.traffic }
         ensures time { self.new.copied ≡ self.old.copied }
@@ -143,11 +142,23 @@ impl<'a, N: Loan, S: Shelves> Watched<'a, N, S> {
     }
 
     /// Notes when a copy was made, if the time could be read.
-    fn note_time(&mut self, time: Option<TimeText>)
+    pub(crate) fn note_time(&mut self, time: Option<TimeText>)
         ensures same { self.new.inner ≡ self.old.inner }
         ensures noted { self.new.copied ≡ time }
     {
         self.copied = time;
+    }
+
+    /// Returns the figures with these sizes, and with what is kept here.
+    pub(crate) fn figures_with<'s>(&'s self, sizes: Figures<'s>) -> Figures<'s>
+        ensures { TellsKept (λ known. known ≡ sizes.entry) self.now.traffic self.now.copied result }
+    {
+        Figures {
+            bytes: sizes.bytes,
+            log: sizes.log,
+            copied: self.copied,
+            traffic: Some(&self.traffic),
+        }
     }
 
     /// Counts a fetch of a shelf if its zip was found.
@@ -156,7 +167,7 @@ impl<'a, N: Loan, S: Shelves> Watched<'a, N, S> {
         ensures counts { CountsIf (was_found told.now) Transfer.Fetch shelf.now self.old.traffic self.new.traffic }
     {
         if let Ok(Some(_)) = told {
-            self.traffic.count(self.alloc, shelf, Transfer::Fetch);
+            let _ = self.traffic.count(self.alloc, shelf, Transfer::Fetch);
         }
     }
 
@@ -167,7 +178,7 @@ impl<'a, N: Loan, S: Shelves> Watched<'a, N, S> {
             self.old.traffic self.new.traffic }
     {
         if let Ok(()) = told {
-            self.traffic.count(self.alloc, shelf, Transfer::Publish);
+            let _ = self.traffic.count(self.alloc, shelf, Transfer::Publish);
         }
     }
 }
@@ -369,60 +380,6 @@ impl<'a, N: Loan, S: Keyring> Keyring for Watched<'a, N, S> {
 
     fn parent(&mut self, alloc: Global, shelf: &str) -> Result<Option<Option<Text>>, StoreFault> {
         self.inner.parent(alloc, shelf)
-    }
-}
-
-/// What makes copies of a store, lent for copies of the store when it is watched.
-#[derive(Drop)]
-pub(crate) struct CopiesOfWatched<'b, K> {
-    pub(crate) inner: &'b mut K,
-}
-
-impl<'a, 'b, N: Loan, S: Shelves, K: Copies<S>> Copies<Watched<'a, N, S>>
-    for CopiesOfWatched<'b, K> {
-    ghost copied = { λ old new path told. K.copied old.inner.now new.inner.now path told };
-
-    ghost counted = { λ old new n. K.counted old.inner.now new.inner.now n };
-
-    ghost figured = { λ w f. TellsKept (K.figured w.inner.now) w.traffic w.copied f };
-
-    ghost times = { λ c. K.times c.inner.now };
-
-    /// Also notes when the copy was made, if it was.
-    fn copy(&mut self, shelves: &mut Watched<'a, N, S>, path: &str) -> Result<(), CopyRefusal>
-        ensures reads { IsOnlyRead (S.shown shelves.old.inner.now) (S.shown shelves.new.inner.now) }
-        ensures came { K.copied shelves.old.inner.now shelves.new.inner.now path.now result }
-        ensures time { NotesTime (K.times self.new.inner.now) shelves.old.copied shelves.new.copied result }
-    {
-        let told = self.inner.copy(shelves.inner, path);
-        shelves.note_copy(path, told);
-        if let Err(why) = told {
-            return Err(why);
-        }
-        shelves.note_time(self.inner.time_now());
-        Ok(())
-    }
-
-    fn figures<'s>(&self, shelves: &'s Watched<'a, N, S>) -> Figures<'s> {
-        let sizes = self.inner.figures(shelves.inner);
-        Figures {
-            bytes: sizes.bytes,
-            log: sizes.log,
-            copied: shelves.copied,
-            traffic: Some(&shelves.traffic),
-        }
-    }
-
-    fn time_now(&mut self) -> Option<TimeText> {
-        self.inner.time_now()
-    }
-
-    fn versions(&mut self, shelves: &mut Watched<'a, N, S>) -> Result<u64, StoreFault> {
-        self.inner.versions(shelves.inner)
-    }
-
-    fn served(&self) -> &str {
-        self.inner.served()
     }
 }
 

@@ -1,20 +1,20 @@
--- A served store is only read, by a copy or a count.
+-- A served store is only read, by a count, or by a copy beside its turns.
 use Rattle.std.proofs.Common.{ℕ, List, ◌≡◌, ◌≤◌, inl, inr, Result, Ok, Err, IfOk}
 use Rattle.files.specs.History.{Span}
 use Rattle.world.specs.Store.{Shown, Reads}
 use Rattle.world.specs.World.{World}
 use Rattle.world.specs.declared.registry.StoreFault.{StoreFault}
 use Rattle.statements.specs.Counted.{versions_in}
-use Rattle.store.specs.Extracted.{IsRead}
 use Rattle.control.specs.Copying.{IsOnlyRead}
 use Rattle.control.specs.declared.copies.CopyRefusal.{CopyRefusal}
 use Rattle.runner.specs.Copies.{CopiesFile, CopiesTo}
 
-pub only_read : (old new : Shown) → IsRead old new → old.failures ≤ new.failures → IsOnlyRead old new
-only_read old new read no_fewer = record {
-  honest = read.honest;
-  stays = read.stays;
-  left = read.left;
+-- a store whose count of failures alone grew
+pub recounted : (s : Shown) (n m : ℕ) → n ≤ m → IsOnlyRead (record s { failures = n }) (record s { failures = m })
+recounted s n m no_fewer = record {
+  honest = λ h. h;
+  stays = λ h w stands. stands;
+  left = λ h w x y stands was. was;
   no_fewer = no_fewer;
 }
 
@@ -39,4 +39,4 @@ pub copies_file : {S F D : Type 0} (shown : S → Shown) (shown_too : F → Show
     → CopiesFile shown shown_too targets.begins source source_new to result
 copies_file shown shown_too targets source source_new to result (inl it) =
     inl (record { begun = it.begun; ended = it.ended; begins = it.begins; does = it.does })
-copies_file shown shown_too targets source source_new to result (inr it) = inr it.none
+copies_file shown shown_too targets source source_new to result (inr it) = inr (inl it.none)

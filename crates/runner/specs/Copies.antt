@@ -1,11 +1,14 @@
 -- What a copy of the store of a served file into that of another file does, and what a count of its versions tells.
-use Rattle.std.specs.Prelude.{ℕ, List, ◌≡◌, ◌⊎◌, Result, Ok, Err}
+use Rattle.std.specs.Prelude.{ℕ, List, ◌≡◌, ◌≤◌, ◌⊎◌, ⊤, Result, Ok, Err}
 use Rattle.files.specs.History.{Span, IsIdle, Refuses, Opens}
 use Rattle.world.specs.Store.{Shown}
 use Rattle.world.specs.World.{World}
 use Rattle.statements.specs.Counted.{versions_in}
-use Rattle.store.specs.Extracted.{HasCauseInEither}
-use Rattle.store.specs.Parts.{CopiesAll}
+use Rattle.store.specs.Extracted.{HasCauseInEither, IsRead, IsUnfit}
+use Rattle.store.specs.Parts.{FillsAt}
+use Rattle.store.specs.Between.{told}
+use Rattle.store.specs.declared.between.CopyEnd.{CopyEnd}
+use Rattle.store.specs.declared.between.CopyEnd.TheVariants.{Refused, Ended}
 use Rattle.store.specs.declared.refusal.StoreRefusal.{StoreRefusal}
 use Rattle.store.specs.declared.refusal.StoreRefusal.TheVariants as store
 use Rattle.control.specs.declared.copies.CopyRefusal.{CopyRefusal}
@@ -22,23 +25,33 @@ uncopied store.NotEmpty = copy.NotEmpty
 uncopied store.NoTeam = copy.Device
 
 -- the result of a copy, by that of the store
-abbrev pub copied : Result (Unit {0}) StoreRefusal → Result (Unit {0}) CopyRefusal
+abbrev pub copied : Result (Unit {0}) CopyEnd → Result (Unit {0}) CopyRefusal
 copied (Ok u) = Ok tt
-copied (Err why) = Err (uncopied why)
+copied (Err (Refused why)) = Err (uncopied why)
+copied (Err Ended) = Err copy.Ended
 
 -- a count tells how many versions there are in each world that the served store stood for, on an honest disk
 abbrev pub CountsIn : {S : Type 0} → (S → Shown) → S → S → ℕ → Type 0
 CountsIn shown old new count = (shown new).is_honest → (w : World) → (shown old).stands w → count ≡ versions_in w
 
 module _ {S F : Type 0} (shown : S → Shown) (shown_too : F → Shown) where
-  -- an open store was made a copy of the served one, or it was not, and the result says why
+  -- An open store was made a copy of the served one, or it was not, and the result says why. The copy is of each world
+  -- that the served store stood for before the turns that it had meanwhile.
   pub record CopiesInto (source source_new : S) (fresh fresh_new : F)
       (result : Result (Unit {0}) CopyRefusal) : Type 0 where
-    pub told : Result (Unit {0}) StoreRefusal
-    pub copies : CopiesAll (shown source) (shown source_new) (shown_too fresh) (shown_too fresh_new) told
-    pub cause : HasCauseInEither (shown source).failures (shown source_new).failures
-        (shown_too fresh).failures (shown_too fresh_new).failures told
-    pub ends : result ≡ copied told
+    pub end : Result (Unit {0}) CopyEnd
+    pub honest : (shown source_new).is_honest → (shown source).is_honest
+    pub honest_too : (shown_too fresh_new).is_honest → (shown_too fresh).is_honest
+    pub spares : IsUnfit (told end) → IsRead (shown_too fresh) (shown_too fresh_new)
+    pub at : (shown source_new).is_honest → (shown_too fresh_new).is_honest → (w x : World)
+        → (shown source).stands w → (shown_too fresh).stands x
+        → FillsAt (shown_too fresh) (shown_too fresh_new) ⊤ w x (told end)
+    -- the failures of the served store after the last turn, before one of the copy itself
+    pub failures : ℕ
+    pub no_fewer : (shown source).failures ≤ failures
+    pub cause : HasCauseInEither failures (shown source_new).failures
+        (shown_too fresh).failures (shown_too fresh_new).failures (told end)
+    pub ends : result ≡ copied end
 
   -- nothing was done with the served store: the new store's file is its own, or the new store was not opened, and the
   -- result says why
@@ -46,12 +59,18 @@ module _ {S F : Type 0} (shown : S → Shown) (shown_too : F → Shown) where
     pub same : source_new ≡ source
     pub tells : (result ≡ Err copy.NotEmpty) ⊎ ((why : StoreRefusal) × (result ≡ Err (uncopied why)))
 
+  -- nothing was done, since another copy is being made
+  pub record IsBusy (source source_new : S) (result : Result (Unit {0}) CopyRefusal) : Type 0 where
+    pub same : source_new ≡ source
+    pub tells : result ≡ Err copy.Busy
+
   -- The store of a file was opened and made a copy, or not; or the served store was left as it was. It may be either,
   -- whatever the path is: `CopiesTo` says which file was opened.
   abbrev pub CopiesFile : (F → Type 0) → S → S → List ℕ → Result (Unit {0}) CopyRefusal → Type 0
   CopiesFile Begins source source_new path result =
       OnOpened Begins (λ fresh fresh_new. CopiesInto source source_new fresh fresh_new result)
       ⊎ CopiesNone source source_new result
+      ⊎ IsBusy source source_new result
 
   module _ {D : Type 0} (targets : Span F D) (source source_new : S) (to : List ℕ) where
     -- nothing was done with the served store, and no other was opened

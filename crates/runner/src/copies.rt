@@ -1,7 +1,8 @@
 //! Copies of the store of a file while it is served, counts of its versions, and its size.
 
-ghost use Rattle.std.specs.Prelude.{◌≡◌, IfOk};
+ghost use Rattle.std.specs.Prelude.{◌≡◌, ◌≢◌, ◌≤◌, IfErr, IfOk};
 ghost use Rattle.control.specs.Copying.{IsOnlyRead};
+ghost use Rattle.control.specs.declared.copies.CopyRefusal.TheVariants.{Busy};
 ghost use Rattle.sqlite_wal.specs.Files.{image_at};
 ghost use Rattle.runner.specs.Copies as spec;
 ghost use Rattle.runner.specs.Copies.{CopiesFile, CopiesInto, CopiesTo, CountsIn};
@@ -12,14 +13,16 @@ use crate::beside::real_name;
 use crate::found::{AsFound, ClosedFile, Found, OpenedStore};
 use crate::host::SystemHost;
 use crate::looks::Looks;
+use crate::slice_pace::SlicePace;
 use crate::system::SystemStoreFiles;
 use commands::files::size_of_file;
-use commands::moment::{Calendar, SystemCalendar};
 use control::{Copies, CopyRefusal, Figures};
 use files::files::{StoreFiles, Use};
-use modver::TimeText;
+use meanwhile::between::Between;
 use sqlite::{Alter, Start};
 use std::rt::HostRuntime;
+use std::time::Clock;
+use store::between::CopyEnd;
 use store::refusal::StoreRefusal;
 use store::store::SqlShelves;
 use world::registry::StoreFault;
@@ -31,8 +34,6 @@ pub(crate) struct FileCopies<'a> {
     pub host: SystemHost<'a>,
     /// The file of the served store.
     pub db: &'a str,
-    /// What shows when a copy was made.
-    pub calendar: SystemCalendar<'a>,
 }
 
 impl<'a> FileCopies<'a> {
@@ -41,7 +42,6 @@ impl<'a> FileCopies<'a> {
         FileCopies {
             host: SystemHost { rt },
             db,
-            calendar: SystemCalendar::new(rt),
         }
     }
 
@@ -61,6 +61,7 @@ impl<'a> FileCopies<'a> {
 
 impl<'a, S: Alter> Copies<SqlShelves<S>> for FileCopies<'a> {
     ghost use Rattle.std.specs.Prelude.{◌≡◌, None};
+    ghost use Rattle.std.proofs.Common.{inr, refl};
     ghost use Rattle.sqlite_wal.specs.Files.{image_at};
     ghost use Rattle.runner.specs.Copies.{CopiesFile, CountsIn};
     ghost use Rattle.runner.specs.Opened.{HasBegun};
@@ -75,18 +76,30 @@ impl<'a, S: Alter> Copies<SqlShelves<S>> for FileCopies<'a> {
     /// It keeps no time of a copy and counts no shelf. What the system tells of the sizes is not known.
     ghost figured = { λ _ f. (f.copied ≡ None) × (f.traffic ≡ None) };
 
-    ghost times = { λ c. ⟦<SystemCalendar<'a> as Calendar>⟧.shown c.calendar };
-
     fn served(&self) -> &str {
         self.db
     }
 
-    fn copy(&mut self, shelves: &mut SqlShelves<S>, path: &str) -> Result<(), CopyRefusal> {
-        let mut targets = SystemStoreFiles::new(self.host.rt);
-        copy_to(&self.host, &mut targets, self.db, shelves, path)
+    fn copy<B: Between<SqlShelves<S>>>(
+        &self,
+        shelves: &mut SqlShelves<S>,
+        path: &str,
+        between: &mut B,
+    ) -> Result<(), CopyRefusal> {
+        let rt = self.host.rt;
+        let mut targets = SystemStoreFiles::new(rt);
+        copy_to(
+            rt,
+            &self.host,
+            &mut targets,
+            self.db,
+            shelves,
+            path,
+            between,
+        )
     }
 
-    fn versions(&mut self, shelves: &mut SqlShelves<S>) -> Result<u64, StoreFault> {
+    fn versions(&self, shelves: &mut SqlShelves<S>) -> Result<u64, StoreFault> {
         count_in(shelves)
     }
 
@@ -99,30 +112,35 @@ impl<'a, S: Alter> Copies<SqlShelves<S>> for FileCopies<'a> {
         }
     }
 
-    fn time_now(&mut self) -> Option<TimeText> {
-        self.calendar.time_now()
-    }
+    ghost busy = { λ s path. inr (inr (record { same = refl; tells = refl })) };
 }
 
 /// Opens the store of a file and makes it a copy of a served store, whose file is at `db`. It does not open the served
 /// file again: for that, and for a link to it, it fails with `NotEmpty`. If SQLite has a use for the file, it fails
-/// with `Device`, and otherwise as `Copies::copy` does.
-fn copy_to<L, S, G>(
+/// with `Device`, and otherwise as `Copies::copy` does. The clock says when a slice of the copy is to end.
+fn copy_to<C, L, S, G, B>(
+    clock: &C,
     looks: &L,
     targets: &mut G,
     db: &str,
     source: &mut SqlShelves<S>,
     to: &str,
+    between: &mut B,
 ) -> Result<(), CopyRefusal>
 where
+    C: Clock,
     L: Looks,
     S: Alter,
     G: StoreFiles<OpenedStore, ClosedFile, StoreRefusal>,
-    ensures reads { IsOnlyRead
-        (⟦<SqlShelves<S> as Shelves>⟧.shown source.old) (⟦<SqlShelves<S> as Shelves>⟧.shown source.new) }
+    B: Between<SqlShelves<S>>,
+    requires no_fewer { (a b : _) (s t : _) → B.went a b s t →
+        (⟦<SqlShelves<S> as Shelves>⟧.shown s).failures ≤ (⟦<SqlShelves<S> as Shelves>⟧.shown t).failures }
+    ensures turns { (mid : _) × B.went between.old between.new source.old mid × IsOnlyRead
+        (⟦<SqlShelves<S> as Shelves>⟧.shown mid) (⟦<SqlShelves<S> as Shelves>⟧.shown source.new) }
     ensures came { CopiesTo ⟦<SqlShelves<S> as Shelves>⟧.shown (λ s. ⟦<Found as Shelves>⟧.shown s.shelves)
         (record { begins = G.begins; left = G.left; before = G.history targets.old; after = G.history targets.new })
         source.old source.new to.now result }
+    ensures begun { IfErr result (λ why. why ≢ Busy) }
 {
     if let Err(refusal) = looks.check_name(db, to) {
         return Err(uncopied(refusal));
@@ -134,29 +152,48 @@ where
         Ok(file) => file,
         Err(unopened) => return Err(uncopied(unopened)),
     };
-    let told = copy_into(source, &mut fresh.store);
+    let told = copy_into(clock, source, &mut fresh.store, between);
     targets.close(fresh);
     told
 }
 
-/// Makes an open store a copy of the served one. Fails with `NotEmpty` if it has more than an empty store, `Device` if
-/// a disk fails, and `Memory` if memory runs out.
-fn copy_into<S: Alter>(
+/// Makes an open store a copy of the served one, a slice at a time, and has `between` take a turn after each slice.
+/// Fails with `NotEmpty` if it has more than an empty store, `Device` if a disk fails, `Memory` if memory runs out, and
+/// `Ended` if `between` ended the copy.
+fn copy_into<C: Clock, S: Alter, B: Between<SqlShelves<S>>>(
+    clock: &C,
     source: &mut SqlShelves<S>,
     fresh: &mut OpenedStore,
+    between: &mut B,
 ) -> Result<(), CopyRefusal>
-    ensures { CopiesInto ⟦<SqlShelves<S> as Shelves>⟧.shown (λ s. ⟦<Found as Shelves>⟧.shown s.shelves)
+    requires no_fewer { (a b : _) (s t : _) → B.went a b s t →
+        (⟦<SqlShelves<S> as Shelves>⟧.shown s).failures ≤ (⟦<SqlShelves<S> as Shelves>⟧.shown t).failures }
+    ensures turns { (mid : _) × B.went between.old between.new source.old mid × IsOnlyRead
+        (⟦<SqlShelves<S> as Shelves>⟧.shown mid) (⟦<SqlShelves<S> as Shelves>⟧.shown source.new) }
+    ensures came { CopiesInto ⟦<SqlShelves<S> as Shelves>⟧.shown (λ s. ⟦<Found as Shelves>⟧.shown s.shelves)
         source.old source.new fresh.old fresh.new result }
+    ensures begun { IfErr result (λ why. why ≢ Busy) }
 {
-    match source.copy(&mut fresh.shelves) {
+    let mut pace = SlicePace::new(clock);
+    copied(source.copy_between(&mut fresh.shelves, &mut pace, between))
+}
+
+/// Returns the result of a copy, by that of the store.
+fn copied(told: Result<(), CopyEnd>) -> Result<(), CopyRefusal>
+    ensures value { result ≡ spec.copied told }
+    ensures begun { IfErr result (λ why. why ≢ Busy) }
+{
+    match told {
         Ok(()) => Ok(()),
-        Err(refusal) => Err(uncopied(refusal)),
+        Err(CopyEnd::Refused(refusal)) => Err(uncopied(refusal)),
+        Err(CopyEnd::Ended) => Err(CopyRefusal::Ended),
     }
 }
 
 /// Returns why no copy was made, by why the store was not opened or copied.
 fn uncopied(refusal: StoreRefusal) -> CopyRefusal
-    ensures { result ≡ spec.uncopied refusal }
+    ensures value { result ≡ spec.uncopied refusal }
+    ensures begun { result ≢ Busy }
 {
     match refusal {
         StoreRefusal::Device => CopyRefusal::Device,

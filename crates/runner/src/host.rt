@@ -273,6 +273,6 @@ fn act_in<T: Start, I: Hear, O: Tell>(
         (record { store = shelves.new; came = I.account input.new; written = O.contents output.new })
         result action.now }
 {
-    let mut copies = FileCopies::new(rt, name);
-    act_on(rt, shelves, &mut copies, action, input, output)
+    let copies = FileCopies::new(rt, name);
+    act_on(rt, shelves, &copies, action, input, output)
 }

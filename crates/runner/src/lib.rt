@@ -34,6 +34,7 @@ mod migrate;
 mod old_file;
 pub mod older_files;
 mod open;
+mod slice_pace;
 pub mod system;
 pub mod unnamed;
 

@@ -1,4 +1,5 @@
 //! An operator and a peer who come at once.
+use crate::calendar::Times;
 use crate::copier::Copier;
 use control::{Doors, serve_both};
 use histories::Telling;
@@ -22,7 +23,8 @@ fn serve<S: Keyring + Drop>(rt: &HostRuntime, doors: &mut Doors, mut shelves: S,
         rt,
         doors,
         &mut shelves,
-        &mut Copier::new(0),
+        &Copier::new(rt.alloc(), 0),
+        Times::at(since),
         since,
         1,
         &mut Telling::new(&mut errors),

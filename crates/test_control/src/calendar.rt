@@ -2,9 +2,9 @@
 use crate::copier::Copier;
 use crate::queue::shelves;
 use commands::ledger::Ledger;
-use commands::moment::Calendar;
 use commands::refusal::CommandRefusal;
 use commands::serve::{Entrance, serve};
+use control::Calendar;
 use histories::Telling;
 use keyring::Keyring;
 use modver::{TimeText, read_time};
@@ -15,9 +15,19 @@ use std::test::Fail;
 
 /// Shows this time, or none.
 #[derive(Drop)]
-struct Times {
+pub(crate) struct Times {
     time: Option<TimeText>,
     shown: Ledger,
+}
+
+impl Times {
+    /// Returns a calendar that always shows this time.
+    pub(crate) fn at(time: TimeText) -> Times {
+        Times {
+            time: Some(time),
+            shown: Ledger::new(),
+        }
+    }
 }
 
 impl Calendar for Times {
@@ -48,7 +58,7 @@ fn serve_from<S: Keyring + Drop>(
         rt,
         &mut calendar,
         &mut shelves,
-        &mut Copier::new(0),
+        &Copier::new(rt.alloc(), 0),
         Entrance::Port(0),
         0,
         Some(path),

@@ -1,28 +1,48 @@
 //! A double of what copies a store and counts its versions.
-use commands::ledger::Ledger;
-use control::{Copies, CopyRefusal, Figures};
-use modver::{TimeText, read_time};
+ghost use Rattle.std.specs.Prelude.{◌≢◌, IfErr};
+ghost use Rattle.control.specs.declared.copies.CopyRefusal.TheVariants.{Busy};
+
+use control::{Copies, CopyOrders, CopyRefusal, Figures};
+use meanwhile::between::Between;
+use meanwhile::newcomers::Newcomers;
+use std::alloc::Global;
 use world::registry::StoreFault;
 use world::shelves::Shelves;
-
-/// The time that each copy is made.
-const TIME: &str = "2026-11-26T18:50:00Z";
 
 /// Makes no copy, and fails for three paths: for `full` with `NotEmpty`, for `small` with `Memory`, for the empty one
 /// with `Device`. Counts nothing, and returns this number. Its file has 8,192 bytes, and its log 4,152.
 #[derive(Drop)]
 pub(crate) struct Copier {
+    alloc: Global,
     versions: u64,
-    shown: Ledger,
 }
 
 impl Copier {
     /// Returns one that counts these versions.
-    pub(crate) fn new(versions: u64) -> Copier {
-        Copier {
-            versions,
-            shown: Ledger::new(),
-        }
+    pub(crate) fn new(alloc: Global, versions: u64) -> Copier {
+        Copier { alloc, versions }
+    }
+}
+
+/// Returns what comes of a copy to a path.
+fn copied_to(path: &str) -> Result<(), CopyRefusal>
+    ensures { IfErr result (λ why. why ≢ Busy) }
+{
+    match path {
+        "full" => Err(CopyRefusal::NotEmpty),
+        "small" => Err(CopyRefusal::Memory),
+        "" => Err(CopyRefusal::Device),
+        _ => Ok(()),
+    }
+}
+
+/// Returns the figures of each store.
+fn figures_of<'s>() -> Figures<'s> {
+    Figures {
+        bytes: Some(8_192),
+        log: Some(4_152),
+        copied: None,
+        traffic: None,
     }
 }
 
@@ -33,39 +53,58 @@ impl<S: Shelves> Copies<S> for Copier {
 
     ghost figured = { λ _ _. Unit {0} };
 
-    ghost times = { λ c. c.shown.entries };
-
     fn served(&self) -> &str {
         "shelves.db"
     }
 
-    fn copy(&mut self, _shelves: &mut S, path: &str) -> Result<(), CopyRefusal> {
-        match path {
-            "full" => Err(CopyRefusal::NotEmpty),
-            "small" => Err(CopyRefusal::Memory),
-            "" => Err(CopyRefusal::Device),
-            _ => Ok(()),
+    /// Has `between` take one turn. Fails with `Ended` if that ended the copy.
+    fn copy<B: Between<S>>(
+        &self,
+        shelves: &mut S,
+        path: &str,
+        between: &mut B,
+    ) -> Result<(), CopyRefusal> {
+        if !between.turn(shelves, &mut Newcomers::new(self.alloc)) {
+            return Err(CopyRefusal::Ended);
         }
+        copied_to(path)
     }
 
-    fn versions(&mut self, _shelves: &mut S) -> Result<u64, StoreFault> {
+    fn versions(&self, _shelves: &mut S) -> Result<u64, StoreFault> {
         Ok(self.versions)
     }
 
     fn figures<'s>(&self, _shelves: &'s S) -> Figures<'s> {
-        Figures {
-            bytes: Some(8_192),
-            log: Some(4_152),
-            copied: None,
-            traffic: None,
+        figures_of()
+    }
+
+    ghost busy = { λ _ _. tt };
+}
+
+/// Nobody is served while a copy is made.
+impl<S: Shelves> CopyOrders<S> for Copier {
+    ghost copied = { λ _ _ _ _. Unit {0} };
+
+    ghost counted = { λ _ _ _. Unit {0} };
+
+    ghost figured = { λ _ _. Unit {0} };
+
+    ghost meanwhile = { λ _ _ _ _. Unit {0} };
+
+    /// Also fails with `Busy` for `second`, and with `Ended` for `last`.
+    fn copy_to(&mut self, _shelves: &mut S, path: &str) -> Result<(), CopyRefusal> {
+        match path {
+            "second" => Err(CopyRefusal::Busy),
+            "last" => Err(CopyRefusal::Ended),
+            _ => copied_to(path),
         }
     }
 
-    fn time_now(&mut self) -> Option<TimeText> {
-        let Ok(time) = read_time(TIME) else {
-            return None;
-        };
-        self.shown.note(time.as_str().as_bytes());
-        Some(time)
+    fn versions(&self, _shelves: &mut S) -> Result<u64, StoreFault> {
+        Ok(self.versions)
+    }
+
+    fn figures<'s>(&self, _shelves: &'s S) -> Figures<'s> {
+        figures_of()
     }
 }

@@ -54,6 +54,8 @@ revoke-fingerprint ccaaf6d99f2c8ac7 more|bad
 copy /var/backups/one.db|done
 copy full|not-empty
 copy small|memory
+copy second|busy
+copy last|ended
 copy |device
 copy|bad
 copy one two|bad
@@ -75,6 +77,8 @@ const SENT: &str = "\
 2|device|key-revoke alphakey00000001|Device
 2|memory|key-revoke alphakey00000001|Memory
 2|bad|key-revoke alphakey00000001|Io
+2|busy|key-revoke alphakey00000001|Io
+2|ended|key-revoke alphakey00000001|Io
 2||key-revoke alphakey00000001|Io
 2|don|key-revoke alphakey00000001|Io
 3|done|group-add platform|done
@@ -93,6 +97,8 @@ one.db|not-empty|copy one.db|NotEmpty
 one.db|device|copy one.db|Device
 one.db|memory|copy one.db|Memory
 one.db|taken|copy one.db|Taken
+one.db|busy|copy one.db|Busy
+one.db|ended|copy one.db|Ended
 one.db|stopping|copy one.db|Io
 one.db|bad|copy one.db|Io
 one.db||copy one.db|Io
@@ -132,6 +138,8 @@ publishes=0 fetches=7|done
 connections=124||Io
 device||Device
 memory||Memory
+busy||Io
+ended||Io
 done||Io
 bad||Io
 ||Io";
@@ -209,7 +217,7 @@ fn wrong_row<S: Keyring + Drop>(
             &mut Telling::new(&mut told),
             tally,
             &mut shelves,
-            &mut Copier::new(12_345),
+            &mut Copier::new(alloc, 12_345),
         )
         .is_err()
         {

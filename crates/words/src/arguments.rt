@@ -145,7 +145,7 @@ static OTHER_COMMANDS: [CommandRow; 7] = [
     },
     CommandRow {
         name: "copy",
-        about: "Has a running serve copy its store into another file, between two requests",
+        about: "Has a running serve copy its store into another file, and serve on meanwhile",
         options: &COPY,
         forms: None,
         example: "",

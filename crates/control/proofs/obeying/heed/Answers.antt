@@ -12,7 +12,7 @@ returns-in-Some-Stop-clause-heeds g c = record {
   heard = Stop;
   from = rw c.in-Some-Stop.field-0-is at c.in-Some-Stop.ensures;
   tells = refl;
-  through = turns_none _;
+  through = (refl, turns_none _);
   came = tt;
   lists = tt;
 }
@@ -22,18 +22,18 @@ returns-in-Some-Ping-clause-heeds g c = record {
   heard = Pinged c.ping.ensures.pings.heard;
   from = rw c.in-Some-Ping.field-0-is at c.in-Some-Ping.ensures;
   tells = c.ping.ensures.pings.tells;
-  through = turns_read _ _ c.ping.ensures.pings.reads;
+  through = (refl, turns_read _ _ c.ping.ensures.pings.reads);
   came = c.ping.ensures.pings.came;
   lists = tt;
 }
 
 pub returns-in-Some-Copy-clause-heeds : goal.returns-in-Some-Copy-clause-heeds
 returns-in-Some-Copy-clause-heeds g c = record {
-  heard = Copied c.in-Some-Copy.path.now c.copy.result;
+  heard = Copied c.in-Some-Copy.path.now c.copy_to.result;
   from = rw c.in-Some-Copy.field-0-is at c.in-Some-Copy.ensures;
   tells = ap spoken.Outcome c.outcome_of_copy.ensures;
-  through = turns_read _ _ c.copy.ensures.reads;
-  came = c.copy.ensures.came;
+  through = c.copy_to.ensures.meanwhile;
+  came = c.copy_to.ensures.came;
   lists = tt;
 }
 
@@ -42,7 +42,7 @@ returns-in-Some-List-clause-heeds g c = record {
   heard = Listed c.in-Some-List.listing c.list.ensures.heard;
   from = rw c.in-Some-List.field-0-is at c.in-Some-List.ensures;
   tells = c.list.ensures.tells;
-  through = turns_read _ _ (list_only_reads _ _ _ _ c.list.ensures.reads);
+  through = (refl, turns_read _ _ (list_only_reads _ _ _ _ c.list.ensures.reads));
   came = tt;
   lists = c.list.ensures.reads;
 }
@@ -52,7 +52,7 @@ returns-in-Some-RevokeNamed-clause-heeds g c = record {
   heard = Named c.in-Some-RevokeNamed.fingerprint.now c.revoke_named.ensures.naming;
   from = rw c.in-Some-RevokeNamed.field-0-is at c.in-Some-RevokeNamed.ensures;
   tells = ap spoken.Outcome c.revoke_named.ensures.tells;
-  through = c.revoke_named.ensures.through;
+  through = (refl, c.revoke_named.ensures.through);
   came = tt;
   lists = c.revoke_named.ensures.finds;
 }
@@ -62,7 +62,7 @@ returns-in-Some-Order-clause-heeds g c = record {
   heard = Carried c.in-Some-Order.order c.carry_out.result;
   from = rw c.in-Some-Order.field-0-is at c.in-Some-Order.ensures;
   tells = ap spoken.Outcome c.outcome_of.ensures;
-  through = turns_ordered _ _ _ _ c.carry_out.ensures.does;
+  through = (refl, turns_ordered _ _ _ _ c.carry_out.ensures.does);
   came = tt;
   lists = tt;
 }
@@ -72,7 +72,7 @@ returns-in-None-clause-heeds g c = record {
   heard = NoOrder;
   from = c.in-None.ensures;
   tells = refl;
-  through = turns_none _;
+  through = (refl, turns_none _);
   came = tt;
   lists = tt;
 }
@@ -80,7 +80,7 @@ returns-in-None-clause-heeds g c = record {
 pub returns-in-Some-List-clause-figures : goal.returns-in-Some-List-clause-figures
 returns-in-Some-List-clause-figures g c =
     let s = g.S.Shelves in
-    let k = g.K.Copies in
+    let k = g.K.CopyOrders in
     tells_no_ping (k.figured c.list.new.shelves)
     (IsPinged c.args.tally.now (s.shown c.args.shelves.now).failures (s.shown c.list.new.shelves).failures
     (k.counted c.args.shelves.now c.list.new.shelves)) _ _ c.list.ensures.tells

@@ -8,16 +8,17 @@ use Rattle.control.proofs.obeying.obey.Goals as goal
 
 pub returns-in-Err-clause-obeys : goal.returns-in-Err-clause-obeys
 returns-in-Err-clause-obeys g c =
-    obeys_unread _ _ _ _ _ _ _ _ _ c.in-Err.ensures.hears.0 c.in-Err.ensures.hears.1 (Keeps-refl _)
+    obeys_unread _ _ _ _ _ _ _ _ _ _ _ c.in-Err.ensures.hears.0 c.in-Err.ensures.hears.1 c.in-Err.ensures.hears.2
+    (Keeps-refl _)
 
 pub returns-in-Ok-tell_line-clause-obeys : goal.returns-in-Ok-tell_line-clause-obeys
 returns-in-Ok-tell_line-clause-obeys g c =
-    obeys_told _ _ _ _ _ _ _ _ _ (Ok tt) c.in-Ok.ensures.hears
+    obeys_told _ _ _ _ _ _ _ _ _ _ _ (Ok tt) c.in-Ok.ensures.hears
     (rw c.bytes.ensures at c.in-Ok-tell_line.ensures.tells)
 
 pub returns-in-Err-tell_line-clause-obeys : goal.returns-in-Err-tell_line-clause-obeys
 returns-in-Err-tell_line-clause-obeys g c =
-    obeys_told _ _ _ _ _ _ _ _ _ (Err _) c.in-Ok.ensures.hears
+    obeys_told _ _ _ _ _ _ _ _ _ _ _ (Err _) c.in-Ok.ensures.hears
     (rw c.bytes.ensures at c.in-Err-tell_line.ensures.tells)
 
 pub returns-in-Err-clause-cause : goal.returns-in-Err-clause-cause

@@ -1,10 +1,69 @@
+use Rattle.std.proofs.Common.{◌≤◌, ◌≡◌, ap, arith, ◌∙◌}
 use Rattle.socket.specs.Connections.{both}
+use Rattle.control.proofs.NoticeLemmas.{notices_more, notices_none}
 use Rattle.control.proofs.ServeLemmas.{obeyed_one}
+use Rattle.control.proofs.ServingLemmas.{all_turns, either_way, obey_serves, ordered_if}
 use Rattle.control.proofs.serve.obey_on.Goals as goal
 
-pub returns : goal.returns
-returns g c =
+pub returns-clause-serves : goal.returns-clause-serves
+returns-clause-serves g c = λ waiting comes fresh.
     let o = g.O.Operator in
-    rw c.note_told.ensures.same
-    (obeyed_one (both o.came o.reads) (both o.written o.writes) _ _ _ _ _ _ _ _ c.obeyed-after.ensures.obeys
-    c.obeyed-after.ensures.cause c.is_stopping.ensures)
+    let next = obeyed_one (both o.came o.reads) (both o.written o.writes) _ _ _ _ _ _ _ _ _ _
+    c.obeyed-after.ensures.obeys c.obeyed-after.ensures.cause c.is_stopping.ensures in
+    rw (c.tell.ensures.store, c.note_told.ensures.same, c.tell.ensures.same, c.tell.ensures.progress)
+    (obey_serves _ _ _ _ _ _ _ _ waiting _ _ _ _ _ _ _ _ _ _
+    (λ same. (ap (λ x. g.L.Callers.waiting x.callers.now) same, ap (λ x. x.progress) same))
+    (λ made. (made.0, (all_turns _ _ _ _ _ _ _ _ _ _ made.1).serves, made.2))
+    c.args.operator c.is_stopping.result comes fresh c.requires.0 next
+    c.count_operator.ensures.tally c.count_operator.ensures.left c.count_operator.ensures.taken
+    c.count_operator.ensures.stops c.end_if.ensures.tally c.end_if.ensures.left c.end_if.ensures.taken
+    c.end_if.ensures.stops)
+
+pub returns-clause-taken : goal.returns-clause-taken
+returns-clause-taken g c =
+    let o = g.O.Operator in
+    let next = obeyed_one (both o.came o.reads) (both o.written o.writes) _ _ _ _ _ _ _ _ _ _
+    c.obeyed-after.ensures.obeys c.obeyed-after.ensures.cause c.is_stopping.ensures in
+    let more : c.count_operator.new.self.taken ≤ c.obeyed-after.new.copies.progress.taken =
+    either_way _ _ _ _ _ next.audience.heard
+    (λ same. let e = ap (λ x. x.progress.taken) same in omega (arith, e))
+    (λ made. let e = (all_turns _ _ _ _ _ _ _ _ _ _ made.1).serves.taken in omega (arith, e))
+    (ordered_if _ _ _ _ next.audience.heard next.through) in
+    rw c.tell.ensures.progress (omega (arith, more, c.count_operator.ensures.taken, c.end_if.ensures.taken))
+
+pub returns-clause-same : goal.returns-clause-same
+returns-clause-same g c =
+    let o = g.O.Operator in
+    let next = obeyed_one (both o.came o.reads) (both o.written o.writes) _ _ _ _ _ _ _ _ _ _
+    c.obeyed-after.ensures.obeys c.obeyed-after.ensures.cause c.is_stopping.ensures in
+    rw c.tell.ensures.same
+    (either_way _ _ _ _ _ next.audience.heard
+    (λ same. ap (λ x. x.callers.ghost_name) same)
+    (λ made. ap (λ l. l.0) (all_turns _ _ _ _ _ _ _ _ _ _ made.1).same)
+    (ordered_if _ _ _ _ next.audience.heard next.through))
+
+pub returns-clause-same_errors : goal.returns-clause-same_errors
+returns-clause-same_errors g c =
+    let o = g.O.Operator in
+    let next = obeyed_one (both o.came o.reads) (both o.written o.writes) _ _ _ _ _ _ _ _ _ _
+    c.obeyed-after.ensures.obeys c.obeyed-after.ensures.cause c.is_stopping.ensures in
+    c.tell.ensures.same_errors
+    ∙ either_way _ _ _ _ _ next.audience.heard
+    (λ same. ap (λ x. x.errors.ghost_name) same)
+    (λ made. ap (λ l. l.1) (all_turns _ _ _ _ _ _ _ _ _ _ made.1).same)
+    (ordered_if _ _ _ _ next.audience.heard next.through)
+
+pub returns-clause-notes : goal.returns-clause-notes
+returns-clause-notes g c =
+    let o = g.O.Operator in
+    let next = obeyed_one (both o.came o.reads) (both o.written o.writes) _ _ _ _ _ _ _ _ _ _
+    c.obeyed-after.ensures.obeys c.obeyed-after.ensures.cause c.is_stopping.ensures in
+    notices_more _ _ _
+    (either_way _ _ _ _ _ next.audience.heard
+    (λ same. let e : g.E.Write.contents c.obeyed-after.new.copies.errors.now
+    ≡ g.E.Write.contents c.args.server.now.errors.now =
+    ap (λ x. g.E.Write.contents x.errors.now) same in
+    rw e (notices_none _))
+    (λ made. (all_turns _ _ _ _ _ _ _ _ _ _ made.1).notes)
+    (ordered_if _ _ _ _ next.audience.heard next.through))
+    c.tell.ensures.notes

@@ -1,10 +1,10 @@
-use Rattle.std.proofs.Common.{◌≤◌, ◌-◌}
+use Rattle.std.proofs.Common.{◌≤◌, ◌≡◌, false}
 use Rattle.socket.specs.Connections.{both}
 use Rattle.control.specs.Notices.{WritesNotices}
-use Rattle.control.proofs.ServeLemmas.{UpTo}
+use Rattle.control.specs.Serving.{Serves}
 use Rattle.control.proofs.serve.serve_each.Given as goal
 
--- the callers so far were served, and the connections that are left count no more than at first
+-- the callers so far were served, and are as many as the rounds at least
 abbrev pub invariant-loop : goal.invariant-loop
 invariant-loop g l =
     let s = g.S.Shelves in
@@ -12,10 +12,12 @@ invariant-loop g l =
     let p = g.P.Peer in
     let waiting = g.L.Callers.waiting in
     record {
-      some : l.left ≤ l.fn.connections;
-      all : UpTo (both o.came o.reads) (both o.written o.writes) (both p.came p.reads) (both p.written p.writes)
-          g.L.Callers.is_new s.shown g.K.Copies.copied g.K.Copies.counted l.fn.since
-          (waiting l.fn.callers) (waiting l.callers) l.fn.watched.inner.now l.watched.inner.now
-          (l.fn.connections - l.left) l.counter l.tally;
-      notes : WritesNotices (g.E.Write.contents l.fn.errors) (g.E.Write.contents l.errors);
+      some : l.counter ≤ l.server.progress.taken;
+      all : Serves (both o.came o.reads) (both o.written o.writes) (both p.came p.reads) (both p.written p.writes)
+          g.L.Callers.is_new s.shown g.K.Copies.copied g.K.Copies.counted false
+          (waiting l.fn.server.callers.now) (waiting l.server.callers.now) l.fn.server.progress l.server.progress
+          l.fn.watched.inner.now l.watched.inner.now;
+      same : l.server.callers.ghost_name ≡ l.fn.server.callers.ghost_name;
+      same_errors : l.server.errors.ghost_name ≡ l.fn.server.errors.ghost_name;
+      notes : WritesNotices (g.E.Write.contents l.fn.server.errors.now) (g.E.Write.contents l.server.errors.now);
     }

@@ -1,9 +1,18 @@
 use Rattle.control.proofs.ServeLemmas.{each_goes}
+use Rattle.control.proofs.ServingLemmas.{ends_each}
 use Rattle.control.proofs.serve.serve_lent.Goals as goal
 
 pub returns-clause-ends : goal.returns-clause-ends
 returns-clause-ends g c =
-    rw c.into_inner.ensures.value (rw c.new-watched.ensures.value at c.serve_each.ensures.ends)
+    rw (c.into_inner.ensures.value, c.into_parts-callers.ensures.callers)
+    (ends_each _ _ _ _ _ _ _ _ _ _ _ _ _ _ _ _
+    (rw (c.new-watched.ensures.value, c.new-server.ensures.callers) at c.serve_each.ensures.serves)
+    c.new-server.ensures.tally c.new-server.ensures.left c.new-server.ensures.taken c.new-server.ensures.stops
+    c.serve_each.ensures.over)
+
+pub returns-clause-notes : goal.returns-clause-notes
+returns-clause-notes g c =
+    rw c.into_parts-callers.ensures.errors (rw c.new-server.ensures.errors at c.serve_each.ensures.notes)
 
 pub returns-clause-reads : goal.returns-clause-reads
 returns-clause-reads g c = (returns-clause-ends g c).reads

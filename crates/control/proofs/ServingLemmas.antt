@@ -1,0 +1,472 @@
+-- Callers who are served from one moment to another, and others after them.
+use Rattle.std.specs.Prelude.{◌||◌}
+use Rattle.std.proofs.Common.{Bool, true, false, ℕ, ◌+◌, ◌≡◌, refl, sym, ap, ◌∙◌, subst, List, [], ◌∷◌, ◌++◌}
+use Rattle.std.proofs.Common.{All, Option, Some, None, Result, Ok, Err, inl, inr, arith}
+use Rattle.std.proofs.Common.{append-nil}
+use Rattle.std.proofs.lemmas.Bool.{false≢true}
+use Rattle.std.proofs.lemmas.List.{length-append}
+use Rattle.std.proofs.lemmas.List.Elements.{All-append, All-cons, All-nil}
+use Rattle.histories.specs.Account.{Account}
+use Rattle.histories.specs.Calls.{Reads, Writes}
+use Rattle.world.specs.Store.{Shown}
+use Rattle.world.specs.World.{World}
+use Rattle.world.specs.declared.registry.StoreFault.{StoreFault}
+use Rattle.meanwhile.specs.Meanwhile.{IsAsItWas}
+use Rattle.engine.specs.declared.fault.Io.{Io}
+use Rattle.socket.specs.Connections.{Come, exchanges_of}
+use Rattle.control.specs.Copying.{turns_in, has_read, AllRead, GoesThroughSteps, IsOnlyRead}
+use Rattle.control.specs.Health.{IsPinged, tally_of}
+use Rattle.control.specs.Hearing.{Heard, Carried, Pinged, Listed, Named, Stop, NoOrder, NoMemory}
+use Rattle.control.specs.Hearing as hearing
+use Rattle.control.specs.Outcome.{outcome_of_copy}
+use Rattle.control.specs.Progress.{IsOver}
+use Rattle.control.specs.Serving.{AllTold, EndsBy, Instant, ObeysMeanwhile}
+use Rattle.control.specs.Serving.{Serves, ServesMeanwhile, ServesPeer, TakesTurn}
+use Rattle.control.specs.Serving.{TakesTurns, TakesTurnsBy, tally_after}
+use Rattle.control.specs.Turns.{GoesThroughTurns}
+use Rattle.control.specs.Visits.{Call, OfPeer, OfOperator, Untaken, Audience, CameIf, EndsEach, GoesIf}
+use Rattle.control.specs.Visits.{IsCallThere, IsToldThere, ObeysOne, ReadsEach, TellsTally}
+use Rattle.control.specs.Visits.{answered_with, callers_of, connections_of, steps_if, steps_of, steps_with}
+use Rattle.control.specs.declared.callers.Caller.{Caller}
+use Rattle.control.specs.declared.callers.Caller.TheVariants.{Peer, Operator}
+use Rattle.control.specs.declared.copies.CopyRefusal.{CopyRefusal}
+use Rattle.control.specs.declared.copies.CopyRefusal.TheVariants as refusal
+use Rattle.control.specs.declared.health.Health.{Health}
+use Rattle.control.specs.declared.outcome.Outcome.{Outcome}
+use Rattle.control.specs.declared.outcome.Outcome.TheVariants.{Stopping}
+use Rattle.control.specs.declared.progress.Progress.{Progress}
+use Rattle.control.specs.declared.tally.Tally.{Tally}
+use Rattle.control.specs.declared.told.Told.{Told}
+use Rattle.control.specs.declared.told.Told.TheVariants as spoken
+use Rattle.control.proofs.NoticeLemmas.{notices_more, notices_none}
+use Rattle.control.proofs.ServeLemmas.{none_come, steps_first, then_come}
+use Rattle.control.proofs.StepLemmas.{no_reads, read_heard, read_then}
+use Rattle.control.proofs.TallyLemmas.{tells_tally}
+use Rattle.control.proofs.TurnLemmas.{turns_none, turns_read}
+use Rattle.control.proofs.CallsLemmas.{all_tallied, answered_append, callers_append, connections_append, ends_append}
+use Rattle.control.proofs.CallsLemmas.{goes_on, is_end, may_end, none_ends, none_through, peers_few, read_or}
+use Rattle.control.proofs.CallsLemmas.{steps_append, tally_append, through_append, through_read, told_append}
+
+-- ---- what an operator's line ordered
+
+-- an order was carried out that is none to copy, or one to copy was, with this result
+pub data Ordered (idle meanwhile : Type 0) (old new : Shown) (heard : Option Heard) : Type 0 where
+  Other : idle → GoesThroughSteps old new (steps_if heard) → Ordered idle meanwhile old new heard
+  ToCopy : (path : List ℕ) (told : Result (Unit {0}) CopyRefusal) → heard ≡ Some (hearing.Copied path told) → meanwhile
+      → Ordered idle meanwhile old new heard
+
+pub ordered_if : (idle meanwhile : Type 0) (old new : Shown) (heard : Option Heard)
+    → GoesIf idle meanwhile old new heard → Ordered idle meanwhile old new heard
+ordered_if idle meanwhile old new None goes = Other goes.0 goes.1
+ordered_if idle meanwhile old new (Some (Carried order told)) goes = Other goes.0 goes.1
+ordered_if idle meanwhile old new (Some (hearing.Copied path told)) goes = ToCopy path told refl goes
+ordered_if idle meanwhile old new (Some (Pinged told)) goes = Other goes.0 goes.1
+ordered_if idle meanwhile old new (Some (Listed listing told)) goes = Other goes.0 goes.1
+ordered_if idle meanwhile old new (Some (Named f naming)) goes = Other goes.0 goes.1
+ordered_if idle meanwhile old new (Some Stop) goes = Other goes.0 goes.1
+ordered_if idle meanwhile old new (Some NoOrder) goes = Other goes.0 goes.1
+ordered_if idle meanwhile old new (Some NoMemory) goes = Other goes.0 goes.1
+
+-- where the store was only read for it, it went through the steps of what was ordered
+through_told : (idle : Type 0) (old new : Shown) (heard : Option Heard)
+    → Ordered idle (IsOnlyRead old new) old new heard → GoesThroughSteps old new (steps_if heard)
+through_told idle old new heard (Other still through) = through
+through_told idle old new heard (ToCopy path told is read) =
+    subst (λ h. GoesThroughSteps old new (steps_if h)) (sym is) (turns_read old new read)
+
+-- nothing else was done
+only_read : (old new : Shown) → IsAsItWas old new → IsOnlyRead old new
+only_read old new read = record {
+  honest = read.honest;
+  stays = read.stays;
+  left = read.left;
+  no_fewer = omega (arith, read.failures);
+}
+
+-- what is told of a copy is not that the server ends
+no_stopping : (told : Result (Unit {0}) CopyRefusal) → outcome_of_copy told ≡ Stopping → ⊥
+no_stopping (Ok done) e = cc
+no_stopping (Err refusal.NotEmpty) e = cc
+no_stopping (Err refusal.Device) e = cc
+no_stopping (Err refusal.Memory) e = cc
+no_stopping (Err refusal.Busy) e = cc
+no_stopping (Err refusal.Ended) e = cc
+
+abbrev outcome_in : Told → Outcome → Outcome
+outcome_in (spoken.Outcome outcome) other = outcome
+outcome_in (spoken.Health line) other = other
+outcome_in (spoken.List lines) other = other
+
+outcome_same : {one two : Outcome} → spoken.Outcome one ≡ spoken.Outcome two → one ≡ two
+outcome_same {one} same = ap (λ t. outcome_in t one) same
+
+abbrev ok_in : Result Told Io → Told → Told
+ok_in (Ok told) other = told
+ok_in (Err e) other = other
+
+or_not : (a b : Bool) → (b ≡ true → ⊥) → (a || b) ≡ a
+or_not true b off = refl
+or_not false true off = absurd (off refl)
+or_not false false off = refl
+
+-- either way this holds
+pub either_way : (R idle meanwhile : Type 0) (old new : Shown) (heard : Option Heard) → (idle → R) → (meanwhile → R)
+    → Ordered idle meanwhile old new heard → R
+either_way R idle meanwhile old new heard one two (Other rests through) = one rests
+either_way R idle meanwhile old new heard one two (ToCopy path told is made) = two made
+
+-- what is unsaid of those who make copies
+goes_unsaid : (idle meanwhile : Type 0) (old new : Shown) (heard : Option Heard) → GoesIf idle meanwhile old new heard
+    → GoesIf (Unit {0}) meanwhile old new heard
+goes_unsaid idle meanwhile old new None goes = (tt, goes.1)
+goes_unsaid idle meanwhile old new (Some (Carried order told)) goes = (tt, goes.1)
+goes_unsaid idle meanwhile old new (Some (hearing.Copied path told)) goes = goes
+goes_unsaid idle meanwhile old new (Some (Pinged told)) goes = (tt, goes.1)
+goes_unsaid idle meanwhile old new (Some (Listed listing told)) goes = (tt, goes.1)
+goes_unsaid idle meanwhile old new (Some (Named f naming)) goes = (tt, goes.1)
+goes_unsaid idle meanwhile old new (Some Stop) goes = (tt, goes.1)
+goes_unsaid idle meanwhile old new (Some NoOrder) goes = (tt, goes.1)
+goes_unsaid idle meanwhile old new (Some NoMemory) goes = (tt, goes.1)
+
+pub obeys_unsaid : {O : Type 0} (heeded : O → Account × Reads) (told : O → Option (List ℕ) × Writes)
+    (copied : List ℕ → Result (Unit {0}) CopyRefusal → Type 0) (pinged : Result Health StoreFault → Type 0)
+    (idle meanwhile : Type 0) (old new : Shown) (operator : O) (stops : Bool)
+    → ObeysOne heeded told copied pinged idle meanwhile operator stops old new
+    → ObeysOne heeded told copied pinged (Unit {0}) meanwhile operator stops old new
+obeys_unsaid heeded told copied pinged idle meanwhile old new operator stops next = record {
+  audience = next.audience;
+  begins = next.begins;
+  there = next.there;
+  stopped = next.stopped;
+  through = goes_unsaid idle meanwhile old new next.audience.heard next.through;
+  came = next.came;
+  lists = next.lists;
+}
+
+-- ---- from one moment to another
+
+module _ {P O : Type 0} (heeded : O → Account × Reads) (told : O → Option (List ℕ) × Writes)
+    (heard : P → Account × Reads) (written : P → Option (List ℕ) × Writes) (is_new : Caller P O → Type 0) where
+  IsThere : Call P O → Type 0
+  IsThere = IsCallThere heeded told heard written
+
+  module _ {S : Type 0} (shown : S → Shown) (copied : S → S → List ℕ → Result (Unit {0}) CopyRefusal → Type 0)
+      (counted : S → S → ℕ → Type 0) where
+    abbrev From : Bool → Option (List (Caller P O)) → Option (List (Caller P O)) → Progress → Progress → S → S → Type 0
+    From = Serves heeded told heard written is_new shown copied counted
+
+    -- nobody
+    pub serves_none : (read : Bool) (waiting : Option (List (Caller P O))) (p : Progress) (s : S)
+        → From read waiting waiting p p s s
+    serves_none read waiting p s = record {
+      calls = [];
+      came = none_come waiting;
+      begun = All-nil is_new;
+      there = All-nil (IsCallThere heeded told heard written);
+      through = none_through read (shown s);
+      reads = λ h w stands. tt;
+      tally = refl;
+      tallies = tt;
+      left = omega arith;
+      taken = omega arith;
+      ends = none_ends P O p.stops;
+    }
+
+    -- nobody, and the store was read
+    pub serves_read : (waiting : Option (List (Caller P O))) (p : Progress) (s t : S) → IsOnlyRead (shown s) (shown t)
+        → From true waiting waiting p p s t
+    serves_read waiting p s t read = record {
+      calls = [];
+      came = none_come waiting;
+      begun = All-nil is_new;
+      there = All-nil (IsCallThere heeded told heard written);
+      through = turns_read (shown s) (shown t) read;
+      reads = λ h w stands. tt;
+      tally = refl;
+      tallies = tt;
+      left = omega arith;
+      taken = omega arith;
+      ends = none_ends P O p.stops;
+    }
+
+    -- callers, and then others
+    pub serves_more : (read : Bool) (waiting left rest : Option (List (Caller P O))) (p q r : Progress) (s t u : S)
+        → From read waiting left p q s t → From read left rest q r t u → From read waiting rest p r s u
+    serves_more read waiting left rest p q r s t u one two =
+        let xs = one.calls in
+        let ys = two.calls in
+        record {
+          calls = xs ++ ys;
+          came = subst (Come waiting rest) (sym (callers_append xs ys))
+              (then_come waiting left rest (callers_of xs) (callers_of ys) one.came two.came);
+          begun = subst (All is_new) (sym (callers_append xs ys))
+              (All-append is_new (callers_of xs) (callers_of ys) one.begun two.begun);
+          there = All-append (IsCallThere heeded told heard written) xs ys one.there two.there;
+          through = subst (λ steps. GoesThroughTurns (shown s) (shown u) (turns_in steps) (read || has_read steps))
+              (sym (steps_append xs ys))
+              (through_append read (shown s) (shown t) (shown u) (steps_with xs) (steps_with ys) one.through
+              two.through);
+          reads = λ h w stands.
+              let honest = two.through.runs.honest h in
+              subst (AllRead shown copied counted w) (sym (steps_append xs ys))
+              (read_then shown copied counted w (steps_with xs) (steps_with ys) (one.reads honest w stands)
+              (two.reads h _ (one.through.runs.at honest w stands).ends));
+          tally = two.tally ∙ ap (λ t. tally_after t (answered_with ys)) one.tally
+              ∙ sym (tally_append p.tally (answered_with xs) (answered_with ys))
+              ∙ ap (tally_after p.tally) (sym (answered_append xs ys));
+          tallies = told_append p.tally xs ys one.tallies (subst (λ t. AllTold t ys) one.tally two.tallies);
+          left = omega (arith, connections_append xs ys, one.left, two.left);
+          taken = omega (arith, length-append xs ys, one.taken, two.taken);
+          ends = ends_append p.stops q.stops r.stops xs ys one.ends two.ends;
+        }
+
+    module _ (read : Bool) (waiting rest : Option (List (Caller P O))) (p q : Progress) (s t : S) where
+      -- one caller
+      serves_one : (call : Call P O) → Come waiting rest (callers_of (call ∷ []))
+          → All is_new (callers_of (call ∷ [])) → IsCallThere heeded told heard written call
+          → GoesThroughSteps (shown s) (shown t) (steps_of call)
+          → ((shown t).is_honest → (w : World) → (shown s).stands w → AllRead shown copied counted w (steps_of call))
+          → q.tally ≡ tally_after p.tally (answered_with (call ∷ [])) → AllTold p.tally (call ∷ [])
+          → p.left ≡ q.left + connections_of (call ∷ []) → q.taken ≡ p.taken + 1 → EndsBy p.stops q.stops (call ∷ [])
+          → From read waiting rest p q s t
+      serves_one call comes fresh there through reads tally tallies left taken ends = record {
+        calls = call ∷ [];
+        came = comes;
+        begun = fresh;
+        there = All-cons (IsCallThere heeded told heard written) call [] there
+            (All-nil (IsCallThere heeded told heard written));
+        through = subst (λ steps. GoesThroughTurns (shown s) (shown t) (turns_in steps) (read || has_read steps))
+            (sym (append-nil (steps_of call)))
+            (read_or read (has_read (steps_of call)) (shown s) (shown t) (turns_in (steps_of call)) through);
+        reads = λ h w stands.
+            subst (AllRead shown copied counted w) (sym (append-nil (steps_of call))) (reads h w stands);
+        tally = tally;
+        tallies = tallies;
+        left = left;
+        taken = omega (arith, taken);
+        ends = ends;
+      }
+
+      one_new : (caller : Caller P O) → is_new caller → All is_new (caller ∷ [])
+      one_new caller fresh = All-cons is_new caller [] fresh (All-nil is_new)
+
+      -- a peer
+      pub serves_peer : (peer : P) → Come waiting rest (Peer peer ∷ []) → is_new (Peer peer) → p.stops ≡ false
+          → ServesPeer heard written peer p q (shown s) (shown t) → From read waiting rest p q s t
+      unfolding serves_one
+      serves_peer peer comes fresh going next =
+          let visit = next.answers.answers.visit in
+          serves_one (OfPeer visit next.answered)
+          (subst (λ x. Come waiting rest (Peer x ∷ [])) (sym next.answers.answers.begins) comes)
+          (one_new (Peer visit.before) (subst (λ x. is_new (Peer x)) (sym next.answers.answers.begins) fresh))
+          (next.answers.answers.there, next.answers.counts)
+          (steps_first (shown s) (shown t) visit.first next.answers.answers.through)
+          (λ h w stands. no_reads shown copied counted w (exchanges_of visit.first))
+          next.tally tt next.left next.taken
+          (goes_on p.stops q.stops going next.stops (OfPeer visit next.answered) (λ never. never))
+
+      -- a connection that could not be taken
+      pub serves_untaken : Come waiting rest [] → p.stops ≡ false → q.tally ≡ p.tally → p.left ≡ q.left + 1
+          → q.taken ≡ p.taken + 1 → q.stops ≡ p.stops → s ≡ t → From read waiting rest p q s t
+      unfolding serves_one
+      serves_untaken comes going tally left taken stops same =
+          serves_one Untaken comes (All-nil is_new) tt
+          (subst (λ x. GoesThroughSteps (shown s) (shown x) []) same (turns_none (shown s)))
+          (λ h w stands. tt) tally tt left taken
+          (goes_on p.stops q.stops going stops Untaken (λ never. never))
+
+      -- an operator, who ordered no copy
+      pub serves_operator : (idle meanwhile : Type 0) (tally_now : Tally) (operator : O) (stops : Bool)
+          → Come waiting rest (Operator operator ∷ []) → is_new (Operator operator) → p.stops ≡ false
+          → tally_now ≡ p.tally
+          → (next : ObeysOne heeded told (copied s t)
+          (IsPinged tally_now (shown s).failures (shown t).failures (counted s t)) idle meanwhile operator stops
+          (shown s) (shown t))
+          → GoesThroughSteps (shown s) (shown t) (steps_if next.audience.heard)
+          → q.tally ≡ p.tally → q.left ≡ p.left → q.taken ≡ p.taken + 1 → q.stops ≡ (p.stops || stops)
+          → From read waiting rest p q s t
+      unfolding serves_one
+      serves_operator idle meanwhile tally_now operator stops comes fresh going now next through tally left taken is =
+          let x = next.audience in
+          serves_one (OfOperator x)
+          (subst (λ o. Come waiting rest (Operator o ∷ [])) (sym next.begins) comes)
+          (one_new (Operator x.before) (subst (λ o. is_new (Operator o)) (sym next.begins) fresh))
+          next.there through
+          (λ h w stands. read_heard shown copied counted tally_now s t h w stands x.heard next.came next.lists)
+          tally (
+            subst (λ u. TellsTally u x.heard) now
+                (tells_tally (copied s t) tally_now (shown s).failures (shown t).failures (counted s t) x.heard
+                next.came),
+            tt,
+          )
+          (omega (arith, left)) taken
+          (may_end p.stops stops q.stops (OfOperator x) going is next.stopped.0
+          (λ on stop. false≢true (sym on ∙ next.stopped.1 stop)))
+
+    no_stop_told : (before after : O) (path : List ℕ) (result : Result (Unit {0}) CopyRefusal) (said : Result Told Io)
+        → IsToldThere heeded told before after (Some (hearing.Copied path result)) said
+        → said ≡ Ok (spoken.Outcome Stopping) → ⊥
+    no_stop_told before after path result (Ok outcome) there is =
+        let same : spoken.Outcome (outcome_of_copy result) ≡ spoken.Outcome Stopping = sym there.0
+        ∙ ap (λ r. ok_in r outcome) is in
+        no_stopping result (outcome_same same)
+    no_stop_told before after path result (Err e) there is = cc
+
+    -- an operator who ordered a copy, with the callers who were served meanwhile
+    pub serves_copy : (waiting left rest : Option (List (Caller P O))) (p q r o : Progress) (s mid t : S)
+        (before after : O) (path : List ℕ) (result : Result (Unit {0}) CopyRefusal) (said : Result Told Io)
+        → Come waiting left (Operator before ∷ []) → is_new (Operator before) → p.stops ≡ false
+        → IsToldThere heeded told before after (Some (hearing.Copied path result)) said
+        → (said ≡ Ok (spoken.Outcome Stopping) → ⊥)
+        → copied s t path result → From true left rest q r s mid → IsOnlyRead (shown mid) (shown t)
+        → q.tally ≡ p.tally → q.left ≡ p.left → q.taken ≡ p.taken + 1 → q.stops ≡ p.stops
+        → o.tally ≡ r.tally → o.left ≡ r.left → o.taken ≡ r.taken → o.stops ≡ r.stops
+        → From false waiting rest p o s t
+    serves_copy waiting left rest p q r o s mid t before after path result said comes fresh going there never came next
+        read tally left_is taken stops tally_o left_o taken_o stops_o =
+        let x : Audience O =
+        record { before = before; after = after; heard = Some (hearing.Copied path result); told = said } in
+        let call : Call P O = OfOperator x in
+        let ys = next.calls in
+        record {
+          calls = call ∷ ys;
+          came = then_come waiting left rest (Operator before ∷ []) (callers_of ys) comes next.came;
+          begun = All-cons is_new (Operator before) (callers_of ys) fresh next.begun;
+          there = All-cons (IsCallThere heeded told heard written) call ys there next.there;
+          through = through_read (shown s) (shown mid) (shown t) (turns_in (steps_with ys)) next.through read;
+          reads = λ h w stands. (
+            record { source = s; source_new = t; honest = h; stands = stands; came = came },
+            next.reads (read.honest h) w stands,
+          );
+          tally = tally_o ∙ next.tally ∙ ap (λ u. tally_after u (answered_with ys)) tally;
+          tallies = (tt, subst (λ u. AllTold u ys) tally next.tallies);
+          left = omega (arith, next.left, left_is, left_o);
+          taken = omega (arith, length-append (call ∷ []) ys, next.taken, taken, taken_o);
+          ends = subst (λ b. EndsBy p.stops b (call ∷ ys)) (sym stops_o)
+              (ends_append p.stops q.stops r.stops (call ∷ []) ys
+              (goes_on p.stops q.stops going stops call never) next.ends);
+        }
+
+    -- ---- from the beginning to the end
+
+    module _ (since : List ℕ) (connections : ℕ) (waiting rest : Option (List (Caller P O))) (p q : Progress) (s t : S)
+        (all : From false waiting rest p q s t) (tally : p.tally ≡ tally_of since []) (left : p.left ≡ connections)
+        (taken : p.taken ≡ 0) (stops : p.stops ≡ false) where
+      pub serves_each : ReadsEach heeded told heard written shown copied counted is_new waiting rest s t since
+          connections
+      serves_each = record {
+        each = record {
+          calls = all.calls;
+          few = omega (arith, peers_few all.calls, all.left, left);
+          came = all.came;
+          begun = all.begun;
+          there = all.there;
+          through = all.through;
+        };
+        reads = all.reads;
+        tallies = all_tallied since [] all.calls p.tally tally all.tallies;
+      }
+
+      -- no caller was taken any more
+      pub ends_each : IsOver q.stops q.left q.taken
+          → EndsEach heeded told heard written shown copied counted is_new waiting rest s t since connections
+      unfolding serves_each
+      ends_each over = record {
+        reads = serves_each;
+        ends = is_end connections q.left q.taken q.stops all.calls
+            (subst (λ b. EndsBy b q.stops all.calls) stops all.ends) (sym left ∙ all.left)
+            (omega (arith, all.taken, taken)) over;
+      }
+
+    -- ---- while a copy is made
+
+    one_turn : (a b : Instant P O S) → TakesTurn heeded told heard written is_new shown copied counted a b
+        → ServesMeanwhile heeded told heard written is_new shown copied counted a b
+    unfolding serves_read
+    one_turn a b (inl (read, same)) = subst (ServesMeanwhile heeded told heard written is_new shown copied counted a)
+        (sym same) (record {
+          serves = serves_read a.waiting a.progress a.store b.store (only_read (shown a.store) (shown b.store) read);
+          notes = notices_none a.errors;
+          same = refl;
+        })
+    one_turn a b (inr serves) = serves
+
+    turns_all : (a b : Instant P O S) (by : List (Instant P O S))
+        → TakesTurnsBy heeded told heard written is_new shown copied counted a by b
+        → ServesMeanwhile heeded told heard written is_new shown copied counted a b
+    unfolding one_turn serves_more
+    turns_all a b [] turn = one_turn a b turn
+    turns_all a b (mid ∷ more) turns =
+        let one = one_turn a mid turns.0 in
+        let two = turns_all mid b more turns.1 in
+        record {
+          serves = serves_more true a.waiting mid.waiting b.waiting a.progress mid.progress b.progress
+              a.store mid.store b.store one.serves two.serves;
+          notes = notices_more a.errors mid.errors b.errors one.notes two.notes;
+          same = two.same ∙ one.same;
+        }
+
+    -- all turns together
+    pub all_turns : (a b : Instant P O S) → TakesTurns heeded told heard written is_new shown copied counted a b
+        → ServesMeanwhile heeded told heard written is_new shown copied counted a b
+    unfolding turns_all
+    all_turns a b turns = turns_all a b turns.0 turns.1
+
+    -- an operator, for whom no copy was made
+    pub serves_told : (waiting rest : Option (List (Caller P O))) (p q : Progress) (s t : S) (operator : O)
+        → Come waiting rest (Operator operator ∷ []) → is_new (Operator operator) → p.stops ≡ false
+        → ObeysMeanwhile heeded told shown copied counted operator p q s t → From true waiting rest p q s t
+    unfolding serves_operator
+    serves_told waiting rest p q s t operator comes fresh going next =
+        serves_operator true waiting rest p q s t (Unit {0}) (IsOnlyRead (shown s) (shown t)) p.tally operator
+        next.stops comes fresh going refl next.obeys
+        (through_told (Unit {0}) (shown s) (shown t) next.obeys.audience.heard
+        (ordered_if _ _ (shown s) (shown t) next.obeys.audience.heard next.obeys.through))
+        next.tally next.left next.taken next.ends
+
+    module _ (waiting w v : Option (List (Caller P O))) (p a b q : Progress) (s t : S) (idle meanwhile : Type 0)
+        (still : idle → (v ≡ w) × (b ≡ a))
+        (turns : meanwhile → (mid : S) × From true w v a b s mid × IsOnlyRead (shown mid) (shown t))
+        (operator : O) (stops : Bool) (comes : Come waiting w (Operator operator ∷ []))
+        (fresh : is_new (Operator operator)) (going : p.stops ≡ false)
+        (next : ObeysOne heeded told (copied s t)
+        (IsPinged a.tally (shown s).failures (shown t).failures (counted s t)) idle meanwhile operator stops
+        (shown s) (shown t))
+        (tally : a.tally ≡ p.tally) (left : a.left ≡ p.left) (taken : a.taken ≡ p.taken + 1) (same : a.stops ≡ p.stops)
+        (tally_q : q.tally ≡ b.tally) (left_q : q.left ≡ b.left) (taken_q : q.taken ≡ b.taken)
+        (stops_q : q.stops ≡ (b.stops || stops)) where
+      other_served : idle → GoesThroughSteps (shown s) (shown t) (steps_if next.audience.heard)
+          → From false waiting v p q s t
+      unfolding serves_operator
+      other_served rests through =
+          let both = still rests in
+          subst (λ u. From false waiting u p q s t) (sym both.0)
+          (serves_operator false waiting w p q s t idle meanwhile a.tally operator stops comes fresh going tally next
+          through (tally_q ∙ ap (λ x. x.tally) both.1 ∙ tally) (left_q ∙ ap (λ x. x.left) both.1 ∙ left)
+          (taken_q ∙ ap (λ x. x.taken) both.1 ∙ taken)
+          (stops_q ∙ ap (λ x. x.stops || stops) both.1 ∙ ap (λ x. x || stops) same))
+
+      copy_served : (path : List ℕ) (result : Result (Unit {0}) CopyRefusal)
+          → next.audience.heard ≡ Some (hearing.Copied path result) → meanwhile → From false waiting v p q s t
+      unfolding serves_copy
+      copy_served path result is made =
+          let x = next.audience in
+          let went = turns made in
+          let there : IsToldThere heeded told x.before x.after (Some (hearing.Copied path result)) x.told =
+          subst (λ h. IsToldThere heeded told x.before x.after h x.told) is next.there in
+          let never = no_stop_told x.before x.after path result x.told there in
+          serves_copy waiting w v p a b q s went.0 t x.before x.after path result x.told
+          (subst (λ o. Come waiting w (Operator o ∷ [])) (sym next.begins) comes)
+          (subst (λ o. is_new (Operator o)) (sym next.begins) fresh) going there never
+          (subst (λ h. CameIf (copied s t)
+          (IsPinged a.tally (shown s).failures (shown t).failures (counted s t)) h) is next.came)
+          went.1 went.2 tally left taken same tally_q left_q taken_q
+          (stops_q ∙ or_not b.stops stops (λ on. never (next.stopped.0 on)))
+
+      -- an operator, and those who were served while a copy was made for it, if one was
+      pub obey_serves : From false waiting v p q s t
+      unfolding other_served copy_served
+      obey_serves = elim (ordered_if idle meanwhile (shown s) (shown t) next.audience.heard next.through) [
+        | Other rests through ↦ other_served rests through
+        | ToCopy path result is made ↦ copy_served path result is made
+      ]

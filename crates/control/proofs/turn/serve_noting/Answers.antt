@@ -1,0 +1,5 @@
+use Rattle.control.proofs.turn.serve_noting.Goals as goal
+
+pub returns-clause-serves : goal.returns-clause-serves
+returns-clause-serves g c =
+    rw c.into_inner.ensures.value (rw c.new-watched.ensures.value at c.serve_waiting.ensures.serves)

@@ -1,0 +1,126 @@
+-- Callers who are served from one moment to another, while a copy is made or not.
+use Rattle.std.specs.Prelude.{ℕ, ◌≡◌, ◌+◌, ◌⊎◌, ◌||◌, Bool, true, false, List, [], ◌∷◌, ◌++◌, length, All}
+use Rattle.std.specs.Prelude.{Option, Result}
+use Rattle.std.proofs.Common.{inl, refl}
+use Rattle.histories.specs.Account.{Account}
+use Rattle.histories.specs.Calls.{Reads, Writes}
+use Rattle.world.specs.Store.{Shown}
+use Rattle.world.specs.World.{World}
+use Rattle.socket.specs.Connections.{Come}
+use Rattle.meanwhile.specs.Meanwhile.{IsAsItWas}
+use Rattle.control.specs.Copying.{AllRead, IsOnlyRead, turns_in, has_read}
+use Rattle.control.specs.Health.{Answered, IsPinged, with_one}
+use Rattle.control.specs.Notices.{WritesNotices}
+use Rattle.control.specs.Turns.{GoesThroughTurns}
+use Rattle.control.specs.Visits.{Call, OfPeer, OfOperator, Untaken, AnswersOne, IsCallThere, IsNoStop, IsStop, ObeysOne}
+use Rattle.control.specs.Visits.{TellsTally}
+use Rattle.control.specs.Visits.{answered_with, callers_of, connections_of, steps_with}
+use Rattle.control.specs.declared.callers.Caller.{Caller}
+use Rattle.control.specs.declared.copies.CopyRefusal.{CopyRefusal}
+use Rattle.control.specs.declared.progress.Progress.{Progress}
+use Rattle.control.specs.declared.tally.Tally.{Tally}
+
+-- the tally after these connections
+abbrev pub tally_after : Tally → List Answered → Tally
+tally_after t [] = t
+tally_after t (answered ∷ more) = tally_after (with_one t answered) more
+
+-- each ping was told the tally of its moment
+abbrev pub AllTold : {P O : Type 0} → Tally → List (Call P O) → Type 0
+AllTold t [] = Unit {0}
+AllTold t (OfPeer visit answered ∷ calls) = AllTold (with_one t answered) calls
+AllTold t (OfOperator audience ∷ calls) = TellsTally t audience.heard × AllTold t calls
+AllTold t (Untaken ∷ calls) = AllTold t calls
+
+-- The flags say whether an operator was told, before these callers and after them, that the server ends. If so before
+-- them, there are none; otherwise the last of them was told so, or none was.
+abbrev pub EndsBy : {P O : Type 0} → Bool → Bool → List (Call P O) → Type 0
+EndsBy true stops calls = (stops ≡ true) × (calls ≡ [])
+EndsBy {P} {O} false true calls =
+    (first : List (Call P O)) × (last : Call P O) × (calls ≡ first ++ last ∷ []) × All IsNoStop first × IsStop last
+EndsBy false false calls = All IsNoStop calls
+
+-- an operator was obeyed while a copy is made, with the tally of the moment; no copy was made for it
+pub record ObeysMeanwhile {O : Type 0} (heeded : O → Account × Reads) (told : O → Option (List ℕ) × Writes)
+    {S : Type 0} (shown : S → Shown) (copied : S → S → List ℕ → Result (Unit {0}) CopyRefusal → Type 0)
+    (counted : S → S → ℕ → Type 0) (operator : O) (before after : Progress) (old new : S) : Type 0 where
+  pub stops : Bool
+  pub obeys : ObeysOne heeded told (copied old new)
+      (IsPinged before.tally (shown old).failures (shown new).failures (counted old new)) (Unit {0})
+      (IsOnlyRead (shown old) (shown new)) operator stops (shown old) (shown new)
+  pub tally : after.tally ≡ before.tally
+  pub left : after.left ≡ before.left
+  pub taken : after.taken ≡ before.taken + 1
+  pub ends : after.stops ≡ (before.stops || stops)
+
+-- a peer was answered, and counts as a connection
+pub record ServesPeer {P : Type 0} (heard : P → Account × Reads) (written : P → Option (List ℕ) × Writes) (peer : P)
+    (before after : Progress) (old new : Shown) : Type 0 where
+  pub answered : Answered
+  pub answers : AnswersOne heard written peer old new answered
+  pub tally : after.tally ≡ with_one before.tally answered
+  pub left : before.left ≡ after.left + 1
+  pub taken : after.taken ≡ before.taken + 1
+  pub stops : after.stops ≡ before.stops
+
+-- a server that makes a copy, and its store, at an instant: who waits, how far it is, what it wrote, and its two loans
+pub record Instant (P O S : Type 0) : Type 0 where
+  pub waiting : Option (List (Caller P O))
+  pub progress : Progress
+  pub errors : Option (List ℕ)
+  pub lent : ℕ × ℕ
+  pub store : S
+
+module _ {P O : Type 0} (heeded : O → Account × Reads) (told : O → Option (List ℕ) × Writes)
+    (heard : P → Account × Reads) (written : P → Option (List ℕ) × Writes) (is_new : Caller P O → Type 0)
+    {S : Type 0} (shown : S → Shown) (copied : S → S → List ℕ → Result (Unit {0}) CopyRefusal → Type 0)
+    (counted : S → S → ℕ → Type 0) where
+  -- From one moment to another, callers were served one after another, each once; if the flag is true, the store was
+  -- also read between them. What was said of them holds as `ServesEach`, `ReadsEach` and `EndsEach` say, and the
+  -- progress goes on by them.
+  pub record Serves (read : Bool) (waiting rest : Option (List (Caller P O))) (before after : Progress)
+      (old new : S) : Type 0 where
+    pub calls : List (Call P O)
+    pub came : Come waiting rest (callers_of calls)
+    pub begun : All is_new (callers_of calls)
+    pub there : All (IsCallThere heeded told heard written) calls
+    pub through : GoesThroughTurns (shown old) (shown new) (turns_in (steps_with calls))
+        (read || has_read (steps_with calls))
+    pub reads : (shown new).is_honest → (w : World) → (shown old).stands w
+        → AllRead shown copied counted w (steps_with calls)
+    pub tally : after.tally ≡ tally_after before.tally (answered_with calls)
+    pub tallies : AllTold before.tally calls
+    pub left : before.left ≡ after.left + connections_of calls
+    pub taken : after.taken ≡ before.taken + length calls
+    pub ends : EndsBy before.stops after.stops calls
+
+  -- So it was while a copy was made, notices were written, and both loans of the server are the same ones.
+  pub record ServesMeanwhile (a b : Instant P O S) : Type 0 where
+    pub serves : Serves true a.waiting b.waiting a.progress b.progress a.store b.store
+    pub notes : WritesNotices a.errors b.errors
+    pub same : b.lent ≡ a.lent
+
+  -- the store was read and nothing else was done, or callers were served
+  abbrev pub TakesTurn : Instant P O S → Instant P O S → Type 0
+  TakesTurn a b = (IsAsItWas (shown a.store) (shown b.store) × (b ≡ record a { store = b.store })) ⊎ ServesMeanwhile a b
+
+  -- so it went on, by these instants
+  abbrev pub TakesTurnsBy : Instant P O S → List (Instant P O S) → Instant P O S → Type 0
+  TakesTurnsBy a [] b = TakesTurn a b
+  TakesTurnsBy a (mid ∷ more) b = TakesTurn a mid × TakesTurnsBy mid more b
+
+  -- turns, one after another
+  abbrev pub TakesTurns : Instant P O S → Instant P O S → Type 0
+  TakesTurns a b = (by : List (Instant P O S)) × TakesTurnsBy a by b
+
+  pub turns_rest : (a : Instant P O S) (t : S) → IsAsItWas (shown a.store) (shown t)
+      → TakesTurns a (record a { store = t })
+  turns_rest a t read = ([], inl (read, refl))
+
+  turns_by : (a b c : Instant P O S) (by more : List (Instant P O S)) → TakesTurnsBy a by b → TakesTurnsBy b more c
+      → TakesTurnsBy a (by ++ b ∷ more) c
+  turns_by a b c [] more one two = (one, two)
+  turns_by a b c (mid ∷ by) more one two = (one.0, turns_by mid b c by more one.1 two)
+
+  pub then_turns : (a b c : Instant P O S) → TakesTurns a b → TakesTurns b c → TakesTurns a c
+  then_turns a b c one two = (one.0 ++ b ∷ two.0, turns_by a b c one.0 two.0 one.1 two.1)

@@ -1,0 +1,170 @@
+//! A server: it takes callers, answers peers and carries out the orders of operators.
+ghost use Rattle.std.specs.Prelude.{◌≡◌, ◌↔◌, [], false, IsTrue, Ok};
+ghost use Rattle.socket.specs.Connections.{both};
+ghost use Rattle.control.specs.Health.{tally_of};
+ghost use Rattle.control.specs.Notices.{WritesNotices};
+ghost use Rattle.control.specs.Progress.{IsGoing};
+ghost use Rattle.control.specs.Visits.{AnswersOne};
+
+use crate::calendar::Calendar;
+use crate::callers::{Callers, Operator};
+use crate::faults::RecentFaults;
+use crate::outcome::Outcome;
+use crate::progress::Progress;
+use crate::telling::tell_next;
+use crate::told::Told;
+use crate::traffic::Traffic;
+use crate::watched::{Loan, Watched};
+use engine::Io;
+use histories::Tell;
+use modver::TimeText;
+use socket::{After, Peer};
+use std::alloc::Global;
+use std::marker::PhantomData;
+use std::time::Clock;
+use wire::RouteTable;
+use world::shelves::Shelves;
+
+/// What serves callers. It holds no store.
+#[derive(Drop)]
+pub(crate) struct Server<'x, C, P, O, L, K, D, E> {
+    pub(crate) alloc: Global,
+    pub(crate) clock: &'x C,
+    pub(crate) callers: &'x mut L,
+    /// What makes copies.
+    pub(crate) copies: &'x K,
+    /// What shows when a copy was made.
+    pub(crate) calendar: D,
+    pub(crate) errors: &'x mut E,
+    routes: RouteTable,
+    faults: RecentFaults,
+    pub(crate) progress: Progress,
+    /// The counts of the shelves while a copy is made; the store that is watched has them otherwise.
+    pub(crate) traffic: Traffic,
+    /// When the last copy was made, for those who ask while the next one is.
+    pub(crate) copied: Option<TimeText>,
+    peers: PhantomData<P>,
+    operators: PhantomData<O>,
+}
+
+impl<
+    'x,
+    C: Clock,
+    P: Peer + Drop,
+    O: Operator + Drop,
+    L: Callers<P, O>,
+    K,
+    D: Calendar + Drop,
+    E: Tell,
+> Server<'x, C, P, O, L, K, D, E> {
+    ghost use Rattle.control.specs.Serving.{ServesPeer};
+
+    /// Returns a server that begins.
+    pub(crate) fn new(
+        alloc: Global,
+        clock: &'x C,
+        callers: &'x mut L,
+        copies: &'x K,
+        calendar: D,
+        errors: &'x mut E,
+        since: TimeText,
+        connections: u32,
+    ) -> Server<'x, C, P, O, L, K, D, E>
+        ensures callers { result.callers ≡ callers.entry }
+        ensures copies { result.copies.now ≡ copies.now }
+        ensures errors { result.errors ≡ errors.entry }
+        ensures tally { result.progress.tally ≡ tally_of since [] }
+        ensures left { result.progress.left ≡ connections }
+        ensures taken { result.progress.taken ≡ 0 }
+        ensures stops { result.progress.stops ≡ false }
+    {
+        Server {
+            alloc,
+            clock,
+            callers,
+            copies,
+            calendar,
+            errors,
+            routes: RouteTable::new(alloc),
+            faults: RecentFaults::new(alloc),
+            progress: Progress::new(since, connections),
+            traffic: Traffic::new(alloc),
+            copied: None,
+            peers: PhantomData,
+            operators: PhantomData,
+        }
+    }
+
+    /// Returns the callers and what notices are written to.
+    pub(crate) fn into_parts(self) -> (&'x mut L, &'x mut E)
+        ensures same { result.0.ghost_name ≡ self.entry.callers.ghost_name }
+        ensures same_errors { result.1.ghost_name ≡ self.entry.errors.ghost_name }
+        ensures callers { result.0.now ≡ self.entry.callers.now }
+        ensures errors { result.1.now ≡ self.entry.errors.now }
+    {
+        (self.callers, self.errors)
+    }
+
+    /// Answers a peer, and counts its connection.
+    pub(crate) fn answer<N: Loan, S: Shelves>(&mut self, peer: P, watched: &mut Watched<'_, N, S>)
+        requires { IsGoing self.old.progress.stops self.old.progress.left self.old.progress.taken }
+        ensures serves { ServesPeer (both P.came P.reads) (both P.written P.writes) peer
+            self.old.progress self.new.progress (S.shown watched.old.inner.now) (S.shown watched.new.inner.now) }
+        ensures same { self.new.callers ≡ self.old.callers }
+        ensures notes { WritesNotices (E.contents self.old.errors.now) (E.contents self.new.errors.now) }
+        ensures same_errors { self.new.errors.ghost_name ≡ self.old.errors.ghost_name }
+    {
+        let answered = answer_on(self.alloc, self.clock, &mut self.routes, peer, watched);
+        self.progress.count_peer(answered);
+        tell_next(
+            self.alloc,
+            self.clock,
+            watched,
+            &mut self.faults,
+            self.errors,
+        );
+    }
+
+    /// Writes what has to be said of the store.
+    pub(crate) fn tell<N: Loan, S: Shelves>(&mut self, watched: &mut Watched<'_, N, S>)
+        ensures same { self.new.callers ≡ self.old.callers }
+        ensures progress { self.new.progress ≡ self.old.progress }
+        ensures store { watched.new.inner ≡ watched.old.inner }
+        ensures notes { WritesNotices (E.contents self.old.errors.now) (E.contents self.new.errors.now) }
+        ensures same_errors { self.new.errors.ghost_name ≡ self.old.errors.ghost_name }
+    {
+        tell_next(
+            self.alloc,
+            self.clock,
+            watched,
+            &mut self.faults,
+            self.errors,
+        );
+    }
+}
+
+/// Answers the first message of a peer, ends the connection if that wrote a status, and returns the result of
+/// `Peer::answer`.
+fn answer_on<C: Clock, P: Peer + Drop, N: Loan, S: Shelves>(
+    alloc: Global,
+    clock: &C,
+    routes: &mut RouteTable,
+    peer: P,
+    watched: &mut Watched<'_, N, S>,
+) -> Result<Option<u16>, Io>
+    ensures { AnswersOne (both P.came P.reads) (both P.written P.writes) peer
+        (S.shown watched.old.inner.now) (S.shown watched.new.inner.now) result }
+{
+    let After { peer, status } = peer.answer(alloc, clock, routes, watched);
+    if let Ok(Some(number)) = status {
+        let _ = peer.end(clock, number);
+    }
+    status
+}
+
+/// Whether `Stopping` was written to an operator.
+pub(crate) fn is_stopping(told: Result<Told, Io>) -> bool
+    ensures { IsTrue result ↔ (told ≡ Ok (Told.Outcome Outcome.Stopping)) }
+{
+    matches!(told, Ok(Told::Outcome(Outcome::Stopping)))
+}

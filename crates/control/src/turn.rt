@@ -1,0 +1,414 @@
+//! A turn between two slices of a copy: those who wait are served.
+ghost use Rattle.std.specs.Prelude.{◌≡◌, List, Option, IfOk, true, false};
+ghost use Rattle.socket.specs.Connections.{Accepts, both};
+ghost use Rattle.meanwhile.specs.Meanwhile.{Notes};
+ghost use Rattle.meanwhile.specs.Noted.{IsNoted, with_said};
+ghost use Rattle.world.specs.Store.{HasCause};
+ghost use Rattle.world.specs.World.{World};
+ghost use Rattle.control.specs.Copying.{IsOnlyRead};
+ghost use Rattle.control.specs.Figures.{NotesTime};
+ghost use Rattle.control.specs.Notices.{WritesNotices};
+ghost use Rattle.control.specs.Progress.{IsGoing};
+ghost use Rattle.control.specs.Serving.{ObeysMeanwhile, Serves};
+ghost use Rattle.control.specs.declared.callers.Caller.{Caller};
+
+use crate::calendar::Calendar;
+use crate::callers::{Caller, Callers, Operator};
+use crate::copies::{Copies, CopyOrders, CopyRefusal};
+use crate::health::Figures;
+use crate::serving::{Server, is_stopping};
+use crate::watched::{Loan, Watched};
+use histories::Tell;
+use keyring::Keyring;
+use meanwhile::between::Between;
+use meanwhile::newcomers::Newcomers;
+use meanwhile::noting::{Moment, Noting};
+use socket::Peer;
+use std::marker::Brand;
+use std::time::Clock;
+use std::{io, mem};
+use world::registry::StoreFault;
+use world::shelves::Shelves;
+
+/// The most callers who are served between two slices. More of them wait for the next slice.
+const MOST_SERVED: u32 = 16;
+
+/// What an operator finds who orders a copy while another one is made.
+#[derive(Drop)]
+struct BusyCopies<'b, K> {
+    copies: &'b K,
+}
+
+impl<'a, 'b, 'c, N: Loan, M: Moment, S: Shelves, K: Copies<S>> CopyOrders<
+    Watched<'a, N, Noting<'c, M, S>>,
+> for BusyCopies<'b, K> {
+    ghost use Rattle.meanwhile.specs.Noted.{IsNoted, with_said};
+    ghost use Rattle.control.specs.Copying.{IsOnlyRead};
+    ghost use Rattle.control.specs.Figures.{TellsKept};
+
+    ghost copied = { λ old new path told. K.copied old.inner.now.inner.now new.inner.now.inner.now path told };
+
+    ghost counted = { λ old new n. K.counted old.inner.now.inner.now new.inner.now.inner.now n };
+
+    ghost figured = { λ w f. TellsKept (K.figured w.inner.now.inner.now) w.traffic w.copied f };
+
+    /// The store is only read.
+    ghost meanwhile = { λ _ _ old new. IsOnlyRead
+        (with_said (S.shown old.inner.now.inner.now)
+        (IsNoted old.inner.now.lost M.was M.before old.inner.now.news))
+        (with_said (S.shown new.inner.now.inner.now)
+        (IsNoted new.inner.now.lost M.was M.before new.inner.now.news)) };
+
+    /// Makes no copy, and fails with `Busy`.
+    fn copy_to(
+        &mut self,
+        shelves: &mut Watched<'a, N, Noting<'c, M, S>>,
+        path: &str,
+    ) -> Result<(), CopyRefusal> {
+        let told = Err(CopyRefusal::Busy);
+        shelves.note_copy(path, told);
+        told
+    }
+
+    fn versions(&self, shelves: &mut Watched<'a, N, Noting<'c, M, S>>) -> Result<u64, StoreFault> {
+        count_in(self.copies, shelves.inner)
+    }
+
+    fn figures<'s>(&self, shelves: &'s Watched<'a, N, Noting<'c, M, S>>) -> Figures<'s> {
+        shelves.figures_with(figures_in(self.copies, shelves.inner))
+    }
+}
+
+/// Returns how many versions the store keeps. Fails as `Copies::versions` does.
+fn count_in<M: Moment, S: Shelves, K: Copies<S>>(
+    copies: &K,
+    noting: &mut Noting<'_, M, S>,
+) -> Result<u64, StoreFault>
+    ensures reads { IsOnlyRead
+        (with_said (S.shown noting.old.inner.now) (IsNoted noting.old.lost M.was M.before noting.old.news))
+        (with_said (S.shown noting.new.inner.now) (IsNoted noting.new.lost M.was M.before noting.new.news)) }
+    ensures cause { HasCause
+        (with_said (S.shown noting.old.inner.now) (IsNoted noting.old.lost M.was M.before noting.old.news))
+        (with_said (S.shown noting.new.inner.now) (IsNoted noting.new.lost M.was M.before noting.new.news)) result }
+    ensures counted { IfOk result (λ n. K.counted noting.old.inner.now noting.new.inner.now n) }
+{
+    copies.versions(noting.inner)
+}
+
+/// Returns what is known of the store beside its versions.
+fn figures_in<'s, M: Moment, S: Shelves, K: Copies<S>>(
+    copies: &K,
+    noting: &'s Noting<'_, M, S>,
+) -> Figures<'s>
+    ensures { K.figured noting.now.inner.now result }
+{
+    copies.figures(noting.inner)
+}
+
+/// Carries out the order of an operator who came while a copy is made. Ignores failures of the connection.
+fn obey_meanwhile<
+    'b,
+    C: Clock,
+    P: Peer + Drop,
+    O: Operator + Drop,
+    L: Callers<P, O>,
+    S: Keyring,
+    K: Copies<S>,
+    D: Calendar + Drop,
+    E: Tell,
+    N: Loan,
+    M: Moment,
+>(
+    server: &mut Server<'_, C, P, O, L, K, D, E>,
+    operator: O,
+    watched: &mut Watched<'_, N, Noting<'b, M, S>>,
+)
+    requires { IsGoing server.old.progress.stops server.old.progress.left server.old.progress.taken }
+    ensures obeys { ObeysMeanwhile (both O.came O.reads) (both O.written O.writes)
+        ⟦<Noting<'b, M, S> as Shelves>⟧.shown
+        (λ old new path told. K.copied old.inner.now new.inner.now path told)
+        (λ old new n. K.counted old.inner.now new.inner.now n)
+        operator server.old.progress server.new.progress watched.old.inner.now watched.new.inner.now }
+    ensures same { server.new.callers ≡ server.old.callers }
+    ensures same_errors { server.new.errors.ghost_name ≡ server.old.errors.ghost_name }
+    ensures notes { WritesNotices (E.contents server.old.errors.now) (E.contents server.new.errors.now) }
+{
+    server.progress.count_operator();
+    let tally = server.progress.tally;
+    let mut copies = BusyCopies {
+        copies: server.copies,
+    };
+    let after = operator.obeyed(server.alloc, server.clock, &tally, watched, &mut copies);
+    watched.note_told(&after.told);
+    server.progress.end_if(is_stopping(after.told));
+    server.tell(watched);
+}
+
+/// Serves a caller who was taken while a copy is made, or counts a connection that could not be taken.
+fn serve_next<
+    'b,
+    C: Clock,
+    P: Peer + Drop,
+    O: Operator + Drop,
+    L: Callers<P, O>,
+    S: Keyring,
+    K: Copies<S>,
+    D: Calendar + Drop,
+    E: Tell,
+    N: Loan,
+    M: Moment,
+>(
+    server: &mut Server<'_, C, P, O, L, K, D, E>,
+    next: io::Result<Caller<P, O>>,
+    watched: &mut Watched<'_, N, Noting<'b, M, S>>,
+)
+    requires { IsGoing server.old.progress.stops server.old.progress.left server.old.progress.taken }
+    ensures serves { (waiting : Option (List (Caller P O))) → Accepts waiting (L.waiting server.old.callers.now) next
+        → IfOk next (λ caller. L.is_new caller)
+        → Serves (both O.came O.reads) (both O.written O.writes)
+        (both P.came P.reads) (both P.written P.writes) L.is_new ⟦<Noting<'b, M, S> as Shelves>⟧.shown
+        (λ old new path told. K.copied old.inner.now new.inner.now path told)
+        (λ old new n. K.counted old.inner.now new.inner.now n) true waiting (L.waiting server.new.callers.now)
+        server.old.progress server.new.progress watched.old.inner.now watched.new.inner.now }
+    ensures same { server.new.callers.ghost_name ≡ server.old.callers.ghost_name }
+    ensures same_errors { server.new.errors.ghost_name ≡ server.old.errors.ghost_name }
+    ensures notes { WritesNotices (E.contents server.old.errors.now) (E.contents server.new.errors.now) }
+{
+    match next {
+        Ok(Caller::Operator(operator)) => obey_meanwhile(server, operator, watched),
+        Ok(Caller::Peer(peer)) => server.answer(peer, watched),
+        Err(_) => server.progress.count_untaken(),
+    }
+}
+
+/// Serves those who wait, at most `MOST_SERVED` of them, while a copy of the store is made.
+fn serve_waiting<
+    'b,
+    C: Clock,
+    P: Peer + Drop,
+    O: Operator + Drop,
+    L: Callers<P, O>,
+    S: Keyring,
+    K: Copies<S>,
+    D: Calendar + Drop,
+    E: Tell,
+    N: Loan,
+    M: Moment,
+>(server: &mut Server<'_, C, P, O, L, K, D, E>, watched: &mut Watched<'_, N, Noting<'b, M, S>>)
+    ensures serves { Serves (both O.came O.reads) (both O.written O.writes)
+        (both P.came P.reads) (both P.written P.writes) L.is_new ⟦<Noting<'b, M, S> as Shelves>⟧.shown
+        (λ old new path told. K.copied old.inner.now new.inner.now path told)
+        (λ old new n. K.counted old.inner.now new.inner.now n) true
+        (L.waiting server.old.callers.now) (L.waiting server.new.callers.now)
+        server.old.progress server.new.progress watched.old.inner.now watched.new.inner.now }
+    ensures same { server.new.callers.ghost_name ≡ server.old.callers.ghost_name }
+    ensures same_errors { server.new.errors.ghost_name ≡ server.old.errors.ghost_name }
+    ensures notes { WritesNotices (E.contents server.old.errors.now) (E.contents server.new.errors.now) }
+{
+    for _ in 0..MOST_SERVED {
+        if server.progress.is_over() {
+            return;
+        }
+        match server.callers.next_waiting() {
+            Some(next) => serve_next(server, next, watched),
+            None => return,
+        }
+    }
+}
+
+/// Serves as `serve_waiting` does, with the counts of shelves that the server has, and returns the loan of the store.
+fn serve_noting<
+    'a,
+    'b,
+    C: Clock,
+    P: Peer + Drop,
+    O: Operator + Drop,
+    L: Callers<P, O>,
+    S: Keyring,
+    K: Copies<S>,
+    D: Calendar + Drop,
+    E: Tell,
+    N: Loan,
+    M: Moment,
+>(
+    server: &mut Server<'_, C, P, O, L, K, D, E>,
+    noting: &'a mut Noting<'b, M, S>,
+) -> &'a mut Noting<'b, M, S>
+    requires { noting.ghost_name ≡ N.name }
+    ensures same_store { result.ghost_name ≡ noting.entry.ghost_name }
+    ensures serves { Serves (both O.came O.reads) (both O.written O.writes)
+        (both P.came P.reads) (both P.written P.writes) L.is_new ⟦<Noting<'b, M, S> as Shelves>⟧.shown
+        (λ old new path told. K.copied old.inner.now new.inner.now path told)
+        (λ old new n. K.counted old.inner.now new.inner.now n) true
+        (L.waiting server.old.callers.now) (L.waiting server.new.callers.now)
+        server.old.progress server.new.progress noting.old result.now }
+    ensures same { server.new.callers.ghost_name ≡ server.old.callers.ghost_name }
+    ensures same_errors { server.new.errors.ghost_name ≡ server.old.errors.ghost_name }
+    ensures notes { WritesNotices (E.contents server.old.errors.now) (E.contents server.new.errors.now) }
+{
+    let mut watched: Watched<'a, N, Noting<'b, M, S>> = Watched::new(server.alloc, noting);
+    watched.copied = server.copied;
+    mem::swap(&mut watched.traffic, &mut server.traffic);
+    serve_waiting(server, &mut watched);
+    mem::swap(&mut watched.traffic, &mut server.traffic);
+    watched.into_inner()
+}
+
+/// A store after a turn, and whether the place of a version was lost in it.
+#[derive(Drop)]
+struct AfterTurn<'a, S> {
+    shelves: &'a mut S,
+    lost: bool,
+}
+
+/// Serves those who wait with a store that notes what they publish, and returns its loan.
+fn take_turn<
+    'a,
+    C: Clock,
+    P: Peer + Drop,
+    O: Operator + Drop,
+    L: Callers<P, O>,
+    S: Keyring,
+    K: Copies<S>,
+    D: Calendar + Drop,
+    E: Tell,
+    M: Moment,
+>(
+    server: &mut Server<'_, C, P, O, L, K, D, E>,
+    shelves: &'a mut S,
+    news: &mut Newcomers,
+) -> AfterTurn<'a, S>
+    requires name { shelves.ghost_name ≡ M.name }
+    requires was { (w : World) → (S.shown shelves.old).stands w → M.was w }
+    requires stood { (w : World) → M.was w → (S.shown shelves.old).stands w }
+    requires before { M.before ≡ news.old }
+    ensures same_store { result.shelves.ghost_name ≡ shelves.entry.ghost_name }
+    ensures serves { Serves (both O.came O.reads) (both O.written O.writes)
+        (both P.came P.reads) (both P.written P.writes) L.is_new S.shown K.copied K.counted true
+        (L.waiting server.old.callers.now) (L.waiting server.new.callers.now)
+        server.old.progress server.new.progress shelves.old result.shelves.now }
+    ensures newcomers { result.lost ≡ false
+        → Notes (S.shown shelves.old) (S.shown result.shelves.now) news.old news.new }
+    ensures same { server.new.callers.ghost_name ≡ server.old.callers.ghost_name }
+    ensures same_errors { server.new.errors.ghost_name ≡ server.old.errors.ghost_name }
+    ensures notes { WritesNotices (E.contents server.old.errors.now) (E.contents server.new.errors.now) }
+{
+    let before = mem::replace(news, Newcomers::new(server.alloc));
+    let mut noting: Noting<'a, M, S> = Noting::new(server.alloc, shelves, before);
+    let _lent = serve_noting::<C, P, O, L, S, K, D, E, Brand, M>(server, &mut noting);
+    let Noting {
+        inner,
+        news: now,
+        lost,
+        ..
+    } = noting;
+    *news = now;
+    AfterTurn {
+        shelves: inner,
+        lost,
+    }
+}
+
+/// A turn serves those who wait.
+impl<
+    'x,
+    C: Clock,
+    P: Peer + Drop,
+    O: Operator + Drop,
+    L: Callers<P, O>,
+    S: Keyring,
+    K: Copies<S>,
+    D: Calendar + Drop,
+    E: Tell,
+> Between<S> for Server<'x, C, P, O, L, K, D, E> {
+    ghost use Rattle.socket.specs.Connections.{both};
+    ghost use Rattle.control.specs.Serving.{TakesTurns, then_turns, turns_rest};
+
+    ghost went = { λ old new s t. TakesTurns (both O.came O.reads) (both O.written O.writes)
+        (both P.came P.reads) (both P.written P.writes) L.is_new S.shown K.copied K.counted
+        (record {
+          waiting = L.waiting old.callers.now;
+          progress = old.progress;
+          errors = E.contents old.errors.now;
+          lent = (old.callers.ghost_name, old.errors.ghost_name);
+          store = s;
+        })
+        (record {
+          waiting = L.waiting new.callers.now;
+          progress = new.progress;
+          errors = E.contents new.errors.now;
+          lent = (new.callers.ghost_name, new.errors.ghost_name);
+          store = t;
+        }) };
+
+    /// Serves at most `MOST_SERVED` callers. The copy can't go on once an operator was told that the server ends, or
+    /// once the one who ordered it has left.
+    fn turn(&mut self, shelves: &mut S, news: &mut Newcomers) -> bool {
+        let after = take_turn::<C, P, O, L, S, K, D, E, Brand>(self, shelves, news);
+        !after.lost && !self.progress.stops && !self.callers.has_left()
+    }
+
+    ghost rests = { λ b s t read. turns_rest _ _ _ _ _ _ _ _ _ t read };
+
+    ghost goes_on = { λ a b c r s t one two. then_turns _ _ _ _ _ _ _ _ _ _ _ one two };
+}
+
+/// Its copies are made with turns of it.
+impl<
+    'x,
+    'a,
+    C: Clock,
+    P: Peer + Drop,
+    O: Operator + Drop,
+    L: Callers<P, O>,
+    N: Loan,
+    S: Keyring,
+    K: Copies<S>,
+    D: Calendar + Drop,
+    E: Tell,
+> CopyOrders<Watched<'a, N, S>> for Server<'x, C, P, O, L, K, D, E> {
+    ghost use Rattle.socket.specs.Connections.{both};
+    ghost use Rattle.control.specs.Copying.{IsOnlyRead};
+    ghost use Rattle.control.specs.Figures.{TellsKept};
+    ghost use Rattle.control.specs.Serving.{TakesTurns};
+
+    ghost copied = { λ old new path told. K.copied old.inner.now new.inner.now path told };
+
+    ghost counted = { λ old new n. K.counted old.inner.now new.inner.now n };
+
+    ghost figured = { λ w f. TellsKept (K.figured w.inner.now) w.traffic w.copied f };
+
+    ghost meanwhile = { λ old new s t. (mid : S)
+        × ⟦<Server<'x, C, P, O, L, K, D, E> as Between<S>>⟧.went old new s.inner.now mid
+        × IsOnlyRead (S.shown mid) (S.shown t.inner.now) };
+
+    /// Also notes when the copy was made, if it was.
+    fn copy_to(&mut self, shelves: &mut Watched<'a, N, S>, path: &str) -> Result<(), CopyRefusal>
+        ensures meanwhile { (mid : S)
+            × ⟦<Server<'x, C, P, O, L, K, D, E> as Between<S>>⟧.went self.old self.new shelves.old.inner.now mid
+            × IsOnlyRead (S.shown mid) (S.shown shelves.new.inner.now) }
+        ensures came { K.copied shelves.old.inner.now shelves.new.inner.now path.now result }
+        ensures time { NotesTime (D.shown self.new.calendar) shelves.old.copied shelves.new.copied result }
+    {
+        let copies = self.copies;
+        self.callers.watch_operator();
+        self.copied = shelves.copied;
+        mem::swap(&mut self.traffic, &mut shelves.traffic);
+        let told = copies.copy(shelves.inner, path, self);
+        mem::swap(&mut self.traffic, &mut shelves.traffic);
+        shelves.note_copy(path, told);
+        if let Err(why) = told {
+            return Err(why);
+        }
+        shelves.note_time(self.calendar.time_now());
+        Ok(())
+    }
+
+    fn versions(&self, shelves: &mut Watched<'a, N, S>) -> Result<u64, StoreFault> {
+        self.copies.versions(shelves.inner)
+    }
+
+    fn figures<'s>(&self, shelves: &'s Watched<'a, N, S>) -> Figures<'s> {
+        shelves.figures_with(self.copies.figures(shelves.inner))
+    }
+}

@@ -3,12 +3,14 @@
 // usage: client PORT LANES < TARGETS            asks once for each target, which has to be answered 200, and prints the seconds, the bytes
 //                                               and its own seconds of processor time
 //        client PORT LANES SECONDS < TARGETS    asks for them on and on until the seconds are over, and prints a line for each request:
-//                                               when it began, when its answer was whole, both by the monotonic clock, and the status
+//                                               when it began, when its answer was whole, both by the monotonic clock, and the status;
+//                                               SIGTERM ends it sooner
 //
 // A lane is a thread. A request that begins before the end is waited for.
 #include <arpa/inet.h>
 #include <netinet/in.h>
 #include <pthread.h>
+#include <signal.h>
 #include <stdatomic.h>
 #include <stdio.h>
 #include <stdlib.h>
@@ -39,6 +41,7 @@ static atomic_size_t next_target;
 static struct sockaddr_in there;
 // when to stop; 0 where each target is asked for once
 static double stop;
+static volatile sig_atomic_t is_over;
 
 static void fail(const char *what) {
     perror(what);
@@ -49,6 +52,11 @@ static double now(void) {
     struct timespec told;
     clock_gettime(CLOCK_MONOTONIC, &told);
     return told.tv_sec + told.tv_nsec / 1e9;
+}
+
+static void end(int signal) {
+    (void)signal;
+    is_over = 1;
 }
 
 static void read_targets(void) {
@@ -89,7 +97,7 @@ static void *ask(void *of) {
     for (;;) {
         size_t at = atomic_fetch_add(&next_target, 1);
         double begun = now();
-        if (stop ? begun >= stop : at >= target_count) return NULL;
+        if (stop ? is_over || begun >= stop : at >= target_count) return NULL;
         int status = fetch(lane, targets[at % target_count]);
         if (stop) keep(lane, (struct outcome){begun, now(), status});
         else if (status != 200) {
@@ -109,6 +117,7 @@ int main(int count, char **words) {
         if (!(lanes[at].part = malloc(PART))) fail("malloc");
     double begun = now();
     stop = count == 4 ? begun + atof(words[3]) : 0;
+    if (stop) signal(SIGTERM, end);
     for (size_t at = 0; at < lane_count; at++)
         if (pthread_create(&lanes[at].thread, NULL, ask, &lanes[at])) fail("pthread_create");
     long bytes = 0;

@@ -14,14 +14,17 @@ bench/RESULTS.md, of five parts, or of those that --only names:
             ask with it, and how many requests that began after `done` were answered 200, of which there may be none
   pings     on a store of 100,000 versions: the server's processor time of the first ping, which counts them, and of
             later ones
-  copy      `copy --control` of a store of 1 GiB beside `extract` of the same, in turn, and how long a peer waited
-            meanwhile. It is skipped where the program has no such command
+  copy      `copy --control` of a store of 1 GiB with zips of 1 MiB, and of one of 100,000 zips of 1 KiB: what it takes
+            while nobody asks, and while eight clients ask on and on; how long their requests wait meanwhile, beside the
+            same load without a copy; and the server's peak memory of both, started as the unit starts it. With
+            --beside FILE in turn with that program
 
 STORES names the folder of the stores, 6 GiB for all parts.
 """
 
 import argparse
 import os
+import re
 import shutil
 import socket
 import sqlite3
@@ -32,21 +35,24 @@ import tempfile
 import time
 
 import store
+from memory import SETTING
 from serve import ROOT, client_in, fetched, started, stopped
 from store import KEY, PROGRAM
 
 PARTS = ("gets", "orders", "revoke", "pings", "copy")
 # seconds of load around a revocation
 BEFORE, AFTER = 0.5, 1.5
+# seconds of load without a copy, and the longest that a copy may take under load
+PLAIN, LONGEST = 5, 300
 MIB = 1_048_576
 
 
 class Server:
     """A `serve` with a socket for operators."""
 
-    def __init__(self, program, file, control):
-        self.control = control
-        self.child, self.port = started(program, file, "--control", control)
+    def __init__(self, program, file, control, setting=None):
+        self.program, self.control = program, control
+        self.child, self.port = started(program, file, "--control", control, setting=setting)
 
     def told(self, line):
         """Sends a line. Returns the reply."""
@@ -72,6 +78,21 @@ class Server:
             sys.exit(f"ping is told {told}")
         return used(self.child) - before
 
+    def copied(self, to):
+        """Has its store copied. Returns when the command began and when it had ended."""
+        begun = time.monotonic()
+        subprocess.run([self.program, "copy", "--control", self.control, "--to", to], check=True)
+        return begun, time.monotonic()
+
+    def forget_peak(self):
+        with open(f"/proc/{self.child.pid}/clear_refs", "w", encoding="ascii") as file:
+            file.write("5")
+
+    def peak(self):
+        """The most MiB that it has held since `forget_peak`."""
+        with open(f"/proc/{self.child.pid}/status", encoding="ascii") as file:
+            return int(re.search(r"VmHWM:\s+(\d+)", file.read())[1]) / 1024
+
     def stop(self):
         stopped(self.child)
 
@@ -84,6 +105,9 @@ class Load:
         self.child = subprocess.Popen(words, stdin=subprocess.PIPE, stdout=subprocess.PIPE, text=True)
         self.child.stdin.write("\n".join(targets))
         self.child.stdin.close()
+
+    def end(self):
+        self.child.terminate()
 
     def outcomes(self):
         """Of each request when it began, when it was answered, and the status."""
@@ -222,61 +246,120 @@ def pings(words, folder, client):
     return [(f"the first ping of {words.pinged:,} versions", text)]
 
 
+class Copies:
+    """What the copies of a program took: the seconds where nobody asked, those of the processor then, and the seconds
+    under load; what the requests of the load waited with a copy and without, and the server's MiB of both."""
+
+    def __init__(self, program, whole, file):
+        shutil.copyfile(whole, file)
+        self.server, self.file, self.to = Server(program, file, f"{file}-control", SETTING), file, f"{file}-copy"
+        self.alone, self.used, self.loaded, self.waits, self.plain = ([] for _ in range(5))
+        self.peaks, self.plain_peaks = [], []
+
+    def turn(self, whole, load):
+        """A load without a copy, a copy without a load, and both."""
+        self.server.forget_peak()
+        plain = load(PLAIN, self.server.port)
+        self.plain += waits_of(plain.outcomes())
+        self.plain_peaks.append(self.server.peak())
+        before = used(self.server.child)
+        begun, ended = self.server.copied(self.to)
+        self.alone.append(ended - begun)
+        self.used.append((used(self.server.child) - before) / 1e6)
+        self.checked(whole)
+        both = load(BEFORE + LONGEST, self.server.port)
+        time.sleep(BEFORE)
+        begun, ended = self.server.copied(self.to)
+        if both.child.poll() is not None:
+            sys.exit("the load ended before the copy did")
+        both.end()
+        self.waits += waits_of(both.outcomes(), begun, ended)
+        self.loaded.append(ended - begun)
+        self.peaks.append(self.server.peak())
+        self.checked(whole)
+
+    def checked(self, whole):
+        if contents(self.to) != contents(whole):
+            sys.exit("the copy is not as the store")
+        remove(self.to)
+
+    def stop(self):
+        self.server.stop()
+        remove(self.file)
+
+
+def waits_of(outcomes, begun=0, ended=float("inf")):
+    """The milliseconds that requests waited, of those that were underway between two moments."""
+    them = [it for it in outcomes if it[0] < ended and it[1] > begun]
+    if {status for _, _, status in them} != {200}:
+        sys.exit("a request is answered otherwise than by 200")
+    return [1000 * (end - start) for start, end, _ in them]
+
+
 def copy(words, folder, client):
-    """How long a copy takes beside an extract of the same store, and how long a peer waits meanwhile."""
-    if subprocess.run([words.program, "copy", "--help"], capture_output=True, check=False).returncode:
-        return [("a copy beside an extract", "skipped: the program has no command `copy`")]
-    served, whole, ours, theirs = (
-        os.path.join(folder, f"{name}.db") for name in ("served", "whole", "copy", "extract")
-    )
-    large(whole, words.mib)
-    shutil.copyfile(whole, served)
-    server = Server(words.program, served, f"{folder}/control")
-    turns = [copies(words.program, client, server, whole, ours, theirs) for _ in range(words.copies)]
-    server.stop()
-    took, beside, opening, waited = zip(*turns)
-    ratios = [
-        [one / (other - less) for one, other, less in zip(took, beside, them)] for them in (opening, [0] * len(turns))
-    ]
-    size = f"{os.path.getsize(whole) / MIB:,.0f} MiB"
-    rows = [
-        (f"`copy --control` of {size}", f"{middle(took)}, {middle(ratios[1], unit=' times')} the time of `extract`"),
-        ("beside that `extract` without its opening", f"{middle(ratios[0], unit=' times')} its time"),
-        ("a peer waits meanwhile", middle(waited)),
-    ]
-    remove(served, whole)
+    """Copies of a store of large zips and of one of many small ones, as rows of the table."""
+    rows = []
+    for count, length, unit in ((words.mib, MIB, "1 MiB"), (words.small, 1024, "1 KiB")):
+        whole = os.path.join(folder, "whole.db")
+        filled(whole, count, length)
+        targets = [mod(n * 7919 % count) for n in range(10_000)]
+        load = lambda seconds, port: Load(client, port, targets, words.clients, seconds)
+        programs = [words.program, *([os.path.abspath(words.beside)] if words.beside else [])]
+        them = [Copies(it, whole, os.path.join(folder, f"served{at}.db")) for at, it in enumerate(programs)]
+        for number in range(words.copies):
+            # by turns the one and the other first
+            for it in them if number % 2 == 0 else them[::-1]:
+                it.turn(whole, load)
+        size = f"{os.path.getsize(whole) / MIB:,.0f} MiB, {count:,} zips of {unit}"
+        rows += copied(size, clients(words.clients), *them)
+        for it in them:
+            it.stop()
+        remove(whole)
     return rows
 
 
-def large(file, count):
-    """A store with this many zips of 1 MiB."""
+def copied(size, asking, ours, theirs=None):
+    """The rows of the table on a store."""
+    name = f"`copy` of {size}"
+    rows = [
+        (f"{name}, nobody asks", times(ours.alone, theirs and theirs.alone)),
+        (f"{name}, of the processor of `serve`", times(ours.used, theirs and theirs.used)),
+        (f"{name}, while {asking} ask", times(ours.loaded, theirs and theirs.alone)),
+    ]
+    for whose, it in (("", ours), (", the program beside", theirs)):
+        if it:
+            rows += [
+                (f"{name}, a request meanwhile{whose}", f"{late(it.waits)}; without a copy {late(it.plain)}"),
+                (f"{name}, the peak of `serve`{whose}", peaks_of(it)),
+            ]
+    return rows
+
+
+def peaks_of(it):
+    first, last = it.plain_peaks[0], it.plain_peaks[-1]
+    return f"{max(it.peaks):,.1f} MiB; {first:,.1f} by the load before the first copy, {last:,.1f} before the last"
+
+
+def times(took, theirs):
+    """Some seconds, beside those of the other program where nobody asks, if there is one."""
+    if not theirs:
+        return middle(took)
+    ratio = statistics.median(took) / statistics.median(theirs)
+    return f"{middle(took)}, {ratio:.2f} times the {statistics.median(theirs):.2f} of the program beside"
+
+
+def late(waits):
+    return f"{in_order(waits, 0.999):.1f} ms at 99.9 %, {max(waits):,.1f} at most, of {len(waits):,}"
+
+
+def filled(file, count, length):
+    """A store with this many zips of this length."""
     conn = store.made(file)
     conn.execute("BEGIN")
     for n in range(count):
-        store.insert(conn, n, MIB)
+        store.insert(conn, n, length)
     conn.execute("COMMIT")
     conn.close()
-
-
-def copies(program, client, server, whole, ours, theirs):
-    """The seconds of a copy, of an extract, of the opening that is in it, and those that a peer waited for the copy."""
-    opening, _ = store.answered(whole, [])
-    beside = timed([program, "extract", "--db", whole, "--team", "alpha", "--to", theirs])
-    # (its last request begins once the copy has, and is waited for)
-    load = Load(client, server.port, [mod(0)], 1, 2 * BEFORE)
-    time.sleep(BEFORE)
-    took = timed([program, "copy", "--control", server.control, "--to", ours])
-    waited = max(ended - begun for begun, ended, _ in load.outcomes())
-    if contents(ours) != contents(whole):
-        sys.exit("the copy is not as the store")
-    remove(ours, theirs)
-    return took, beside, opening, waited
-
-
-def timed(words):
-    begun = time.monotonic()
-    subprocess.run(words, check=True)
-    return time.monotonic() - begun
 
 
 def contents(file):
@@ -307,6 +390,7 @@ def table(rows):
 def options():
     parser = argparse.ArgumentParser(description=__doc__, formatter_class=argparse.RawDescriptionHelpFormatter)
     parser.add_argument("--program", default=PROGRAM)
+    parser.add_argument("--beside", help="another program, whose copies are made in turn", metavar="FILE")
     parser.add_argument("--only", help=f"parts, of {','.join(PARTS)}", default=",".join(PARTS))
     for name, default, text in (
         ("rounds", 9, "turns of gets, and revocations"),
@@ -315,8 +399,9 @@ def options():
         ("clients", 8, "clients at once"),
         ("versions", 1_000_000, "versions of the store where keys are revoked"),
         ("pinged", 100_000, "versions of the store that is pinged"),
-        ("mib", 1_024, "zips of 1 MiB in the store that is copied"),
-        ("copies", 5, "turns of the copy"),
+        ("mib", 1_024, "zips of 1 MiB in the first store that is copied"),
+        ("small", 100_000, "zips of 1 KiB in the second"),
+        ("copies", 5, "turns of the copies"),
     ):
         parser.add_argument(f"--{name}", type=int, default=default, help=f"{text} ({default:,})")
     return parser.parse_args()

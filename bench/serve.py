@@ -52,9 +52,10 @@ def ask(port, method, target, body=None, headers=None):
     return reply.status, reply.read()
 
 
-def started(program, store, *more):
-    """`serve` over a store, and its port."""
-    child = subprocess.Popen([program, "serve", "--db", store, "--port", "0", *more], stdout=subprocess.PIPE, text=True)
+def started(program, store, *more, setting=None):
+    """`serve` over a store, with these settings of the C library, and its port."""
+    words = [program, "serve", "--db", store, "--port", "0", *more]
+    child = subprocess.Popen(words, stdout=subprocess.PIPE, text=True, env={**os.environ, **(setting or {})})
     return child, int(child.stdout.readline().rsplit(":", 1)[1])
 
 

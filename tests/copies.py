@@ -1,20 +1,18 @@
 #!/usr/bin/env python3
 """`copy --control S --to G`: copies of a store while peers ask and publish.
 
-Each is opened and compared. Some are refused, some meet a full disk, and some kills. A copy has each version that was
-acknowledged before the order, and none whose publish began after the answer. The store that is served keeps its bytes.
-5 kills in the middle of a copy, and 50 with --long; --seed N repeats a run.
+Each is opened and compared. Some are refused, and some meet a full disk. A copy has each version that was acknowledged
+before the order, and none whose publish began after the answer. The store that is served keeps its bytes.
 """
 
 import os
-import random
 import subprocess
 import sys
 import threading
 import time
 
 from lib.keys import KEY, KEYS, MEMBERS, PLATFORM, SHELVES
-from lib.kills import fetch, kill_after, publish, seeded
+from lib.kills import fetch, publish
 from lib.messages import get, put
 from lib.peers import GOMOD, LIST, Load, by_false_server
 from lib.program import answered, refusal, run
@@ -25,7 +23,6 @@ from lib.suite import Suite
 
 # versions of a store that is copied; their zips have up to 150,000 bytes
 VERSIONS = 12
-KILLS, MANY_KILLS = 5, 50
 DONE = 0, b"", ""
 # the longest path of a store: sqlite's names beside it have eight bytes more, and a path of the system 4,095
 LONGEST = 4_087
@@ -212,6 +209,8 @@ def refused(suite):
         (b"not-empty\n", "not-empty"),
         (b"device\n", "device"),
         (b"memory\n", "memory"),
+        (b"busy\n", "busy"),
+        (b"ended\n", "ended"),
     ):
         suite.equal(f"a server that tells {told}", by_false_server(words, told), (refusal(word), b"copy one.db\n"))
     suite.equal("one that tells done", by_false_server(words, b"done\n"), (DONE, b"copy one.db\n"))
@@ -248,35 +247,5 @@ def full(suite):
         subprocess.run(["umount", "small"], check=True)
 
 
-def killed(suite):
-    """A server that is killed while it copies leaves the copy empty or whole, and its own store as it was."""
-    words = sys.argv[1:]
-    seeded(words)
-    new_store("served.db", *SHELVES)
-    server = Server("served.db", CONTROL)
-    for number in range(10 * VERSIONS):
-        server.status(publish(number))
-    began = time.monotonic()
-    assert copy("first.db") == DONE
-    took = time.monotonic() - began
-    server.kill()
-    wanted, whole_ones = inventories("served.db"), 0
-    for turn in range(MANY_KILLS if "--long" in words else KILLS):
-        server, to = Server("served.db", CONTROL), f"copy{turn}.db"
-        timer = kill_after(server.child, 1.2 * took * random.random())
-        told = copy(to)
-        timer.cancel()
-        server.kill()
-        seen = inventories(to)
-        is_whole, is_empty = seen == wanted, all(status == 1 for status, _, _ in seen)
-        suite.counts(
-            f"kill {turn}: the copy is whole or empty",
-            None if is_whole or (is_empty and told != DONE) else (told, seen),
-        )
-        whole_ones += is_whole
-    suite.equal("the store is as it was", inventories("served.db"), wanted)
-    print(f"{turn + 1} kills, after which {whole_ones} copies were whole")
-
-
 if __name__ == "__main__":
-    sys.exit(in_new_folders(Suite(), whole, loaded, refused, full, killed))
+    sys.exit(in_new_folders(Suite(), whole, loaded, refused, full))

@@ -73,3 +73,16 @@ def reordered(name, other):
         conn.execute(sql)
         conn.execute(f"INSERT INTO {table} SELECT * FROM f.{table}")
     conn.close()
+
+
+def put_versions(conn, shelf, path, numbers, zip):
+    """Adds a version of a path for each of some row numbers, from `v1.0.0` on, with this zip."""
+    gomod = f"module {path}\n".encode()
+    conn.execute("BEGIN")
+    for at, number in enumerate(numbers):
+        version = f"v1.{at}.0"
+        row = (number, shelf, path, version, None, gomod, order_key(version), rank_key(version))
+        conn.execute("INSERT INTO version VALUES (?, ?, ?, ?, ?, ?, ?, ?)", row)
+        pieces = [(number, start // PIECE, zip[start : start + PIECE]) for start in range(0, len(zip), PIECE)]
+        conn.executemany("INSERT INTO piece VALUES (?, ?, ?)", pieces)
+    conn.execute("COMMIT")

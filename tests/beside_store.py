@@ -46,7 +46,7 @@ FILES = """#!/bin/sh
 cd "@/var/lib/goshelf" || exit 0
 for at in . */; do
     for it in shelves.db shelves.db-wal shelves.db-shm shelves.db-journal goshelf-backup.db goshelf-backup.db-wal \\
-        versions lost all; do
+        SHA256SUMS versions lost all; do
         [ -L "$at/$it" ] || { /bin/rm -f "$at/$it" && /bin/ln -s "@/roots/$it" "$at/$it"; }
     done
 done 2> /dev/null
@@ -77,7 +77,7 @@ SERVE = """\
     setpriv --reuid="$user" --regid="$user" --clear-groups goshelf serve"""
 LEAKED = "alpha example.com/lib v1.1.0"
 USED = ("goshelf-backup", "goshelf-backup stop", f"goshelf-forget --yes {LEAKED}", "goshelf-restore --yes last")
-WARM = "goshelf-warm store"
+COPY, WARM = "goshelf-copy store > sent", "goshelf-warm store"
 
 
 def start(suite, machine):
@@ -145,7 +145,7 @@ def of_root(machine):
 
 def unharmed(suite, machine):
     """Nobody is hostile: each command does its work, and leaves nothing of root's beside the store."""
-    for command in (*USED, WARM):
+    for command in (*USED, COPY, WARM):
         fresh(machine)
         told = machine.sh(command)
         below = [os.path.join(at, it) for at, _, names in os.walk(f"{machine.folder}/{HOME}") for it in names]
@@ -156,7 +156,7 @@ def hostile(suite, machine):
     """The user of the store puts links beside it, each time when the command of root calls another."""
     before = of_root(machine)
     for act in ("folders", "files"):
-        for command in (*USED, WARM):
+        for command in (*USED, COPY, WARM):
             harm = []
             for name in CALLED if "--long" in sys.argv[1:] else OFTEN:
                 fresh(machine)
@@ -191,19 +191,17 @@ def held_open(suite, machine):
 
 
 def read_by_link(suite, machine):
-    """A link to a file of root's in the place of the store: goshelf-copy does not send that file."""
+    """A link to a file of root's in the place of the copy that goshelf made: goshelf-copy does not send that file."""
     fresh(machine)
-    secret = os.urandom(64)
-    write({f"{machine.folder}/roots/secret": secret})
-    os.chmod(f"{machine.folder}/roots/secret", 0o600)
-    os.rename(machine.store, f"{machine.store}.aside")
-    os.symlink(f"{machine.folder}/roots/secret", machine.store)
-    status = machine.sh("goshelf-copy store > sent")[0]
-    suite.equal(
-        "goshelf-copy reads as the store's user", (status, secret in read(f"{machine.folder}/root/sent")), (1, False)
-    )
-    os.remove(f"{machine.folder}/roots/secret")
-    os.rename(f"{machine.store}.aside", machine.store)
+    secret, own = os.urandom(64), f"{machine.folder}/roots/shelves.db"
+    before = read(own)
+    write({own: secret})
+    machine.write("root/when", "files tar\n")
+    status = machine.sh(COPY)[0]
+    machine.write("root/when", "none\n")
+    sent = read(f"{machine.folder}/root/sent")
+    suite.equal("goshelf-copy reads as the store's user", (status == 0, secret in sent), (False, False))
+    write({own: before})
 
 
 def pair(machine):

@@ -264,6 +264,11 @@ def misused(suite, reader):
     before, beside = {it: pages_of(reader, it) for it in USERS.values()}, left(reader)
     places = {"@AT@": f"/{AT}", "@MAPS@": "/etc/nginx/goshelf", "@COPY@": "/var/lib/goshelf/goshelf-catalog.db"}
     machine.does(f"rm /{AT}/goshelf.state")
+    with machine.busy(2):
+        told = machine.sh("goshelf-catalog")
+    suite.equal("while goshelf makes another copy, it waits", (told[0], told[2]), (0, ""))
+    before = {it: pages_of(reader, it) for it in USERS.values()}
+    machine.does(f"rm /{AT}/goshelf.state")
     for it in WORDS:
         told = machine.sh(f"goshelf-catalog {it}")
         suite.holds(f"goshelf-catalog {it}: bad usage", told[:2] == (2, "") and "usage: " in told[2], told)

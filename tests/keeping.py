@@ -105,6 +105,10 @@ def at_once(suite, machine):
         told = machine.sh(f"GOSHELF_UNIT={unit} goshelf-backup")
         suite.holds(f"a backup of the unit {unit}", told[0] == 1 and said in told[1], told)
     suite.equal("refused ones make nothing", copies(machine), names)
+    with machine.busy(2):
+        told = machine.sh("goshelf-backup")
+    suite.equal("a backup waits while goshelf makes another copy", (told, len(copies(machine))), ((0, "", ""), 4))
+    shutil.rmtree(f"{at}/{copies(machine)[-1]}")
     for it, older in zip(names, OLDER):
         os.rename(f"{at}/{it}", f"{at}/{older}")
 

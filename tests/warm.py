@@ -52,7 +52,8 @@ def first_copy(suite, company):
         for it in (f"{HOME}/shelves.db", f"{HOME}/versions", "etc/nginx/goshelf/keys.map")
     }
     suite.equal("only their owner may read them", set(modes.values()), {0})
-    suite.equal("nothing is left at the first host", os.listdir(f"{company.first.folder}/var/backups/goshelf"), [])
+    left = [sorted(os.listdir(f"{company.first.folder}/{it}")) for it in (HOME, "var/backups/goshelf")]
+    suite.equal("nothing is left at the first host", left, [["shelves.db", "shelves.db-wal"], []])
 
 
 def answers_of_copy(suite, company):

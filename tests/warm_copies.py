@@ -1,5 +1,5 @@
 #!/usr/bin/env python3
-"""The copies of deploy/warm: cut short, damaged, of another store, under a rush, on full disks.
+"""The copies of deploy/warm: cut short, damaged, of another store, under a rush, on full disks, without an order.
 
 What was served goes on, and all is named. The hosts are network namespaces (lib/hosts.py). The files of deploy/ run as
 they are, set up by the commands of the pages.
@@ -21,19 +21,15 @@ from lib.scratch import fill, mounted, play, read, write
 from lib.suite import Suite
 from lib.warm import COPY, HOME, NOT_WHOLE, SAMPLE, WARM, Warm, publishes, tried
 
+# what goshelf-copy says if goshelf fails, and the folder where it is to have the copy made on a small disk
+NO_COPY, SMALL = "goshelf does not copy its store: goshelf: device", f"{HOME}/goshelf-copy-abcdef"
 LACKS = r"the copy lacks versions that are served here:\nalpha\|example.com/lib\|v1.1.0\|"
 BROKEN_STORE = "(the copy is no store|goshelf refuses the copy|the copy lacks versions)"
-# On the first host: cat, but behind a copy of the store's file so much is published that goshelf empties its log.
-CAT = """#!/bin/sh
-/bin/cat "$@"
-left=$(/bin/cat "@/often")
-case ${1-} in *shelves.db) ;; *) exit 0 ;; esac
-[ "$left" -gt 0 ] || exit 0
-echo $((left - 1)) > "@/often"
+# On the first host: publishes a large version and a small one.
+RUSH = """
 for it in big small; do
-    version=v1.0.$(date +%s%N)
     curl -sf -o /dev/null -T "@/$it" -H Expect: -H 'Mod-Length: 24' \
-http://127.0.0.1:PORT/k/KEY/example.com/rush/@v/$version
+        http://127.0.0.1:8080/k/KEY/example.com/rush/@v/v1.0.$(date +%s%N)
 done
 """
 # On the warm host: goshelf, whose serve ends at once if there is a file `broken`, which it removes.
@@ -241,7 +237,7 @@ def store_bytes(moved, home, old):
 def full_disks(suite, company):
     """The disk of the warm host is full, and then the one on which the first host makes its copies."""
     warm, first = company.warm, company.first
-    for host, place, size in ((warm, HOME, "40m"), (first, "var/backups/goshelf", "1m")):
+    for host, place, size in ((warm, HOME, "40m"), (first, SMALL, "1m")):
         warm.does("systemctl stop goshelf")
         at = f"{host.folder}/{place}"
         os.makedirs(at, exist_ok=True)
@@ -255,27 +251,33 @@ def full_disks(suite, company):
             warm.does("systemctl stop goshelf")
             subprocess.run(["umount", at], check=True)
             warm.does("systemctl start goshelf")
+    first.does("systemctl stop goshelf; systemctl start goshelf")
+    os.rmdir(f"{first.folder}/{SMALL}")
+    os.remove(f"{first.folder}/usr/local/bin/mktemp")
     company.copy()
     equal(suite, company, "disks with room")
 
 
 def full_disk(suite, company, host, at):
     """A folder of a host has a disk of its own, which is filled."""
-    warm = company.warm
+    first, warm = company.first, company.warm
     if host is warm:
         company.copy()
     else:
+        first.command("mktemp", f'#!/bin/sh\necho "@/{SMALL}"\n')
+        # (what began before the mount does not see it)
+        first.does("systemctl stop goshelf; systemctl start goshelf")
         warm.does("systemctl start goshelf")
     put = lambda *size: company.put("pub", "example.com/lib", f"v1.{len(company.published)}.0", *size)[0]
     suite.equal("a publish", put(2_000_000), 201)
     fill(f"{at}/other")
     wanted = company.answers(("ann", "com"))
     status, printed, errors = warm.sh("goshelf-warm store")
-    is_said = status == 1 and NOT_WHOLE in printed and "No space left" in errors
+    is_said = status == 1 and NOT_WHOLE in printed and ("No space left" if host is warm else NO_COPY) in errors
     suite.holds(f"the disk of {host.name} is full: it says so", is_said, (status, printed, errors))
     suite.equal("the old copy is served, and the first host answers the rest", company.differing(wanted), [])
-    left = os.path.exists(f"{warm.folder}/{HOME}/new"), [it for it in os.listdir(at) if it.startswith("copy-")]
-    suite.equal("nothing of the new one is left", left, (False, []))
+    left = os.path.exists(f"{warm.folder}/{HOME}/new") if host is warm else os.listdir(at)
+    suite.holds("nothing of the new one is left", not left, left)
     suite.equal("publishes go on", put(), 201)
     if host is warm:
         os.unlink(f"{at}/other")
@@ -284,35 +286,69 @@ def full_disk(suite, company, host, at):
 
 
 def rush(suite, company):
-    """goshelf empties its log during a copy: it is made again, and given up after five."""
-    first = company.first
+    """Large publishes come on and on while goshelf copies: each copy is whole."""
+    first, is_over = company.first, threading.Event()
     gomod = b"module example.com/rush\n"
     write({f"{first.folder}/big": gomod + company.seed.randbytes(4_200_000), f"{first.folder}/small": gomod})
-    first.command("cat", CAT.replace("PORT", str(first.behind)).replace("KEY", company.key("pub")))
-    first.write("often", "9")
-    status, printed, errors = company.warm.sh("goshelf-warm store")
-    told = (
-        NOT_WHOLE in printed,
-        "goshelf-copy: goshelf emptied its log during each of 5 copies" in errors,
-        first.read("often"),
-    )
-    suite.equal("the log is emptied during each copy: it says so", (status, told), (1, (True, True, "4\n"))) or print(
-        printed, errors
-    )
-    suite.equal("nothing is left of the copies", os.listdir(f"{first.folder}/var/backups/goshelf"), [])
-    equal(suite, company, "the old copy")
-    first.write("often", "2")
-    company.copy()
-    suite.equal("emptied during two copies: the third is good", first.read("often"), "0\n")
-    os.remove(f"{first.folder}/usr/local/bin/cat")
+    script = RUSH.replace("@/", f"{first.folder}/", 1).replace("KEY", company.key("pub"))
+
+    def publish():
+        # (the store grows by 4 MB each time)
+        for _ in range(20):
+            if is_over.wait(0.3):
+                return
+            first.does(script)
+
+    publisher = threading.Thread(target=publish)
+    publisher.start()
+    try:
+        for _ in range(2):
+            company.copy()
+    finally:
+        is_over.set()
+        publisher.join()
     versions = company.own("ann", "/example.com/rush/@v/list")[2].decode().split()
     files = {
         ("ann", f"/example.com/rush/@v/{it}.{end}"): company.own("ann", f"/example.com/rush/@v/{it}.{end}")
         for it in versions
         for end in ("mod", "zip")
     }
+    suite.holds("some were published meanwhile", len(versions) > 1, versions)
     suite.equal(f"the files of {len(versions)} versions of the rush", company.differing(files), [])
+    company.copy()
     equal(suite, company, "a copy after the rush")
+
+
+def ordered(suite, company):
+    """goshelf makes another copy, or takes no orders. What a killed run left goes after a day, and nothing else."""
+    first = company.first
+    home = f"{first.folder}/{HOME}"
+    with first.busy(2):
+        status, _, errors = company.wire.copied("store")
+    suite.equal("goshelf makes another copy: it waits for that", (status, errors), (0, b""))
+    left = [f"{home}/goshelf-copy-{it}" for it in ("abcdef", "later0", "abcdef-other", "of-a-file")]
+    for it in left[:3]:
+        os.mkdir(it)
+    write({left[3]: "text", f"{left[0]}/shelves.db": "text"})
+    for it in (left[0], *left[2:]):
+        os.utime(it, (0, 0))
+    company.copy()
+    suite.equal(
+        "of a killed run, what is a day old goes", [os.path.exists(it) for it in left], [False, True, True, True]
+    )
+    for it in left[1:3]:
+        os.rmdir(it)
+    os.remove(left[3])
+    wanted = company.answers(("ann", "com"))
+    first.does("systemctl stop goshelf")
+    status, printed, errors = company.wire.copied("store")
+    said = b"goshelf-copy: goshelf does not copy its store: goshelf: device\n"
+    suite.equal("goshelf takes no orders: it says so", (status, printed, errors), (1, b"", said))
+    suite.equal("nothing is left", sorted(os.listdir(home)), sorted(COPY))
+    first.does("systemctl start goshelf")
+    company.back()
+    suite.equal("all is answered as before", company.differing(wanted), [])
+    company.copy()
 
 
 if __name__ == "__main__":
@@ -322,6 +358,6 @@ if __name__ == "__main__":
             "deploy/warm",
             "network namespaces need root",
             Warm,
-            (start, bad_copies, cut_line, killed_runs, no_start, full_disks, rush),
+            (start, bad_copies, cut_line, killed_runs, no_start, full_disks, rush, ordered),
         )
     )

@@ -53,6 +53,17 @@ stop)
     rm "@/serve.pid" ;;
 esac
 """
+# goshelf, which makes another copy as often as a file says
+BUSY = """\
+#!/bin/sh
+left=$(cat "@/often")
+if [ "$1" = copy ] && [ "$left" -gt 0 ]; then
+    echo $((left - 1)) > "@/often"
+    echo 'goshelf: busy' >&2
+    exit 1
+fi
+exec "@/usr/local/bin/goshelf.own" "$@"
+"""
 NGINX_CONF = """\
 user www-data;
 worker_processes 2;
@@ -139,6 +150,19 @@ class Machine:
         status, printed, errors = self.sh(script, **settings)
         assert status == 0, (script, status, printed, errors)
         return printed
+
+    @contextlib.contextmanager
+    def busy(self, count):
+        """Meanwhile goshelf refuses so many orders to copy, as it does while it makes another copy."""
+        program = f"{self.folder}/usr/local/bin/goshelf"
+        os.rename(program, f"{program}.own")
+        self.write("often", f"{count}\n")
+        self.command("goshelf", BUSY)
+        try:
+            yield
+        finally:
+            os.rename(f"{program}.own", program)
+        assert self.read("often") == "0\n", "goshelf was not ordered to copy as often"
 
     def workers(self):
         """The processes of nginx that take connections."""

@@ -12,11 +12,11 @@ use Rattle.engine.specs.declared.fault.Io.{Io}
 use Rattle.engine.specs.declared.fault.Io.TheVariants as io
 use Rattle.engine.proofs.RunLemmas.{met_either}
 use Rattle.machine.proofs.Runs.{runs_begun, runs_replied, runs_failed, runs_joined}
-use Rattle.machine.specs.Machine.{ask_reply, after_ask, MetDevice}
+use Rattle.machine.specs.Machine.{request_reply, after_request, MetDevice}
 use Rattle.machine.specs.Runs.{Runs}
-use Rattle.machine.specs.declared.ask.Ask.{Ask}
-use Rattle.machine.specs.declared.ask.Body.{Body}
-use Rattle.machine.specs.declared.ask.Event.TheVariants.{Asked}
+use Rattle.machine.specs.declared.request.Request.{Request}
+use Rattle.machine.specs.declared.request.Body.{Body}
+use Rattle.machine.specs.declared.request.Event.TheVariants.{Requested}
 use Rattle.machine.specs.declared.reply.Answer.TheVariants.{Replied, Failed}
 use Rattle.machine.specs.declared.reply.Reply.{Reply}
 use Rattle.wire.specs.declared.reply.Fixed.{Fixed}
@@ -52,16 +52,16 @@ answers_more (u ∷ done_rows) t =
 
 -- ---- one row
 
-module _ (old new : Shown) (ask : Ask) where
-  -- an ask that the machine answered, or that met a fault, is a run of one event
+module _ (old new : Shown) (request : Request) where
+  -- a request that the machine answered, or that met a fault, is a run of one event
   pub published : (told : Result Reply StoreFault) (answer : Fixed)
-      → Does old new told (λ w. ask_reply w ask) (λ w. after_ask w ask) → answer ≡ answer_of told
-      → Publishes old new ask answer
+      → Does old new told (λ w. request_reply w request) (λ w. after_request w request) → answer ≡ answer_of told
+      → Publishes old new request answer
   published (Ok reply) answer does is = record {
     told = Replied reply;
     runs = record {
       honest = does.honest;
-      at = λ h w stands. runs_replied old new w (Asked ask) reply (does.at h w stands tt);
+      at = λ h w stands. runs_replied old new w (Requested request) reply (does.at h w stands tt);
     };
     is = is;
     no_fewer = does.cause.no_fewer;
@@ -71,7 +71,7 @@ module _ (old new : Shown) (ask : Ask) where
     told = Failed fault;
     runs = record {
       honest = does.honest;
-      at = λ h w stands. runs_failed old new w (Asked ask) fault _ (does.at h w stands tt);
+      at = λ h w stands. runs_failed old new w (Requested request) fault _ (does.at h w stands tt);
     };
     is = is;
     no_fewer = does.cause.no_fewer;
@@ -81,9 +81,9 @@ module _ (old new : Shown) (ask : Ask) where
 module _ (files : List ℕ → Option (Option (List ℕ))) (key : List ℕ) where
   -- a row whose files were read is a publish of them
   pub row_published : (old new : Shown) (l : Line) (body : Body) (answer : Fixed) → IsBodyOf files l (Ok body)
-      → Publishes old new (spec.ask_of key l body) answer → DoesRow old new files key l (outcome.Answered answer)
+      → Publishes old new (spec.request_of key l body) answer → DoesRow old new files key l (outcome.Answered answer)
   row_published old new l body answer had is = record {
-    done = Answers (spec.ask_of key l body) is.told;
+    done = Answers (spec.request_of key l body) is.told;
     through = record { done = ((body, had, refl), tt); runs = is.runs; no_fewer = is.no_fewer; device = is.device };
     is = ap outcome.Answered is.is;
   }

@@ -14,7 +14,7 @@ use Rattle.world.specs.declared.registry.RegistryReply.TheVariants.{Done}
 use Rattle.memory_store.proofs.MapsDone.{team_done, key_done}
 use Rattle.world.proofs.OnlyCommon.{only_common_stands, has_nothing_else}
 use Rattle.machine.proofs.Sound.{sound}
-use Rattle.machine.specs.declared.ask.Event.TheVariants.{TeamAdd}
+use Rattle.machine.specs.declared.request.Event.TheVariants.{TeamAdd}
 use Rattle.world.proofs.Orders.{texts_total, get_put}
 use Rattle.histories.specs.Account.{Account}
 use Rattle.engine.specs.Served.{ServesAllHeard}

@@ -12,14 +12,14 @@ use Rattle.csv.specs.declared.parser.State.TheVariants as st
 use Rattle.modver.specs.SemanticVersion.{SemanticVersion}
 use Rattle.modver.specs.Reading.{version_of}
 use Rattle.machine.specs.Immutability.{AllAccepted, AllSameOrFailed, IsAcceptance, IsAccepted, IsFailed, puts}
-use Rattle.machine.specs.Machine.{Run, after, ask_reply}
-use Rattle.machine.specs.declared.ask.Ask.{Ask}
-use Rattle.machine.specs.declared.ask.Ask.TheVariants.{Put}
-use Rattle.machine.specs.declared.ask.Body.{Body}
-use Rattle.machine.specs.declared.ask.Event.{Event}
-use Rattle.machine.specs.declared.ask.Event.TheVariants.{Asked}
-use Rattle.machine.specs.declared.ask.GivenTime.{GivenTime}
-use Rattle.machine.specs.declared.ask.Publish.{Publish}
+use Rattle.machine.specs.Machine.{Run, after, request_reply}
+use Rattle.machine.specs.declared.request.Request.{Request}
+use Rattle.machine.specs.declared.request.Request.TheVariants.{Put}
+use Rattle.machine.specs.declared.request.Body.{Body}
+use Rattle.machine.specs.declared.request.Event.{Event}
+use Rattle.machine.specs.declared.request.Event.TheVariants.{Requested}
+use Rattle.machine.specs.declared.request.GivenTime.{GivenTime}
+use Rattle.machine.specs.declared.request.Publish.{Publish}
 use Rattle.machine.specs.declared.reply.Answer.{Answer}
 use Rattle.machine.specs.declared.reply.Answer.TheVariants.{Replied, Failed}
 use Rattle.machine.specs.declared.reply.Decision.{Decision}
@@ -148,10 +148,10 @@ accepted (reply.Registry outcome) is = absurd (cc is)
 no_decision : (d : Decision) → reply.Decided d ≡ reply.NotFound → ⊥
 no_decision d e = cc e
 
--- an ask that got a decision is a publish, and with each key it is that publish
+-- a request that got a decision is a publish, and with each key it is that publish
 asked_put : (key : List ℕ) (path : Option (List ℕ)) (version : Option SemanticVersion) (time : GivenTime) (body : Body)
     (w : World) (d : Decision)
-    → reply.Decided d ≡ ask_reply w (asked_at key path version time body)
+    → reply.Decided d ≡ request_reply w (asked_at key path version time body)
     → (p : Publish) × ((k : List ℕ) → asked_at k path version time body ≡ Put k p)
     × (is_some path && is_some version ≡ true)
 asked_put key (Some path) (Some version) time body w d is =
@@ -165,7 +165,7 @@ module _ (files : List ℕ → Option (Option (List ℕ))) where
   record Asks (l : Line) (p : Publish) : Type 0 where
     body : Body
     had : IsBodyOf files l (Ok body)
-    asks : (key : List ℕ) → spec.ask_of key l body ≡ Put key p
+    asks : (key : List ℕ) → spec.request_of key l body ≡ Put key p
     readable : IsReadable l
 
   -- each row asks the publish at its index
@@ -179,7 +179,7 @@ module _ (files : List ℕ → Option (Option (List ℕ))) where
   record Accepted (key : List ℕ) (l : Line) (d : Done) : Type 0 where
     publish : Publish
     asks : Asks l publish
-    event : events_of d ≡ Asked (Put key publish) ∷ []
+    event : events_of d ≡ Requested (Put key publish) ∷ []
     told : Answer
     answer : answers_of d ≡ told ∷ []
     accepts : IsAcceptance told
@@ -188,19 +188,19 @@ module _ (files : List ℕ → Option (Option (List ℕ))) where
   row_accepted : (key : List ℕ) (w new : World) (l : Line) (d : Done) (es : List Event) (told : List Answer)
       → IsDone files key l d
       → accepts_outcome (outcome_of d) ≡ true → Run w (events_of d ++ es) (answers_of d ++ told) new → Accepted key l d
-  row_accepted key w new l (Answers ask (Replied r)) es told (body, had, is) accepts run =
+  row_accepted key w new l (Answers request (Replied r)) es told (body, had, is) accepts run =
       let (d, decides, accepting) = accepted r accepts in
       let put = asked_put key (path_of l.path) (version_of l.version) (given_time (spec.time_of l.time)) body w d
-      (sym decides ∙ run.0 ∙ ap (ask_reply w) is) in
+      (sym decides ∙ run.0 ∙ ap (request_reply w) is) in
       record {
         publish = put.0;
         asks = record { body = body; had = had; asks = put.1; readable = put.2 };
-        event = ap (λ (a : Ask). Asked a ∷ []) (is ∙ put.1 key);
+        event = ap (λ (a : Request). Requested a ∷ []) (is ∙ put.1 key);
         told = Replied (reply.Decided d);
         answer = ap (λ (x : Reply). Replied x ∷ []) decides;
         accepts = accepting;
       }
-  row_accepted key w new l (Answers ask (Failed fault)) es told done accepts run = absurd (cc accepts)
+  row_accepted key w new l (Answers request (Failed fault)) es told done accepts run = absurd (cc accepts)
   row_accepted key w new l HasNoFile es told done accepts run = absurd (cc accepts)
   row_accepted key w new l Unfetched es told done accepts run = absurd (cc accepts)
 
@@ -224,15 +224,15 @@ module _ (files : List ℕ → Option (Option (List ℕ))) where
   all_in key w new (t ∷ ts) done all run =
       let (here, others) = and_parts (spec.is_accepted t) (list_all spec.is_accepted ts) all in
       let row = row_accepted key w new t.line t.done (events ts) (answers ts) done.0 here run in
-      let whole : Run w (Asked (Put key row.publish) ∷ events ts) (row.told ∷ answers ts) new =
-      subst (λ xs. Run w (Asked (Put key row.publish) ∷ events ts) (xs ++ answers ts) new) row.answer
+      let whole : Run w (Requested (Put key row.publish) ∷ events ts) (row.told ∷ answers ts) new =
+      subst (λ xs. Run w (Requested (Put key row.publish) ∷ events ts) (xs ++ answers ts) new) row.answer
       (subst (λ es. Run w (es ++ events ts) (answers_of t.done ++ answers ts) new) row.event run) in
-      let (v, later) = run_after w new (Asked (Put key row.publish)) row.told (events ts) (answers ts) whole in
+      let (v, later) = run_after w new (Requested (Put key row.publish)) row.told (events ts) (answers ts) whole in
       let rest = all_in key v new ts done.1 others later in
       record {
         publishes = row.publish ∷ rest.publishes;
         asks = (row.asks, rest.asks);
-        are = ap (λ es. es ++ events ts) row.event ∙ ap (λ es. Asked (Put key row.publish) ∷ es) rest.are;
+        are = ap (λ es. es ++ events ts) row.event ∙ ap (λ es. Requested (Put key row.publish) ∷ es) rest.are;
         accepts = subst (λ xs. AllAccepted (xs ++ answers ts)) (sym row.answer) (row.accepts, rest.accepts);
       }
 
@@ -270,14 +270,14 @@ module _ (files : List ℕ → Option (Option (List ℕ))) where
         ]
 
     -- a row that is done again with another key asks the same publish
-    asked_again : (key : List ℕ) (l : Line) (p : Publish) (ask : Ask) (answer : Answer) → Asks l p
-        → IsDone files key l (Answers ask answer) → ask ≡ Put key p
-    asked_again key l p ask answer asks (b, had, is) =
-        is ∙ ap (spec.ask_of key l) (same_body l b asks.body asks.readable had asks.had) ∙ asks.asks key
+    asked_again : (key : List ℕ) (l : Line) (p : Publish) (request : Request) (answer : Answer) → Asks l p
+        → IsDone files key l (Answers request answer) → request ≡ Put key p
+    asked_again key l p request answer asks (b, had, is) =
+        is ∙ ap (spec.request_of key l) (same_body l b asks.body asks.readable had asks.had) ∙ asks.asks key
 
     -- the answer of a row, or a fault if the machine was not asked
     abbrev answer_in : Done → Answer
-    answer_in (Answers ask answer) = answer
+    answer_in (Answers request answer) = answer
     answer_in HasNoFile = Failed Memory
     answer_in Unfetched = Failed Memory
 
@@ -291,13 +291,13 @@ module _ (files : List ℕ → Option (Option (List ℕ))) where
     one_again : (key : List ℕ) (w new : World) (l : Line) (d : Done) (p : Publish) (es fs : List Event)
         (told more : List Answer) → Asks l p → IsDone files key l d
         → ((v : World) → Run v es told new → Run v fs more new) → Run w (events_of d ++ es) (answers_of d ++ told) new
-        → Run w (Asked (Put key p) ∷ fs) (answer_in d ∷ more) new
-    one_again key w new l (Answers ask (Replied r)) p es fs told more asks done go run =
-        let same = asked_again key l p ask (Replied r) asks done in
-        let whole : Run w (Asked (Put key p) ∷ es) (Replied r ∷ told) new =
-        subst (λ (a : Ask). Run w (Asked a ∷ es) (Replied r ∷ told) new) same run in
-        (whole.0, go (after w (Asked (Put key p))) whole.1)
-    one_again key w new l (Answers ask (Failed fault)) p es fs told more asks done go run = go w run
+        → Run w (Requested (Put key p) ∷ fs) (answer_in d ∷ more) new
+    one_again key w new l (Answers request (Replied r)) p es fs told more asks done go run =
+        let same = asked_again key l p request (Replied r) asks done in
+        let whole : Run w (Requested (Put key p) ∷ es) (Replied r ∷ told) new =
+        subst (λ (a : Request). Run w (Requested a ∷ es) (Replied r ∷ told) new) same run in
+        (whole.0, go (after w (Requested (Put key p))) whole.1)
+    one_again key w new l (Answers request (Failed fault)) p es fs told more asks done go run = go w run
     one_again key w new l HasNoFile p es fs told more asks done go run = absurd (has_files l p asks done)
     one_again key w new l Unfetched p es fs told more asks done go run = go w run
 
@@ -319,10 +319,10 @@ module _ (files : List ℕ → Option (Option (List ℕ))) where
     repeat : (key : List ℕ) (l : Line) (d : Done) (p : Publish) → Asks l p → IsDone files key l d
         → (answer_in d ≡ Replied (reply.Decided decision.Same)) ⊎ IsFailed (answer_in d)
         → (outcome_of d ≡ outcome.Answered fixed.AlreadyPublished) ⊎ (outcome_of d ≡ outcome.Answered fixed.Unavailable)
-    repeat key l (Answers ask (Replied r)) p asks done (inl same) =
+    repeat key l (Answers request (Replied r)) p asks done (inl same) =
         inl (ap (λ a. outcome.Answered (spec.fixed_answer a)) same)
-    repeat key l (Answers ask (Replied r)) p asks done (inr fails) = absurd fails
-    repeat key l (Answers ask (Failed fault)) p asks done got = inr refl
+    repeat key l (Answers request (Replied r)) p asks done (inr fails) = absurd fails
+    repeat key l (Answers request (Failed fault)) p asks done got = inr refl
     repeat key l HasNoFile p asks done got = absurd (has_files l p asks done)
     repeat key l Unfetched p asks done got = inr refl
 

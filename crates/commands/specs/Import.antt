@@ -8,10 +8,10 @@ use Rattle.engine.specs.declared.fault.Io.{Io}
 use Rattle.engine.specs.declared.fault.Io.TheVariants as io
 use Rattle.machine.specs.Machine.{MetDevice}
 use Rattle.machine.specs.Runs.{Runs}
-use Rattle.machine.specs.declared.ask.Ask.{Ask}
-use Rattle.machine.specs.declared.ask.Body.{Body}
-use Rattle.machine.specs.declared.ask.Event.{Event}
-use Rattle.machine.specs.declared.ask.Event.TheVariants.{Asked}
+use Rattle.machine.specs.declared.request.Request.{Request}
+use Rattle.machine.specs.declared.request.Body.{Body}
+use Rattle.machine.specs.declared.request.Event.{Event}
+use Rattle.machine.specs.declared.request.Event.TheVariants.{Requested}
 use Rattle.machine.specs.declared.reply.Answer.{Answer}
 use Rattle.machine.specs.declared.reply.Answer.TheVariants.{Replied, Failed}
 use Rattle.wire.specs.declared.reply.Fixed.{Fixed}
@@ -40,13 +40,13 @@ time_of [] = None
 time_of (c ∷ cs) = Some (c ∷ cs)
 
 -- what a row asks of the machine, with these files
-abbrev pub ask_of : List ℕ → Line → Body → Ask
-ask_of key l body = asked key l.path l.version (time_of l.time) body
+abbrev pub request_of : List ℕ → Line → Body → Request
+request_of key l body = asked key l.path l.version (time_of l.time) body
 
 -- what was done with a row: the machine was asked and answered, a file could not be read, or memory ran out for the
 -- files
 pub data Done : Type 0 where
-  Answers : Ask → Answer → Done
+  Answers : Request → Answer → Done
   HasNoFile : Done
   Unfetched : Done
 
@@ -57,12 +57,12 @@ pub record DoneRow : Type 0 where
 
 -- the publish that the machine was asked, and its answer
 abbrev pub events_of : Done → List Event
-events_of (Answers ask answer) = Asked ask ∷ []
+events_of (Answers request answer) = Requested request ∷ []
 events_of HasNoFile = []
 events_of Unfetched = []
 
 abbrev pub answers_of : Done → List Answer
-answers_of (Answers ask answer) = answer ∷ []
+answers_of (Answers request answer) = answer ∷ []
 answers_of HasNoFile = []
 answers_of Unfetched = []
 
@@ -80,14 +80,14 @@ fixed_answer (Replied reply) = answer_of (Ok reply)
 fixed_answer (Failed fault) = answer_of (Err fault)
 
 abbrev pub outcome_of : Done → RowOutcome
-outcome_of (Answers ask answer) = outcome.Answered (fixed_answer answer)
+outcome_of (Answers request answer) = outcome.Answered (fixed_answer answer)
 outcome_of HasNoFile = outcome.NoFile
 outcome_of Unfetched = outcome.Answered Unavailable
 
 module _ (files : List ℕ → Option (Option (List ℕ))) (key : List ℕ) where
   -- this could be done with the row, by what is known of its files
   abbrev pub IsDone : Line → Done → Type 0
-  IsDone l (Answers ask answer) = (body : Body) × IsBodyOf files l (Ok body) × (ask ≡ ask_of key l body)
+  IsDone l (Answers request answer) = (body : Body) × IsBodyOf files l (Ok body) × (request ≡ request_of key l body)
   IsDone l HasNoFile = IsBodyOf files l (Err source.NoFile)
   IsDone l Unfetched = Unit {0}
 
@@ -204,10 +204,10 @@ pub record Imports
 
 -- ---- its steps
 
--- an ask was answered as the machine answers it, or met a fault
-pub record Publishes (old new : Shown) (ask : Ask) (answer : Fixed) : Type 0 where
+-- a request was answered as the machine answers it, or met a fault
+pub record Publishes (old new : Shown) (request : Request) (answer : Fixed) : Type 0 where
   pub told : Answer
-  pub runs : Runs old new (Asked ask ∷ []) (told ∷ [])
+  pub runs : Runs old new (Requested request ∷ []) (told ∷ [])
   pub is : answer ≡ fixed_answer told
   pub no_fewer : old.failures ≤ new.failures
   pub device : MetDevice (told ∷ []) → GrewOrFull old.failures new.failures

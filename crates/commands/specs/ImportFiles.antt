@@ -1,7 +1,7 @@
 -- The files of a row.
 use Rattle.std.specs.Prelude.{ℕ, List, ◌≡◌, ◌⊎◌, true, ◌&&◌, is_some, Option, Result, Ok, Err}
 use Rattle.modver.specs.Reading.{version_of}
-use Rattle.machine.specs.declared.ask.Body.{Body}
+use Rattle.machine.specs.declared.request.Body.{Body}
 use Rattle.world.specs.Forms.{path_of}
 use Rattle.world.specs.World.{gomod_limit, zip_limit}
 use Rattle.commands.specs.ImportList.{Line}

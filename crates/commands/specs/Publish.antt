@@ -5,18 +5,18 @@ use Rattle.std.specs.Option.{option_copied}
 use Rattle.std.specs.Io.KnownBytes.{Appends}
 use Rattle.modver.specs.Reading.{version_of}
 use Rattle.modver.specs.SemanticVersion.{SemanticVersion}
-use Rattle.machine.specs.Machine.{ask_reply, after_ask}
+use Rattle.machine.specs.Machine.{request_reply, after_request}
 use Rattle.world.specs.Forms.{path_of}
 use Rattle.world.specs.Store.{Shown, Does}
-use Rattle.machine.specs.declared.ask.Ask.{Ask}
-use Rattle.machine.specs.declared.ask.Ask.TheVariants.{Unreadable, Put}
-use Rattle.machine.specs.declared.ask.Body.{Body}
-use Rattle.machine.specs.declared.ask.GivenTime.{GivenTime}
-use Rattle.machine.specs.declared.ask.GivenTime.TheVariants.{Absent}
+use Rattle.machine.specs.declared.request.Request.{Request}
+use Rattle.machine.specs.declared.request.Request.TheVariants.{Unreadable, Put}
+use Rattle.machine.specs.declared.request.Body.{Body}
+use Rattle.machine.specs.declared.request.GivenTime.{GivenTime}
+use Rattle.machine.specs.declared.request.GivenTime.TheVariants.{Absent}
 use Rattle.machine.specs.declared.reply.Reply.{Reply}
 use Rattle.machine.specs.declared.reply.Reply.TheVariants as reply
 use Rattle.world.specs.declared.registry.StoreFault.{StoreFault}
-use Rattle.engine.specs.Ask.{time_in}
+use Rattle.engine.specs.Request.{time_in}
 use Rattle.engine.specs.Reply.{fixed_of}
 use Rattle.wire.specs.Reply.{line_bytes, fixed_status}
 use Rattle.wire.specs.declared.reply.Fixed.{Fixed}
@@ -34,17 +34,17 @@ given_time None = Absent
 given_time (Some text) = time_in text
 
 -- a publish of the files at a path and a version, if both are valid, and otherwise an unreadable request
-abbrev pub asked_at : List ℕ → Option (List ℕ) → Option SemanticVersion → GivenTime → Body → Ask
+abbrev pub asked_at : List ℕ → Option (List ℕ) → Option SemanticVersion → GivenTime → Body → Request
 asked_at key (Some path) (Some version) time body =
     Put key (record { path = path; version = version; body = Some body; time = time })
 asked_at key path version time body = Unreadable
 
 -- what a publish asks of the machine, with a path and a version that are not escaped
-abbrev pub asked : List ℕ → List ℕ → List ℕ → Option (List ℕ) → Body → Ask
+abbrev pub asked : List ℕ → List ℕ → List ℕ → Option (List ℕ) → Body → Request
 asked key path version time body = asked_at key (path_of path) (version_of version) (given_time time) body
 
 -- what a publish by these words asks of the machine
-abbrev pub asked_by : Words → Body → Ask
+abbrev pub asked_by : Words → Body → Request
 asked_by words body = asked words.key.now words.path.now words.version.now (option_copied words.time) body
 
 -- the fixed answer to a publish: the 503 if the store met a fault
@@ -72,18 +72,19 @@ PrintsAnswer answer written written_new result =
 -- From old to new the store did what was asked, as the machine does in each world that it stood for, or met a fault (or
 -- memory ran out before that) and changed nothing; and the line of the answer was printed.
 pub record PublishesAndTells
-    (old new : Shown) (ask : Ask) (written written_new : Option (List ℕ)) (result : Result Bool CommandRefusal) : Type 0
+    (old new : Shown) (request : Request) (written written_new : Option (List ℕ))
+    (result : Result Bool CommandRefusal) : Type 0
   where
     pub told : Result Reply StoreFault
-    pub does : Does old new told (λ w. ask_reply w ask) (λ w. after_ask w ask)
+    pub does : Does old new told (λ w. request_reply w request) (λ w. after_request w request)
     pub tells : PrintsAnswer (answer_of told) written written_new result
 
-module _ {S : Type 0} (shown : S → Shown) (old new : S) (ask : Body → Ask) where
+module _ {S : Type 0} (shown : S → Shown) (old new : S) (request : Body → Request) where
   -- How a publish ends, by how its two files were read. If they were, they are published, and the outcome is printed.
   -- If memory ran out, the 503 is printed; if one can't be read, nothing is; and the store stays as it was.
   abbrev pub EndsBy : Option (List ℕ) → Option (List ℕ) → Result Bool CommandRefusal → Result Body FileFault → Type 0
   EndsBy written written_new result (Ok body) =
-      PublishesAndTells (shown old) (shown new) (ask body) written written_new result
+      PublishesAndTells (shown old) (shown new) (request body) written written_new result
   EndsBy written written_new result (Err file.Memory) = (new ≡ old)
       × PrintsAnswer fixed.Unavailable written written_new result
   EndsBy written written_new result (Err file.Io) = (new ≡ old) × (written_new ≡ written) × (result ≡ Err Io)

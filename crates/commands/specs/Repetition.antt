@@ -4,7 +4,7 @@ use Rattle.std.specs.List.{list_all}
 use Rattle.std.specs.FinMap as map
 use Rattle.machine.specs.Isolation.{belongs}
 use Rattle.machine.specs.Machine.{Run}
-use Rattle.machine.specs.declared.ask.Event.{Event}
+use Rattle.machine.specs.declared.request.Event.{Event}
 use Rattle.machine.specs.declared.reply.Answer.{Answer}
 use Rattle.wire.specs.declared.reply.Fixed.TheVariants.{AlreadyPublished, Unavailable}
 use Rattle.world.specs.World.{World, IsWorld}

@@ -13,7 +13,7 @@ use crate::sources::{SourceFault, Sources};
 use csv::{Reader, StringRecord};
 use engine::Io;
 use histories::Tell;
-use machine::ask::Body;
+use machine::request::Body;
 use std::alloc::Global;
 use std::io::{Read, Write};
 use wire::reply::Fixed;
@@ -200,7 +200,7 @@ fn publish_row<S: Shelves>(
     body: Body,
 ) -> Fixed
     ensures { spec.Publishes (S.shown shelves.old) (S.shown shelves.new)
-        (spec.ask_of key.now (line_of_row row.now) body) result }
+        (spec.request_of key.now (line_of_row row.now) body) result }
 {
     let words = Words {
         key,

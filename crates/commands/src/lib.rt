@@ -12,7 +12,7 @@
 //! | `requires` | prints what a version requires | [`report`], [`requirements`] |
 //! | `key-list`, `shelf-list` | prints a line for each key, or for each shelf | [`report`] |
 //! | `answer` | answers the requests of a reader from a store, or from shelves in memory | [`answer`], [`memory`] |
-//! | `serve` | prints its port, answers a request of each connection, and carries out orders between them | [`serve`] |
+//! | `serve` | prints where it listens, answers each connection's message, and obeys orders between them | [`serve`] |
 //! | with `--control`; `copy`, `stop` | sends an order to a running `serve`, and ends by its outcome | [`order`] |
 //! | `key-list`, `shelf-list` with `--control` | asks a running `serve` for the list, and prints it | [`listing`] |
 //! | `ping` | asks a running `serve` for its health, and prints the line | [`ping`] |

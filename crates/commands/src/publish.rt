@@ -1,7 +1,7 @@
 //! A publish of a version from files.
 ghost use Rattle.std.specs.Prelude.{◌≡◌, ◌⊎◌, [], option_copied, Err, IfErr, IfOk, OnOk};
 ghost use Rattle.engine.specs.Causes.{FailsWith};
-ghost use Rattle.machine.specs.Machine.{ask_reply, after_ask};
+ghost use Rattle.machine.specs.Machine.{request_reply, after_request};
 ghost use Rattle.world.specs.Store.{Does};
 ghost use Rattle.commands.specs.Printed.{FailsEarlyOrByOutput, HasFailed, PrintsText};
 ghost use Rattle.commands.specs.Publish as spec;
@@ -12,8 +12,8 @@ use crate::refusal::CommandRefusal;
 use engine::Io;
 use engine::page::fixed_of;
 use histories::Tell;
-use machine::ask::{Ask, Body, GivenTime, Publish};
 use machine::reply::Reply;
+use machine::request::{Body, GivenTime, Publish, Request};
 use machine::step::step;
 use modver::read_time;
 use std::alloc::{AllocError, Global};
@@ -123,22 +123,22 @@ pub(crate) fn publish_by<S: Shelves>(
     body: Body,
 ) -> Result<Reply, StoreFault>
     ensures { Does (S.shown shelves.old) (S.shown shelves.new) result
-        (λ w. ask_reply w (spec.asked_by words.now body)) (λ w. after_ask w (spec.asked_by words.now body)) }
+        (λ w. request_reply w (spec.asked_by words.now body)) (λ w. after_request w (spec.asked_by words.now body)) }
 {
-    let ask = ask_of(alloc, words, body)?;
-    step(alloc, shelves, &ask)
+    let request = request_of(alloc, words, body)?;
+    step(alloc, shelves, &request)
 }
 
 /// Returns what a publish of files asks of the machine: `Unreadable` if the path or the version is invalid. Fails only
 /// if memory runs out.
-fn ask_of(alloc: Global, words: &Words, body: Body) -> Result<Ask, AllocError>
-    ensures { IfOk result (λ ask. ask ≡ spec.asked_by words.now body) }
+fn request_of(alloc: Global, words: &Words, body: Body) -> Result<Request, AllocError>
+    ensures { IfOk result (λ request. request ≡ spec.asked_by words.now body) }
 {
     let Some(path) = path_of(alloc, words.path)? else {
-        return Ok(Ask::Unreadable);
+        return Ok(Request::Unreadable);
     };
     let Some(version) = version_of(alloc, words.version)? else {
-        return Ok(Ask::Unreadable);
+        return Ok(Request::Unreadable);
     };
     let key = Text::copy_of(alloc, words.key)?;
     let publish = Publish {
@@ -147,7 +147,7 @@ fn ask_of(alloc: Global, words: &Words, body: Body) -> Result<Ask, AllocError>
         body: Some(body),
         time: given_time(words.time),
     };
-    Ok(Ask::Put { key, publish })
+    Ok(Request::Put { key, publish })
 }
 
 /// Returns the time that the text writes, `Malformed` if it writes none, or `Absent` without a text.

@@ -2,7 +2,7 @@
 use Rattle.std.proofs.Common.{◌≡◌, List, [], ◌∷◌, ◌++◌, refl, sym, subst, Ok, Err}
 use Rattle.world.specs.World.{World}
 use Rattle.world.specs.Store.{Shown}
-use Rattle.framing.specs.Message.{Request}
+use Rattle.framing.specs.Message.{MessageView}
 use Rattle.engine.specs.Exchange.{Outcome, Unserved, Met, Served}
 use Rattle.control.specs.Turns.{Turn, Asked, Ordered, LeavesTwo, AllCalm, world_at}
 
@@ -14,7 +14,7 @@ leaves_still mid new still w (t ∷ []) leaves = still w _ leaves
 leaves_still mid new still w (t ∷ u ∷ more) leaves = λ calm.
     leaves_still mid new still (world_at w (t ∷ [])) (u ∷ more) (leaves calm)
 
-step_asked : (w : World) (m : Request) (o : Outcome) (ts : List Turn)
+step_asked : (w : World) (m : MessageView) (o : Outcome) (ts : List Turn)
     → world_at (world_at w (Asked (record { message = m; outcome = o }) ∷ [])) ts
     ≡ world_at w (Asked (record { message = m; outcome = o }) ∷ ts)
 step_asked w m Unserved ts = refl

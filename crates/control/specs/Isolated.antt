@@ -5,14 +5,14 @@ use Rattle.world.specs.Store.{Shown}
 use Rattle.machine.specs.declared.reply.Answer.{Answer}
 use Rattle.machine.specs.declared.reply.Answer.TheVariants.{Replied, Failed}
 use Rattle.machine.specs.Isolation.{remaining, marked, Agree}
-use Rattle.engine.specs.Happening.{Coming, coming_of}
+use Rattle.engine.specs.AnsweredEvent.{EventOrigin, origin_of}
 use Rattle.engine.specs.Reply.{text_of}
 use Rattle.control.specs.Outcome.{outcome_of, line_of}
-use Rattle.control.specs.Turns.{Turn, Asked, Ordered, happening_of, turn_event, turn_answer, world_at, GoesThroughTurns}
+use Rattle.control.specs.Turns.{Turn, Asked, Ordered, answered_of, turn_event, turn_answer, world_at, GoesThroughTurns}
 
 -- what came: a message, or the event of an order
-abbrev pub coming_at : Turn → Coming
-coming_at t = coming_of (happening_of t)
+abbrev pub origin_at : Turn → EventOrigin
+origin_at t = origin_of (answered_of t)
 
 -- what is written for it: the bytes for a message, or the line of an order's outcome
 abbrev pub text_at : Turn → List ℕ
@@ -59,5 +59,5 @@ pub record AreAnsweredAlike (new new_too : Shown) (w x : World) (s : List ℕ) (
 abbrev pub TurnsAreAnsweredAlike : Shown → Shown → Shown → Shown → Type 0
 TurnsAreAnsweredAlike old new old_too new_too =
     (w x : World) (s : List ℕ) (full purged : List Turn) → AreTwoRuns old new old_too new_too w x s full purged
-    → map coming_at (faultless purged) ≡ marked (remaining_for w s full) (map coming_at (faultless full))
+    → map origin_at (faultless purged) ≡ marked (remaining_for w s full) (map origin_at (faultless full))
     → AreAnsweredAlike new new_too w x s full purged

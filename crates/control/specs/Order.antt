@@ -1,7 +1,7 @@
 -- Orders, their lines, and what they do.
 use Rattle.std.specs.Prelude.{ℕ, ◌≢◌, List, codes, Some, None, option_copied}
-use Rattle.machine.specs.declared.ask.Event.{Event}
-use Rattle.machine.specs.declared.ask.Event.TheVariants as event
+use Rattle.machine.specs.declared.request.Event.{Event}
+use Rattle.machine.specs.declared.request.Event.TheVariants as event
 use Rattle.world.specs.World.{World}
 use Rattle.world.specs.Registry.{team_added, group_added, key_added, key_revoked, keys_revoked}
 use Rattle.world.specs.declared.entry.Right.{Right}

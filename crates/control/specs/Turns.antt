@@ -1,6 +1,6 @@
 -- What a store goes through while peers send requests and operators send orders.
 use Rattle.std.specs.Prelude.{ℕ, ◌≡◌, ◌≤◌, ◌+◌, ◌⊎◌, Bool, true, false, List, [], ◌∷◌, map, Result, Ok, Err}
-use Rattle.machine.specs.declared.ask.Event.{Event}
+use Rattle.machine.specs.declared.request.Event.{Event}
 use Rattle.machine.specs.declared.reply.Answer.{Answer}
 use Rattle.machine.specs.declared.reply.Answer.TheVariants.{Replied, Failed}
 use Rattle.machine.specs.declared.reply.Reply.TheVariants.{Registry}
@@ -11,7 +11,7 @@ use Rattle.world.specs.Store.{Shown, GrewOrFull}
 use Rattle.world.specs.declared.registry.RegistryReply.{RegistryReply}
 use Rattle.world.specs.declared.registry.StoreFault.{StoreFault}
 use Rattle.engine.specs.Exchange.{Exchange, IsUnmet, answer_of as answer_to_message}
-use Rattle.engine.specs.Happening.{Happening, Message, Command, event_at, answer_at}
+use Rattle.engine.specs.AnsweredEvent.{AnsweredEvent, Message, Command, event_at, answer_at}
 use Rattle.control.specs.Order.{event_of}
 use Rattle.control.specs.declared.order.Order.{Order}
 
@@ -25,15 +25,15 @@ answer_to_order (Ok r) = Replied (Registry r)
 answer_to_order (Err fault) = Failed fault
 
 -- what came to the store, and its answer
-abbrev pub happening_of : Turn → Happening
-happening_of (Asked x) = record { coming = Message x.message; answer = answer_to_message x }
-happening_of (Ordered order told) = record { coming = Command (event_of order); answer = answer_to_order told }
+abbrev pub answered_of : Turn → AnsweredEvent
+answered_of (Asked x) = record { origin = Message x.message; answer = answer_to_message x }
+answered_of (Ordered order told) = record { origin = Command (event_of order); answer = answer_to_order told }
 
 abbrev pub turn_event : Turn → Event
-turn_event t = event_at (happening_of t)
+turn_event t = event_at (answered_of t)
 
 abbrev pub turn_answer : Turn → Answer
-turn_answer t = answer_at (happening_of t)
+turn_answer t = answer_at (answered_of t)
 
 -- how many of them are messages
 abbrev pub messages : List Turn → ℕ

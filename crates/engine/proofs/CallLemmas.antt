@@ -3,7 +3,7 @@ use Rattle.std.proofs.Common.{◌≡◌, ◌≢◌, ◌⊎◌, ℕ, List, [], �
 use Rattle.std.proofs.Common.{Err, refl, ◌∙◌, sym, ap, subst, inl, inr, append-nil}
 use Rattle.std.specs.Prelude.{map}
 use Rattle.std.specs.List.{concat}
-use Rattle.framing.specs.Message.{Request, ReadsMessages, End, clean, too_large, bad, Ends, IsStream}
+use Rattle.framing.specs.Message.{MessageView, ReadsMessages, End, clean, too_large, bad, Ends, IsStream}
 use Rattle.framing.specs.Pieces.{AreMessages}
 use Rattle.wire.specs.declared.reply.Fixed.{Fixed}
 use Rattle.wire.specs.declared.reply.Fixed.TheVariants.{TooLarge, BadRequest, Unavailable}
@@ -13,7 +13,7 @@ use Rattle.world.specs.Store.{Shown}
 use Rattle.world.specs.World.{World, IsWorld, chain}
 use Rattle.machine.specs.Machine.{Run}
 use Rattle.machine.specs.Isolation.{remaining, marked, Agree}
-use Rattle.machine.specs.Parts.{AllAsked}
+use Rattle.machine.specs.Parts.{AllRequested}
 use Rattle.machine.proofs.Chains.{Later}
 use Rattle.machine.proofs.Isolated.{ends_later}
 use Rattle.machine.proofs.Parts.{later_than_asked}
@@ -31,7 +31,8 @@ use Rattle.engine.proofs.PurgedLemmas.{remaining_messages, remaining_texts, even
 
 -- ---- the stream without some pieces
 
-marked_messages : (marks : List Bool) (pieces : List (List ℕ)) (messages : List Request) → AreMessages pieces messages
+marked_messages : (marks : List Bool) (pieces : List (List ℕ)) (messages : List MessageView)
+    → AreMessages pieces messages
     → AreMessages (marked marks pieces) (marked marks messages)
 marked_messages [] pieces messages are = tt
 marked_messages (mark ∷ marks) [] (m ∷ ms) are = absurd are
@@ -57,13 +58,13 @@ texts_joined [] = refl
 texts_joined (x ∷ xs) = ap (λ texts. text_of x ++ texts) (texts_joined xs)
 
 -- a call answered each message of the stream
-record CameToTheEnd (messages : List Request) (end : End) (xs : List Exchange) (out : List ℕ) : Type 0 where
+record CameToTheEnd (messages : List MessageView) (end : End) (xs : List Exchange) (out : List ℕ) : Type 0 where
   all : map message_of xs ≡ messages
   wrote : out ≡ concat (map text_of xs) ++ end_bytes end
 
 -- a call that returned `Ok` and did not close with the 503 answered each message of its stream
 came_to_the_end : (old new : Shown) (bytes : List ℕ) (unread written written_new : Option (List ℕ))
-    (messages : List Request) (end : End)
+    (messages : List MessageView) (end : End)
     → IsStream bytes messages end → (call : Serves old new (Some bytes) unread written written_new (Ok tt))
     → call.ends.1.0 ≢ Some Unavailable → CameToTheEnd messages end call.exchanges call.out
 came_to_the_end old new bytes unread written written_new messages end stream call other =
@@ -78,22 +79,23 @@ came_to_the_end old new bytes unread written written_new messages end stream cal
     }
 
 -- the marks of a whole stream leave the same texts of its first exchanges as the marks of these
-texts_remaining : (w : World) (ss : List (List ℕ)) (messages : List Request) (xs : List Exchange) (left : List Request)
+texts_remaining : (w : World) (ss : List (List ℕ)) (messages : List MessageView) (xs : List Exchange)
+    (left : List MessageView)
     → messages ≡ map message_of xs ++ left
     → marked (remaining_for w ss messages) (map text_of xs) ≡ remaining_texts w ss xs
 texts_remaining w ss messages xs left is =
     ap (λ ms. marked (remaining_for w ss ms) (map text_of xs)) is ∙ marks_front w ss xs left
 
-messages_remaining : (w : World) (ss : List (List ℕ)) (messages : List Request) (xs : List Exchange)
+messages_remaining : (w : World) (ss : List (List ℕ)) (messages : List MessageView) (xs : List Exchange)
     → map message_of xs ≡ messages
     → marked (remaining_for w ss messages) messages ≡ remaining_messages w ss xs
 messages_remaining w ss messages xs is =
     ap (λ ms. marked (remaining_for w ss ms) ms) (sym is)
     ∙ ap (λ es. marked (remaining w ss es) (map message_of xs)) (sym (events_are xs))
 
-all_asked : (xs : List Exchange) → AllAsked (map event_of xs)
-all_asked [] = tt
-all_asked (x ∷ xs) = all_asked xs
+all_requested : (xs : List Exchange) → AllRequested (map event_of xs)
+all_requested [] = tt
+all_requested (x ∷ xs) = all_requested xs
 
 -- two calls wrote the same texts for the remaining messages, and their worlds agree, by what s sees in a later world
 -- than the first;
@@ -106,7 +108,7 @@ calls_alike : (w x one two later : World) (s : List ℕ) (full purged : List Exc
     → (map text_of purged ≡ remaining_texts w (chain later s) full) × Agree one two (chain later s)
 calls_alike w x one two later s full purged is then agree run again same others none =
     exchanges_alike w x one two later s full purged is
-    (later_than_asked w one later (map event_of full) (map answer_of full) (all_asked full) run then) agree run
+    (later_than_asked w one later (map event_of full) (map answer_of full) (all_requested full) run then) agree run
     again same others none
 
 -- two calls that both came to the end of their streams wrote alike
@@ -161,9 +163,9 @@ input_begins bytes unread xs input rest out (Err io.Write) (tells, broken) = ([]
 -- the messages that a call answered are the first of its stream
 first_messages : (old new : Shown) (bytes : List ℕ) (unread written written_new : Option (List ℕ))
     (result : Result (Unit {0}) Io)
-    (messages : List Request) (end : End) → IsStream bytes messages end
+    (messages : List MessageView) (end : End) → IsStream bytes messages end
     → (call : Serves old new (Some bytes) unread written written_new result)
-    → (left : List Request) × (messages ≡ map message_of call.exchanges ++ left)
+    → (left : List MessageView) × (messages ≡ map message_of call.exchanges ++ left)
 first_messages old new bytes unread written written_new result messages end stream call =
     let begins = input_begins bytes unread call.exchanges call.input call.rest call.out result call.ends in
     let reads = ReadsMessages-append call.input (map message_of call.exchanges) call.rest begins.0 call.reads in

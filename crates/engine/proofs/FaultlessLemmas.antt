@@ -1,23 +1,23 @@
--- The happenings that met no fault, by the events that were answered and their replies.
+-- The answered events that met no fault, by their events and their replies.
 use Rattle.std.proofs.Common.{◌≡◌, List, [], ◌∷◌, Bool, true, false, refl, ◌∙◌, sym, ap}
 use Rattle.std.specs.Prelude.{ℕ, map}
 use Rattle.world.specs.World.{World}
-use Rattle.machine.specs.declared.ask.Event.{Event}
+use Rattle.machine.specs.declared.request.Event.{Event}
 use Rattle.machine.specs.declared.reply.Reply.{Reply}
 use Rattle.machine.specs.declared.reply.Answer.{Answer}
 use Rattle.machine.specs.declared.reply.Answer.TheVariants.{Replied, Failed}
 use Rattle.machine.specs.Machine.{Run, replies, replies_of, answered, after, after_all, reply_to}
 use Rattle.machine.specs.Isolation.{marked}
-use Rattle.engine.specs.Happening.{Coming, Happening, event_in, coming_of, event_at, answer_at, faultless}
+use Rattle.engine.specs.AnsweredEvent.{EventOrigin, AnsweredEvent, event_in, origin_of, event_at, answer_at, faultless}
 
-pub events_are : (xs : List Happening) → map event_at xs ≡ map event_in (map coming_of xs)
+pub events_are : (xs : List AnsweredEvent) → map event_at xs ≡ map event_in (map origin_of xs)
 events_are [] = refl
 events_are (x ∷ xs) = ap (λ es. event_at x ∷ es) (events_are xs)
 
-abbrev EventsAgree : List Happening → Type 0
+abbrev EventsAgree : List AnsweredEvent → Type 0
 EventsAgree xs = answered (map event_at xs) (map answer_at xs) ≡ map event_at (faultless xs)
 
-pub faultless_events : (xs : List Happening) → EventsAgree xs
+pub faultless_events : (xs : List AnsweredEvent) → EventsAgree xs
 faultless_events [] = refl
 faultless_events (x ∷ xs) = go x.answer refl (faultless_events xs)
   where
@@ -27,7 +27,7 @@ faultless_events (x ∷ xs) = go x.answer refl (faultless_events xs)
 
 -- ---- the marked events
 
-pub marked_events : (marks : List Bool) (cs : List Coming)
+pub marked_events : (marks : List Bool) (cs : List EventOrigin)
     → marked marks (map event_in cs) ≡ map event_in (marked marks cs)
 marked_events [] cs = refl
 marked_events (true ∷ marks) [] = refl
@@ -37,31 +37,31 @@ marked_events (false ∷ marks) (c ∷ cs) = marked_events marks cs
 
 -- ---- the texts for what came, by the answers
 
-module _ (text_for : Coming → Answer → List ℕ) where
-  abbrev pub text_to : Happening → List ℕ
-  text_to h = text_for h.coming h.answer
+module _ (text_for : EventOrigin → Answer → List ℕ) where
+  abbrev pub text_to : AnsweredEvent → List ℕ
+  text_to h = text_for h.origin h.answer
 
   -- the texts for what came, by the replies
-  abbrev pub texts : List Coming → List Reply → List (List ℕ)
+  abbrev pub texts : List EventOrigin → List Reply → List (List ℕ)
   texts (c ∷ cs) (r ∷ rs) = text_for c (Replied r) ∷ texts cs rs
   texts cs rs = []
 
-  abbrev TextsAgree : List Happening → Type 0
-  TextsAgree xs = map text_to (faultless xs) ≡ texts (map coming_of (faultless xs)) (replies_of (map answer_at xs))
+  abbrev TextsAgree : List AnsweredEvent → Type 0
+  TextsAgree xs = map text_to (faultless xs) ≡ texts (map origin_of (faultless xs)) (replies_of (map answer_at xs))
 
-  pub faultless_texts : (xs : List Happening) → TextsAgree xs
+  pub faultless_texts : (xs : List AnsweredEvent) → TextsAgree xs
   faultless_texts [] = refl
   faultless_texts (x ∷ xs) = go x.answer refl (faultless_texts xs)
     where
       go : (a : Answer) → x.answer ≡ a → TextsAgree xs → TextsAgree (x ∷ xs)
       go (Failed fault) is rest = rw is rest
-      go (Replied r) is rest = rw is (ap (λ ts. text_for x.coming (Replied r) ∷ ts) rest)
+      go (Replied r) is rest = rw is (ap (λ ts. text_for x.origin (Replied r) ∷ ts) rest)
 
-  none : (cs : List Coming) → texts cs [] ≡ []
+  none : (cs : List EventOrigin) → texts cs [] ≡ []
   none [] = refl
   none (c ∷ cs) = refl
 
-  pub marked_texts : (marks : List Bool) (cs : List Coming) (rs : List Reply)
+  pub marked_texts : (marks : List Bool) (cs : List EventOrigin) (rs : List Reply)
       → marked marks (texts cs rs) ≡ texts (marked marks cs) (marked marks rs)
   marked_texts [] cs rs = refl
   marked_texts (true ∷ marks) [] rs = refl

@@ -1,12 +1,12 @@
 -- The front of a run, and the front of what remains of it.
 use Rattle.std.proofs.Common.{◌≡◌, ◌⊎◌, ℕ, List, [], ◌∷◌, ◌++◌, Bool, true, false, refl, ◌∙◌, sym, ap, inl, inr}
 use Rattle.std.specs.Prelude.{map}
-use Rattle.framing.specs.Message.{Request}
+use Rattle.framing.specs.Message.{MessageView}
 use Rattle.world.specs.World.{World}
 use Rattle.machine.specs.declared.reply.Answer.TheVariants.{Replied, Failed}
 use Rattle.machine.specs.Machine.{Run, after}
 use Rattle.machine.specs.Isolation.{is_remaining, remaining, marked}
-use Rattle.engine.specs.Ask as spec
+use Rattle.engine.specs.Request as spec
 use Rattle.engine.specs.Exchange.{Exchange, message_of, event_of, answer_of}
 use Rattle.engine.specs.Reply.{text_of}
 use Rattle.engine.specs.Calls.{NoneUnavailable}
@@ -40,7 +40,7 @@ marked_nothing (true ∷ marks) = refl
 marked_nothing (false ∷ marks) = refl
 
 -- the marks of more messages leave the same texts of the first ones
-pub marks_front : (w : World) (ss : List (List ℕ)) (xs : List Exchange) (left : List Request)
+pub marks_front : (w : World) (ss : List (List ℕ)) (xs : List Exchange) (left : List MessageView)
     → marked (remaining w ss (map spec.event_of_message (map message_of xs ++ left))) (map text_of xs)
     ≡ remaining_texts w ss xs
 marks_front w ss [] left = marked_nothing (remaining w ss (map spec.event_of_message left))
@@ -83,12 +83,12 @@ EndsBefore w ss xs ys = (front more : List Exchange) × (xs ≡ front ++ more)
     × (map message_of ys ≡ remaining_messages w ss front)
 
 -- the remaining messages among these, if the mark of the first is b
-abbrev headed : World → List (List ℕ) → Exchange → List Exchange → Bool → List Request
+abbrev headed : World → List (List ℕ) → Exchange → List Exchange → Bool → List MessageView
 headed w ss x xs b = marked (b ∷ remaining (after w (event_of x)) ss (map event_of xs))
     (message_of x ∷ map message_of xs)
 
 -- of the exchanges with a stream and those with what remains of it, one list ends before the other or both end together
-pub either_ends : (w : World) (ss : List (List ℕ)) (xs ys : List Exchange) (left rest : List Request)
+pub either_ends : (w : World) (ss : List (List ℕ)) (xs ys : List Exchange) (left rest : List MessageView)
     → marked (remaining w ss (map spec.event_of_message (map message_of xs ++ left))) (map message_of xs ++ left)
     ≡ map message_of ys ++ rest
     → GoesAsFar w ss xs ys ⊎ EndsBefore w ss xs ys

@@ -4,14 +4,14 @@ use Rattle.std.proofs.Common.{arith}
 use Rattle.std.specs.Prelude.{map}
 use Rattle.std.specs.FinMap as fin
 use Rattle.modver.specs.SemanticVersion.{SemanticVersion, version_text}
-use Rattle.framing.specs.Message.{Request}
+use Rattle.framing.specs.Message.{MessageView}
 use Rattle.world.specs.declared.entry.Heading.{Heading}
 use Rattle.world.specs.declared.entry.Seen.{Seen}
 use Rattle.world.specs.World.{World, IsWorld, chain, view, without_zip, heading}
-use Rattle.machine.specs.declared.ask.Ask.TheVariants.{Get}
-use Rattle.machine.specs.declared.ask.Event.TheVariants.{Asked}
-use Rattle.machine.specs.declared.ask.Query.{Query}
-use Rattle.machine.specs.declared.ask.Query.TheVariants as query
+use Rattle.machine.specs.declared.request.Request.TheVariants.{Get}
+use Rattle.machine.specs.declared.request.Event.TheVariants.{Requested}
+use Rattle.machine.specs.declared.request.Query.{Query}
+use Rattle.machine.specs.declared.request.Query.TheVariants as query
 use Rattle.machine.specs.declared.reply.Answer.{Answer}
 use Rattle.machine.specs.declared.reply.Answer.TheVariants.{Replied, Failed}
 use Rattle.machine.specs.declared.reply.Reply.{Reply}
@@ -24,9 +24,10 @@ use Rattle.machine.specs.Immutability.{IsOfVersion, IsFound, IsFailed}
 use Rattle.machine.proofs.Isolated.{isolated}
 use Rattle.machine.proofs.Latest.{latest_is_the_top, none_is_latest}
 use Rattle.machine.proofs.Served.{stays_served}
-use Rattle.engine.specs.Ask as spec
+use Rattle.engine.specs.Request as spec
 use Rattle.engine.specs.Exchange.{event_of, answer_of}
-use Rattle.engine.specs.Happening.{Coming, Happening, event_in, text_in, coming_of, event_at, answer_at, faultless}
+use Rattle.engine.specs.AnsweredEvent.{EventOrigin, AnsweredEvent, event_in, text_in, origin_of, event_at, answer_at}
+use Rattle.engine.specs.AnsweredEvent.{faultless}
 use Rattle.engine.specs.Reply.{reply_page, page_of, page_for, page_bytes, page_status, bytes_of, text_of}
 use Rattle.engine.specs.Headline.{unavailable, CallersAreAnsweredAlike, BytesStayServed, TellsLatest, LatestIsWritten}
 use Rattle.engine.proofs.FaultlessLemmas.{text_to, texts, events_are, faultless_events, faultless_texts, marked_events}
@@ -35,19 +36,19 @@ use Rattle.engine.proofs.FaultlessLemmas.{marked_texts, IsExact, exact}
 -- ---- nothing about others
 
 -- two runs write the same texts for what remains, whatever text is written for what came and its answer
-pub alike_by : (text_for : Coming → Answer → List ℕ) (old old_too new new_too : World) (s : List ℕ)
-    (full purged : List Happening) → IsWorld old
+pub alike_by : (text_for : EventOrigin → Answer → List ℕ) (old old_too new new_too : World) (s : List ℕ)
+    (full purged : List AnsweredEvent) → IsWorld old
     → Agree old old_too (chain new s)
     → Run old (map event_at full) (map answer_at full) new
     → Run old_too (map event_at purged) (map answer_at purged) new_too
     → let marks : List Bool = remaining old (chain new s) (map event_at (faultless full)) in
-    map coming_of (faultless purged) ≡ marked marks (map coming_of (faultless full))
+    map origin_of (faultless purged) ≡ marked marks (map origin_of (faultless full))
     → (map (text_to text_for) (faultless purged) ≡ marked marks (map (text_to text_for) (faultless full)))
     × Agree new new_too (chain new s)
 alike_by text_for old old_too new new_too s full purged is agree run again same =
     let ss : List (List ℕ) = chain new s in
     let marks : List Bool = remaining old ss (map event_at (faultless full)) in
-    let cs : List Coming = map coming_of (faultless full) in
+    let cs : List EventOrigin = map origin_of (faultless full) in
     let rs : List Reply = replies_of (map answer_at full) in
     let heard : List Reply = replies_of (map answer_at purged) in
     let first : (marked marks rs ≡ replies old_too (marked marks (map event_at (faultless full))))
@@ -81,21 +82,22 @@ keyed : (w : World) (s k : List ℕ) (q : Query) (r : Reply) → belongs w k s �
 keyed w s k q r own is = is ∙ ap (λ o. keyed_reply w o q) own.1 ∙ ap (λ t. query_reply w t q) own.2
 
 -- a reply about a version with status 200 found the version
-found_gomod : (m : Request) (o : Option Heading) → page_status (page_of m (gomod_reply o)) ≡ 200
+found_gomod : (m : MessageView) (o : Option Heading) → page_status (page_of m (gomod_reply o)) ≡ 200
     → IsFound (gomod_reply o)
 found_gomod m None is = let wrong : ◌≡◌ {A = ℕ} 404 200 = is in absurd (omega arith)
 found_gomod m (Some shown) is = tt
 
-found_zip : (m : Request) (o : Option Seen) → page_status (page_of m (zip_reply o)) ≡ 200 → IsFound (zip_reply o)
+found_zip : (m : MessageView) (o : Option Seen) → page_status (page_of m (zip_reply o)) ≡ 200 → IsFound (zip_reply o)
 found_zip m None is = let wrong : ◌≡◌ {A = ℕ} 404 200 = is in absurd (omega arith)
 found_zip m (Some seen) is = tt
 
-found_info : (m : Request) (v : SemanticVersion) (o : Option Heading) → page_status (page_of m (info_reply v o)) ≡ 200
+found_info : (m : MessageView) (v : SemanticVersion) (o : Option Heading)
+    → page_status (page_of m (info_reply v o)) ≡ 200
     → IsFound (info_reply v o)
 found_info m v None is = let wrong : ◌≡◌ {A = ℕ} 404 200 = is in absurd (omega arith)
 found_info m v (Some shown) is = tt
 
-found_reply : (m : Request) (w : World) (s : List ℕ) (q : Query) → IsOfVersion q
+found_reply : (m : MessageView) (w : World) (s : List ℕ) (q : Query) → IsOfVersion q
     → page_status (page_of m (query_reply w s q)) ≡ 200
     → IsFound (query_reply w s q)
 found_reply m w s (query.GoMod p v) one is = found_gomod m (heading w s p (version_text v)) is
@@ -103,14 +105,14 @@ found_reply m w s (query.Zip p v) one is = found_zip m (view w s p (version_text
 found_reply m w s (query.Info p v) one is = found_info m v (heading w s p (version_text v)) is
 found_reply m w s q one is = absurd one
 
-found_bytes : (m n : Request) (r : Reply) → spec.sum_of m ≡ spec.sum_of n → IsFound r
+found_bytes : (m n : MessageView) (r : Reply) → spec.sum_of m ≡ spec.sum_of n → IsFound r
     → bytes_of m (Replied r) ≡ bytes_of n (Replied r)
 found_bytes m n (reply.GoMod b) same is = ap (λ sum. page_bytes (reply_page sum (reply.GoMod b))) same
 found_bytes m n (reply.Zip b) same is = refl
 found_bytes m n (reply.Info v time) same is = refl
 found_bytes m n r same is = absurd is
 
-pub failed_text : (m : Request) (a : Answer) → IsFailed a → bytes_of m a ≡ unavailable
+pub failed_text : (m : MessageView) (a : Answer) → IsFailed a → bytes_of m a ≡ unavailable
 failed_text m (Replied r) never = absurd never
 failed_text m (Failed fault) failed = refl
 
@@ -123,11 +125,11 @@ bytes_stay_served old mid new s k later resource first last events answers is ow
     q : Query
     q = spec.query_of resource
 
-    asks : spec.ask_of first.message ≡ Get k q
-    asks = ap (spec.ask_at first.message) targets
+    asks : spec.request_of first.message ≡ Get k q
+    asks = ap (spec.request_at first.message) targets
 
-    asks_again : spec.ask_of last.message ≡ Get later q
-    asks_again = ap (spec.ask_at last.message) targets_again
+    asks_again : spec.request_of last.message ≡ Get later q
+    asks_again = ap (spec.request_at last.message) targets_again
 
     sums : spec.sum_of last.message ≡ spec.sum_of first.message
     sums = ap spec.sum_at targets_again ∙ sym (ap spec.sum_at targets)
@@ -138,11 +140,11 @@ bytes_stay_served old mid new s k later resource first last events answers is ow
         let wrong : ◌≡◌ {A = ℕ} 503 200 = sym (ap (λ a. page_status (page_for first.message a)) came)
         ∙ ok in absurd (omega arith)
     by_answer (Replied r) came =
-        let before : Run old (Asked (Get k q) ∷ events) (Replied r ∷ answers) mid =
-        subst (λ e. Run old (e ∷ events) (Replied r ∷ answers) mid) (ap Asked asks)
+        let before : Run old (Requested (Get k q) ∷ events) (Replied r ∷ answers) mid =
+        subst (λ e. Run old (e ∷ events) (Replied r ∷ answers) mid) (ap Requested asks)
         (subst (λ a. Run old (event_of first ∷ events) (a ∷ answers) mid) came run) in
-        let after : Run mid (Asked (Get later q) ∷ []) (answer_of last ∷ []) new =
-        subst (λ e. Run mid (e ∷ []) (answer_of last ∷ []) new) (ap Asked asks_again) again in
+        let after : Run mid (Requested (Get later q) ∷ []) (answer_of last ∷ []) new =
+        subst (λ e. Run mid (e ∷ []) (answer_of last ∷ []) new) (ap Requested asks_again) again in
         let reply : r ≡ query_reply old s q = keyed old s k q r own before.0 in
         let status = sym (ap (λ a. page_status (page_for first.message a)) (came ∙ ap Replied reply)) ∙ ok in
         let found : IsFound r = subst IsFound (sym reply) (found_reply first.message old s q one status) in
@@ -156,7 +158,7 @@ bytes_stay_served old mid new s k later resource first last events answers is ow
 -- ---- the latest version
 
 -- the machine's reply for the latest version is written as the rules say
-latest_text : (w : World) → IsWorld w → (s path : List ℕ) (m : Request)
+latest_text : (w : World) → IsWorld w → (s path : List ℕ) (m : MessageView)
     → TellsLatest w s path (bytes_of m (Replied (query_reply w s (query.Latest path))))
 latest_text w is s path m =
     elim (latest_of w s path) as
@@ -181,8 +183,8 @@ latest_is_written old new s k path x is own asks run = by_answer (answer_of x) r
     by_answer : (a : Answer) → answer_of x ≡ a → TellsLatest old s path (text_of x) ⊎ (text_of x ≡ unavailable)
     by_answer (Failed fault) came = inr (ap (bytes_of x.message) came)
     by_answer (Replied r) came =
-        let at : Run old (Asked (Get k (query.Latest path)) ∷ []) (Replied r ∷ []) new =
-        subst (λ e. Run old (e ∷ []) (Replied r ∷ []) new) (ap Asked asks)
+        let at : Run old (Requested (Get k (query.Latest path)) ∷ []) (Replied r ∷ []) new =
+        subst (λ e. Run old (e ∷ []) (Replied r ∷ []) new) (ap Requested asks)
         (subst (λ a. Run old (event_of x ∷ []) (a ∷ []) new) came run) in
         let reply : r ≡ query_reply old s (query.Latest path) = keyed old s k (query.Latest path) r own at.0 in
         inl (subst (TellsLatest old s path) (sym (ap (bytes_of x.message) (came ∙ ap Replied reply)))

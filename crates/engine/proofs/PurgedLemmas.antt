@@ -1,7 +1,7 @@
 -- The exchanges of a run, and those that remain of them, if none of the remaining ones was answered by the 503.
 use Rattle.std.proofs.Common.{◌≡◌, ◌≢◌, ℕ, List, [], ◌∷◌, Bool, true, false, refl, ◌∙◌, sym, ap, subst}
 use Rattle.std.specs.Prelude.{map}
-use Rattle.framing.specs.Message.{Request}
+use Rattle.framing.specs.Message.{MessageView}
 use Rattle.world.specs.World.{World, IsWorld, chain}
 use Rattle.machine.specs.declared.reply.Answer.{Answer}
 use Rattle.machine.specs.declared.reply.Answer.TheVariants.{Replied, Failed}
@@ -10,7 +10,7 @@ use Rattle.machine.specs.Isolation.{is_remaining, remaining, marked, Agree, IsAn
 use Rattle.machine.specs.Isolation.{IsReplied, AllReplied}
 use Rattle.machine.proofs.Chains.{Later}
 use Rattle.machine.proofs.Isolated.{purged_runs_agree_so_far}
-use Rattle.engine.specs.Ask as spec
+use Rattle.engine.specs.Request as spec
 use Rattle.engine.specs.Calls.{NoneUnavailable}
 use Rattle.engine.specs.Exchange.{Exchange, message_of, event_of, answer_of}
 use Rattle.engine.specs.Headline.{unavailable}
@@ -20,14 +20,14 @@ use Rattle.engine.specs.Reply.{bytes_of, text_of}
 abbrev pub which_remain : World → List (List ℕ) → List Exchange → List Bool
 which_remain w ss exchanges = remaining w ss (map event_of exchanges)
 
-abbrev pub remaining_messages : World → List (List ℕ) → List Exchange → List Request
+abbrev pub remaining_messages : World → List (List ℕ) → List Exchange → List MessageView
 remaining_messages w ss exchanges = marked (which_remain w ss exchanges) (map message_of exchanges)
 
 abbrev pub remaining_texts : World → List (List ℕ) → List Exchange → List (List ℕ)
 remaining_texts w ss exchanges = marked (which_remain w ss exchanges) (map text_of exchanges)
 
 -- the texts for messages with these answers
-abbrev texts_for : List Request → List Answer → List (List ℕ)
+abbrev texts_for : List MessageView → List Answer → List (List ℕ)
 texts_for (m ∷ ms) (a ∷ answers) = bytes_of m a ∷ texts_for ms answers
 texts_for ms answers = []
 
@@ -39,7 +39,7 @@ texts_are : (xs : List Exchange) → map text_of xs ≡ texts_for (map message_o
 texts_are [] = refl
 texts_are (x ∷ xs) = ap (λ ts. text_of x ∷ ts) (texts_are xs)
 
-marked_events : (marks : List Bool) (ms : List Request)
+marked_events : (marks : List Bool) (ms : List MessageView)
     → marked marks (map spec.event_of_message ms) ≡ map spec.event_of_message (marked marks ms)
 marked_events [] ms = refl
 marked_events (true ∷ marks) [] = refl
@@ -56,7 +56,7 @@ marked_texts (true ∷ marks) (x ∷ xs) = ap (λ ts. text_of x ∷ ts) (marked_
 marked_texts (false ∷ marks) (x ∷ xs) = marked_texts marks xs
 
 -- a message that was not answered by the 503 got a reply
-answered : (m : Request) (a : Answer) → bytes_of m a ≢ unavailable → IsAnsweredIfItRemains true a
+answered : (m : MessageView) (a : Answer) → bytes_of m a ≢ unavailable → IsAnsweredIfItRemains true a
 answered m (Replied r) other = tt
 answered m (Failed fault) other = absurd (other refl)
 
@@ -73,7 +73,7 @@ remaining_answered w ss (x ∷ xs) none =
       | false ↦ λ n. (tt, remaining_answered next ss xs n)
     ] none
 
-replied : (m : Request) (a : Answer) → bytes_of m a ≢ unavailable → IsReplied a
+replied : (m : MessageView) (a : Answer) → bytes_of m a ≢ unavailable → IsReplied a
 replied m (Replied r) other = tt
 replied m (Failed fault) other = absurd (other refl)
 

@@ -1,6 +1,6 @@
 -- A run of the machine followed by another.
 use Rattle.std.proofs.Common.{◌≡◌, ◌⊎◌, List, [], ◌∷◌, ◌++◌, refl, inl, inr}
-use Rattle.machine.specs.declared.ask.Event.{Event}
+use Rattle.machine.specs.declared.request.Event.{Event}
 use Rattle.machine.specs.declared.reply.Answer.{Answer}
 use Rattle.machine.specs.declared.reply.Answer.TheVariants.{Replied, Failed}
 use Rattle.world.specs.World.{World}

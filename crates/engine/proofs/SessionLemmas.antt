@@ -15,18 +15,18 @@ use Rattle.engine.specs.Turn.{Comes, Turns}
 use Rattle.engine.specs.Written.{Writes}
 use Rattle.engine.specs.declared.fault.Io.{Io}
 use Rattle.engine.specs.declared.fault.Io.TheVariants as io
-use Rattle.engine.specs.declared.incoming.Incoming.TheVariants as incoming
+use Rattle.engine.specs.declared.next.MessageOrEnd.TheVariants as came
 use Rattle.engine.specs.declared.page.Page.{Page}
 use Rattle.engine.specs.declared.session.Turn.{Turn}
 use Rattle.engine.specs.declared.session.Turn.TheVariants as turn
-use Rattle.engine.proofs.IncomingLemmas.{message_next}
+use Rattle.engine.proofs.NextLemmas.{message_next}
 use Rattle.engine.proofs.StoreLemmas.{through_none}
 
 module _ (u u' : Account) (w w' : Option (List ℕ)) (held held_new : Framing) (reads left : ℕ) where
   -- a turn that took a message and wrote its reply, or failed at it, does as `Turns` says
   pub turned_message : (old new : Shown) (message : Message) (x : Exchange) (result : Result Turn Io)
       → x.message ≡ view message
-      → Comes held held_new reads left u u' (Ok (incoming.Message message)) → GoesThrough old new (x ∷ [])
+      → Comes held held_new reads left u u' (Ok (came.Message message)) → GoesThrough old new (x ∷ [])
       → Writes w w' (text_of x) result → IfOk result (λ t. t ≡ turn.Answered (status_of x))
       → Turns old new u u' w w' held held_new result
   turned_message old new message x (Ok t) same comes through writes is =
@@ -37,7 +37,7 @@ module _ (u u' : Account) (w w' : Option (List ℕ)) (held held_new : Framing) (
 
   -- a turn that took a message and wrote the page for it, or failed at it, does as `Turns` says
   pub turned_page : (old new : Shown) (message : Message) (x : Exchange) (page : Page) (result : Result Turn Io)
-      → x.message ≡ view message → Comes held held_new reads left u u' (Ok (incoming.Message message))
+      → x.message ≡ view message → Comes held held_new reads left u u' (Ok (came.Message message))
       → GoesThrough old new (x ∷ [])
       → page ≡ page_to x → Writes w w' (page_bytes page) result
       → IfOk result (λ t. t ≡ turn.Answered (page_status page))
@@ -48,7 +48,7 @@ module _ (u u' : Account) (w w' : Option (List ℕ)) (held held_new : Framing) (
 
   -- a turn that took no message and closed the stream, or failed at it, does as `Turns` says
   pub turned_end : (shown : Shown) (closing : Option Fixed) (result : Result Turn Io)
-      → Comes held held_new reads left u u' (Ok (incoming.End closing)) → Writes w w' (closing_bytes closing) result
+      → Comes held held_new reads left u u' (Ok (came.End closing)) → Writes w w' (closing_bytes closing) result
       → IfOk result (λ t. t ≡ turn.Closed closing) → Turns shown shown u u' w w' held held_new result
   turned_end shown closing (Ok t) comes writes is = (Closes closing, comes, through_none shown, is, writes)
   turned_end shown closing (Err io.Read) comes (wrong, begun) is = cc

@@ -3,17 +3,17 @@ use Rattle.std.proofs.Common.{◌≡◌, ℕ, List, [], ◌∷◌, ◌++◌, map
 use Rattle.std.proofs.Common.{Err, arith, append-nil}
 use Rattle.std.proofs.lemmas.List.{map-append}
 use Rattle.modver.specs.SemanticVersion.{SemanticVersion}
-use Rattle.framing.specs.Message.{Request}
-use Rattle.machine.specs.declared.ask.Ask.{Ask}
+use Rattle.framing.specs.Message.{MessageView}
+use Rattle.machine.specs.declared.request.Request.{Request}
 use Rattle.machine.specs.declared.reply.Reply.{Reply}
 use Rattle.machine.specs.declared.reply.Reply.TheVariants.{GoMod, Info, Versions, Paths}
 use Rattle.world.specs.declared.registry.StoreFault.{StoreFault}
 use Rattle.world.specs.World.{World}
-use Rattle.machine.specs.Machine.{ask_reply, after_ask, reply_to, after, HasBody}
+use Rattle.machine.specs.Machine.{request_reply, after_request, reply_to, after, HasBody}
 use Rattle.world.specs.Store.{Shown, Does, DoesAt}
 use Rattle.machine.proofs.Changes.{bodies_change_nothing}
-use Rattle.engine.specs.Ask.{ask_of, sum_of}
-use Rattle.engine.specs.Ask.{event_of_message}
+use Rattle.engine.specs.Request.{request_of, sum_of}
+use Rattle.engine.specs.Request.{event_of_message}
 use Rattle.engine.specs.Exchange.{Exchange, Outcome, Unserved, Met, Served, event_of, answer_of}
 use Rattle.engine.specs.Reply.{IsComposed, IsOutcome}
 use Rattle.engine.specs.Store.{GoesThrough, LeavesTwo, AllCalm, world_at}
@@ -55,7 +55,7 @@ through_none shown = record {
 -- ---- one
 
 -- an unchanged store goes through a message that the machine did not see
-pub through_unasked : (shown : Shown) (m : Request) → ((w x : World) → shown.leaves w w → shown.leaves w x)
+pub through_unasked : (shown : Shown) (m : MessageView) → ((w x : World) → shown.leaves w w → shown.leaves w x)
     → GoesThrough shown shown (record { message = m; outcome = Unserved } ∷ [])
 through_unasked shown m wider = record {
   runs = record {
@@ -69,17 +69,18 @@ through_unasked shown m wider = record {
   device = λ met. elim met [ inl is ↦ cc | inr never ↦ absurd never ];
 }
 
-module _ (old new : Shown) (m : Request) (ask : Ask) (is : ask ≡ ask_of m) where
+module _ (old new : Shown) (m : MessageView) (request : Request) (is : request ≡ request_of m) where
   -- the step does in each world what it does for the event of the message
   asked : new.is_honest → (w : World) → old.stands w → (answer : Result Reply StoreFault)
-      → Does {T = Reply} old new answer (λ w. ask_reply w ask) (λ w. after_ask w ask)
+      → Does {T = Reply} old new answer (λ w. request_reply w request) (λ w. after_request w request)
       → DoesAt {T = Reply} old new w answer (reply_to w (event_of_message m)) (after w (event_of_message m))
   asked h w stands answer does =
-      subst (λ a. DoesAt {T = Reply} old new w answer (ask_reply w a) (after_ask w a)) is (does.at h w stands tt)
+      subst (λ a. DoesAt {T = Reply} old new w answer (request_reply w a) (after_request w a)) is
+      (does.at h w stands tt)
 
   -- the store goes through a message at which it met a fault
   pub through_met : (fault : StoreFault)
-      → Does {T = Reply} old new (Err fault) (λ w. ask_reply w ask) (λ w. after_ask w ask)
+      → Does {T = Reply} old new (Err fault) (λ w. request_reply w request) (λ w. after_request w request)
       → GoesThrough old new (record { message = m; outcome = Met fault } ∷ [])
   through_met fault does = record {
     runs = record {
@@ -87,10 +88,11 @@ module _ (old new : Shown) (m : Request) (ask : Ask) (is : ask ≡ ask_of m) whe
       at = λ h w stands. runs_failed old new w _ fault _ (asked h w stands (Err fault) does);
     };
     left = λ h w stands was.
-        subst (λ x. new.leaves w x) (ap (after_ask w) is) ((does.at h w stands tt).crash.either was);
+        subst (λ x. new.leaves w x) (ap (after_request w) is) ((does.at h w stands tt).crash.either was);
     settled = λ h w stands calm was. elim calm.0 [
       | inl never ↦ absurd never
-      | inr idle ↦ subst (λ x. new.leaves w x) (ap (after_ask w) is ∙ idle) ((does.at h w stands tt).crash.either was)
+      | inr idle ↦ subst (λ x. new.leaves w x) (ap (after_request w) is ∙ idle)
+          ((does.at h w stands tt).crash.either was)
     ];
     untouched = λ none. cc;
     no_fewer = does.cause.no_fewer;
@@ -99,7 +101,7 @@ module _ (old new : Shown) (m : Request) (ask : Ask) (is : ask ≡ ask_of m) whe
 
   -- the store goes through a message that got a reply
   pub through_reply : (reply : Reply)
-      → Does {T = Reply} old new (Ok reply) (λ w. ask_reply w ask) (λ w. after_ask w ask)
+      → Does {T = Reply} old new (Ok reply) (λ w. request_reply w request) (λ w. after_request w request)
       → GoesThrough old new (record { message = m; outcome = Served reply } ∷ [])
   through_reply reply does = record {
     runs = record {
@@ -107,44 +109,44 @@ module _ (old new : Shown) (m : Request) (ask : Ask) (is : ask ≡ ask_of m) whe
       at = λ h w stands. runs_replied old new w _ reply (asked h w stands (Ok reply) does);
     };
     left = λ h w stands was.
-        subst (λ x. new.leaves w x) (ap (after_ask w) is) ((does.at h w stands tt).crash.either was);
+        subst (λ x. new.leaves w x) (ap (after_request w) is) ((does.at h w stands tt).crash.either was);
     settled = λ h w stands calm was. still w ((does.at h w stands tt).crash.alone was);
     untouched = λ none. cc;
     no_fewer = does.cause.no_fewer;
     device = λ met. elim met [ inl same ↦ cc | inr never ↦ absurd never ];
   }
     where
-      still : (w : World) → new.leaves (after_ask w ask) (after_ask w ask)
-          → new.leaves (after_ask w (ask_of m)) (after_ask w (ask_of m))
-      still w leaves = subst (λ x. new.leaves x x) (ap (after_ask w) is) leaves
+      still : (w : World) → new.leaves (after_request w request) (after_request w request)
+          → new.leaves (after_request w (request_of m)) (after_request w (request_of m))
+      still w leaves = subst (λ x. new.leaves x x) (ap (after_request w) is) leaves
 
   -- the store goes through a message whose reply had a body that memory ran out for: the world is unchanged
   pub through_unshown : (reply : Reply) → HasBody reply
-      → Does {T = Reply} old new (Ok reply) (λ w. ask_reply w ask) (λ w. after_ask w ask)
+      → Does {T = Reply} old new (Ok reply) (λ w. request_reply w request) (λ w. after_request w request)
       → GoesThrough old new (record { message = m; outcome = Unserved } ∷ [])
   through_unshown reply body does = record {
     runs = record {
       honest = λ h. does.honest h;
       at = λ h w stands. runs_lost old new w _ reply _ _ (asked h w stands (Ok reply) does)
-          (ap (after_ask w) (sym is) ∙ same h w stands);
+          (ap (after_request w) (sym is) ∙ same h w stands);
     };
     left = λ h w stands was.
-        subst (λ x. new.leaves w x) (ap (after_ask w) is) ((does.at h w stands tt).crash.either was);
+        subst (λ x. new.leaves w x) (ap (after_request w) is) ((does.at h w stands tt).crash.either was);
     settled = λ h w stands calm was. still h w stands was;
     untouched = λ none. cc;
     no_fewer = does.cause.no_fewer;
     device = λ met. elim met [ inl other ↦ cc | inr never ↦ absurd never ];
   }
     where
-      same : new.is_honest → (w : World) → old.stands w → after_ask w ask ≡ w
-      same h w stands = bodies_change_nothing w ask (subst HasBody (does.at h w stands tt).answer body)
+      same : new.is_honest → (w : World) → old.stands w → after_request w request ≡ w
+      same h w stands = bodies_change_nothing w request (subst HasBody (does.at h w stands tt).answer body)
 
       still : new.is_honest → (w : World) → old.stands w → old.leaves w w → new.leaves w w
       still h w stands was = subst (λ x. new.leaves x x) (same h w stands) ((does.at h w stands tt).crash.alone was)
 
   -- the store goes through a message with the outcome that fits the machine's answer
   pub through_asked : (answer : Result Reply StoreFault) (outcome : Outcome) → IsOutcome (sum_of m) answer outcome
-      → Does {T = Reply} old new answer (λ w. ask_reply w ask) (λ w. after_ask w ask)
+      → Does {T = Reply} old new answer (λ w. request_reply w request) (λ w. after_request w request)
       → GoesThrough old new (record { message = m; outcome = outcome } ∷ [])
   through_asked (Ok reply) (Served r) same does = rw same (through_reply reply does)
   through_asked (Ok reply) Unserved composed does = through_unshown reply (composed_body (sum_of m) reply composed) does

@@ -1,17 +1,17 @@
 -- Two calls that answer one stream, the second without the bytes of others' messages.
 use Rattle.std.specs.Prelude.{◌≡◌, ◌≢◌, ◌⊎◌, ℕ, List, [], ◌++◌, Bool, Option, Some, map, Result, Ok}
 use Rattle.std.specs.List.{concat, AllByRecursion}
-use Rattle.framing.specs.Message.{Request, End, clean, too_large, bad, Ends}
+use Rattle.framing.specs.Message.{MessageView, End, clean, too_large, bad, Ends}
 use Rattle.framing.specs.Pieces.{AreMessages}
 use Rattle.wire.specs.Reply.{fixed_bytes}
 use Rattle.wire.specs.declared.reply.Fixed.TheVariants.{TooLarge, BadRequest, Unavailable}
 use Rattle.world.specs.Store.{Shown}
 use Rattle.world.specs.World.{World, chain}
-use Rattle.machine.specs.declared.ask.Event.{Event}
+use Rattle.machine.specs.declared.request.Event.{Event}
 use Rattle.machine.specs.declared.reply.Answer.{Answer}
 use Rattle.machine.specs.Isolation.{remaining, marked, Agree}
 use Rattle.machine.specs.Machine.{Run}
-use Rattle.engine.specs.Ask.{event_of_message}
+use Rattle.engine.specs.Request.{event_of_message}
 use Rattle.engine.specs.Exchange.{Exchange, message_of}
 use Rattle.engine.specs.Headline.{unavailable}
 use Rattle.engine.specs.Reply.{text_of}
@@ -24,7 +24,7 @@ NoneUnavailable texts = AllByRecursion (λ text. text ≢ unavailable) texts
 
 -- which messages of a stream remain for these shelves: all but those whose key belongs, at that moment, to another
 -- shelf
-abbrev pub remaining_for : World → List (List ℕ) → List Request → List Bool
+abbrev pub remaining_for : World → List (List ℕ) → List MessageView → List Bool
 remaining_for w ss messages = remaining w ss (map event_of_message messages)
 
 -- the bytes written at the end of a stream: none, the 413, or the 400
@@ -37,7 +37,7 @@ end_bytes bad = fixed_bytes BadRequest
 -- these messages, the bytes of each a piece, and then a rest with this end. One call read all of it, and the other all
 -- but the pieces of others' messages.
 pub record AreTwoCalls
-    (old new old_too new_too : Shown) (w x : World) (ss : List (List ℕ)) (messages : List Request) (end : End)
+    (old new old_too new_too : Shown) (w x : World) (ss : List (List ℕ)) (messages : List MessageView) (end : End)
     (result result_too : Result (Unit {0}) Io) : Type 0 where
   pub stands : old.stands w
   pub stands_too : old_too.stands x
@@ -62,7 +62,7 @@ pub record AreTwoCalls
 -- Two calls, one for these messages and one for the marked ones, wrote an equal text for each message and equal bytes
 -- for the end. The stores stand for worlds that agree again on these shelves.
 pub record WriteAlike
-    (new new_too : Shown) (ss : List (List ℕ)) (messages : List Request) (marks : List Bool)
+    (new new_too : Shown) (ss : List (List ℕ)) (messages : List MessageView) (marks : List Bool)
     (end : End) (one two : List Exchange) (out out_too : List ℕ) : Type 0 where
   pub all : map message_of one ≡ messages
   pub left : map message_of two ≡ marked marks messages
@@ -80,7 +80,8 @@ pub record WriteAlike
 -- calls with registry commands between them may follow each other.
 abbrev pub CallsTellAlike : Shown → Shown → Shown → Shown → Type 0
 CallsTellAlike old new old_too new_too =
-    (w x later : World) (s : List ℕ) (events : List Event) (answers : List Answer) (messages : List Request) (end : End)
+    (w x later : World) (s : List ℕ) (events : List Event) (answers : List Answer) (messages : List MessageView)
+    (end : End)
     → Run w events answers later
     → (calls : AreTwoCalls old new old_too new_too w x (chain later s) messages end (Ok tt) (Ok tt))
     → let marks : List Bool = remaining_for w (chain later s) messages in
@@ -99,7 +100,7 @@ AgreeAsFar one two = (more : List (List ℕ)) × ((one ≡ two ++ more) ⊎ (two
 abbrev pub CallsTellAlikeAsFar : Shown → Shown → Shown → Shown → Type 0
 CallsTellAlikeAsFar old new old_too new_too =
     (w x later : World) (s : List ℕ) (events : List Event) (answers : List Answer)
-    (messages : List Request) (end : End) (result result_too : Result (Unit {0}) Io)
+    (messages : List MessageView) (end : End) (result result_too : Result (Unit {0}) Io)
     → Run w events answers later
     → (calls : AreTwoCalls old new old_too new_too w x (chain later s) messages end result result_too)
     → let marks : List Bool = remaining_for w (chain later s) messages in

@@ -1,12 +1,12 @@
 -- A message, and its outcome.
-use Rattle.framing.specs.Message.{Request}
-use Rattle.machine.specs.declared.ask.Event.{Event}
+use Rattle.framing.specs.Message.{MessageView}
+use Rattle.machine.specs.declared.request.Event.{Event}
 use Rattle.machine.specs.declared.reply.Answer.{Answer}
 use Rattle.machine.specs.declared.reply.Answer.TheVariants.{Replied, Failed}
 use Rattle.machine.specs.declared.reply.Reply.{Reply}
 use Rattle.world.specs.declared.registry.StoreFault.{StoreFault}
 use Rattle.world.specs.declared.registry.StoreFault.TheVariants.{Memory}
-use Rattle.engine.specs.Ask as spec
+use Rattle.engine.specs.Request as spec
 
 -- the outcome of a message
 pub data Outcome : Type 0 where
@@ -25,10 +25,10 @@ answer_to (Served reply) = Replied reply
 
 -- a message and its outcome
 pub record Exchange : Type 0 where
-  pub message : Request
+  pub message : MessageView
   pub outcome : Outcome
 
-abbrev pub message_of : Exchange → Request
+abbrev pub message_of : Exchange → MessageView
 message_of x = x.message
 
 abbrev pub event_of : Exchange → Event

@@ -3,22 +3,22 @@ use Rattle.std.specs.Prelude.{ℕ, ◌≡◌, ◌⊎◌, List, [], ◌∷◌, Bo
 use Rattle.latest.specs.Latest.{IsTop}
 use Rattle.modver.specs.SemanticVersion.{SemanticVersion}
 use Rattle.wire.specs.Reply.{reply_bytes, fixed_bytes, info_bytes}
-use Rattle.wire.specs.declared.request.Resource.{Resource}
-use Rattle.wire.specs.declared.request.Target.TheVariants as target
+use Rattle.wire.specs.declared.named.Resource.{Resource}
+use Rattle.wire.specs.declared.named.Target.TheVariants as target
 use Rattle.wire.specs.declared.reply.Fixed.TheVariants.{NotFound, Unavailable}
 use Rattle.wire.specs.declared.reply.MediaType.TheVariants.{Json}
 use Rattle.world.specs.World.{World, IsWorld, chain}
-use Rattle.machine.specs.declared.ask.Ask.TheVariants.{Get}
-use Rattle.machine.specs.declared.ask.Event.{Event}
-use Rattle.machine.specs.declared.ask.Query.TheVariants.{Latest}
+use Rattle.machine.specs.declared.request.Request.TheVariants.{Get}
+use Rattle.machine.specs.declared.request.Event.{Event}
+use Rattle.machine.specs.declared.request.Query.TheVariants.{Latest}
 use Rattle.machine.specs.declared.reply.Answer.{Answer}
 use Rattle.machine.specs.Machine.{Run}
 use Rattle.machine.specs.Isolation.{remaining, marked, belongs, Agree}
 use Rattle.machine.specs.Immutability.{IsOfVersion}
 use Rattle.machine.specs.PathLaws.{unretracted_versions, HasTime}
-use Rattle.engine.specs.Ask.{ask_of, query_of, target_in}
+use Rattle.engine.specs.Request.{request_of, query_of, target_in}
 use Rattle.engine.specs.Exchange.{Exchange, event_of, answer_of}
-use Rattle.engine.specs.Happening.{Happening, coming_of, event_at, answer_at, text_at, faultless}
+use Rattle.engine.specs.AnsweredEvent.{AnsweredEvent, origin_of, event_at, answer_at, text_at, faultless}
 use Rattle.engine.specs.Reply.{text_of, status_of}
 
 -- the 503
@@ -32,12 +32,12 @@ unavailable = fixed_bytes Unavailable
 -- message that a run answered 503 is left out of that run, and so is a command that met a fault.
 abbrev pub CallersAreAnsweredAlike : Type 0
 CallersAreAnsweredAlike =
-    (old old_too new new_too : World) (s : List ℕ) (full purged : List Happening) → IsWorld old
+    (old old_too new new_too : World) (s : List ℕ) (full purged : List AnsweredEvent) → IsWorld old
     → Agree old old_too (chain new s)
     → Run old (map event_at full) (map answer_at full) new
     → Run old_too (map event_at purged) (map answer_at purged) new_too
     → let marks : List Bool = remaining old (chain new s) (map event_at (faultless full)) in
-    map coming_of (faultless purged) ≡ marked marks (map coming_of (faultless full))
+    map origin_of (faultless purged) ≡ marked marks (map origin_of (faultless full))
     → (map text_at (faultless purged) ≡ marked marks (map text_at (faultless full))) × Agree new new_too (chain new s)
 
 -- ---- what was served before
@@ -70,6 +70,6 @@ TellsLatest w s path text =
 abbrev pub LatestIsWritten : Type 0
 LatestIsWritten =
     (old new : World) (s k path : List ℕ) (x : Exchange) → IsWorld old → belongs old k s
-    → ask_of x.message ≡ Get k (Latest path)
+    → request_of x.message ≡ Get k (Latest path)
     → Run old (event_of x ∷ []) (answer_of x ∷ []) new
     → TellsLatest old s path (text_of x) ⊎ (text_of x ≡ unavailable)

@@ -1,14 +1,14 @@
 pub mod Accepted
-pub mod Ask
+pub mod AnsweredEvent
 pub mod Calls
 pub mod Causes
 pub mod Exchange
 pub mod First
-pub mod Happening
 pub mod Headline
 pub mod Isolated
 pub mod Parts
 pub mod Reply
+pub mod Request
 pub mod Served
 pub mod Store
 pub mod Turn

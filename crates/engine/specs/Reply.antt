@@ -1,8 +1,8 @@
--- The bytes and the status of an answer to a request.
+-- The bytes and the status of an answer to a message.
 use Rattle.std.specs.Prelude.{◌≡◌, ℕ, List, ◌++◌, codes, Option, Some, None, map, Result, Ok, Err}
 use Rattle.gosum.specs.Sum.{go_sum_line}
 use Rattle.modver.specs.SemanticVersion.{SemanticVersion, version_text}
-use Rattle.framing.specs.Message.{Request}
+use Rattle.framing.specs.Message.{MessageView}
 use Rattle.wire.specs.Reply.{reply_bytes, fixed_bytes, fixed_status, info_bytes}
 use Rattle.wire.specs.declared.reply.Fixed.{Fixed}
 use Rattle.wire.specs.declared.reply.Fixed.TheVariants as fixed
@@ -17,7 +17,7 @@ use Rattle.machine.specs.declared.reply.ContentRefusal.TheVariants as refusal
 use Rattle.machine.specs.declared.reply.Reply.{Reply}
 use Rattle.machine.specs.declared.reply.Reply.TheVariants as reply
 use Rattle.world.specs.declared.registry.StoreFault.{StoreFault}
-use Rattle.engine.specs.Ask.{sum_of}
+use Rattle.engine.specs.Request.{sum_of}
 use Rattle.engine.specs.Exchange.{Exchange, Outcome, Unserved, Met, Served, answer_of}
 use Rattle.engine.specs.declared.page.Page.{Page}
 use Rattle.engine.specs.declared.page.Page.TheVariants as page
@@ -48,8 +48,8 @@ abbrev pub gomod_body : Option (List ℕ × SemanticVersion) → List ℕ → Li
 gomod_body None text = text
 gomod_body (Some (path, version)) text = go_sum_line path (version_text version) text ++ codes "\n"
 
--- What is written for a reply to a request for the go.sum line of this version, or of none. The outcome of a command,
--- which no request gets, is written as not found. A version is written as its info object, and versions and paths one a
+-- What is written for a reply to a message for the go.sum line of this version, or of none. The outcome of a command,
+-- which no message gets, is written as not found. A version is written as its info object, and versions and paths one a
 -- line.
 abbrev pub reply_page : Option (List ℕ × SemanticVersion) → Reply → Page
 reply_page sum reply.NotFound = page.Fixed fixed.NotFound
@@ -61,11 +61,11 @@ reply_page sum (reply.Versions versions) = page.Body kind.TextPlain (lines_of (m
 reply_page sum (reply.Paths paths) = page.Body kind.TextPlain (lines_of (in_order paths))
 reply_page sum (reply.Registry outcome) = page.Fixed fixed.NotFound
 
--- what is written for a reply to a request
-abbrev pub page_of : Request → Reply → Page
+-- what is written for a reply to a message
+abbrev pub page_of : MessageView → Reply → Page
 page_of m reply = reply_page (sum_of m) reply
 
--- the request asks for a go.sum line
+-- the message asks for a go.sum line
 abbrev pub IsSummed : Option (List ℕ × SemanticVersion) → Type 0
 IsSummed None = ⊥
 IsSummed (Some version) = Unit {0}
@@ -91,8 +91,8 @@ abbrev pub answer_page : Option (List ℕ × SemanticVersion) → Answer → Pag
 answer_page sum (Replied reply) = reply_page sum reply
 answer_page sum (Failed fault) = page.Fixed fixed.Unavailable
 
--- what is written for an answer to a request
-abbrev pub page_for : Request → Answer → Page
+-- what is written for an answer to a message
+abbrev pub page_for : MessageView → Answer → Page
 page_for m answer = answer_page (sum_of m) answer
 
 abbrev pub page_bytes : Page → List ℕ
@@ -103,8 +103,8 @@ abbrev pub page_status : Page → ℕ
 page_status (page.Fixed answer) = fixed_status answer
 page_status (page.Body kind text) = 200
 
--- the bytes of an answer to a request
-abbrev pub bytes_of : Request → Answer → List ℕ
+-- the bytes of an answer to a message
+abbrev pub bytes_of : MessageView → Answer → List ℕ
 bytes_of m answer = page_bytes (page_for m answer)
 
 -- what is written for an exchange

@@ -15,8 +15,8 @@ use Rattle.engine.specs.Written.{IsBeginning, WritesBeginning}
 use Rattle.engine.specs.Served.{read_limit, body_read_limit, IsClosing, closing_status, texts_of}
 use Rattle.engine.specs.declared.fault.Io.{Io}
 use Rattle.engine.specs.declared.fault.Io.TheVariants as io
-use Rattle.engine.specs.declared.incoming.Incoming.{Incoming}
-use Rattle.engine.specs.declared.incoming.Incoming.TheVariants as incoming
+use Rattle.engine.specs.declared.next.MessageOrEnd.{MessageOrEnd}
+use Rattle.engine.specs.declared.next.MessageOrEnd.TheVariants as came
 use Rattle.engine.specs.declared.read.Progress.{Progress}
 use Rattle.engine.specs.declared.read.Progress.TheVariants as progress
 use Rattle.engine.specs.declared.session.Turn.{Turn}
@@ -24,11 +24,11 @@ use Rattle.engine.specs.declared.session.Turn.TheVariants as turn
 
 -- what is taken from the front of the held bytes, or nothing if more are needed; memory runs out only for a whole
 -- message
-abbrev pub Takes : Framing → Option Incoming → Framing → Type 0
+abbrev pub Takes : Framing → Option MessageOrEnd → Framing → Type 0
 Takes old None new = IsUnfinished old.held × (new ≡ old)
-Takes old (Some (incoming.Message message)) new = ReadsMessage old.held (view message) new.held × (new.failure ≡ None)
-Takes old (Some (incoming.End None)) new = ⊥
-Takes old (Some (incoming.End (Some closing))) new =
+Takes old (Some (came.Message message)) new = ReadsMessage old.held (view message) new.held × (new.failure ≡ None)
+Takes old (Some (came.End None)) new = ⊥
+Takes old (Some (came.End (Some closing))) new =
     ((more : List ℕ) → IsClosing (old.held ++ more) (Some closing))
     × (closing ≡ fixed.Unavailable → HasMessage old.held)
 
@@ -79,12 +79,12 @@ pub record TakesNext (old new : Framing) (unread unread_new : Account) (first : 
   pub stands : IsNext old new unread_new bytes first
 
 -- The next message was taken, or the stream is to be closed; or a read failed before that, or no read was left.
-abbrev pub Comes : Framing → Framing → ℕ → ℕ → Account → Account → Result Incoming Io → Type 0
-Comes old new reads reads_new unread unread_new (Ok (incoming.Message message)) =
+abbrev pub Comes : Framing → Framing → ℕ → ℕ → Account → Account → Result MessageOrEnd Io → Type 0
+Comes old new reads reads_new unread unread_new (Ok (came.Message message)) =
     (bytes : List ℕ) × Gives unread unread_new bytes × (IsUnfinished old.held → StaysNear old.held bytes)
     × ReadsMessage (old.held ++ bytes) (view message) new.held × (new.failure ≡ None)
     × (work reads_new new.held < work reads old.held)
-Comes old new reads reads_new unread unread_new (Ok (incoming.End closing)) =
+Comes old new reads reads_new unread unread_new (Ok (came.End closing)) =
     TakesNext old new unread unread_new (Closes closing)
 Comes old new reads reads_new unread unread_new (Err e) =
     (e ≡ io.Read) × ((bytes : List ℕ) × Gives unread unread_new bytes × IsUnfinished (old.held ++ bytes))

@@ -1,11 +1,11 @@
 //! The reply for an answer of the machine.
 ghost use Rattle.std.specs.Prelude.{◌≡◌};
 ghost use Rattle.engine.specs.Exchange.{Outcome, answer_to};
-ghost use Rattle.engine.specs.Ask.{sum_by};
+ghost use Rattle.engine.specs.Request.{sum_by};
 ghost use Rattle.engine.specs.Reply.{IsOutcome, answer_page};
 
-use crate::ask::Asking;
 use crate::page::{Page, page_of};
+use crate::request::MessageRequest;
 use machine::reply::Reply;
 use std::alloc::Global;
 use wire::reply::Fixed;
@@ -15,16 +15,16 @@ use world::registry::StoreFault;
 /// for the body of the reply.
 pub(crate) fn page_of_answer(
     alloc: Global,
-    asking: &Asking,
+    asked: &MessageRequest,
     answer: Result<Reply, StoreFault>,
 ) -> Page
-    ensures { (outcome : Outcome) × IsOutcome (sum_by asking.now) answer outcome
-        × (result ≡ answer_page (sum_by asking.now) (answer_to outcome)) }
+    ensures { (outcome : Outcome) × IsOutcome (sum_by asked.now) answer outcome
+        × (result ≡ answer_page (sum_by asked.now) (answer_to outcome)) }
 {
     let Ok(reply) = answer else {
         return Page::Fixed(Fixed::Unavailable);
     };
-    match page_of(alloc, asking, reply) {
+    match page_of(alloc, asked, reply) {
         Ok(page) => page,
         Err(_) => Page::Fixed(Fixed::Unavailable),
     }

@@ -10,7 +10,7 @@ ghost use Rattle.engine.specs.TwoStores.{TwoAnswersAreAlike};
 
 use world::shelves::Shelves;
 
-/// A caller gets the same bytes whether or not other teams send requests: two runs, one with the others' messages and
+/// A caller gets the same bytes whether or not other teams send messages: two runs, one with the others' messages and
 /// one without, write the same text for each remaining message. Registry commands may come among the messages, so that
 /// keys come and go. The messages that a run answered 503 and the commands that met a fault are left out of it. The
 /// runs begin in one world, or in two that agree on the registry and on what the caller's shelf sees, and they end in
@@ -52,11 +52,11 @@ pub fn isolation_of_calls<S: Shelves, T: Shelves>()
         → CallsTellAlikeAsFar (S.shown old) (S.shown new) (T.shown old_too) (T.shown new_too) }
 {}
 
-/// Two calls of [`answer_one`](crate::answer_one) that read the same known request, over any two stores whose worlds
+/// Two calls of [`answer_one`](crate::answer_one) that read the same known message, over any two stores whose worlds
 /// are the same to a shelf, with the key of a shelf that it sees, write the same bytes, return the same status, and
 /// leave worlds that are the same to the shelf, if both disks are honest, both calls end well and neither writes a 503.
 /// So two databases whose rows of other teams differ in number and in order answer alike.
-pub fn isolation_of_one_request<S: Shelves, T: Shelves>()
+pub fn isolation_of_one_message<S: Shelves, T: Shelves>()
     ensures { (old new : S) (old_too new_too : T)
         → TwoAnswersAreAlike (S.shown old) (S.shown new) (T.shown old_too) (T.shown new_too) }
 {}

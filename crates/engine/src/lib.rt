@@ -1,8 +1,8 @@
-//! Bytes in, bytes out: the requests of a stream, answered one after another by the machine of the shelves.
+//! Bytes in, bytes out: the messages of a stream, answered one after another by the machine of the shelves.
 //!
-//! A stream is a sequence of HTTP/1.0 or 1.1 messages (RFC 9112), in the profile of the crate `wire`. The machine is
-//! that of the crate `shelf`, over any store. For a stream the crate writes the reply to each of its messages, and then
-//! what closes it:
+//! A stream is a sequence of HTTP/1.0 or 1.1 messages (RFC 9112), in the profile of the crate `framing`. The machine is
+//! that of the crate `machine`, over any store. For a stream the crate writes the reply to each of its messages, and
+//! then what closes it:
 //!
 //! | what is left after the messages | what is written for it |
 //! |---|---|
@@ -11,9 +11,9 @@
 //! | anything else, such as half a message | one 400 |
 //! | anything, if memory runs out while a message is gathered or handed out | one 503, in place of all that is left |
 //!
-//! A message is answered as `shelf`'s machine answers what it asks. `wire` reads its target. The first bytes of the
-//! body of a PUT are the go.mod, as many as the one header `Mod-Length` says, and the rest is the zip. A PUT has no
-//! files if its `Mod-Length` is absent, doubled, malformed or larger than the body; the machine's checks answer it.
+//! A message is answered as the machine answers the request in it. `wire` reads its target. The first bytes of the body
+//! of a PUT are the go.mod, as many as the one header `Mod-Length` says, and the rest is the zip. A PUT has no files if
+//! its `Mod-Length` is absent, doubled, malformed or larger than the body; the machine's checks answer it.
 //!
 //! | body of the PUT | `Mod-Length` | go.mod and zip |
 //! |---|---|---|
@@ -50,13 +50,13 @@
 #![tactic(auto)]
 
 mod answer;
-mod ask;
 mod exchange;
 pub mod fault;
-mod incoming;
 pub mod laws;
+mod next;
 pub mod page;
 mod read;
+mod request;
 mod session;
 pub mod write;
 

@@ -1,13 +1,13 @@
 //! What is written for a reply of the machine.
 ghost use Rattle.std.specs.Prelude.{◌≡◌, Some, IfOk, OnErr};
-ghost use Rattle.engine.specs.Ask.{sum_by};
+ghost use Rattle.engine.specs.Request.{sum_by};
 ghost use Rattle.engine.specs.Reply as spec;
 ghost use Rattle.engine.specs.Reply.{IsComposed, IsSummed};
 
-use crate::ask::Asking;
+use crate::request::MessageRequest;
 use gosum::sum_line;
-use machine::ask::{Ask, Query};
 use machine::reply::{ContentRefusal, Decision, Reply};
+use machine::request::{Query, Request};
 use modpath::ModulePath;
 use modver::Version;
 use std::alloc::Global;
@@ -72,15 +72,15 @@ fn sum_body(
 
 /// Returns the body for a go.mod: the bytes that were received, or its go.sum line if the message asks for that.
 /// `Memory` only if there is no room for the line.
-fn gomod_body(alloc: Global, asking: &Asking, gomod: Bytes) -> Result<Bytes, Memory>
-    ensures body { IfOk result (λ body. body ≡ spec.gomod_body (sum_by asking.now) gomod) }
-    ensures memory { OnErr result (IsSummed (sum_by asking.now)) }
+fn gomod_body(alloc: Global, asked: &MessageRequest, gomod: Bytes) -> Result<Bytes, Memory>
+    ensures body { IfOk result (λ body. body ≡ spec.gomod_body (sum_by asked.now) gomod) }
+    ensures memory { OnErr result (IsSummed (sum_by asked.now)) }
 {
-    if !asking.is_summed {
+    if !asked.is_summed {
         return Ok(gomod);
     }
-    match &asking.ask {
-        Ask::Get {
+    match &asked.request {
+        Request::Get {
             query: Query::GoMod { path, version },
             ..
         } => sum_body(alloc, path, version, gomod.as_slice()),
@@ -91,17 +91,14 @@ fn gomod_body(alloc: Global, asking: &Asking, gomod: Bytes) -> Result<Bytes, Mem
 /// Returns what is written for the machine's reply to what was asked. `Memory` only if there is no room for a body that
 /// is composed; the bytes of a file are moved into the page. A request whose reply has a composed body changed nothing,
 /// so a 503 in its place loses nothing.
-pub(crate) fn page_of(alloc: Global, asking: &Asking, reply: Reply) -> Result<Page, Memory>
-    ensures page { IfOk result (λ page. page ≡ spec.reply_page (sum_by asking.now) reply) }
-    ensures memory { OnErr result (IsComposed (sum_by asking.now) reply) }
+pub(crate) fn page_of(alloc: Global, asked: &MessageRequest, reply: Reply) -> Result<Page, Memory>
+    ensures page { IfOk result (λ page. page ≡ spec.reply_page (sum_by asked.now) reply) }
+    ensures memory { OnErr result (IsComposed (sum_by asked.now) reply) }
 {
     match reply {
         Reply::NotFound | Reply::Registry(_) => Ok(Page::Fixed(Fixed::NotFound)),
         Reply::Decided(decision) => Ok(Page::Fixed(fixed_of(decision))),
-        Reply::GoMod(text) => Ok(Page::Body(
-            MediaType::TextPlain,
-            gomod_body(alloc, asking, text)?,
-        )),
+        Reply::GoMod(text) => Ok(Page::Body(MediaType::TextPlain, gomod_body(alloc, asked, text)?)),
         Reply::Zip(zip) => Ok(Page::Body(MediaType::Zip, zip)),
         Reply::Info { version, time } => {
             let body = info_body(alloc, &version, time)?;

@@ -1,4 +1,4 @@
-//! Answering a stream of requests, turn by turn.
+//! Answering a stream of messages, turn by turn.
 ghost use Rattle.std.specs.Prelude.{◌≡◌, ◌<◌, ◌≤◌, ◌-◌, ◌^◌, [], None, IfOk, IfErr, OnOk};
 ghost use Rattle.std.specs.Io.KnownBytes.{Keeps};
 ghost use Rattle.engine.specs.Causes.{AsksWhileUnfinished, FailsWith, IsCausedIn, Spends};
@@ -7,11 +7,11 @@ ghost use Rattle.engine.specs.Served.{closing_bytes};
 ghost use Rattle.engine.specs.Turn.{EndsBy, IsAnswered, IsClosed, Turns, turn_status, work};
 ghost use Rattle.engine.specs.Written.{Writes};
 
-use crate::ask::asking_of;
 use crate::exchange::page_of_answer;
 use crate::fault::Io;
-use crate::incoming::{Incoming, next_message};
+use crate::next::{MessageOrEnd, next_message};
 use crate::page::Page;
+use crate::request::message_request;
 use crate::write::{flush, write_fixed, write_page};
 use histories::{Hear, Tell};
 use machine::step::step;
@@ -79,7 +79,7 @@ pub(crate) fn end_turn<W: Tell>(writer: &mut W, turned: Result<Turn, Io>) -> Res
     Ok(turn.status())
 }
 
-/// A stream of requests that is being answered. It holds the bytes that were read after the answered messages.
+/// A stream of messages that is being answered. It holds the bytes that were read after the answered messages.
 #[derive(Drop)]
 pub(crate) struct Session {
     pub(crate) alloc: Global,
@@ -135,15 +135,15 @@ impl Session {
             → work self.new.reads self.new.framer.held < work self.old.reads self.old.framer.held) }
     {
         match next_message(reader, &mut self.framer, &mut self.reads)? {
-            Incoming::Message(message) => {
-                let Ok(asking) = asking_of(routes, message) else {
+            MessageOrEnd::Message(message) => {
+                let Ok(asked) = message_request(routes, message) else {
                     return answer_with(self.alloc, writer, Page::Fixed(Fixed::Unavailable));
                 };
-                let answer = step(self.alloc, shelves, &asking.ask);
-                let page = page_of_answer(self.alloc, &asking, answer);
+                let answer = step(self.alloc, shelves, &asked.request);
+                let page = page_of_answer(self.alloc, &asked, answer);
                 answer_with(self.alloc, writer, page)
             }
-            Incoming::End(closing) => close_by(writer, closing),
+            MessageOrEnd::End(closing) => close_by(writer, closing),
         }
     }
 }

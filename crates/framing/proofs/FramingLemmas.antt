@@ -6,7 +6,7 @@ use Rattle.httparse.specs.Grammar.{ReadsRequest}
 use Rattle.httparse.specs.Spans.{span_bytes}
 use Rattle.httparse.specs.declared.spans.HeaderSpan.{HeaderSpan}
 use Rattle.httparse.proofs.RunLemmas.{drop_split, length-slice_range}
-use Rattle.framing.specs.Message.{Request, ReadsMessage, Ends}
+use Rattle.framing.specs.Message.{MessageView, ReadsMessage, Ends}
 use Rattle.framing.specs.Framing.{HasMessage, IsBad, end_of}
 use Rattle.framing.specs.Values.{values_at, IsHeadAt}
 use Rattle.framing.specs.declared.head.Head.{Head}
@@ -21,7 +21,7 @@ IsBad-append bytes more failure is = record {
 }
 
 -- what is read of a whole message is the message
-pub message_at : (bytes : List ℕ) (headers : List HeaderSpan) (found : Head) (message : Request)
+pub message_at : (bytes : List ℕ) (headers : List HeaderSpan) (found : Head) (message : MessageView)
     → IsHeadAt bytes headers found → found.spans.len + found.body ≤ length bytes
     → message.method ≡ span_bytes bytes found.spans.method
     → message.target ≡ span_bytes bytes found.spans.path
@@ -44,7 +44,8 @@ message_at bytes headers found message at whole method target body mod_lengths v
           (mod_lengths ∙ values (codes "mod-length")) (version_times ∙ values (codes "version-time")),
     )
   where
-    same : (a b : Request) → a.method ≡ b.method → a.target ≡ b.target → a.body ≡ b.body → a.mod_lengths ≡ b.mod_lengths
+    same : (a b : MessageView) → a.method ≡ b.method → a.target ≡ b.target → a.body ≡ b.body
+        → a.mod_lengths ≡ b.mod_lengths
         → a.version_times ≡ b.version_times → a ≡ b
     same a b p q r s t = λ i. record { method = p i; target = q i; body = r i; mod_lengths = s i; version_times = t i }
 
@@ -52,7 +53,7 @@ message_at bytes headers found message at whole method target body mod_lengths v
 pub whole_message : (bytes : List ℕ) (headers : List HeaderSpan) (found : Head) → IsHeadAt bytes headers found
     → found.spans.len + found.body ≤ length bytes → HasMessage bytes
 whole_message bytes headers found at whole =
-    let message : Request = record {
+    let message : MessageView = record {
       method = span_bytes bytes found.spans.method;
       target = span_bytes bytes found.spans.path;
       body = slice_range bytes found.spans.len (found.spans.len + found.body);

@@ -10,7 +10,8 @@ use Rattle.std.proofs.lemmas.Str.Ascii.{IsAscii-nil, IsAscii-cons}
 use Rattle.httparse.specs.Grammar.{RequestHead, ReadsRequest, HasNoRequest, MayBecomeRequest, is_token_byte}
 use Rattle.httparse.specs.Grammar.{is_uri_byte, lf, print_request, print_blank, print_version, print_end, print_section}
 use Rattle.httparse.proofs.GrammarLemmas.{print_request-append}
-use Rattle.framing.specs.Message.{Request, request_of, BeginsWith, ReadsMessage, ReadsMessages, IsTooLarge, End, clean}
+use Rattle.framing.specs.Message.{MessageView, message_view, BeginsWith, ReadsMessage, ReadsMessages, IsTooLarge, End}
+use Rattle.framing.specs.Message.{clean}
 use Rattle.framing.specs.Message.{too_large, bad, Ends, IsStream}
 use Rattle.framing.specs.Never.{NeverBegins}
 use Rattle.framing.specs.Framing.{MayBeginHead, IsOpen, IsBad, IsUnfinished}
@@ -43,14 +44,15 @@ same_front a b x y long e = (
 )
 
 -- some bytes begin with one message at most
-pub message_unique : (bytes : List ℕ) (a b : Request) (r q : List ℕ) → ReadsMessage bytes a r → ReadsMessage bytes b q
+pub message_unique : (bytes : List ℕ) (a b : MessageView) (r q : List ℕ) → ReadsMessage bytes a r
+    → ReadsMessage bytes b q
     → (a ≡ b) × (r ≡ q)
 message_unique bytes a b r q (h, m, x, _, long_a, is_a) (k, n, y, _, long_b, is_b) =
     let heads = head_unique bytes h k m n (a.body ++ r) (b.body ++ q) x y in
     let fronts = same_front a.body b.body r q (long_a ∙ heads.1 ∙ sym long_b) heads.2 in
-    (is_a ∙ (λ i. request_of (heads.0 i) (fronts.0 i)) ∙ sym is_b, fronts.1)
+    (is_a ∙ (λ i. message_view (heads.0 i) (fronts.0 i)) ∙ sym is_b, fronts.1)
 
-pub ReadsMessage-append : (bytes more : List ℕ) (a : Request) (rest : List ℕ) → ReadsMessage bytes a rest
+pub ReadsMessage-append : (bytes more : List ℕ) (a : MessageView) (rest : List ℕ) → ReadsMessage bytes a rest
     → ReadsMessage (bytes ++ more) a (rest ++ more)
 ReadsMessage-append bytes more a rest (h, n, x, small, long, is) = (
   h,
@@ -62,13 +64,13 @@ ReadsMessage-append bytes more a rest (h, n, x, small, long, is) = (
   is,
 )
 
-pub no_message_begins_another : (bytes more : List ℕ) (a b : Request) → ReadsMessage bytes a []
+pub no_message_begins_another : (bytes more : List ℕ) (a b : MessageView) → ReadsMessage bytes a []
     → ReadsMessage (bytes ++ more) b [] → more ≡ []
 no_message_begins_another bytes more a b x y =
     (message_unique (bytes ++ more) a b more [] (ReadsMessage-append bytes more a [] x) y).1
 
 -- what ends a stream begins with no message
-pub no_message_at_end : (bytes : List ℕ) (end : End) → Ends bytes end → (a : Request) (rest : List ℕ)
+pub no_message_at_end : (bytes : List ℕ) (end : End) → Ends bytes end → (a : MessageView) (rest : List ℕ)
     → ReadsMessage bytes a rest → ⊥
 no_message_at_end bytes clean empty a rest (h, n, x, small, long, is) =
     nothing_reads h (a.body ++ rest) (sym empty ∙ x.reads.1)
@@ -91,7 +93,7 @@ end_unique bytes bad too_large p q = absurd (p.2 q)
 end_unique bytes bad bad p q = refl
 
 -- a stream has at most one list of messages and one end
-pub stream_unique : (bytes : List ℕ) (a b : List Request) (x y : End) → IsStream bytes a x → IsStream bytes b y
+pub stream_unique : (bytes : List ℕ) (a b : List MessageView) (x y : End) → IsStream bytes a x → IsStream bytes b y
     → (a ≡ b) × (x ≡ y)
 stream_unique bytes [] [] x y (r, e, p) (q, f, s) =
     (refl, end_unique r x y p (subst (λ rest. Ends rest y) (sym f ∙ e) s))
@@ -133,7 +135,7 @@ open_ends bytes (inl none) some =
 open_ends bytes (inr (h, n, rest, x, small, short)) some =
     (some, no_message, no_large)
   where
-    no_message : (a : Request) (more : List ℕ) → ReadsMessage bytes a more → ⊥
+    no_message : (a : MessageView) (more : List ℕ) → ReadsMessage bytes a more → ⊥
     no_message a more (k, m, y, _, long, is) =
         let heads = head_unique bytes h k n m rest (a.body ++ more) x y in
         let lengths = ap length heads.2 ∙ length-append a.body more in

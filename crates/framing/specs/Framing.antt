@@ -5,7 +5,8 @@ use Rattle.std.specs.List.{slice_range}
 use Rattle.std.specs.Prelude.{Vec}
 use Rattle.std.specs.declared.alloc.Global.{Global}
 use Rattle.httparse.specs.Grammar.{RequestHead, HasNoRequest, MayBecomeRequest}
-use Rattle.framing.specs.Message.{body_limit, head_limit, Request, BeginsWith, ReadsMessage, End, too_large, bad, Ends}
+use Rattle.framing.specs.Message.{body_limit, head_limit, MessageView, BeginsWith, ReadsMessage, End, too_large, bad}
+use Rattle.framing.specs.Message.{Ends}
 use Rattle.framing.specs.declared.framer.Bad.{Bad}
 use Rattle.framing.specs.declared.framer.Bad.TheVariants.{BadRequest, TooLarge}
 use Rattle.framing.specs.declared.framer.Next.{Next}
@@ -18,7 +19,7 @@ abbrev pub texts : List (Vec ℕ Global) → List (List ℕ)
 texts vs = map (λ v. v.items) vs
 
 -- a message without where it lies in memory
-abbrev pub view : Message → Request
+abbrev pub view : Message → MessageView
 view m = record {
   method = m.method.items;
   target = m.target.items;
@@ -28,7 +29,7 @@ view m = record {
 }
 
 -- a message with another body
-abbrev pub with_body : List ℕ → Request → Request
+abbrev pub with_body : List ℕ → MessageView → MessageView
 with_body body m = record m { body = body }
 
 -- no whole head begins the bytes, but more bytes may complete one, and the bytes are fewer than a head may have
@@ -92,4 +93,4 @@ Awaits bytes wanted = 0 < wanted → HasBegun bytes wanted
 
 -- the bytes begin with a whole message
 abbrev pub HasMessage : List ℕ → Type 0
-HasMessage bytes = (message : Request) × (rest : List ℕ) × ReadsMessage bytes message rest
+HasMessage bytes = (message : MessageView) × (rest : List ℕ) × ReadsMessage bytes message rest

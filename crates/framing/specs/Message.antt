@@ -47,15 +47,15 @@ pub record BeginsWith (bytes : List ℕ) (head : RequestHead) (n : ℕ) (rest : 
   pub good : IsGoodHead head n
 
 -- what the server reads of a message
-pub record Request : Type 0 where
+pub record MessageView : Type 0 where
   pub method : List ℕ
   pub target : List ℕ
   pub body : List ℕ
   pub mod_lengths : List (List ℕ)
   pub version_times : List (List ℕ)
 
-abbrev pub request_of : RequestHead → List ℕ → Request
-request_of head body = record {
+abbrev pub message_view : RequestHead → List ℕ → MessageView
+message_view head body = record {
   method = head.method;
   target = head.target;
   body = body;
@@ -64,10 +64,10 @@ request_of head body = record {
 }
 
 -- the bytes are a message and then rest
-abbrev pub ReadsMessage : List ℕ → Request → List ℕ → Type 0
+abbrev pub ReadsMessage : List ℕ → MessageView → List ℕ → Type 0
 ReadsMessage bytes message rest =
     (head : RequestHead) × (n : ℕ) × BeginsWith bytes head n (message.body ++ rest)
-    × (n ≤ body_limit) × (length message.body ≡ n) × (message ≡ request_of head message.body)
+    × (n ≤ body_limit) × (length message.body ≡ n) × (message ≡ message_view head message.body)
 
 -- the bytes begin with a good head whose body would be too large
 abbrev pub IsTooLarge : List ℕ → Type 0
@@ -82,14 +82,14 @@ abbrev pub Ends : List ℕ → End → Type 0
 Ends rest clean = rest ≡ []
 Ends rest too_large = IsTooLarge rest
 Ends rest bad =
-    (rest ≢ []) × ((message : Request) (more : List ℕ) → ¬ (ReadsMessage rest message more)) × (¬ (IsTooLarge rest))
+    (rest ≢ []) × ((message : MessageView) (more : List ℕ) → ¬ (ReadsMessage rest message more)) × (¬ (IsTooLarge rest))
 
 -- the bytes are these messages and then rest
-abbrev pub ReadsMessages : List ℕ → List Request → List ℕ → Type 0
+abbrev pub ReadsMessages : List ℕ → List MessageView → List ℕ → Type 0
 ReadsMessages bytes [] rest = bytes ≡ rest
 ReadsMessages bytes (message ∷ messages) rest =
     (after : List ℕ) × ReadsMessage bytes message after × ReadsMessages after messages rest
 
 -- the bytes are these messages, as many as there are, and then this end
-abbrev pub IsStream : List ℕ → List Request → End → Type 0
+abbrev pub IsStream : List ℕ → List MessageView → End → Type 0
 IsStream bytes messages end = (rest : List ℕ) × ReadsMessages bytes messages rest × Ends rest end

@@ -8,7 +8,7 @@ use Rattle.world.specs.Standing.{standing}
 use Rattle.world.specs.World.{World, count}
 use Rattle.world.specs.Store.{Shown, AddsNothing, AfterCrash, DoesAt, DoesWhere, Reads, ReadsAt}
 use Rattle.world.specs.declared.registry.StoreFault.{StoreFault}
-use Rattle.machine.specs.declared.ask.Publish.{Publish}
+use Rattle.machine.specs.declared.request.Publish.{Publish}
 use Rattle.machine.specs.declared.reply.Decision.{Decision}
 use Rattle.machine.specs.Machine.{after_decision, decided_by_shelf, decision, offered, own_refusal}
 use Rattle.machine.specs.Publishing.{PublishesTo, CarriesOut}

@@ -5,9 +5,9 @@ use Rattle.std.specs.FinSet as set
 use Rattle.modver.specs.SemanticVersion.{SemanticVersion, version_text}
 use Rattle.world.specs.declared.entry.Seen.{Seen}
 use Rattle.world.specs.declared.entry.Holder.{Holder}
-use Rattle.machine.specs.declared.ask.Query.{Query}
-use Rattle.machine.specs.declared.ask.Query.TheVariants as query
-use Rattle.machine.specs.declared.ask.Publish.{Publish}
+use Rattle.machine.specs.declared.request.Query.{Query}
+use Rattle.machine.specs.declared.request.Query.TheVariants as query
+use Rattle.machine.specs.declared.request.Publish.{Publish}
 use Rattle.machine.specs.declared.reply.Reply.TheVariants as reply
 use Rattle.world.specs.World.{World, chain, heading, count}
 use Rattle.world.specs.Lines.{in_order}

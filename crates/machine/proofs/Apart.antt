@@ -7,11 +7,12 @@ use Rattle.world.specs.declared.entry.Place.{Place}
 use Rattle.world.specs.declared.entry.Entry.{Entry}
 use Rattle.world.specs.declared.entry.Holder.{Holder}
 use Rattle.world.specs.declared.entry.Right.{Right}
-use Rattle.machine.specs.declared.ask.Query.{Query}
-use Rattle.machine.specs.declared.ask.Publish.{Publish}
-use Rattle.machine.specs.declared.ask.Ask.TheVariants.{Unreadable, Get, Put}
-use Rattle.machine.specs.declared.ask.Event.{Event}
-use Rattle.machine.specs.declared.ask.Event.TheVariants.{Asked, TeamAdd, GroupAdd, KeyAdd, KeyRevoke, KeysRevoke}
+use Rattle.machine.specs.declared.request.Query.{Query}
+use Rattle.machine.specs.declared.request.Publish.{Publish}
+use Rattle.machine.specs.declared.request.Request.TheVariants.{Unreadable, Get, Put}
+use Rattle.machine.specs.declared.request.Event.{Event}
+use Rattle.machine.specs.declared.request.Event.TheVariants.{Requested, TeamAdd, GroupAdd, KeyAdd, KeyRevoke}
+use Rattle.machine.specs.declared.request.Event.TheVariants.{KeysRevoke}
 use Rattle.machine.specs.declared.reply.Decision.{Decision}
 use Rattle.machine.specs.declared.reply.Decision.TheVariants.{Published}
 use Rattle.world.specs.declared.registry.RegistryReply.{RegistryReply}
@@ -180,15 +181,15 @@ key_alike w x t k e f =
 -- in worlds that agree, a remaining event gets equal replies and leads to worlds that agree
 pub event_alike : (w x : World) (ss : List (List ℕ)) (e : Event) → is_remaining w ss e ≡ true → IsWorld w → Reaches w ss
     → Agree w x ss → Alike (reply_to w e) (reply_to x e) (after w e) (after x e) ss
-event_alike w x ss (Asked Unreadable) near is all agree = record { reply = refl; worlds = agree }
-event_alike w x ss (Asked (Get k q)) near is all agree = record {
+event_alike w x ss (Requested Unreadable) near is all agree = record { reply = refl; worlds = agree }
+event_alike w x ss (Requested (Get k q)) near is all agree = record {
   reply = get_alike w x ss (map.get w.keys k) q near (λ h e. is.keys_stand k h e) all agree
       ∙ ap (λ m. keyed_reply x (map.get m k) q) agree.keys;
   worlds = agree;
 }
-event_alike w x ss (Asked (Put k p)) near is all agree =
-    subst (λ m. Alike (reply_to w (Asked (Put k p))) (reply.Decided (decision x (map.get m k) p))
-    (after w (Asked (Put k p))) (after_decision x (map.get m k) p (decision x (map.get m k) p)) ss)
+event_alike w x ss (Requested (Put k p)) near is all agree =
+    subst (λ m. Alike (reply_to w (Requested (Put k p))) (reply.Decided (decision x (map.get m k) p))
+    (after w (Requested (Put k p))) (after_decision x (map.get m k) p (decision x (map.get m k) p)) ss)
     agree.keys (put_alike w x ss (map.get w.keys k) p near (λ h e. is.keys_stand k h e) all agree)
 event_alike w x ss (TeamAdd t group) near is all agree =
     let same = team_alike w x t group agree.shelves in
@@ -230,9 +231,9 @@ event_alike w x ss (KeysRevoke t) near is all agree =
 -- worlds that agree leave the same events
 pub remaining_alike : (w x : World) (ss : List (List ℕ)) (e : Event) → Agree w x ss
     → is_remaining w ss e ≡ is_remaining x ss e
-remaining_alike w x ss (Asked Unreadable) agree = refl
-remaining_alike w x ss (Asked (Get k q)) agree = ap (λ m. is_near ss (map.get m k)) agree.keys
-remaining_alike w x ss (Asked (Put k p)) agree = ap (λ m. is_near ss (map.get m k)) agree.keys
+remaining_alike w x ss (Requested Unreadable) agree = refl
+remaining_alike w x ss (Requested (Get k q)) agree = ap (λ m. is_near ss (map.get m k)) agree.keys
+remaining_alike w x ss (Requested (Put k p)) agree = ap (λ m. is_near ss (map.get m k)) agree.keys
 remaining_alike w x ss e agree = refl
 
 -- ---- an event that is not remaining
@@ -244,9 +245,9 @@ far_put w x ss (Some h) p d far agree = one_decides w x ss h p d far agree
 
 pub event_far : (w x : World) (ss : List (List ℕ)) (e : Event) → is_remaining w ss e ≡ false → Agree w x ss
     → Agree (after w e) x ss
-event_far w x ss (Asked Unreadable) far agree = agree
-event_far w x ss (Asked (Get k q)) far agree = agree
-event_far w x ss (Asked (Put k p)) far agree =
+event_far w x ss (Requested Unreadable) far agree = agree
+event_far w x ss (Requested (Get k q)) far agree = agree
+event_far w x ss (Requested (Put k p)) far agree =
     far_put w x ss (map.get w.keys k) p (decision w (map.get w.keys k) p) far agree
 event_far w x ss (TeamAdd t group) far agree = absurd (true≢false far)
 event_far w x ss (GroupAdd g) far agree = absurd (true≢false far)

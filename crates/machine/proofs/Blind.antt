@@ -6,14 +6,14 @@ use Rattle.std.proofs.lemmas.Bool.{true≢false}
 use Rattle.world.specs.declared.entry.Place.{Place}
 use Rattle.world.specs.declared.entry.Entry.{Entry}
 use Rattle.world.specs.declared.entry.Holder.{Holder}
-use Rattle.machine.specs.declared.ask.Query.{Query}
-use Rattle.machine.specs.declared.ask.Publish.{Publish}
-use Rattle.machine.specs.declared.ask.Ask.TheVariants.{Unreadable, Get, Put}
+use Rattle.machine.specs.declared.request.Query.{Query}
+use Rattle.machine.specs.declared.request.Publish.{Publish}
+use Rattle.machine.specs.declared.request.Request.TheVariants.{Unreadable, Get, Put}
 use Rattle.machine.specs.declared.reply.Decision.{Decision}
 use Rattle.machine.specs.declared.reply.Decision.TheVariants.{Published}
 use Rattle.machine.specs.declared.reply.Reply.TheVariants as reply
 use Rattle.world.specs.World.{World, IsWorld, chain, place, on_shelf}
-use Rattle.machine.specs.Machine.{decision, keyed_reply, after_decision, stored, offered, place_of, after_ask}
+use Rattle.machine.specs.Machine.{decision, keyed_reply, after_decision, stored, offered, place_of, after_request}
 use Rattle.machine.specs.Isolation.{sees, belongs, Low, AgreeIsLow, IsBlind}
 use Rattle.world.proofs.Orders.{places_total, places_exact, get_put_both, text_self, text_same}
 use Rattle.machine.proofs.Views.{SameOn, SameSeen, guarded, sees_through}
@@ -115,13 +115,13 @@ put_known w x k h p both = ap (λ o. decision w o p) both.first ∙ decision_sam
 
 -- the world after a publish by a key that is known
 after_known : (w : World) (k : List ℕ) (h : Holder) (p : Publish) → map.get w.keys k ≡ Some h
-    → after_ask w (Put k p) ≡ after_decision w (Some h) p (decision w (Some h) p)
+    → after_request w (Put k p) ≡ after_decision w (Some h) p (decision w (Some h) p)
 after_known w k h p e = ap (λ o. after_decision w o p (decision w o p)) e
 
 low_put : (w x : World) (s k : List ℕ) (h : Holder) (p : Publish) → Low w x s → Known w x k h
-    → Low (after_ask w (Put k p)) (after_ask x (Put k p)) s
+    → Low (after_request w (Put k p)) (after_request x (Put k p)) s
 low_put w x s k h p low both =
-    subst (λ y. Low (after_ask w (Put k p)) y s) (sym (after_known x k h p both.second))
+    subst (λ y. Low (after_request w (Put k p)) y s) (sym (after_known x k h p both.second))
     (subst (λ y. Low y (after_decision x (Some h) p (decision x (Some h) p)) s) (sym (after_known w k h p both.first))
     (subst (λ d. Low (after_decision w (Some h) p (decision w (Some h) p)) (after_decision x (Some h) p d) s)
     (decision_same w x h p both.chains both.seen)

@@ -6,10 +6,11 @@ use Rattle.world.specs.declared.entry.Right.{Right}
 use Rattle.world.specs.declared.entry.Place.{Place}
 use Rattle.world.specs.declared.entry.Entry.{Entry}
 use Rattle.world.specs.declared.entry.Holder.{Holder}
-use Rattle.machine.specs.declared.ask.Publish.{Publish}
-use Rattle.machine.specs.declared.ask.Ask.TheVariants.{Unreadable, Get, Put}
-use Rattle.machine.specs.declared.ask.Event.{Event}
-use Rattle.machine.specs.declared.ask.Event.TheVariants.{Asked, TeamAdd, GroupAdd, KeyAdd, KeyRevoke, KeysRevoke}
+use Rattle.machine.specs.declared.request.Publish.{Publish}
+use Rattle.machine.specs.declared.request.Request.TheVariants.{Unreadable, Get, Put}
+use Rattle.machine.specs.declared.request.Event.{Event}
+use Rattle.machine.specs.declared.request.Event.TheVariants.{Requested, TeamAdd, GroupAdd, KeyAdd, KeyRevoke}
+use Rattle.machine.specs.declared.request.Event.TheVariants.{KeysRevoke}
 use Rattle.machine.specs.declared.reply.Decision.{Decision}
 use Rattle.machine.specs.declared.reply.Decision.TheVariants.{Published}
 use Rattle.world.specs.declared.registry.RegistryReply.{RegistryReply}
@@ -86,9 +87,9 @@ stands_revoke_all w s t Done stands = record { stands = stands; chains = refl }
 stands_revoke_all w s t r stands = same_registry w w s stands refl
 
 pub stands_after : (w : World) (s : List ℕ) (e : Event) → map.contains_key w.shelves s ≡ true → Stands w (after w e) s
-stands_after w s (Asked Unreadable) stands = same_registry w w s stands refl
-stands_after w s (Asked (Get k q)) stands = same_registry w w s stands refl
-stands_after w s (Asked (Put k p)) stands =
+stands_after w s (Requested Unreadable) stands = same_registry w w s stands refl
+stands_after w s (Requested (Get k q)) stands = same_registry w w s stands refl
+stands_after w s (Requested (Put k p)) stands =
     stands_decided w s (map.get w.keys k) p (decision w (map.get w.keys k) p) stands
 stands_after w s (TeamAdd t group) stands = stands_team w s t group (team_added w t group) refl stands
 stands_after w s (GroupAdd g) stands = stands_group w s g (group_added w g) refl stands

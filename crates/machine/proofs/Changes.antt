@@ -4,9 +4,10 @@ use Rattle.std.specs.Prelude.{pred}
 use Rattle.std.specs.FinMap as map
 use Rattle.world.specs.declared.entry.Right.{Right}
 use Rattle.world.specs.declared.entry.Holder.{Holder}
-use Rattle.machine.specs.declared.ask.Publish.{Publish}
-use Rattle.machine.specs.declared.ask.Ask.TheVariants.{Unreadable, Get, Put}
-use Rattle.machine.specs.declared.ask.Event.TheVariants.{Asked, TeamAdd, GroupAdd, KeyAdd, KeyRevoke, KeysRevoke}
+use Rattle.machine.specs.declared.request.Publish.{Publish}
+use Rattle.machine.specs.declared.request.Request.TheVariants.{Unreadable, Get, Put}
+use Rattle.machine.specs.declared.request.Event.TheVariants.{Requested, TeamAdd, GroupAdd, KeyAdd, KeyRevoke}
+use Rattle.machine.specs.declared.request.Event.TheVariants.{KeysRevoke}
 use Rattle.machine.specs.declared.reply.Decision.{Decision}
 use Rattle.machine.specs.declared.reply.Decision.TheVariants.{Published}
 use Rattle.world.specs.declared.registry.RegistryReply.{RegistryReply}
@@ -56,9 +57,9 @@ revoke_all_changes w s Done = inl tt
 revoke_all_changes w s r = inr refl
 
 pub only_changes_change : OnlyChangesChange
-only_changes_change w (Asked Unreadable) = inr refl
-only_changes_change w (Asked (Get k q)) = inr refl
-only_changes_change w (Asked (Put k p)) = put_changes w (map.get w.keys k) p (decision w (map.get w.keys k) p)
+only_changes_change w (Requested Unreadable) = inr refl
+only_changes_change w (Requested (Get k q)) = inr refl
+only_changes_change w (Requested (Put k p)) = put_changes w (map.get w.keys k) p (decision w (map.get w.keys k) p)
 only_changes_change w (TeamAdd t group) = team_changes w t group (team_added w t group)
 only_changes_change w (GroupAdd g) = group_changes w g (group_added w g)
 only_changes_change w (KeyAdd t k right) = key_changes w t k right (key_added w t k)

@@ -19,8 +19,8 @@ use Rattle.world.specs.declared.entry.Right.TheVariants.{Reads, Publishes}
 use Rattle.world.specs.declared.standing.Standing.{Standing}
 use Rattle.world.specs.declared.standing.Standing.TheVariants as standing
 use Rattle.world.specs.Standing.{same_entry, standing, standing_to, entry_seen}
-use Rattle.machine.specs.declared.ask.Body.{Body}
-use Rattle.machine.specs.declared.ask.Publish.{Publish}
+use Rattle.machine.specs.declared.request.Body.{Body}
+use Rattle.machine.specs.declared.request.Publish.{Publish}
 use Rattle.world.specs.declared.reading.Reading.{Reading}
 use Rattle.machine.specs.declared.reply.Decision.{Decision}
 use Rattle.machine.specs.declared.reply.Decision.TheVariants.{Published, Same, Conflict, Full}

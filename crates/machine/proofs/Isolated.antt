@@ -4,7 +4,7 @@ use Rattle.std.specs.Prelude.{suc}
 use Rattle.std.specs.FinMap as map
 use Rattle.std.proofs.lemmas.Bool.{true≢false}
 use Rattle.world.specs.declared.entry.Holder.{Holder}
-use Rattle.machine.specs.declared.ask.Event.{Event}
+use Rattle.machine.specs.declared.request.Event.{Event}
 use Rattle.machine.specs.declared.reply.Reply.{Reply}
 use Rattle.machine.specs.declared.reply.Answer.{Answer}
 use Rattle.machine.specs.declared.reply.Answer.TheVariants.{Replied, Failed}

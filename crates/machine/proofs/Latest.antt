@@ -11,7 +11,7 @@ use Rattle.latest.specs.Latest as latest
 use Rattle.latest.proofs.Scans.{top_one}
 use Rattle.modver.specs.SemanticVersion.{SemanticVersion, version_text}
 use Rattle.world.specs.declared.entry.Seen.{Seen}
-use Rattle.machine.specs.declared.ask.Query.TheVariants as query
+use Rattle.machine.specs.declared.request.Query.TheVariants as query
 use Rattle.world.specs.declared.reading.Reading.{Reading}
 use Rattle.world.specs.declared.reading.Reading.TheVariants.{Module, Fault}
 use Rattle.machine.specs.declared.reply.Reply.TheVariants as reply

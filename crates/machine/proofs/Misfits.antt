@@ -11,8 +11,8 @@ use Rattle.world.specs.declared.entry_test.Misfit.TheVariants as misfit
 use Rattle.world.specs.EntryTest.{is_small, own_misfit}
 use Rattle.world.specs.Forms.{fits, suffix_of}
 use Rattle.world.proofs.Orders.{text_self}
-use Rattle.machine.specs.declared.ask.GivenTime.TheVariants.{Malformed}
-use Rattle.machine.specs.declared.ask.Publish.{Publish}
+use Rattle.machine.specs.declared.request.GivenTime.TheVariants.{Malformed}
+use Rattle.machine.specs.declared.request.Publish.{Publish}
 use Rattle.machine.specs.declared.reply.Decision.TheVariants.{BadLength, TooLarge, Refused}
 use Rattle.machine.specs.declared.reply.ContentRefusal.TheVariants as refusal
 use Rattle.machine.specs.Machine.{first_failing, is_bad_time, is_other_time, is_too_large, entry_of, offered}

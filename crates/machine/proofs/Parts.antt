@@ -4,11 +4,12 @@ use Rattle.std.specs.FinMap as map
 use Rattle.std.proofs.lemmas.Bool.{cond-true, cond-false}
 use Rattle.world.specs.declared.entry.Entry.{Entry}
 use Rattle.world.specs.declared.entry.Holder.{Holder}
-use Rattle.machine.specs.declared.ask.Publish.{Publish}
-use Rattle.machine.specs.declared.ask.Ask.{Ask}
-use Rattle.machine.specs.declared.ask.Ask.TheVariants.{Unreadable, Get, Put}
-use Rattle.machine.specs.declared.ask.Event.{Event}
-use Rattle.machine.specs.declared.ask.Event.TheVariants.{Asked, TeamAdd, GroupAdd, KeyAdd, KeyRevoke, KeysRevoke}
+use Rattle.machine.specs.declared.request.Publish.{Publish}
+use Rattle.machine.specs.declared.request.Request.{Request}
+use Rattle.machine.specs.declared.request.Request.TheVariants.{Unreadable, Get, Put}
+use Rattle.machine.specs.declared.request.Event.{Event}
+use Rattle.machine.specs.declared.request.Event.TheVariants.{Requested, TeamAdd, GroupAdd, KeyAdd, KeyRevoke}
+use Rattle.machine.specs.declared.request.Event.TheVariants.{KeysRevoke}
 use Rattle.machine.specs.declared.reply.Decision.{Decision}
 use Rattle.machine.specs.declared.reply.Decision.TheVariants.{Published}
 use Rattle.machine.specs.declared.reply.Reply.TheVariants as reply
@@ -18,10 +19,11 @@ use Rattle.world.specs.World.{World, IsWorld, group_in, above, chain, is_among, 
 use Rattle.world.specs.Part.{part, is_held}
 use Rattle.world.proofs.Parts.{part_is_world, parent_left, key_at, entry_at, held_key}
 use Rattle.world.proofs.Sees.{sees_itself, same_chain}
-use Rattle.machine.specs.Machine.{decision, after_decision, stored, offered, place_of, ask_reply, after_ask, reply_to}
+use Rattle.machine.specs.Machine.{decision, after_decision, stored, offered, place_of, request_reply, after_request}
+use Rattle.machine.specs.Machine.{reply_to}
 use Rattle.machine.specs.Machine.{after, after_all, replies, Run, answered, replies_of, is_readable}
 use Rattle.machine.specs.Isolation.{key_of, Low}
-use Rattle.machine.specs.Parts.{PartIsLow, IsOwn, AllOwn, IsBlindThroughout, PartTellsTheSame, IsNotFound, AllAsked}
+use Rattle.machine.specs.Parts.{PartIsLow, IsOwn, AllOwn, IsBlindThroughout, PartTellsTheSame, IsNotFound, AllRequested}
 use Rattle.machine.specs.Parts.{OthersAreNotFound}
 use Rattle.machine.proofs.Blind.{blind, same_whole, no_key}
 use Rattle.machine.proofs.Chains.{Later}
@@ -58,7 +60,7 @@ registry_decided : (w : World) (h : Option Holder) (p : Publish) (d : Decision)
 registry_decided w (Some h) p Published = registry_stored w h p (offered p)
 registry_decided w h p d = record { keys = refl; shelves = refl }
 
-pub registry_asked : (w : World) (a : Ask) → SameRegistry w (after_ask w a)
+pub registry_asked : (w : World) (a : Request) → SameRegistry w (after_request w a)
 registry_asked w Unreadable = record { keys = refl; shelves = refl }
 registry_asked w (Get k q) = record { keys = refl; shelves = refl }
 registry_asked w (Put k p) = registry_decided w (map.get w.keys k) p (decision w (map.get w.keys k) p)
@@ -78,8 +80,9 @@ still_own w x s (e ∷ es) same own =
 -- ---- one request, and a list
 
 own_blind : (w x : World) (s : List ℕ) (e : Event) → IsWorld w → IsWorld x → Low w x s → IsOwn w s e
-    → (a : Ask) × (e ≡ Asked a) × (ask_reply w a ≡ ask_reply x a) × Low (after_ask w a) (after_ask x a) s
-own_blind w x s (Asked a) is_w is_x low own = let it =
+    → (a : Request) × (e ≡ Requested a) × (request_reply w a ≡ request_reply x a)
+    × Low (after_request w a) (after_request x a) s
+own_blind w x s (Requested a) is_w is_x low own = let it =
     blind w x s own.1.shelf own.0 a is_w is_x low own.4 (own.1, own.3, refl) own.2 in (a, refl, it.0, it.1)
 own_blind w x s (TeamAdd t group) is_w is_x low own = absurd (no_key own.0 own.2)
 own_blind w x s (GroupAdd g) is_w is_x low own = absurd (no_key own.0 own.2)
@@ -135,8 +138,8 @@ unknown_put w p = go (is_readable p) refl
     go true e = rw e tt
     go false e = rw e tt
 
-pub unknown_asked : (x : World) (k : List ℕ) (a : Ask) → map.get x.keys k ≡ None → key_of a ≡ Some k
-    → IsNotFound (ask_reply x a)
+pub unknown_asked : (x : World) (k : List ℕ) (a : Request) → map.get x.keys k ≡ None → key_of a ≡ Some k
+    → IsNotFound (request_reply x a)
 unknown_asked x k Unreadable none by = tt
 unknown_asked x k (Get j q) none by = let same : j ≡ k = cc in rw (same, none) tt
 unknown_asked x k (Put j p) none by =
@@ -144,9 +147,9 @@ unknown_asked x k (Put j p) none by =
     subst (λ o. IsNotFound (reply.Decided (decision x o p))) (sym (ap (map.get x.keys) same ∙ none))
     (unknown_put x p)
 
-pub keys_through : (x : World) (es : List Event) → AllAsked es → (after_all x es).keys ≡ x.keys
+pub keys_through : (x : World) (es : List Event) → AllRequested es → (after_all x es).keys ≡ x.keys
 keys_through x [] asked = refl
-keys_through x (Asked a ∷ es) asked = keys_through (after_ask x a) es asked ∙ (registry_asked x a).keys
+keys_through x (Requested a ∷ es) asked = keys_through (after_request x a) es asked ∙ (registry_asked x a).keys
 keys_through x (TeamAdd t group ∷ es) asked = absurd asked
 keys_through x (GroupAdd g ∷ es) asked = absurd asked
 keys_through x (KeyAdd t k right ∷ es) asked = absurd asked
@@ -154,14 +157,14 @@ keys_through x (KeyRevoke k ∷ es) asked = absurd asked
 keys_through x (KeysRevoke t ∷ es) asked = absurd asked
 
 -- a run of requests alone leaves the shelves
-shelves_through : (w new : World) (es : List Event) (answers : List Answer) → AllAsked es → Run w es answers new
+shelves_through : (w new : World) (es : List Event) (answers : List Answer) → AllRequested es → Run w es answers new
     → new.shelves ≡ w.shelves
 shelves_through w new [] [] asked run = ap (λ (x : World). x.shelves) run
 shelves_through w new [] (a ∷ answers) asked run = absurd run
 shelves_through w new (e ∷ es) [] asked run = absurd run
-shelves_through w new (Asked a ∷ es) (Replied r ∷ answers) asked run =
-    shelves_through (after_ask w a) new es answers asked run.1 ∙ (registry_asked w a).shelves
-shelves_through w new (Asked a ∷ es) (Failed fault ∷ answers) asked run = shelves_through w new es answers asked run
+shelves_through w new (Requested a ∷ es) (Replied r ∷ answers) asked run =
+    shelves_through (after_request w a) new es answers asked run.1 ∙ (registry_asked w a).shelves
+shelves_through w new (Requested a ∷ es) (Failed fault ∷ answers) asked run = shelves_through w new es answers asked run
 shelves_through w new (TeamAdd t group ∷ es) (a ∷ answers) asked run = absurd asked
 shelves_through w new (GroupAdd g ∷ es) (a ∷ answers) asked run = absurd asked
 shelves_through w new (KeyAdd t k right ∷ es) (a ∷ answers) asked run = absurd asked
@@ -169,7 +172,7 @@ shelves_through w new (KeyRevoke k ∷ es) (a ∷ answers) asked run = absurd as
 shelves_through w new (KeysRevoke t ∷ es) (a ∷ answers) asked run = absurd asked
 
 -- a world later than the begin of a run of requests is later than its end
-pub later_than_asked : (w new later : World) (es : List Event) (answers : List Answer) → AllAsked es
+pub later_than_asked : (w new later : World) (es : List Event) (answers : List Answer) → AllRequested es
     → Run w es answers new → Later w later → Later new later
 later_than_asked w new later es answers asked run then =
     let same = sym (shelves_through w new es answers asked run) in

@@ -17,13 +17,14 @@ use Rattle.world.specs.Versions.{versions_of}
 use Rattle.world.specs.World.{World, IsWorldBy, count, heading, view, without_zip}
 use Rattle.world.proofs.Profiles.{reads_still}
 use Rattle.world.proofs.SeenVersions.{entry_by}
-use Rattle.machine.specs.declared.ask.Ask.TheVariants.{Unreadable, Get, Put}
-use Rattle.machine.specs.declared.ask.Body.{Body}
-use Rattle.machine.specs.declared.ask.Event.{Event}
-use Rattle.machine.specs.declared.ask.Event.TheVariants.{Asked, TeamAdd, GroupAdd, KeyAdd, KeyRevoke, KeysRevoke}
-use Rattle.machine.specs.declared.ask.Publish.{Publish}
-use Rattle.machine.specs.declared.ask.Query.{Query}
-use Rattle.machine.specs.declared.ask.Query.TheVariants as query
+use Rattle.machine.specs.declared.request.Request.TheVariants.{Unreadable, Get, Put}
+use Rattle.machine.specs.declared.request.Body.{Body}
+use Rattle.machine.specs.declared.request.Event.{Event}
+use Rattle.machine.specs.declared.request.Event.TheVariants.{Requested, TeamAdd, GroupAdd, KeyAdd, KeyRevoke}
+use Rattle.machine.specs.declared.request.Event.TheVariants.{KeysRevoke}
+use Rattle.machine.specs.declared.request.Publish.{Publish}
+use Rattle.machine.specs.declared.request.Query.{Query}
+use Rattle.machine.specs.declared.request.Query.TheVariants as query
 use Rattle.machine.specs.declared.reply.Decision.{Decision}
 use Rattle.machine.specs.declared.reply.Decision.TheVariants.{Refused}
 use Rattle.machine.specs.declared.reply.ContentRefusal.TheVariants as refusal
@@ -64,9 +65,9 @@ decision_in_force w (Some h) p = refl
 
 -- by the profile in force, each event gets the reply of the machine and leads to its world
 pub in_force : ProfileInForceIsTheMachine
-in_force w (Asked Unreadable) = record { replies = refl; worlds = refl }
-in_force w (Asked (Get k q)) = record { replies = keyed_in_force w (map.get w.keys k) q; worlds = refl }
-in_force w (Asked (Put k p)) =
+in_force w (Requested Unreadable) = record { replies = refl; worlds = refl }
+in_force w (Requested (Get k q)) = record { replies = keyed_in_force w (map.get w.keys k) q; worlds = refl }
+in_force w (Requested (Put k p)) =
     let same = decision_in_force w (map.get w.keys k) p in
     record {
       replies = ap (λ (d : Decision). reply.Decided d) same;
@@ -116,7 +117,7 @@ module _ (w : World) (is : IsWorldBy profile_1 w) where
 
   alike : (k : List ℕ) (p : Publish)
       → decision_by profile_1 w (map.get w.keys k) p ≡ decision_by profile_2 w (map.get w.keys k) p
-      → Alike (Asked (Put k p))
+      → Alike (Requested (Put k p))
   alike k p same = record {
     replies = ap (λ (d : Decision). reply.Decided d) same;
     worlds =
@@ -136,7 +137,8 @@ module _ (w : World) (is : IsWorldBy profile_1 w) where
     read_by known = ap (option_map (λ (x : Body). reading_by known x.gomod)) body
 
     -- refused for itself, whatever its go.mod says
-    refused_alike : (d : Decision) → first_failing (request_checks p (Some h.right)) ≡ Some d → Alike (Asked (Put k p))
+    refused_alike : (d : Decision) → first_failing (request_checks p (Some h.right)) ≡ Some d
+        → Alike (Requested (Put k p))
     refused_alike d e =
         let so : (known : Keywords) → decision_by known w (map.get w.keys k) p ≡ d = λ known.
         ap (λ o. decision_by known w o p) found
@@ -145,7 +147,7 @@ module _ (w : World) (is : IsWorldBy profile_1 w) where
 
     -- a publish whose go.mod the first profile does not read, and that passes the checks before that, is refused for it
     unread : (line : ℕ) → reading_by profile_1 b.gomod ≡ Fault line
-        → first_failing (request_checks p (Some h.right)) ≡ None → IsUnread profile_1 w (Asked (Put k p))
+        → first_failing (request_checks p (Some h.right)) ≡ None → IsUnread profile_1 w (Requested (Put k p))
     unread line fault passes =
         let failing = ap (λ r. first_failing (gomod_checks p r))
         (read_by profile_1 ∙ ap (λ (r : Reading). Some r) fault) in
@@ -166,11 +168,11 @@ module _ (w : World) (is : IsWorldBy profile_1 w) where
         }
 
     by_check : (line : ℕ) → reading_by profile_1 b.gomod ≡ Fault line → (o : Option Decision)
-        → first_failing (request_checks p (Some h.right)) ≡ o → AlikeOrUnread (Asked (Put k p))
+        → first_failing (request_checks p (Some h.right)) ≡ o → AlikeOrUnread (Requested (Put k p))
     by_check line fault None passes = inr (unread line fault passes)
     by_check line fault (Some d) fails = inl (refused_alike d fails)
 
-    by_reading : (r : Reading) → reading_by profile_1 b.gomod ≡ r → AlikeOrUnread (Asked (Put k p))
+    by_reading : (r : Reading) → reading_by profile_1 b.gomod ≡ r → AlikeOrUnread (Requested (Put k p))
     by_reading (Module m) read =
         let same : reading_by profile_1 b.gomod ≡ reading_by profile_2 b.gomod = read
         ∙ sym (reads_still b.gomod m read) in
@@ -179,14 +181,15 @@ module _ (w : World) (is : IsWorldBy profile_1 w) where
     by_reading (Fault line) fault = by_check line fault (first_failing (request_checks p (Some h.right))) refl
 
   by_body : (k : List ℕ) (p : Publish) (h : Holder) → map.get w.keys k ≡ Some h → (o : Option Body) → p.body ≡ o
-      → AlikeOrUnread (Asked (Put k p))
+      → AlikeOrUnread (Requested (Put k p))
   by_body k p h found None none =
       let so : (known : Keywords)
       → gomod_by known p ≡ None = λ known. ap (option_map (λ (x : Body). reading_by known x.gomod)) none in
       inl (alike k p (same_decision (map.get w.keys k) p (so profile_1 ∙ sym (so profile_2))))
   by_body k p h found (Some b) body = by_reading k p h found b body (reading_by profile_1 b.gomod) refl
 
-  by_holder : (k : List ℕ) (p : Publish) (o : Option Holder) → map.get w.keys k ≡ o → AlikeOrUnread (Asked (Put k p))
+  by_holder : (k : List ℕ) (p : Publish) (o : Option Holder) → map.get w.keys k ≡ o
+      → AlikeOrUnread (Requested (Put k p))
   by_holder k p None none =
       let so : (known : Keywords)
       → decision_by known w (map.get w.keys k) p ≡ decision_by known w None p = λ known.
@@ -195,9 +198,10 @@ module _ (w : World) (is : IsWorldBy profile_1 w) where
   by_holder k p (Some h) found = by_body k p h found p.body refl
 
 pub answers_alike : Profile2KeepsAnswers
-answers_alike w (Asked Unreadable) is = inl (record { replies = refl; worlds = refl })
-answers_alike w (Asked (Get k q)) is = inl (record { replies = same_keyed w is (map.get w.keys k) q; worlds = refl })
-answers_alike w (Asked (Put k p)) is = by_holder w is k p (map.get w.keys k) refl
+answers_alike w (Requested Unreadable) is = inl (record { replies = refl; worlds = refl })
+answers_alike w (Requested (Get k q)) is =
+    inl (record { replies = same_keyed w is (map.get w.keys k) q; worlds = refl })
+answers_alike w (Requested (Put k p)) is = by_holder w is k p (map.get w.keys k) refl
 answers_alike w (TeamAdd t group) is = inl (record { replies = refl; worlds = refl })
 answers_alike w (GroupAdd g) is = inl (record { replies = refl; worlds = refl })
 answers_alike w (KeyAdd s k right) is = inl (record { replies = refl; worlds = refl })

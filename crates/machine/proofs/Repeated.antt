@@ -9,10 +9,10 @@ use Rattle.world.specs.declared.entry.Entry.{Entry}
 use Rattle.world.specs.declared.entry.Seen.{Seen}
 use Rattle.world.specs.declared.entry.Holder.{Holder}
 use Rattle.world.specs.declared.entry.Right.TheVariants.{Publishes}
-use Rattle.machine.specs.declared.ask.Publish.{Publish}
-use Rattle.machine.specs.declared.ask.Ask.TheVariants.{Put}
-use Rattle.machine.specs.declared.ask.Event.{Event}
-use Rattle.machine.specs.declared.ask.Event.TheVariants.{Asked}
+use Rattle.machine.specs.declared.request.Publish.{Publish}
+use Rattle.machine.specs.declared.request.Request.TheVariants.{Put}
+use Rattle.machine.specs.declared.request.Event.{Event}
+use Rattle.machine.specs.declared.request.Event.TheVariants.{Requested}
 use Rattle.machine.specs.declared.reply.Decision.{Decision}
 use Rattle.machine.specs.declared.reply.Decision.TheVariants.{Published, Same}
 use Rattle.machine.specs.declared.reply.Reply.{Reply}
@@ -67,7 +67,7 @@ keys_decided : (w : World) (h : Option Holder) (p : Publish) (d : Decision) → 
 keys_decided w (Some h) p Published = keys_stored w (place_of h.shelf p) (offered p)
 keys_decided w h p d = refl
 
-belongs_after : (w : World) (s k j : List ℕ) (p : Publish) → belongs w k s → belongs (after w (Asked (Put j p))) k s
+belongs_after : (w : World) (s k j : List ℕ) (p : Publish) → belongs w k s → belongs (after w (Requested (Put j p))) k s
 belongs_after w s k j p own = (
   own.0,
   ap (λ m. map.get m k) (keys_decided w (map.get w.keys j) p (decision w (map.get w.keys j) p))
@@ -86,7 +86,7 @@ all_served w mid s k [] answers is own run all = tt
 all_served w mid s k (p ∷ ps) [] is own run all = absurd run
 all_served w mid s k (p ∷ ps) (Failed fault ∷ answers) is own run all = absurd all.0
 all_served w mid s k (p ∷ ps) (Replied r ∷ answers) is own run all =
-    let e : Event = Asked (Put k p) in
+    let e : Event = Requested (Put k p) in
     let first = acceptance r all.0 in
     let stands = (stands_after w s e (shelf_stands w s k is own)).stands in
     let served = served_first w s k p first.0 own (sym first.1 ∙ run.0) first.2 in (
@@ -104,7 +104,7 @@ all_through w new s (p ∷ ps) es answers stands run served =
 
 again_same : (w : World) (s k : List ℕ) (p : Publish)
     → map.get w.keys k ≡ Some (record { shelf = s; right = Publishes })
-    → IsServed w s p → (decision w (map.get w.keys k) p ≡ Same) × (after w (Asked (Put k p)) ≡ w)
+    → IsServed w s p → (decision w (map.get w.keys k) p ≡ Same) × (after w (Requested (Put k p)) ≡ w)
 again_same w s k p may served =
     let same = served_is_same w s p served in (
       ap (λ o. decision w o p) may ∙ same,

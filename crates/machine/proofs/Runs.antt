@@ -2,7 +2,7 @@
 use Rattle.std.proofs.Common.{◌≡◌, ℕ, ◌+◌, ◌<◌, List, [], ◌∷◌, ◌++◌, length, get_or, take, refl, sym, subst, ◌∙◌, inl}
 use Rattle.std.proofs.Common.{inr, ◌⊎◌, Ok, Err}
 use Rattle.std.proofs.lemmas.List.{take_more}
-use Rattle.machine.specs.declared.ask.Event.{Event}
+use Rattle.machine.specs.declared.request.Event.{Event}
 use Rattle.machine.specs.declared.reply.Answer.{Answer}
 use Rattle.machine.specs.declared.reply.Answer.TheVariants.{Replied, Failed}
 use Rattle.world.specs.World.{World}

@@ -9,13 +9,13 @@ use Rattle.world.specs.declared.entry.Entry.{Entry}
 use Rattle.world.specs.declared.entry.Seen.{Seen}
 use Rattle.world.specs.declared.entry.Holder.{Holder}
 use Rattle.world.specs.declared.entry.Right.TheVariants.{Publishes}
-use Rattle.machine.specs.declared.ask.Body.{Body}
-use Rattle.machine.specs.declared.ask.Query.{Query}
-use Rattle.machine.specs.declared.ask.Query.TheVariants as query
-use Rattle.machine.specs.declared.ask.Publish.{Publish}
-use Rattle.machine.specs.declared.ask.Ask.TheVariants.{Put}
-use Rattle.machine.specs.declared.ask.Event.{Event}
-use Rattle.machine.specs.declared.ask.Event.TheVariants.{Asked}
+use Rattle.machine.specs.declared.request.Body.{Body}
+use Rattle.machine.specs.declared.request.Query.{Query}
+use Rattle.machine.specs.declared.request.Query.TheVariants as query
+use Rattle.machine.specs.declared.request.Publish.{Publish}
+use Rattle.machine.specs.declared.request.Request.TheVariants.{Put}
+use Rattle.machine.specs.declared.request.Event.{Event}
+use Rattle.machine.specs.declared.request.Event.TheVariants.{Requested}
 use Rattle.machine.specs.declared.reply.Decision.{Decision}
 use Rattle.machine.specs.declared.reply.Decision.TheVariants.{Published, Same}
 use Rattle.machine.specs.declared.reply.Reply.{Reply}
@@ -184,12 +184,12 @@ decided_of x y e = cc
 -- what was accepted by a key of s is what s sees after it
 pub served_first : (w : World) (s k : List ℕ) (p : Publish) (d : Decision) → belongs w k s
     → reply.Decided d ≡ reply.Decided (decision w (map.get w.keys k) p) → IsAccepted d
-    → IsServed (after w (Asked (Put k p))) s p
+    → IsServed (after w (Requested (Put k p))) s p
 served_first w s k p d own given yes_it_is =
     let h = own.0 in
     let is : d ≡ decision w (map.get w.keys k) p = decided_of d _ given in
     let is_h : decision w (Some h) p ≡ d = sym (is ∙ ap (λ o. decision w o p) own.1) in
-    let after_is : after w (Asked (Put k p)) ≡ after_decision w (Some h) p d =
+    let after_is : after w (Requested (Put k p)) ≡ after_decision w (Some h) p d =
     ap (λ o. after_decision w o p (decision w o p)) own.1 ∙ ap (λ y. after_decision w (Some h) p y) is_h in
     subst (λ y. IsServed y s p) (sym after_is)
     (subst (λ t. IsServed (after_decision w (Some h) p d) t p) own.2 (served_accepted w h p d is_h yes_it_is))
@@ -225,7 +225,7 @@ accepted_is_served old mid new s k later p b d q r events answers (Failed fault)
     back again = inr tt
 accepted_is_served old mid new s k later p b d q r events answers (Replied x) world own body yes_it_is run own_later
     back again =
-    let stands = (stands_after old s (Asked (Put k p)) (shelf_stands old s k world own)).stands in
-    let served = still_served (after old (Asked (Put k p))) mid s p events answers stands run.1
+    let stands = (stands_after old s (Requested (Put k p)) (shelf_stands old s k world own)).stands in
+    let served = still_served (after old (Requested (Put k p))) mid s p events answers stands run.1
     (served_first old s k p d own run.0 yes_it_is) in
     inl (ap Replied (again.0 ∙ by_key mid s later q own_later ∙ answered_with mid s p b q r served body back))

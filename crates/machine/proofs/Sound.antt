@@ -8,9 +8,10 @@ use Rattle.world.specs.World.{World, IsWorld}
 use Rattle.world.specs.Registry.{team_added, group_added, key_added, key_revoked, keys_revoked}
 use Rattle.world.specs.Store.{IsRoomFor}
 use Rattle.world.proofs.Sound.{entry_added, sound_team, sound_group, sound_key, sound_revoke, sound_keys_revoke}
-use Rattle.machine.specs.declared.ask.Publish.{Publish}
-use Rattle.machine.specs.declared.ask.Ask.TheVariants.{Unreadable, Get, Put}
-use Rattle.machine.specs.declared.ask.Event.TheVariants.{Asked, TeamAdd, GroupAdd, KeyAdd, KeyRevoke, KeysRevoke}
+use Rattle.machine.specs.declared.request.Publish.{Publish}
+use Rattle.machine.specs.declared.request.Request.TheVariants.{Unreadable, Get, Put}
+use Rattle.machine.specs.declared.request.Event.TheVariants.{Requested, TeamAdd, GroupAdd, KeyAdd, KeyRevoke}
+use Rattle.machine.specs.declared.request.Event.TheVariants.{KeysRevoke}
 use Rattle.machine.specs.declared.reply.Decision.{Decision}
 use Rattle.machine.specs.declared.reply.Decision.TheVariants.{Published}
 use Rattle.machine.specs.declared.reply.Answer.TheVariants.{Replied, Failed}
@@ -36,9 +37,9 @@ sound_put w None p is stands = is
 sound_put w (Some h) p is stands = sound_decided w h p _ is (stands h refl) refl
 
 pub sound : WorldStays
-sound w (Asked Unreadable) is = is
-sound w (Asked (Get k q)) is = is
-sound w (Asked (Put k p)) is = sound_put w (map.get w.keys k) p is (λ h e. is.keys_stand k h e)
+sound w (Requested Unreadable) is = is
+sound w (Requested (Get k q)) is = is
+sound w (Requested (Put k p)) is = sound_put w (map.get w.keys k) p is (λ h e. is.keys_stand k h e)
 sound w (TeamAdd t group) is = sound_team w t group (team_added w t group) is refl
 sound w (GroupAdd g) is = sound_group w g (group_added w g) is refl
 sound w (KeyAdd t k right) is = sound_key w t k right (key_added w t k) is refl

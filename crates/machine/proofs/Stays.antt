@@ -10,10 +10,11 @@ use Rattle.world.specs.declared.entry.Entry.{Entry}
 use Rattle.world.specs.declared.entry.Seen.{Seen}
 use Rattle.world.specs.declared.entry.Holder.{Holder}
 use Rattle.world.specs.declared.entry.Right.{Right}
-use Rattle.machine.specs.declared.ask.Publish.{Publish}
-use Rattle.machine.specs.declared.ask.Ask.TheVariants.{Unreadable, Get, Put}
-use Rattle.machine.specs.declared.ask.Event.{Event}
-use Rattle.machine.specs.declared.ask.Event.TheVariants.{Asked, TeamAdd, GroupAdd, KeyAdd, KeyRevoke, KeysRevoke}
+use Rattle.machine.specs.declared.request.Publish.{Publish}
+use Rattle.machine.specs.declared.request.Request.TheVariants.{Unreadable, Get, Put}
+use Rattle.machine.specs.declared.request.Event.{Event}
+use Rattle.machine.specs.declared.request.Event.TheVariants.{Requested, TeamAdd, GroupAdd, KeyAdd, KeyRevoke}
+use Rattle.machine.specs.declared.request.Event.TheVariants.{KeysRevoke}
 use Rattle.machine.specs.declared.reply.Decision.{Decision}
 use Rattle.machine.specs.declared.reply.Decision.TheVariants.{Published}
 use Rattle.world.specs.declared.registry.RegistryReply.{RegistryReply}
@@ -198,9 +199,9 @@ entries_revoke_all w t r = refl
 -- what a shelf sees of a version it sees after any event
 pub stays_seen : (w : World) (s p v : List ℕ) (e : Event) (seen : Seen) → map.contains_key w.shelves s ≡ true
     → view w s p v ≡ Some seen → view (after w e) s p v ≡ Some seen
-stays_seen w s p v (Asked Unreadable) seen stands found = found
-stays_seen w s p v (Asked (Get k q)) seen stands found = found
-stays_seen w s p v (Asked (Put k a)) seen stands found = stays_put w s p v (map.get w.keys k) a seen found
+stays_seen w s p v (Requested Unreadable) seen stands found = found
+stays_seen w s p v (Requested (Get k q)) seen stands found = found
+stays_seen w s p v (Requested (Put k a)) seen stands found = stays_put w s p v (map.get w.keys k) a seen found
 stays_seen w s p v (TeamAdd t group) seen stands found =
     stays_registry w (after w (TeamAdd t group)) s p v seen (entries_team w t group (team_added w t group))
     (stands_after w s (TeamAdd t group) stands).chains found

@@ -32,10 +32,10 @@ use Rattle.world.proofs.Groups.{sees_itself_and_common}
 use Rattle.world.proofs.MoreTexts.{none_put, has_keys}
 use Rattle.world.proofs.Orders.{texts_total}
 use Rattle.world.proofs.Sound.{has_put}
-use Rattle.machine.specs.declared.ask.Ask.TheVariants.{Unreadable, Get, Put}
-use Rattle.machine.specs.declared.ask.Publish.{Publish}
-use Rattle.machine.specs.declared.ask.Query.{Query}
-use Rattle.machine.specs.declared.ask.Query.TheVariants as query
+use Rattle.machine.specs.declared.request.Request.TheVariants.{Unreadable, Get, Put}
+use Rattle.machine.specs.declared.request.Publish.{Publish}
+use Rattle.machine.specs.declared.request.Query.{Query}
+use Rattle.machine.specs.declared.request.Query.TheVariants as query
 use Rattle.machine.specs.declared.reply.Decision.{Decision}
 use Rattle.machine.specs.declared.reply.Decision.TheVariants.{Published}
 use Rattle.machine.specs.declared.reply.Reply.TheVariants as reply
@@ -43,7 +43,7 @@ use Rattle.machine.specs.Machine.{decided, offered, gomod_of, place_of, standing
 use Rattle.machine.specs.Machine.{list_reply}
 use Rattle.machine.specs.Machine as machine
 use Rattle.machine.specs.Ungrouped as alone
-use Rattle.machine.specs.Ungrouped.{Ungrouped, Event, Asked, TeamAdd, KeyAdd, KeyRevoke, KeysRevoke, event_in, IsOf}
+use Rattle.machine.specs.Ungrouped.{Ungrouped, Event, Requested, TeamAdd, KeyAdd, KeyRevoke, KeysRevoke, event_in, IsOf}
 use Rattle.machine.specs.Ungrouped.{EachIsOfOne, RepliesWithoutGroups, ListsWithoutGroups}
 use Rattle.machine.proofs.Sound.{sound}
 
@@ -185,9 +185,9 @@ module _ (w : World) (is : IsWorld w) (none : HasNoGroup w) (names : set.FinSet 
 
     -- to each event the machine replies as the one without groups, and leads to what that one leads to
     as_alone : (e : Event) → AsAlone e
-    as_alone (Asked Unreadable) = (refl, is_of)
-    as_alone (Asked (Get k q)) = (same_keyed (map.get w.keys k) q, is_of)
-    as_alone (Asked (Put k p)) =
+    as_alone (Requested Unreadable) = (refl, is_of)
+    as_alone (Requested (Get k q)) = (same_keyed (map.get w.keys k) q, is_of)
+    as_alone (Requested (Put k p)) =
         let same = same_decision (map.get w.keys k) p in (
           ap (λ (d : Decision). reply.Decided d) same,
           subst (λ d. IsOf (alone.after_decision u (map.get w.keys k) p (alone.decision u (map.get w.keys k) p))

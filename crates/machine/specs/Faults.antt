@@ -5,8 +5,8 @@ use Rattle.world.specs.declared.entry.Holder.{Holder}
 use Rattle.world.specs.declared.registry.StoreFault.{StoreFault}
 use Rattle.world.specs.declared.registry.StoreFault.TheVariants.{Memory}
 use Rattle.world.specs.World.{World, IsWorld, sees}
-use Rattle.machine.specs.declared.ask.Ask.{Ask}
-use Rattle.machine.specs.declared.asked.Method.TheVariants as method
+use Rattle.machine.specs.declared.request.Request.{Request}
+use Rattle.machine.specs.declared.noted_shelves.Method.TheVariants as method
 use Rattle.machine.specs.Calls.{Question, Call, History, of_key}
 use Rattle.machine.specs.Isolation.{belongs, key_of, Low}
 use Rattle.machine.specs.Needs.{Need, Told, Room, needs, Meets}
@@ -23,18 +23,19 @@ AreOwnNeeds s (n ∷ ns) = IsOwnNeed s n × AreOwnNeeds s ns
 -- A request asks for its key, and after that only the shelf that holds it; nothing more if the key is unknown.
 abbrev pub NeedsAreOwn : Type 0
 NeedsAreOwn =
-    (w : World) (k : List ℕ) (h : Holder) (a : Ask) → key_of a ≡ Some k → map.get w.keys k ≡ Some h
+    (w : World) (k : List ℕ) (h : Holder) (a : Request) → key_of a ≡ Some k → map.get w.keys k ≡ Some h
     → (rest : List Need) × (needs w a ≡ Told (of_key k) ∷ rest) × AreOwnNeeds h.shelf rest
 
 abbrev pub UnknownNeedsNothing : Type 0
 UnknownNeedsNothing =
-    (w : World) (k : List ℕ) (a : Ask) → key_of a ≡ Some k → map.get w.keys k ≡ None → needs w a ≡ Told (of_key k) ∷ []
+    (w : World) (k : List ℕ) (a : Request) → key_of a ≡ Some k → map.get w.keys k ≡ None
+    → needs w a ≡ Told (of_key k) ∷ []
 
 -- In worlds that are the same to s, a request with a key of a shelf that s sees needs the same: what is asked, of which
 -- shelf, at which path and version, and in which order.
 abbrev pub NeedsAreAlike : Type 0
 NeedsAreAlike =
-    (w x : World) (s t k : List ℕ) (a : Ask) → IsWorld w → IsWorld x → Low w x s → sees w s t ≡ true → belongs w k t
+    (w x : World) (s t k : List ℕ) (a : Request) → IsWorld w → IsWorld x → Low w x s → sees w s t ≡ true → belongs w k t
     → key_of a ≡ Some k
     → needs w a ≡ needs x a
 
@@ -47,7 +48,7 @@ AreRefusedBy refuses (c ∷ calls) = (c.fault ≡ refuses c.question) × AreRefu
 -- that s sees meets the same fault, or none in both, unless memory ran out in one: the store's or the request's own.
 abbrev pub FaultsAreAlike : Type 0
 FaultsAreAlike =
-    (w x : World) (s t k : List ℕ) (a : Ask) (refuses : Question → Option StoreFault)
+    (w x : World) (s t k : List ℕ) (a : Request) (refuses : Question → Option StoreFault)
     (old new old_too new_too : History)
     (calls calls_too : List Call) (met met_too : Option StoreFault)
     → IsWorld w → IsWorld x → Low w x s → sees w s t ≡ true → belongs w k t → key_of a ≡ Some k

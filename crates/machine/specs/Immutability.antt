@@ -2,13 +2,13 @@
 use Rattle.std.specs.Prelude.{ℕ, ◌≡◌, ◌⊎◌, List, [], ◌∷◌, Some}
 use Rattle.std.specs.FinMap as map
 use Rattle.world.specs.declared.entry.Right.TheVariants.{Publishes}
-use Rattle.machine.specs.declared.ask.Query.{Query}
-use Rattle.machine.specs.declared.ask.Query.TheVariants as query
-use Rattle.machine.specs.declared.ask.Body.{Body}
-use Rattle.machine.specs.declared.ask.Publish.{Publish}
-use Rattle.machine.specs.declared.ask.Ask.TheVariants.{Get, Put}
-use Rattle.machine.specs.declared.ask.Event.{Event}
-use Rattle.machine.specs.declared.ask.Event.TheVariants.{Asked}
+use Rattle.machine.specs.declared.request.Query.{Query}
+use Rattle.machine.specs.declared.request.Query.TheVariants as query
+use Rattle.machine.specs.declared.request.Body.{Body}
+use Rattle.machine.specs.declared.request.Publish.{Publish}
+use Rattle.machine.specs.declared.request.Request.TheVariants.{Get, Put}
+use Rattle.machine.specs.declared.request.Event.{Event}
+use Rattle.machine.specs.declared.request.Event.TheVariants.{Requested}
 use Rattle.machine.specs.declared.reply.Decision.{Decision}
 use Rattle.machine.specs.declared.reply.Decision.TheVariants.{Published, Same}
 use Rattle.machine.specs.declared.reply.Reply.{Reply}
@@ -46,8 +46,8 @@ StaysServed =
     (old mid new : World) (s k later : List ℕ) (q : Query) (r : Reply) (events : List Event) (answers : List Answer)
     (a : Answer)
     → IsWorld old → belongs old k s → IsOfVersion q → IsFound r
-    → Run old (Asked (Get k q) ∷ events) (Replied r ∷ answers) mid
-    → belongs mid later s → Run mid (Asked (Get later q) ∷ []) (a ∷ []) new
+    → Run old (Requested (Get k q) ∷ events) (Replied r ∷ answers) mid
+    → belongs mid later s → Run mid (Requested (Get later q) ∷ []) (a ∷ []) new
     → (a ≡ Replied r) ⊎ IsFailed a
 
 -- the publish is stored, now or before
@@ -71,8 +71,8 @@ AcceptedIsServed =
     (old mid new : World) (s k later : List ℕ) (p : Publish) (b : Body) (d : Decision)
     (q : Query) (r : Reply) (events : List Event) (answers : List Answer) (a : Answer)
     → IsWorld old → belongs old k s → p.body ≡ Some b → IsAccepted d
-    → Run old (Asked (Put k p) ∷ events) (Replied (reply.Decided d) ∷ answers) mid
-    → belongs mid later s → asks_back p b q r → Run mid (Asked (Get later q) ∷ []) (a ∷ []) new
+    → Run old (Requested (Put k p) ∷ events) (Replied (reply.Decided d) ∷ answers) mid
+    → belongs mid later s → asks_back p b q r → Run mid (Requested (Get later q) ∷ []) (a ∷ []) new
     → (a ≡ Replied r) ⊎ IsFailed a
 
 -- ---- a list of publishes that comes again
@@ -80,7 +80,7 @@ AcceptedIsServed =
 -- the publishes as requests with this key
 abbrev pub puts : List ℕ → List Publish → List Event
 puts k [] = []
-puts k (p ∷ ps) = Asked (Put k p) ∷ puts k ps
+puts k (p ∷ ps) = Requested (Put k p) ∷ puts k ps
 
 -- the answer accepts a publish
 abbrev pub IsAcceptance : Answer → Type 0

@@ -2,15 +2,15 @@
 use Rattle.std.specs.Prelude.{ℕ, ◌≡◌, List, [], ◌∷◌, ◌++◌, length, Bool, true, false, Option, Some, None, ◌↔◌}
 use Rattle.std.specs.FinMap as map
 use Rattle.world.specs.declared.entry.Holder.{Holder}
-use Rattle.machine.specs.declared.ask.Ask.{Ask}
-use Rattle.machine.specs.declared.ask.Ask.TheVariants.{Unreadable, Get, Put}
-use Rattle.machine.specs.declared.ask.Event.{Event}
-use Rattle.machine.specs.declared.ask.Event.TheVariants.{Asked}
+use Rattle.machine.specs.declared.request.Request.{Request}
+use Rattle.machine.specs.declared.request.Request.TheVariants.{Unreadable, Get, Put}
+use Rattle.machine.specs.declared.request.Event.{Event}
+use Rattle.machine.specs.declared.request.Event.TheVariants.{Requested}
 use Rattle.machine.specs.declared.reply.Answer.{Answer}
 use Rattle.machine.specs.declared.reply.Answer.TheVariants.{Replied, Failed}
 use Rattle.world.specs.World.{World, IsWorld, chain, on_shelf, place}
 pub use Rattle.world.specs.World.{is_among, sees}
-use Rattle.machine.specs.Machine.{after, after_all, ask_reply, after_ask, replies, Run, answered, replies_of}
+use Rattle.machine.specs.Machine.{after, after_all, request_reply, after_request, replies, Run, answered, replies_of}
 
 -- ---- the key of a request
 
@@ -19,14 +19,14 @@ abbrev pub belongs : World → List ℕ → List ℕ → Type 0
 belongs w k s = (h : Holder) × (map.get w.keys k ≡ Some h) × (h.shelf ≡ s)
 
 -- the key that a request is made with, if it is readable
-abbrev pub key_of : Ask → Option (List ℕ)
+abbrev pub key_of : Request → Option (List ℕ)
 key_of Unreadable = None
 key_of (Get k q) = Some k
 key_of (Put k p) = Some k
 
 -- the key that an event is made with, if it is a readable request; a registry command has none
 abbrev pub asking_key : Event → Option (List ℕ)
-asking_key (Asked a) = key_of a
+asking_key (Requested a) = key_of a
 asking_key e = None
 
 -- ---- a run without other shelves' requests
@@ -170,6 +170,6 @@ AgreeIsLow =
 -- that are again the same to s.
 abbrev pub IsBlind : Type 0
 IsBlind =
-    (w x : World) (s t k : List ℕ) (a : Ask) → IsWorld w → IsWorld x → Low w x s → sees w s t ≡ true → belongs w k t
+    (w x : World) (s t k : List ℕ) (a : Request) → IsWorld w → IsWorld x → Low w x s → sees w s t ≡ true → belongs w k t
     → key_of a ≡ Some k
-    → (ask_reply w a ≡ ask_reply x a) × Low (after_ask w a) (after_ask x a) s
+    → (request_reply w a ≡ request_reply x a) × Low (after_request w a) (after_request x a) s

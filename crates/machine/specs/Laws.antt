@@ -1,15 +1,15 @@
 -- What each event keeps, and how runs can be cut and joined.
 use Rattle.std.specs.Prelude.{ℕ, ◌≡◌, ◌⊎◌, List, ◌++◌, length, true}
 use Rattle.std.specs.FinMap as map
-use Rattle.machine.specs.declared.ask.Ask.{Ask}
-use Rattle.machine.specs.declared.ask.Event.{Event}
+use Rattle.machine.specs.declared.request.Request.{Request}
+use Rattle.machine.specs.declared.request.Event.{Event}
 use Rattle.machine.specs.declared.reply.Decision.TheVariants.{Published}
 use Rattle.world.specs.declared.registry.RegistryReply.TheVariants.{Done}
 use Rattle.machine.specs.declared.reply.Reply.{Reply}
 use Rattle.machine.specs.declared.reply.Reply.TheVariants as reply
 use Rattle.machine.specs.declared.reply.Answer.{Answer}
 use Rattle.world.specs.World.{World, IsWorld, chain}
-use Rattle.machine.specs.Machine.{ask_reply, after_ask, reply_to, after, HasBody, Run}
+use Rattle.machine.specs.Machine.{request_reply, after_request, reply_to, after, HasBody, Run}
 
 -- Each event leads from a world to a world.
 abbrev pub WorldStays : Type 0
@@ -29,7 +29,7 @@ ChainsStay =
 
 -- A request whose reply has a body of its own leaves the world as it was.
 abbrev pub BodiesChangeNothing : Type 0
-BodiesChangeNothing = (w : World) (a : Ask) → HasBody (ask_reply w a) → after_ask w a ≡ w
+BodiesChangeNothing = (w : World) (a : Request) → HasBody (request_reply w a) → after_request w a ≡ w
 
 -- the reply to a publish that is stored, or to a registry command that is done
 abbrev pub IsChange : Reply → Type 0

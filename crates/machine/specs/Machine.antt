@@ -10,16 +10,17 @@ use Rattle.world.specs.declared.entry.Seen.{Seen}
 use Rattle.world.specs.declared.entry.Holder.{Holder}
 use Rattle.world.specs.declared.entry.Right.{Right}
 use Rattle.world.specs.declared.entry.Right.TheVariants.{Reads, Publishes}
-use Rattle.machine.specs.declared.ask.Query.{Query}
-use Rattle.machine.specs.declared.ask.Query.TheVariants as query
-use Rattle.machine.specs.declared.ask.GivenTime.{GivenTime}
-use Rattle.machine.specs.declared.ask.GivenTime.TheVariants.{Absent, At, Malformed}
-use Rattle.machine.specs.declared.ask.Body.{Body}
-use Rattle.machine.specs.declared.ask.Publish.{Publish}
-use Rattle.machine.specs.declared.ask.Ask.{Ask}
-use Rattle.machine.specs.declared.ask.Ask.TheVariants.{Unreadable, Get, Put}
-use Rattle.machine.specs.declared.ask.Event.{Event}
-use Rattle.machine.specs.declared.ask.Event.TheVariants.{Asked, TeamAdd, GroupAdd, KeyAdd, KeyRevoke, KeysRevoke}
+use Rattle.machine.specs.declared.request.Query.{Query}
+use Rattle.machine.specs.declared.request.Query.TheVariants as query
+use Rattle.machine.specs.declared.request.GivenTime.{GivenTime}
+use Rattle.machine.specs.declared.request.GivenTime.TheVariants.{Absent, At, Malformed}
+use Rattle.machine.specs.declared.request.Body.{Body}
+use Rattle.machine.specs.declared.request.Publish.{Publish}
+use Rattle.machine.specs.declared.request.Request.{Request}
+use Rattle.machine.specs.declared.request.Request.TheVariants.{Unreadable, Get, Put}
+use Rattle.machine.specs.declared.request.Event.{Event}
+use Rattle.machine.specs.declared.request.Event.TheVariants.{Requested, TeamAdd, GroupAdd, KeyAdd, KeyRevoke}
+use Rattle.machine.specs.declared.request.Event.TheVariants.{KeysRevoke}
 use Rattle.machine.specs.declared.reply.Decision.{Decision}
 use Rattle.machine.specs.declared.reply.Decision.TheVariants.{Published, Same, NotFound, Forbidden}
 use Rattle.machine.specs.declared.reply.Decision.TheVariants.{BadLength, TooLarge, Refused, Conflict, Full}
@@ -271,22 +272,22 @@ keyed_reply w (Some h) q = query_reply w h.shelf q
 -- ---- a request
 
 -- What the machine replies to a request.
-abbrev pub ask_reply : World → Ask → Reply
-ask_reply w Unreadable = reply.NotFound
-ask_reply w (Get k q) = keyed_reply w (map.get w.keys k) q
-ask_reply w (Put k p) = reply.Decided (put_decision w k p)
+abbrev pub request_reply : World → Request → Reply
+request_reply w Unreadable = reply.NotFound
+request_reply w (Get k q) = keyed_reply w (map.get w.keys k) q
+request_reply w (Put k p) = reply.Decided (put_decision w k p)
 
 -- The world after a request.
-abbrev pub after_ask : World → Ask → World
-after_ask w Unreadable = w
-after_ask w (Get k q) = w
-after_ask w (Put k p) = after_put w k p
+abbrev pub after_request : World → Request → World
+after_request w Unreadable = w
+after_request w (Get k q) = w
+after_request w (Put k p) = after_put w k p
 
 -- ---- an event
 
 -- What the machine replies to an event.
 abbrev pub reply_to : World → Event → Reply
-reply_to w (Asked a) = ask_reply w a
+reply_to w (Requested a) = request_reply w a
 reply_to w (TeamAdd t group) = reply.Registry (team_added w t group)
 reply_to w (GroupAdd g) = reply.Registry (group_added w g)
 reply_to w (KeyAdd s k right) = reply.Registry (key_added w s k)
@@ -295,7 +296,7 @@ reply_to w (KeysRevoke s) = reply.Registry (keys_revoked w s)
 
 -- The world after an event.
 abbrev pub after : World → Event → World
-after w (Asked a) = after_ask w a
+after w (Requested a) = after_request w a
 after w (TeamAdd t group) = after_team_add w t group (team_added w t group)
 after w (GroupAdd g) = after_group_add w g (group_added w g)
 after w (KeyAdd s k right) = after_key_add w s k right (key_added w s k)

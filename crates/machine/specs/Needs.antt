@@ -9,11 +9,11 @@ use Rattle.world.specs.declared.registry.StoreFault.TheVariants.{Memory}
 use Rattle.world.specs.Latest.{latest_of}
 use Rattle.world.specs.Store.{Shown}
 use Rattle.world.specs.World.{World}
-use Rattle.machine.specs.declared.ask.Ask.{Ask}
-use Rattle.machine.specs.declared.ask.Ask.TheVariants.{Unreadable, Get, Put}
-use Rattle.machine.specs.declared.ask.Publish.{Publish}
-use Rattle.machine.specs.declared.ask.Query.{Query}
-use Rattle.machine.specs.declared.ask.Query.TheVariants as query
+use Rattle.machine.specs.declared.request.Request.{Request}
+use Rattle.machine.specs.declared.request.Request.TheVariants.{Unreadable, Get, Put}
+use Rattle.machine.specs.declared.request.Publish.{Publish}
+use Rattle.machine.specs.declared.request.Query.{Query}
+use Rattle.machine.specs.declared.request.Query.TheVariants as query
 use Rattle.machine.specs.declared.reply.Decision.{Decision}
 use Rattle.machine.specs.declared.reply.Decision.TheVariants.{Published}
 use Rattle.machine.specs.Calls.{Question, History, noted, of_key, entry_of, heading_of, comparison}
@@ -83,7 +83,7 @@ publish_needs w (Some h) p = check_needs h p ++ store_needs h p (decision w (Som
 
 -- What a request needs in this world, in order: first the answer to its key, then only answers of the shelf that holds
 -- the key.
-abbrev pub needs : World → Ask → List Need
+abbrev pub needs : World → Request → List Need
 needs w Unreadable = []
 needs w (Get k q) = Told (of_key k) ∷ keyed_needs w (map.get w.keys k) q
 needs w (Put k p) = Told (of_key k) ∷ publish_needs w (map.get w.keys k) p

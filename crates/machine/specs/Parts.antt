@@ -2,16 +2,16 @@
 use Rattle.std.specs.Prelude.{ℕ, ◌≡◌, List, [], ◌∷◌, true, false, Some}
 use Rattle.std.specs.FinMap as map
 use Rattle.world.specs.declared.entry.Holder.{Holder}
-use Rattle.machine.specs.declared.ask.Ask.{Ask}
-use Rattle.machine.specs.declared.ask.Event.{Event}
-use Rattle.machine.specs.declared.ask.Event.TheVariants.{Asked}
+use Rattle.machine.specs.declared.request.Request.{Request}
+use Rattle.machine.specs.declared.request.Event.{Event}
+use Rattle.machine.specs.declared.request.Event.TheVariants.{Requested}
 use Rattle.machine.specs.declared.reply.Decision.TheVariants as decision
 use Rattle.machine.specs.declared.reply.Reply.{Reply}
 use Rattle.machine.specs.declared.reply.Reply.TheVariants as reply
 use Rattle.machine.specs.declared.reply.Answer.{Answer}
 use Rattle.world.specs.World.{World, IsWorld, chain, sees}
 use Rattle.world.specs.Part.{part, is_held}
-use Rattle.machine.specs.Machine.{ask_reply, after_all, replies, Run, answered, replies_of}
+use Rattle.machine.specs.Machine.{request_reply, after_all, replies, Run, answered, replies_of}
 use Rattle.machine.specs.Isolation.{key_of, asking_key, Low}
 
 -- A world and the part of it that a shelf sees are the same to the shelf.
@@ -56,13 +56,13 @@ IsNotFound (reply.Decided decision.NotFound) = Unit {0}
 IsNotFound r = ⊥
 
 -- each event is a request
-abbrev pub AllAsked : List Event → Type 0
-AllAsked [] = Unit {0}
-AllAsked (Asked a ∷ es) = AllAsked es
-AllAsked (e ∷ es) = ⊥
+abbrev pub AllRequested : List Event → Type 0
+AllRequested [] = Unit {0}
+AllRequested (Requested a ∷ es) = AllRequested es
+AllRequested (e ∷ es) = ⊥
 
 -- In what s sees of a world, after any requests, a request whose key belongs to no shelf that s sees is not found.
 abbrev pub OthersAreNotFound : Type 0
 OthersAreNotFound =
-    (w : World) (s k : List ℕ) (before : List Event) (a : Ask) → is_held (chain w s) (map.get w.keys k) ≡ false
-    → key_of a ≡ Some k → AllAsked before → IsNotFound (ask_reply (after_all (part w s) before) a)
+    (w : World) (s k : List ℕ) (before : List Event) (a : Request) → is_held (chain w s) (map.get w.keys k) ≡ false
+    → key_of a ≡ Some k → AllRequested before → IsNotFound (request_reply (after_all (part w s) before) a)

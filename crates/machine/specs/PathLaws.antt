@@ -9,7 +9,7 @@ use Rattle.modver.specs.Precedence.{IsBelow}
 use Rattle.modver.specs.SemanticVersion.{SemanticVersion, version_text}
 use Rattle.modver.specs.declared.version.Class.TheVariants as class
 use Rattle.world.specs.declared.entry.Seen.{Seen}
-use Rattle.machine.specs.declared.ask.Query.TheVariants as query
+use Rattle.machine.specs.declared.request.Query.TheVariants as query
 use Rattle.machine.specs.declared.reply.Reply.TheVariants as reply
 use Rattle.world.specs.GoMods.{Says}
 use Rattle.world.specs.Lines.{in_order, EachToNext}

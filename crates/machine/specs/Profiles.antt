@@ -13,13 +13,13 @@ use Rattle.world.specs.GoMods.{reading_by, module_in}
 use Rattle.world.specs.Latest.{highest, highest_left}
 use Rattle.world.specs.Versions.{versions_of}
 use Rattle.world.specs.World.{World, IsWorldBy, heading, count}
-use Rattle.machine.specs.declared.ask.Ask.TheVariants.{Get, Put}
-use Rattle.machine.specs.declared.ask.Body.{Body}
-use Rattle.machine.specs.declared.ask.Event.{Event}
-use Rattle.machine.specs.declared.ask.Event.TheVariants.{Asked}
-use Rattle.machine.specs.declared.ask.Publish.{Publish}
-use Rattle.machine.specs.declared.ask.Query.{Query}
-use Rattle.machine.specs.declared.ask.Query.TheVariants as query
+use Rattle.machine.specs.declared.request.Request.TheVariants.{Get, Put}
+use Rattle.machine.specs.declared.request.Body.{Body}
+use Rattle.machine.specs.declared.request.Event.{Event}
+use Rattle.machine.specs.declared.request.Event.TheVariants.{Requested}
+use Rattle.machine.specs.declared.request.Publish.{Publish}
+use Rattle.machine.specs.declared.request.Query.{Query}
+use Rattle.machine.specs.declared.request.Query.TheVariants as query
 use Rattle.machine.specs.declared.reply.Decision.{Decision}
 use Rattle.machine.specs.declared.reply.Decision.TheVariants.{Refused}
 use Rattle.machine.specs.declared.reply.ContentRefusal.TheVariants as refusal
@@ -67,13 +67,14 @@ decision_by known w (Some h) p =
 
 -- What the machine replies to an event if go.mods are read by these keywords.
 abbrev pub reply_by : Keywords → World → Event → Reply
-reply_by known w (Asked (Get k q)) = keyed_reply_by known w (map.get w.keys k) q
-reply_by known w (Asked (Put k p)) = reply.Decided (decision_by known w (map.get w.keys k) p)
+reply_by known w (Requested (Get k q)) = keyed_reply_by known w (map.get w.keys k) q
+reply_by known w (Requested (Put k p)) = reply.Decided (decision_by known w (map.get w.keys k) p)
 reply_by known w e = reply_to w e
 
 -- The world after an event if go.mods are read by these keywords.
 abbrev pub after_by : Keywords → World → Event → World
-after_by known w (Asked (Put k p)) = after_decision w (map.get w.keys k) p (decision_by known w (map.get w.keys k) p)
+after_by known w (Requested (Put k p)) =
+    after_decision w (map.get w.keys k) p (decision_by known w (map.get w.keys k) p)
 after_by known w e = after w e
 
 -- By either set of keywords, the event gets an equal reply and leads to an equal world.
@@ -97,7 +98,7 @@ pub record IsUnread (known : Keywords) (w : World) (e : Event) : Type 0 where
   pub key : List ℕ
   pub publish : Publish
   pub body : Body
-  pub asked : e ≡ Asked (Put key publish)
+  pub asked : e ≡ Requested (Put key publish)
   pub handed : publish.body ≡ Some body
   pub unread : (m : GoModule) → ¬ Reads known body.gomod m
   pub line : ℕ

@@ -2,7 +2,7 @@
 use Rattle.std.specs.Prelude.{ℕ, ◌≡◌, List, Result, Some, true}
 use Rattle.machine.specs.Machine.{put_decision, after_put, decision, after_publish, after_decision, stored, place_of}
 use Rattle.machine.specs.Machine.{offered}
-use Rattle.machine.specs.declared.ask.Publish.{Publish}
+use Rattle.machine.specs.declared.request.Publish.{Publish}
 use Rattle.machine.specs.declared.reply.Decision.{Decision}
 use Rattle.machine.specs.declared.reply.Decision.TheVariants.{Published}
 use Rattle.std.specs.FinMap as map

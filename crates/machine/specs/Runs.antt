@@ -2,7 +2,7 @@
 use Rattle.std.specs.Prelude.{◌≡◌, ◌≢◌, ◌⊎◌, List, ◌∷◌}
 use Rattle.world.specs.Store.{Shown}
 use Rattle.world.specs.World.{World}
-use Rattle.machine.specs.declared.ask.Event.{Event}
+use Rattle.machine.specs.declared.request.Event.{Event}
 use Rattle.machine.specs.declared.reply.Answer.{Answer}
 use Rattle.machine.specs.declared.reply.Answer.TheVariants.{Replied, Failed}
 use Rattle.machine.specs.Machine.{after, Run, AnsweredOrIdle, world_after}

@@ -24,13 +24,13 @@ use Rattle.world.specs.Versions.{named, by_precedence}
 use Rattle.world.specs.Visible.{versions_among, paths_among}
 use Rattle.world.specs.World.{World, IsWorld, common, is_team_name, is_key, place, place_cmp, text_cmp, seen_at}
 use Rattle.world.specs.World.{is_held_on, without_zip}
-use Rattle.machine.specs.declared.ask.Ask.{Ask}
-use Rattle.machine.specs.declared.ask.Ask.TheVariants.{Unreadable, Get, Put}
-use Rattle.machine.specs.declared.ask.Event.{Event as WholeEvent}
-use Rattle.machine.specs.declared.ask.Event.TheVariants as whole
-use Rattle.machine.specs.declared.ask.Publish.{Publish}
-use Rattle.machine.specs.declared.ask.Query.{Query}
-use Rattle.machine.specs.declared.ask.Query.TheVariants as query
+use Rattle.machine.specs.declared.request.Request.{Request}
+use Rattle.machine.specs.declared.request.Request.TheVariants.{Unreadable, Get, Put}
+use Rattle.machine.specs.declared.request.Event.{Event as WholeEvent}
+use Rattle.machine.specs.declared.request.Event.TheVariants as whole
+use Rattle.machine.specs.declared.request.Publish.{Publish}
+use Rattle.machine.specs.declared.request.Query.{Query}
+use Rattle.machine.specs.declared.request.Query.TheVariants as query
 use Rattle.machine.specs.declared.reply.Decision.{Decision}
 use Rattle.machine.specs.declared.reply.Decision.TheVariants.{Published}
 use Rattle.machine.specs.declared.reply.Reply.{Reply}
@@ -159,7 +159,7 @@ after_keys_revoke u s r = u
 
 -- a request, or a registry command that names no group
 pub data Event : Type 0 where
-  Asked : Ask → Event
+  Requested : Request → Event
   TeamAdd : List ℕ → Event
   KeyAdd : List ℕ → List ℕ → Right → Event
   KeyRevoke : List ℕ → Event
@@ -167,7 +167,7 @@ pub data Event : Type 0 where
 
 -- the event as one of the machine with groups
 abbrev pub event_in : Event → WholeEvent
-event_in (Asked a) = whole.Asked a
+event_in (Requested a) = whole.Requested a
 event_in (TeamAdd t) = whole.TeamAdd t None
 event_in (KeyAdd s k right) = whole.KeyAdd s k right
 event_in (KeyRevoke k) = whole.KeyRevoke k
@@ -175,9 +175,9 @@ event_in (KeysRevoke s) = whole.KeysRevoke s
 
 -- What this machine replies to an event.
 abbrev pub reply_to : Ungrouped → Event → Reply
-reply_to u (Asked Unreadable) = reply.NotFound
-reply_to u (Asked (Get k q)) = keyed_reply u (map.get u.keys k) q
-reply_to u (Asked (Put k p)) = reply.Decided (decision u (map.get u.keys k) p)
+reply_to u (Requested Unreadable) = reply.NotFound
+reply_to u (Requested (Get k q)) = keyed_reply u (map.get u.keys k) q
+reply_to u (Requested (Put k p)) = reply.Decided (decision u (map.get u.keys k) p)
 reply_to u (TeamAdd t) = reply.Registry (team_added u t)
 reply_to u (KeyAdd s k right) = reply.Registry (key_added u s k)
 reply_to u (KeyRevoke k) = reply.Registry (key_revoked u k)
@@ -185,9 +185,9 @@ reply_to u (KeysRevoke s) = reply.Registry (keys_revoked u s)
 
 -- What stands after an event.
 abbrev pub after : Ungrouped → Event → Ungrouped
-after u (Asked Unreadable) = u
-after u (Asked (Get k q)) = u
-after u (Asked (Put k p)) = after_decision u (map.get u.keys k) p (decision u (map.get u.keys k) p)
+after u (Requested Unreadable) = u
+after u (Requested (Get k q)) = u
+after u (Requested (Put k p)) = after_decision u (map.get u.keys k) p (decision u (map.get u.keys k) p)
 after u (TeamAdd t) = after_team_add u t (team_added u t)
 after u (KeyAdd s k right) = after_key_add u s k right (key_added u s k)
 after u (KeyRevoke k) = after_key_revoke u k (key_revoked u k)

@@ -3,8 +3,8 @@ ghost use Rattle.std.specs.Prelude.{◌≡◌, IfOk, Some, true};
 ghost use Rattle.std.specs.Result.{result_err};
 ghost use Rattle.machine.specs.Machine as spec;
 
-use crate::ask::{GivenTime, Publish};
 use crate::reply::{ContentRefusal, Decision};
+use crate::request::{GivenTime, Publish};
 use world::entry::{EntryRef, MAX_VERSIONS, Right};
 use world::entry_test::{Misfit, module_misfit, own_misfit};
 use world::reading::Reading;

@@ -10,10 +10,10 @@ ghost use Rattle.world.specs.Standing.{standing};
 ghost use Rattle.world.specs.Store.{Reads};
 ghost use Rattle.world.specs.World.{count};
 
-use crate::ask::Publish;
-use crate::asked::Asked;
 use crate::decide::{allowed_entry, decide_by_shelf, gomod_refusal};
+use crate::noted_shelves::NotedShelves;
 use crate::reply::Decision;
+use crate::request::Publish;
 use std::alloc::{AllocError, Global};
 use world::entry::{EntryRef, Right};
 use world::reading::Reading;
@@ -44,7 +44,7 @@ pub fn checked(
 
 /// Returns the outcome of the checks of an entry against what stands. Fails only if the store fails. It copies no file,
 /// so repeating a publish takes no more memory than the first one did.
-pub fn judge_by_shelf<S: Asked>(
+pub fn judge_by_shelf<S: NotedShelves>(
     shelves: &mut S,
     shelf: &str,
     publish: &Publish,
@@ -53,10 +53,10 @@ pub fn judge_by_shelf<S: Asked>(
     ensures reads { Reads (S.shown shelves.old) (S.shown shelves.new) result (λ w. decided_by_shelf
         (standing w shelf.now publish.now.path (version_text publish.now.version) entry.now)
         (count w shelf.now publish.now.path)) }
-    ensures needs { Meets (S.asked shelves.old) (S.asked shelves.new)
+    ensures needs { Meets (S.history shelves.old) (S.history shelves.new)
         (Told (comparison shelf.now publish.now.path publish.now.version)
         ∷ Told (count_of shelf.now publish.now.path) ∷ []) (fault_of result) }
-    ensures same { (S.asked shelves.new).source ≡ (S.asked shelves.old).source }
+    ensures same { (S.history shelves.new).source ≡ (S.history shelves.old).source }
 {
     let standing = shelves.compare(shelf, &publish.path, &publish.version, entry)?;
     let count = shelves.count(shelf, &publish.path)?;

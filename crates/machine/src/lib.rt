@@ -16,7 +16,7 @@
 //! | with a pseudo-version, a given time is that of the stamp | [`reply::ContentRefusal::TimeMismatch`] | 422 |
 //! | the go.mod reads | [`reply::ContentRefusal::BadGoMod`], with the faulty line | 422 |
 //! | the go.mod names the path | [`reply::ContentRefusal::ModulePath`] | 422 |
-//! | with `+incompatible`, `module` is the only directive of the go.mod | [`reply::ContentRefusal::IncompatibleGoMod`] | 422 |
+//! | with `+incompatible`, `module` is the only directive | [`reply::ContentRefusal::IncompatibleGoMod`] | 422 |
 //! | the shelf sees no entry of the version with these files and this time | [`reply::Decision::Same`] | 200 |
 //! | the shelf sees no other entry of the version | [`reply::Decision::Conflict`] | 409 |
 //! | the shelf has fewer than 4,096 versions of the path | [`reply::Decision::Full`] | 507 |
@@ -43,15 +43,15 @@
 //! instance, that a shelf learns nothing of the requests of others, and that what was served once is served for good.
 #![tactic(auto)]
 
-pub mod ask;
-pub mod asked;
-pub mod asking;
 pub mod decide;
 mod judge;
 pub mod laws;
+pub mod lent_shelves;
 mod listed;
 mod noted;
+pub mod noted_shelves;
 mod queries;
 pub mod reply;
+pub mod request;
 pub mod run;
 pub mod step;

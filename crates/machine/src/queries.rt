@@ -7,10 +7,10 @@ ghost use Rattle.machine.specs.Calls.{fault_of, heading_of, of_key};
 ghost use Rattle.machine.specs.Needs.{Told, Meets, MeetsIn, keyed_needs, query_needs};
 ghost use Rattle.world.specs.Store.{Reads};
 
-use crate::ask::Query;
-use crate::asked::Asked;
 use crate::listed::listed;
+use crate::noted_shelves::NotedShelves;
 use crate::reply::Reply;
+use crate::request::Query;
 use modpath::ModulePath;
 use modver::Version;
 use std::alloc::Global;
@@ -21,7 +21,7 @@ use world::version_list::Versions;
 /// Returns the reply to a GET with a key: `NotFound` if the key is unknown or its shelf does not see what is asked for.
 /// Each key may read, so its right is not asked.
 /// Fails with `Device` if a device failed, and with `Memory` if memory ran out.
-pub fn answer_query<S: Asked>(
+pub fn answer_query<S: NotedShelves>(
     alloc: Global,
     shelves: &mut S,
     key: &str,
@@ -30,9 +30,9 @@ pub fn answer_query<S: Asked>(
     ensures reads { Reads (S.shown shelves.old) (S.shown shelves.new) result
         (λ w. keyed_reply w (map.get w.keys key.now) query.now) }
     // It asks for the key, and then only what the query needs of the shelf of that key.
-    ensures needs { MeetsIn (S.shown shelves.old) (S.shown shelves.new) (S.asked shelves.old) (S.asked shelves.new)
+    ensures needs { MeetsIn (S.shown shelves.old) (S.shown shelves.new) (S.history shelves.old) (S.history shelves.new)
         (λ w. Told (of_key key.now) ∷ keyed_needs w (map.get w.keys key.now) query.now) (fault_of result) }
-    ensures same { (S.asked shelves.new).source ≡ (S.asked shelves.old).source }
+    ensures same { (S.history shelves.new).source ≡ (S.history shelves.old).source }
 {
     let Some(holder) = shelves.key(key)? else {
         return Ok(Reply::NotFound);
@@ -41,16 +41,16 @@ pub fn answer_query<S: Asked>(
 }
 
 /// Returns the reply to a GET by a key of a shelf. Fails only if the store fails or memory runs out.
-fn answer_from<S: Asked>(
+fn answer_from<S: NotedShelves>(
     alloc: Global,
     shelves: &mut S,
     shelf: &str,
     query: &Query,
 ) -> Result<Reply, StoreFault>
     ensures reads { Reads (S.shown shelves.old) (S.shown shelves.new) result (λ w. query_reply w shelf.now query.now) }
-    ensures needs { MeetsIn (S.shown shelves.old) (S.shown shelves.new) (S.asked shelves.old) (S.asked shelves.new)
+    ensures needs { MeetsIn (S.shown shelves.old) (S.shown shelves.new) (S.history shelves.old) (S.history shelves.new)
         (λ w. query_needs w shelf.now query.now) (fault_of result) }
-    ensures same { (S.asked shelves.new).source ≡ (S.asked shelves.old).source }
+    ensures same { (S.history shelves.new).source ≡ (S.history shelves.old).source }
 {
     match query {
         Query::GoMod { path, version } => Ok(gomod_reply(shelves.heading(shelf, path, version)?)),
@@ -63,7 +63,7 @@ fn answer_from<S: Asked>(
 }
 
 /// Returns the reply to a GET of the name and the time of a version. Fails only if the store fails.
-fn answer_info<S: Asked>(
+fn answer_info<S: NotedShelves>(
     shelves: &mut S,
     shelf: &str,
     path: &ModulePath,
@@ -71,9 +71,9 @@ fn answer_info<S: Asked>(
 ) -> Result<Reply, StoreFault>
     ensures reads { Reads (S.shown shelves.old) (S.shown shelves.new) result
         (λ w. query_reply w shelf.now (Query.Info path.now version)) }
-    ensures needs { Meets (S.asked shelves.old) (S.asked shelves.new)
+    ensures needs { Meets (S.history shelves.old) (S.history shelves.new)
         (Told (heading_of shelf.now path.now version) ∷ []) (fault_of result) }
-    ensures same { (S.asked shelves.new).source ≡ (S.asked shelves.old).source }
+    ensures same { (S.history shelves.new).source ≡ (S.history shelves.old).source }
 {
     let heading = shelves.heading(shelf, path, &version)?;
     Ok(info_reply(version, heading))
@@ -124,16 +124,16 @@ fn list_reply(versions: Versions) -> Reply
 }
 
 /// Returns the reply to a GET of the latest version of a path. Fails only if the store fails.
-fn answer_latest<S: Asked>(
+fn answer_latest<S: NotedShelves>(
     shelves: &mut S,
     shelf: &str,
     path: &ModulePath,
 ) -> Result<Reply, StoreFault>
     ensures reads { Reads (S.shown shelves.old) (S.shown shelves.new) result
         (λ w. query_reply w shelf.now (Query.Latest path.now)) }
-    ensures needs { MeetsIn (S.shown shelves.old) (S.shown shelves.new) (S.asked shelves.old) (S.asked shelves.new)
+    ensures needs { MeetsIn (S.shown shelves.old) (S.shown shelves.new) (S.history shelves.old) (S.history shelves.new)
         (λ w. query_needs w shelf.now (Query.Latest path.now)) (fault_of result) }
-    ensures same { (S.asked shelves.new).source ≡ (S.asked shelves.old).source }
+    ensures same { (S.history shelves.new).source ≡ (S.history shelves.old).source }
 {
     let Some(version) = shelves.latest(shelf, path)? else {
         return Ok(Reply::NotFound);

@@ -4,8 +4,8 @@ ghost use Rattle.machine.specs.Machine.{reply_to, after, MetDevice};
 ghost use Rattle.machine.specs.Runs.{Runs};
 ghost use Rattle.world.specs.Store.{Does, GrewOrFull};
 
-use crate::ask::Event;
 use crate::reply::{Answer, Reply};
+use crate::request::Event;
 use crate::step::step;
 use std::alloc::{AllocError, Global};
 use text::Text;
@@ -19,7 +19,7 @@ pub fn apply<S: Shelves>(alloc: Global, shelves: &mut S, event: &Event) -> Resul
         (λ w. reply_to w event.now) (λ w. after w event.now) }
 {
     match event {
-        Event::Asked(ask) => step(alloc, shelves, ask),
+        Event::Requested(request) => step(alloc, shelves, request),
         Event::TeamAdd { name, group } => Ok(Reply::Registry(shelves.team_add(
             name.as_str(),
             named(group),

@@ -1,18 +1,18 @@
 //! The machine over any store.
 ghost use Rattle.std.specs.Prelude.{◌≡◌, ◌∷◌, Some};
 ghost use Rattle.std.specs.FinMap as map;
-ghost use Rattle.machine.specs.Machine.{ask_reply, after_ask, offered};
+ghost use Rattle.machine.specs.Machine.{request_reply, after_request, offered};
 ghost use Rattle.machine.specs.Calls.{fault_of, of_key};
 ghost use Rattle.machine.specs.Needs.{Told, Meets, MeetsIn, needs, publish_needs, store_needs};
 ghost use Rattle.machine.specs.Publishing.{AnswersPut, PublishesTo, CarriesOut, StoresFor};
 ghost use Rattle.world.specs.Store.{Does};
 
-use crate::ask::{Ask, Publish};
-use crate::asked::Asked;
-use crate::asking::Asking;
 use crate::judge::{checked, judge_by_shelf};
+use crate::lent_shelves::LentShelves;
+use crate::noted_shelves::NotedShelves;
 use crate::queries::answer_query;
 use crate::reply::{Decision, Reply};
+use crate::request::{Publish, Request};
 use std::alloc::Global;
 use world::entry::{EntryRef, Holder};
 use world::registry::StoreFault;
@@ -20,27 +20,35 @@ use world::shelves::Shelves;
 
 /// Answers a request and returns the reply. Fails with `Device` if a device failed, and with `Memory` if memory ran
 /// out.
-pub fn step<S: Shelves>(alloc: Global, shelves: &mut S, ask: &Ask) -> Result<Reply, StoreFault>
+pub fn step<S: Shelves>(
+    alloc: Global,
+    shelves: &mut S,
+    request: &Request,
+) -> Result<Reply, StoreFault>
     ensures does { Does (S.shown shelves.old) (S.shown shelves.new) result
-        (λ w. ask_reply w ask.now) (λ w. after_ask w ask.now) }
+        (λ w. request_reply w request.now) (λ w. after_request w request.now) }
 {
-    let mut asking = Asking::new(shelves);
-    step_over(alloc, &mut asking, ask)
+    let mut lent = LentShelves::new(shelves);
+    step_over(alloc, &mut lent, request)
 }
 
 /// Answers a request as [`step`] does, over a store that keeps account of what it is asked.
-pub fn step_over<S: Asked>(alloc: Global, shelves: &mut S, ask: &Ask) -> Result<Reply, StoreFault>
+pub fn step_over<S: NotedShelves>(
+    alloc: Global,
+    shelves: &mut S,
+    request: &Request,
+) -> Result<Reply, StoreFault>
     ensures does { Does (S.shown shelves.old) (S.shown shelves.new) result
-        (λ w. ask_reply w ask.now) (λ w. after_ask w ask.now) }
+        (λ w. request_reply w request.now) (λ w. after_request w request.now) }
     // It asks the store for what the request needs, in that order and no more, and fails only by a refused need.
-    ensures needs { MeetsIn (S.shown shelves.old) (S.shown shelves.new) (S.asked shelves.old) (S.asked shelves.new)
-        (λ w. needs w ask.now) (fault_of result) }
-    ensures same { (S.asked shelves.new).source ≡ (S.asked shelves.old).source }
+    ensures needs { MeetsIn (S.shown shelves.old) (S.shown shelves.new) (S.history shelves.old) (S.history shelves.new)
+        (λ w. needs w request.now) (fault_of result) }
+    ensures same { (S.history shelves.new).source ≡ (S.history shelves.old).source }
 {
-    match ask {
-        Ask::Unreadable => Ok(Reply::NotFound),
-        Ask::Get { key, query } => answer_query(alloc, shelves, key.as_str(), query),
-        Ask::Put { key, publish } => Ok(Reply::Decided(answer_publish(
+    match request {
+        Request::Unreadable => Ok(Reply::NotFound),
+        Request::Get { key, query } => answer_query(alloc, shelves, key.as_str(), query),
+        Request::Put { key, publish } => Ok(Reply::Decided(answer_publish(
             alloc,
             shelves,
             key.as_str(),
@@ -50,16 +58,16 @@ pub fn step_over<S: Asked>(alloc: Global, shelves: &mut S, ask: &Ask) -> Result<
 }
 
 /// Decides a PUT, stores what it publishes, and returns the decision. Fails only if the store fails or memory runs out.
-fn answer_publish<S: Asked>(
+fn answer_publish<S: NotedShelves>(
     alloc: Global,
     shelves: &mut S,
     key: &str,
     publish: &Publish,
 ) -> Result<Decision, StoreFault>
     ensures does { AnswersPut (S.shown shelves.old) (S.shown shelves.new) result key.now publish.now }
-    ensures needs { MeetsIn (S.shown shelves.old) (S.shown shelves.new) (S.asked shelves.old) (S.asked shelves.new)
+    ensures needs { MeetsIn (S.shown shelves.old) (S.shown shelves.new) (S.history shelves.old) (S.history shelves.new)
         (λ w. Told (of_key key.now) ∷ publish_needs w (map.get w.keys key.now) publish.now) (fault_of result) }
-    ensures same { (S.asked shelves.new).source ≡ (S.asked shelves.old).source }
+    ensures same { (S.history shelves.new).source ≡ (S.history shelves.old).source }
 {
     let Some(holder) = shelves.key(key)? else {
         return Ok(Decision::NotFound);
@@ -69,16 +77,16 @@ fn answer_publish<S: Asked>(
 
 /// Decides a PUT by the holder of a key, stores what it publishes, and returns the decision. Fails only if the store
 /// fails or memory runs out.
-fn publish_to<S: Asked>(
+fn publish_to<S: NotedShelves>(
     alloc: Global,
     shelves: &mut S,
     holder: &Holder,
     publish: &Publish,
 ) -> Result<Decision, StoreFault>
     ensures does { PublishesTo (S.shown shelves.old) (S.shown shelves.new) result holder.now publish.now }
-    ensures needs { MeetsIn (S.shown shelves.old) (S.shown shelves.new) (S.asked shelves.old) (S.asked shelves.new)
+    ensures needs { MeetsIn (S.shown shelves.old) (S.shown shelves.new) (S.history shelves.old) (S.history shelves.new)
         (λ w. publish_needs w (Some holder.now) publish.now) (fault_of result) }
-    ensures same { (S.asked shelves.new).source ≡ (S.asked shelves.old).source }
+    ensures same { (S.history shelves.new).source ≡ (S.history shelves.old).source }
 {
     let entry = match checked(alloc, publish, holder.right)? {
         Ok(entry) => entry,
@@ -91,7 +99,7 @@ fn publish_to<S: Asked>(
 
 /// Stores the entry of the publish if the decision is `Published`, and does nothing otherwise. Fails only if the store
 /// fails.
-fn carry_out<S: Asked>(
+fn carry_out<S: NotedShelves>(
     shelves: &mut S,
     holder: &Holder,
     publish: &Publish,
@@ -100,9 +108,9 @@ fn carry_out<S: Asked>(
 ) -> Result<(), StoreFault>
     requires { offered publish.now ≡ Some entry.now }
     ensures does { CarriesOut (S.shown shelves.old) (S.shown shelves.new) result holder.now publish.now decision }
-    ensures needs { Meets (S.asked shelves.old) (S.asked shelves.new)
+    ensures needs { Meets (S.history shelves.old) (S.history shelves.new)
         (store_needs holder.now publish.now decision) (fault_of result) }
-    ensures same { (S.asked shelves.new).source ≡ (S.asked shelves.old).source }
+    ensures same { (S.history shelves.new).source ≡ (S.history shelves.old).source }
 {
     if decision == Decision::Published {
         return store(shelves, holder, publish, entry);
@@ -111,7 +119,7 @@ fn carry_out<S: Asked>(
 }
 
 /// Stores the entry of a publish that passed the checks. Fails only if the store fails.
-fn store<S: Asked>(
+fn store<S: NotedShelves>(
     shelves: &mut S,
     holder: &Holder,
     publish: &Publish,
@@ -119,9 +127,9 @@ fn store<S: Asked>(
 ) -> Result<(), StoreFault>
     requires { offered publish.now ≡ Some entry.now }
     ensures does { StoresFor (S.shown shelves.old) (S.shown shelves.new) result holder.now publish.now }
-    ensures needs { Meets (S.asked shelves.old) (S.asked shelves.new)
+    ensures needs { Meets (S.history shelves.old) (S.history shelves.new)
         (store_needs holder.now publish.now Decision.Published) (fault_of result) }
-    ensures same { (S.asked shelves.new).source ≡ (S.asked shelves.old).source }
+    ensures same { (S.history shelves.new).source ≡ (S.history shelves.old).source }
 {
     let shelf = holder.shelf.as_str();
     shelves.insert(shelf, &publish.path, &publish.version, entry)

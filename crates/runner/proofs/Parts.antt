@@ -7,11 +7,12 @@ use Rattle.world.specs.declared.entry.Holder.{Holder}
 use Rattle.world.specs.World.{World, IsWorld, place, group_in, above, is_among, sees}
 use Rattle.world.specs.Part.{is_held}
 use Rattle.world.proofs.Sees.{sees_itself, sees_common, same_chain}
-use Rattle.machine.specs.declared.ask.Ask.{Ask}
-use Rattle.machine.specs.declared.ask.Ask.TheVariants.{Unreadable, Get, Put}
-use Rattle.machine.specs.declared.ask.Event.{Event}
-use Rattle.machine.specs.declared.ask.Event.TheVariants.{Asked, TeamAdd, GroupAdd, KeyAdd, KeyRevoke, KeysRevoke}
-use Rattle.machine.specs.Machine.{decision, after_decision, ask_reply, after_ask, after_all, replies, answered}
+use Rattle.machine.specs.declared.request.Request.{Request}
+use Rattle.machine.specs.declared.request.Request.TheVariants.{Unreadable, Get, Put}
+use Rattle.machine.specs.declared.request.Event.{Event}
+use Rattle.machine.specs.declared.request.Event.TheVariants.{Requested, TeamAdd, GroupAdd, KeyAdd, KeyRevoke}
+use Rattle.machine.specs.declared.request.Event.TheVariants.{KeysRevoke}
+use Rattle.machine.specs.Machine.{decision, after_decision, request_reply, after_request, after_all, replies, answered}
 use Rattle.machine.specs.Isolation.{key_of, Low}
 use Rattle.machine.proofs.Blind.{blind, same_whole, low_decided, no_key}
 use Rattle.machine.proofs.Sound.{sound}
@@ -61,8 +62,9 @@ still_of w x ss (e ∷ es) same of = let it = of.0 in
 
 -- a request with a key that both worlds hold alike, and that gets equal replies, leaves worlds that are the same to a
 -- shelf
-low_asked : (w x : World) (s : List ℕ) (a : Ask) (k : List ℕ) → key_of a ≡ Some k → map.get w.keys k ≡ map.get x.keys k
-    → ask_reply w a ≡ ask_reply x a → Low w x s → Low (after_ask w a) (after_ask x a) s
+low_asked : (w x : World) (s : List ℕ) (a : Request) (k : List ℕ) → key_of a ≡ Some k
+    → map.get w.keys k ≡ map.get x.keys k
+    → request_reply w a ≡ request_reply x a → Low w x s → Low (after_request w a) (after_request x a) s
 low_asked w x s Unreadable k by held alike low = low
 low_asked w x s (Get j q) k by held alike low = low
 low_asked w x s (Put j p) k by held alike low =
@@ -70,8 +72,8 @@ low_asked w x s (Put j p) k by held alike low =
     let both : map.get w.keys j ≡ map.get x.keys j = ap (map.get w.keys) same
     ∙ (held ∙ ap (map.get x.keys) (sym same)) in
     let decided = decided_of (decision w (map.get w.keys j) p) (decision x (map.get x.keys j) p) alike in
-    subst (λ d. Low (after_ask w (Put j p)) (after_decision x (map.get x.keys j) p d) s) decided
-    (subst (λ o. Low (after_ask w (Put j p)) (after_decision x o p (decision w (map.get w.keys j) p)) s) both
+    subst (λ d. Low (after_request w (Put j p)) (after_decision x (map.get x.keys j) p d) s) decided
+    (subst (λ o. Low (after_request w (Put j p)) (after_decision x o p (decision w (map.get w.keys j) p)) s) both
     (low_decided w x s (map.get w.keys j) p (decision w (map.get w.keys j) p) low))
 
 -- one of the teams sees a shelf that is among theirs
@@ -84,9 +86,9 @@ one_sees w (t ∷ ts) s are among = elim (chains_from w (t ∷ ts) s among) [
 ]
 
 module _ (ts : List (List ℕ)) where
-  team_blind : (w x : World) (a : Ask) (k : List ℕ) (h : Holder) (t : List ℕ) → Has ts t → IsWorld w
+  team_blind : (w x : World) (a : Request) (k : List ℕ) (h : Holder) (t : List ℕ) → Has ts t → IsWorld w
       → IsWorld x → AllLow w x ts → key_of a ≡ Some k → map.get w.keys k ≡ Some h → sees w t h.shelf ≡ true
-      → (ask_reply w a ≡ ask_reply x a) × AllLow (after_ask w a) (after_ask x a) ts
+      → (request_reply w a ≡ request_reply x a) × AllLow (after_request w a) (after_request x a) ts
   team_blind w x a k h t there is_w is_x low by at seen =
       let one = blind w x t h.shelf k a is_w is_x (low t there) seen (h, at, refl) by in
       let held : map.get w.keys k ≡ map.get x.keys k = at ∙ sym (((low t there).keys k h seen).0 at) in
@@ -97,17 +99,17 @@ module _ (ts : List (List ℕ)) where
   all_blind : (w x : World) (es : List Event) → IsWorld w → IsWorld x → AreTeams w ts → AllLow w x ts
       → AllOf w (chains w ts) es → replies w es ≡ replies x es
   all_blind w x [] is_w is_x are low of = refl
-  all_blind w x (Asked a ∷ es) is_w is_x are low of =
+  all_blind w x (Requested a ∷ es) is_w is_x are low of =
       let it = of.0 in
       let by = one_sees w ts it.1.shelf are it.4 in
       let one = team_blind w x a it.0 it.1 by.0 by.1 is_w is_x low it.2 it.3 by.2 in
       let still = registry_asked w a in
-      let next : World = after_ask w a in
+      let next : World = after_request w a in
       let again : AreTeams next ts =
       (are.0, λ t there. let team = are.1 t there in (team.0, ap (λ m. map.get m t) still.shelves ∙ team.1)) in
       let chained = chains_alike w next ts still.shelves in
       let rest =
-      all_blind next (after_ask x a) es (sound w (Asked a) is_w) (sound x (Asked a) is_x) again one.1
+      all_blind next (after_request x a) es (sound w (Requested a) is_w) (sound x (Requested a) is_x) again one.1
       (subst (λ ss. AllOf next ss es) (sym chained) (still_of w next (chains w ts) es still of.1)) in
       (λ i. one.0 i ∷ rest i)
     where

@@ -2,13 +2,13 @@
 use Rattle.std.proofs.Common.{◌≡◌, sym, subst}
 use Rattle.std.specs.Prelude.{map}
 use Rattle.world.specs.World.{World}
-use Rattle.machine.specs.Machine.{answered, after_all, ask_reply}
+use Rattle.machine.specs.Machine.{answered, after_all, request_reply}
 use Rattle.machine.specs.Parts.{IsNotFound}
 use Rattle.machine.proofs.Parts.{run_leads}
-use Rattle.engine.specs.Ask.{ask_of}
+use Rattle.engine.specs.Request.{request_of}
 use Rattle.engine.specs.Exchange.{event_of, answer_of}
-use Rattle.engine.specs.Happening.{event_at, answer_at}
-use Rattle.engine.proofs.PartLemmas.{answered_alike, written_alike, all_asked, not_found_or_unavailable}
+use Rattle.engine.specs.AnsweredEvent.{event_at, answer_at}
+use Rattle.engine.proofs.PartLemmas.{answered_alike, written_alike, all_requested, not_found_or_unavailable}
 use Rattle.engine.proofs.FaultlessLemmas.{faultless_events}
 use Rattle.store.specs.Parts.{part_of, chains}
 use Rattle.runner.specs.Parts.{AllOf}
@@ -27,5 +27,6 @@ others_of_teams_are_written_not_found w mid new ts k before x far by run last =
     let part : World = part_of w (chains w ts) in
     let es = answered (map event_of before) (map answer_of before) in
     let at : mid ≡ after_all part es = run_leads part mid (map event_of before) (map answer_of before) run in
-    let found = others_of_teams_are_not_found w ts k es (ask_of x.message) far by (all_asked before) in
-    not_found_or_unavailable mid new x (subst (λ u. IsNotFound (ask_reply u (ask_of x.message))) (sym at) found) last
+    let found = others_of_teams_are_not_found w ts k es (request_of x.message) far by (all_requested before) in
+    not_found_or_unavailable mid new x (subst (λ u. IsNotFound (request_reply u (request_of x.message))) (sym at) found)
+    last

@@ -4,12 +4,12 @@ use Rattle.std.specs.FinMap as map
 use Rattle.world.specs.declared.entry.Holder.{Holder}
 use Rattle.world.specs.World.{World, IsWorld, is_among}
 use Rattle.world.specs.Part.{is_held}
-use Rattle.machine.specs.declared.ask.Ask.{Ask}
-use Rattle.machine.specs.declared.ask.Event.{Event}
+use Rattle.machine.specs.declared.request.Request.{Request}
+use Rattle.machine.specs.declared.request.Event.{Event}
 use Rattle.machine.specs.declared.reply.Answer.{Answer}
-use Rattle.machine.specs.Machine.{ask_reply, after_all, Run, answered, replies_of}
+use Rattle.machine.specs.Machine.{request_reply, after_all, Run, answered, replies_of}
 use Rattle.machine.specs.Isolation.{key_of, asking_key}
-use Rattle.machine.specs.Parts.{IsNotFound, AllAsked}
+use Rattle.machine.specs.Parts.{IsNotFound, AllRequested}
 use Rattle.store.specs.Parts.{part_of, chains, AreTeams}
 
 -- Each event is a request with a key that belongs to one of these shelves. No request changes where a key belongs, so
@@ -33,6 +33,7 @@ TeamsAreToldTheSame =
 -- From the part, after any requests, a request whose key belongs to no shelf that one of the teams sees is not found.
 abbrev pub OthersOfTeamsAreNotFound : Type 0
 OthersOfTeamsAreNotFound =
-    (w : World) (ts : List (List ℕ)) (k : List ℕ) (before : List Event) (a : Ask)
+    (w : World) (ts : List (List ℕ)) (k : List ℕ) (before : List Event) (a : Request)
     → is_held (chains w ts) (map.get w.keys k) ≡ false
-    → key_of a ≡ Some k → AllAsked before → IsNotFound (ask_reply (after_all (part_of w (chains w ts)) before) a)
+    → key_of a ≡ Some k → AllRequested before
+    → IsNotFound (request_reply (after_all (part_of w (chains w ts)) before) a)

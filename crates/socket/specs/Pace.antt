@@ -4,7 +4,7 @@ use Rattle.std.proofs.Common.{arith}
 use Rattle.std.proofs.Math.Nat.{div-mul-le_self}
 use Rattle.std.proofs.lemmas.Nat.{le-div}
 
--- the seconds for all reads of a request, and again for all writes of a reply, before bytes buy more
+-- the seconds for all reads of a message, and again for all writes of a reply, before bytes buy more
 abbrev pub patience : ℕ
 patience = 5
 
@@ -16,11 +16,11 @@ bytes_a_second = 1048576
 abbrev pub rest_patience : ℕ
 rest_patience = 2
 
--- the nanoseconds for the reads of a request, or for the writes of a reply, once so many bytes were moved
+-- the nanoseconds for the reads of a message, or for the writes of a reply, once so many bytes were moved
 abbrev pub time_for_message : ℕ → ℕ
 time_for_message moved = (patience + moved / bytes_a_second) * 1000000000
 
--- the nanoseconds for what comes after the request, which bytes do not buy
+-- the nanoseconds for what comes after the message, which bytes do not buy
 abbrev pub time_for_rest : ℕ → ℕ
 time_for_rest moved = rest_patience * 1000000000
 

@@ -6,7 +6,7 @@
 //! peer buys time with bytes, and no wait is longer than what is left of it. The crate's root comment says how long one
 //! connection then holds the others.
 
-/// The seconds for all reads of a request, and again for all writes of a reply, before bytes buy more.
+/// The seconds for all reads of a message, and again for all writes of a reply, before bytes buy more.
 pub(crate) const PATIENCE: u64 = 5;
 
 /// The bytes that buy a peer one second more.

@@ -21,10 +21,10 @@ use std::time::Clock;
 use wire::RouteTable;
 use world::shelves::Shelves;
 
-/// The two ends of a connection, and the result of answering its first request.
+/// The two ends of a connection, and the result of answering its first message.
 #[derive(Drop)]
 pub struct Answered<R, W> {
-    /// What the request was read from, at the byte after the last that was read.
+    /// What the message was read from, at the byte after the last that was read.
     pub reader: R,
     /// What the reply was written to.
     pub writer: W,
@@ -33,14 +33,14 @@ pub struct Answered<R, W> {
     pub status: Result<Option<u16>, Io>,
 }
 
-/// Answers the first request of a peer (RFC 9112, in the profile of the crate `wire`) as `engine::answer_one` does, and
-/// returns both ends with the result. All reads together have 5 seconds and one more for each 1,048,576 bytes read, and
-/// so have all writes for the bytes written; the time of each begins at the first of them. Each wait is bounded by what
-/// is left. A read or a write fails if no time is left, the clock can't be read, or its wait can't be bounded. The
+/// Answers the first message of a peer (RFC 9112, in the profile of the crate `framing`) as `engine::answer_one` does,
+/// and returns both ends with the result. All reads together have 5 seconds and one more for each 1,048,576 bytes read,
+/// and so have all writes for the bytes written; the time of each begins at the first of them. Each wait is bounded by
+/// what is left. A read or a write fails if no time is left, the clock can't be read, or its wait can't be bounded. The
 /// caller lends the router, so that one serves all connections.
 ///
 /// `Io::Read`: a read failed, nothing was done, and nothing is written. `Io::Write`: a write or the flush failed; a
-/// beginning of the reply is written or all of it, and the shelves are as after the request.
+/// beginning of the reply is written or all of it, and the shelves are as after the message.
 pub fn answer_in_time<C: Clock, R: BoundRead + Drop, W: BoundWrite + Drop, S: Shelves>(
     alloc: Global,
     clock: &C,
@@ -165,7 +165,7 @@ pub trait Peer {
     /// The calls that bear on how long a write to it waits, the last of them first.
     ghost write_calls: { Self → List Call };
 
-    /// Answers its first request, and returns and fails as `engine::answer_one` does. The caller lends the router.
+    /// Answers its first message, and returns and fails as `engine::answer_one` does. The caller lends the router.
     fn answer<C: Clock, S: Shelves>(
         self,
         alloc: Global,

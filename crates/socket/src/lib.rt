@@ -1,13 +1,13 @@
-//! Serving requests over connections: one request on each, and one connection after another.
+//! Answering messages over connections: one message on each, and one connection after another.
 //!
-//! [`serve_on`] takes a number of connections from a listener, and on each it answers one request as
+//! [`serve_on`] takes a number of connections from a listener, and on each it answers one message as
 //! `engine::answer_one` does. A connection that fails counts, and does not disturb those after it.
 //!
 //! A slow peer holds up all others, because there is one connection at a time. So its time and its bytes are bounded:
 //!
 //! | what | bound |
 //! |---|---|
-//! | all reads of a request; again all writes of a reply | 5 seconds, and one more for each 1,048,576 bytes moved |
+//! | all reads of a message; again all writes of a reply | 5 seconds, and one more for each 1,048,576 bytes moved |
 //! | what is read and dropped after the message | 2 seconds, and 33,554,432 bytes |
 //!
 //! Each wait is at most what is left, so one connection holds the others at most 12 seconds, and one more for each
@@ -16,7 +16,7 @@
 //!
 //! After a reply [`Peer::end`] shuts the writing side, and reads and drops bytes that came after the message. A system
 //! resets a connection that is closed while bytes of it are unread, and the peer then loses the reply that was on its
-//! way. After a 400, a 413 or a 503, whose request may be only partly read, it waits for what is still to come. After
+//! way. After a 400, a 413 or a 503, whose message may be only partly read, it waits for what is still to come. After
 //! any other reply it drops only what is there already, so that a silent peer holds up nobody.
 #![tactic(auto)]
 

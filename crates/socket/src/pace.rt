@@ -5,7 +5,7 @@ use crate::bounds::{BYTES_A_SECOND, PATIENCE, REST_PATIENCE};
 use histories::Patience;
 use std::time::Duration;
 
-/// The time for all reads of a request, and again for all writes of a reply.
+/// The time for all reads of a message, and again for all writes of a reply.
 #[derive(Drop)]
 pub(crate) struct ForMessage;
 

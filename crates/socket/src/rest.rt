@@ -13,7 +13,7 @@ use std::io::{self, Read};
 use std::marker::Brand;
 use std::time::Clock;
 
-/// Whether a request that got this status may be only partly read: 400, 413 and 503 also close a stream.
+/// Whether a message that got this status may be only partly read: 400, 413 and 503 also close a stream.
 #[tactic(auto, using(crate::proofs::RestLemmas::closing_leaves))]
 fn leaves_a_rest(status: u16) -> bool
     ensures exact { result ≡ (status == 400) || (status == 413) || (status == 503) }
@@ -24,7 +24,7 @@ fn leaves_a_rest(status: u16) -> bool
 }
 
 /// Drops what the peer sent after the message that was answered with this status; also what it still sends if its
-/// request may be only partly read. Ends early if a call of the system fails, or if a read would wait that may not.
+/// message may be only partly read. Ends early if a call of the system fails, or if a read would wait that may not.
 pub(crate) fn drop_rest<C: Clock, R: BoundRead + Drop>(
     clock: &C,
     reader: Hearing<R>,

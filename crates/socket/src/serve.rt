@@ -8,11 +8,11 @@ use wire::RouteTable;
 use world::shelves::Shelves;
 
 /// Takes connections from a listener, one after another, and answers on each the first message that comes over it; the
-/// store goes through at most as many requests as there are connections. It waits for each connection however long that
+/// store goes through at most as many messages as there are connections. It waits for each connection however long that
 /// takes, and returns after the last of them.
 ///
-/// It never fails. A connection that fails counts and is reported to nobody: if its request was not read whole, it
-/// changed nothing; if its reply failed, what the request did stays. An accept that fails counts too, so a server
+/// It never fails. A connection that fails counts and is reported to nobody: if its message was not read whole, it
+/// changed nothing; if its reply failed, what the message did stays. An accept that fails counts too, so a server
 /// without descriptors ends.
 pub fn serve_on<C: Clock, P: Peer + Drop, L: Listener<P>, S: Shelves>(
     alloc: Global,

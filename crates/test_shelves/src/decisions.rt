@@ -1,7 +1,7 @@
 //! The checks of a publish, row by row.
-use machine::ask::{Body, GivenTime, Publish};
 use machine::decide::{allowed_entry, decide_by_shelf, gomod_refusal};
 use machine::reply::Decision;
+use machine::request::{Body, GivenTime, Publish};
 use modpath::ModulePath;
 use modver::{Version, read_time};
 use std::alloc::{AllocError, Global};

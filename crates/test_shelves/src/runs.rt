@@ -1,7 +1,7 @@
 //! Runs of the machine on shelves in memory.
 use crate::decisions::body;
-use machine::ask::{Ask, Event, GivenTime, Publish, Query};
 use machine::reply::{Answer, Reply};
+use machine::request::{Event, GivenTime, Publish, Query, Request};
 use machine::run::run;
 use memory_store::map_shelves::MapShelves;
 use modpath::ModulePath;
@@ -94,7 +94,7 @@ fn get(alloc: Global, call: &str, is_zip: bool) -> Result<Event, Fail> {
     } else {
         Query::GoMod { path, version }
     };
-    Ok(Event::Asked(Ask::Get { key, query }))
+    Ok(Event::Requested(Request::Get { key, query }))
 }
 
 fn publish(alloc: Global, call: &str) -> Result<Publish, Fail> {
@@ -110,7 +110,7 @@ fn publish(alloc: Global, call: &str) -> Result<Publish, Fail> {
 fn put(alloc: Global, call: &str) -> Result<Event, Fail> {
     let publish = publish(alloc, call)?;
     let key = Text::copy_of(alloc, column(call, 1))?;
-    Ok(Event::Asked(Ask::Put { key, publish }))
+    Ok(Event::Requested(Request::Put { key, publish }))
 }
 
 fn key_add(alloc: Global, call: &str, right: Right) -> Result<Event, AllocError> {

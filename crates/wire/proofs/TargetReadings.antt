@@ -1,4 +1,4 @@
--- The computed reading of a request is what the request asks for.
+-- The computed reading of a message is what the message asks for.
 use Rattle.std.proofs.Common.{◌≡◌, ℕ, List, [], ◌∷◌, ◌++◌, bytes_eq, codes, Option, Some, None, Ok, Err, IfOk, Result}
 use Rattle.std.proofs.Common.{refl, sym, ◌∙◌, subst, inl, inr}
 use Rattle.std.proofs.lemmas.Bool.{cases_Bool, false_from_ne_true}
@@ -15,9 +15,9 @@ use Rattle.wire.specs.declared.routes.Area.{Area}
 use Rattle.wire.specs.declared.routes.Area.TheVariants as area
 use Rattle.framing.specs.declared.message.Memory.{Memory}
 use Rattle.wire.specs.declared.module_version.ModuleVersion.{ModuleVersion}
-use Rattle.wire.specs.declared.request.Resource.{Resource}
-use Rattle.wire.specs.declared.request.Target.{Target}
-use Rattle.wire.specs.declared.request.Target.TheVariants as target
+use Rattle.wire.specs.declared.named.Resource.{Resource}
+use Rattle.wire.specs.declared.named.Target.{Target}
+use Rattle.wire.specs.declared.named.Target.TheVariants as target
 use Rattle.wire.proofs.ModuleVersionReadings.{module-version-is, module-version-taken}
 use Rattle.wire.proofs.ResourceReadings.{path-area, resource-is, resource-taken, same-text}
 use Rattle.wire.proofs.RouteReadings.{area-is, routed-is, routed-taken, split-utf8}
@@ -52,7 +52,7 @@ put-asks method text key behind rest area.Path m keyed in_area (Some found) e =
       ),
     )
 
--- what is computed by the route of a target is what the request asks for, unless it is unreadable
+-- what is computed by the route of a target is what the message asks for, unless it is unreadable
 route-asks : (method text : List ℕ) → IsUtf8 text → (found : Option (Area × List ℕ × List ℕ)) → routed_of text ≡ found
     → AsksAny method text (asked_or method found)
 route-asks method text utf8 None e = tt
@@ -85,7 +85,7 @@ target-asks method text = elim (cases_Bool (is_utf8 text)) [
   | inr other ↦ rw other tt
 ]
 
--- what a request asks for is its computed reading
+-- what a message asks for is its computed reading
 pub target-taken : (method text : List ℕ) (asked : Target) → Asks method text asked → target_of method text ≡ asked
 unfolding target_of
 target-taken method text target.Unreadable a = absurd a
@@ -117,7 +117,7 @@ reads-by method text (target.Put key path version) e a = a
 pub target-reads : (method text : List ℕ) → ReadsTarget method text (target_of method text)
 target-reads method text = reads-by method text (target_of method text) refl (target-asks method text)
 
--- what a request reads as is what is computed of it
+-- what a message reads as is what is computed of it
 pub target-only : (method text : List ℕ) (asked : Target) → ReadsTarget method text asked
     → target_of method text ≡ asked
 target-only method text (target.Get key asked) r = target-taken method text (target.Get key asked) r

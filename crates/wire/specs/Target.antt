@@ -1,4 +1,4 @@
--- What a request asks for, by its method and its target. (Go Modules Reference, "GOPROXY protocol"; PUT is this
+-- What a message asks for, by its method and its target. (Go Modules Reference, "GOPROXY protocol"; PUT is this
 -- server's own.)
 use Rattle.std.specs.Prelude.{◌≡◌, ◌==◌, ℕ, ◌<◌, false, List, [], ◌∷◌, ◌++◌, length, bytes_eq, codes, Option, Some}
 use Rattle.std.specs.Prelude.{None, if◌then◌else◌}
@@ -11,9 +11,9 @@ use Rattle.wire.specs.Route.{routed_of}
 use Rattle.wire.specs.declared.module_version.ModuleVersion.{ModuleVersion}
 use Rattle.wire.specs.declared.routes.Area.{Area}
 use Rattle.wire.specs.declared.routes.Area.TheVariants as area
-use Rattle.wire.specs.declared.request.Resource.{Resource}
-use Rattle.wire.specs.declared.request.Target.{Target}
-use Rattle.wire.specs.declared.request.Target.TheVariants as target
+use Rattle.wire.specs.declared.named.Resource.{Resource}
+use Rattle.wire.specs.declared.named.Target.{Target}
+use Rattle.wire.specs.declared.named.Target.TheVariants as target
 
 -- `/k/`, a key, which is text without a slash, a slash and a rest
 pub record IsKeyed (text key rest : List ℕ) : Type 0 where
@@ -22,7 +22,7 @@ pub record IsKeyed (text key rest : List ℕ) : Type 0 where
   pub no_slash : list_any (λ b. b == 47) key ≡ false
   pub is_text : IsUtf8 key
 
--- what a request asks for
+-- what a message asks for
 abbrev pub Asks : List ℕ → List ℕ → Target → Type 0
 Asks method text target.Unreadable = ⊥
 Asks method text (target.Get key asked) = (method ≡ codes "GET")
@@ -31,7 +31,7 @@ Asks method text (target.Put key path version) =
     (method ≡ codes "PUT") × ((rest : List ℕ) × IsKeyed text key rest
     × IsModuleVersion (percent_decode rest) path version [])
 
--- what a request reads as: what it asks for, or unreadable if it asks for nothing
+-- what a message reads as: what it asks for, or unreadable if it asks for nothing
 abbrev pub ReadsTarget : List ℕ → List ℕ → Target → Type 0
 ReadsTarget method text target.Unreadable = (asked : Target) → ¬ (Asks method text asked)
 ReadsTarget method text (target.Get key asked) = Asks method text (target.Get key asked)
@@ -56,7 +56,7 @@ abbrev pub module_version_in : Area → List ℕ → Option ModuleVersion
 module_version_in area.Shelf rest = None
 module_version_in area.Path rest = module_version_of (percent_decode rest)
 
--- what a request with that method asks for by its route
+-- what a message with that method asks for by its route
 abbrev pub asked_at : List ℕ → Area × List ℕ × List ℕ → Target
 asked_at method route =
     if bytes_eq method (codes "GET") then get_of route.1 (resource_in route.0 route.2)
@@ -67,6 +67,6 @@ abbrev pub asked_or : List ℕ → Option (Area × List ℕ × List ℕ) → Tar
 asked_or method (Some route) = asked_at method route
 asked_or method None = target.Unreadable
 
--- what a request asks for
+-- what a message asks for
 unfoldable pub target_of : List ℕ → List ℕ → Target
 target_of method text = if is_utf8 text then asked_or method (routed_of text) else target.Unreadable

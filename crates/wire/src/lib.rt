@@ -1,11 +1,11 @@
-//! The server's side of HTTP/1.1 on bytes: reads what a request asks for, and writes the bytes of replies. The messages
+//! The server's side of HTTP/1.1 on bytes: reads what a message asks for, and writes the bytes of replies. The messages
 //! of a stream come from `framing`, which this crate re-exports.
 //!
 //! A target is `/k/`, a key, `/` and a rest, which is percent-decoded once (RFC 3986, section 2.1) and contains a
 //! module path and a version in the escaped form of the Go Modules Reference ("GOPROXY protocol"). In a GET below
 //! `/@v/`, one `.info`, `.mod` or `.zip` at the end is removed, and the version is left. Anything else is unreadable.
 //!
-//! | request | asks for |
+//! | message | asks for |
 //! |---|---|
 //! | `GET /k/key/example.com/lib/@v/v1.0.0.info` | `v1.0.0` of `example.com/lib` with its time |
 //! | `GET /k/key/example.com/lib/@v/v1.0.0.mod` | its go.mod |
@@ -25,8 +25,8 @@ pub mod encode;
 pub mod info;
 pub mod laws;
 mod module_version;
+pub mod named;
 pub mod reply;
-pub mod request;
 mod resources;
 mod routes;
 pub mod targets;
@@ -34,7 +34,7 @@ pub mod targets;
 pub use encode::{encode_head, fixed, fixed_line};
 pub use framing::{Bad, Framer, Memory, Message, Next, length_value};
 pub use info::info_body;
+pub use named::{Resource, Target};
 pub use reply::{Fixed, MediaType, StatusCode};
-pub use request::{Resource, Target};
 pub use routes::RouteTable;
 pub use targets::target;

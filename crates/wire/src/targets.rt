@@ -5,14 +5,14 @@ ghost use Rattle.wire.specs.Route.{routed_of};
 ghost use Rattle.wire.specs.Target.{asked_or, get_of, module_version_in, put_of, target_of, ReadsTarget};
 
 use crate::module_version::{ModuleVersion, read_module_version};
-use crate::request::Target;
+use crate::named::Target;
 use crate::resources::{decoded, read_resource};
 use crate::routes::{Area, RouteTable, Routed};
 use framing::Memory;
 use std::alloc::Global;
 use text::Text;
 
-/// Returns what a request with this method and this target asks for; both are compared byte for byte. A target that is
+/// Returns what a message with this method and this target asks for; both are compared byte for byte. A target that is
 /// not UTF-8, or decodes to bytes that are not, is unreadable. It fails with `Memory`, which says nothing about the
 /// target, if there is no room for what the target names or for the routes.
 pub fn target(table: &mut RouteTable, method: &[u8], target: &[u8]) -> Result<Target, Memory>
@@ -22,7 +22,7 @@ pub fn target(table: &mut RouteTable, method: &[u8], target: &[u8]) -> Result<Ta
     read_target(table, method, target)
 }
 
-/// Computes what a request asks for. It fails only if memory runs out.
+/// Computes what a message asks for. It fails only if memory runs out.
 fn read_target(table: &mut RouteTable, method: &[u8], target: &[u8]) -> Result<Target, Memory>
     ensures { IfOk result (λ asked. asked ≡ target_of method.now target.now) }
 {
@@ -32,7 +32,7 @@ fn read_target(table: &mut RouteTable, method: &[u8], target: &[u8]) -> Result<T
     }
 }
 
-/// Returns what a request with this method asks for by a target that is text. It fails only if memory runs out.
+/// Returns what a message with this method asks for by a target that is text. It fails only if memory runs out.
 /// Methods are compared as text: `http::Method` allocates for more than 15 bytes, so a 404 could become a 503.
 fn read_text(table: &mut RouteTable, method: &[u8], text: &str) -> Result<Target, Memory>
     ensures { IfOk result (λ asked. asked ≡ asked_or method.now (routed_of text.now)) }

@@ -13,8 +13,8 @@
 //! | `platform` has it too, with the zip `h` | `m` | `h` | nothing |
 //! | `common` has it too, with the zip `c` | `m` | `h` | `c` |
 //!
-//! This crate knows nothing of requests: the crate `shelf` answers them over any [`shelves::Shelves`]. A contract says
-//! what a call does in each world that the store stands for, and what a crash may leave.
+//! This crate knows nothing of requests: the crate `machine` answers them over any [`shelves::Shelves`]. A contract
+//! says what a call does in each world that the store stands for, and what a crash may leave.
 //!
 //! - [`entry`]: what stands on a shelf, and what a key holds.
 //! - [`names`]: the rules of team names and keys. [`forms`]: the path and the version that a text names.

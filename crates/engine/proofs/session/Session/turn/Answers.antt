@@ -1,10 +1,10 @@
 use Rattle.std.proofs.Common.{◌≡◌, refl, ap, ◌∙◌, subst}
 use Rattle.std.proofs.lemmas.Result.{err_from_is_err_and}
 use Rattle.framing.specs.Framing.{view}
-use Rattle.engine.specs.Ask.{ask_of, sum_of, sum_by}
+use Rattle.engine.specs.Request.{request_of, sum_of, sum_by}
 use Rattle.engine.specs.Exchange.{Exchange, Unserved, answer_to}
 use Rattle.engine.specs.Reply.{answer_page, IsOutcome}
-use Rattle.engine.proofs.AskLemmas.{sum_asked}
+use Rattle.engine.proofs.RequestLemmas.{sum_asked}
 use Rattle.engine.proofs.CausesLemmas.{caused_unread, caused_unwritten}
 use Rattle.engine.proofs.SessionLemmas.{turned_message, turned_page, turned_end, turned_unread}
 use Rattle.engine.proofs.StoreLemmas.{through_asked, through_unasked}
@@ -28,15 +28,15 @@ returns-in_default-clause-turns g c =
 pub returns-in-Ok-clause-turns : goal.returns-in-Ok-clause-turns
 returns-in-Ok-clause-turns g c =
     let m = view c.in-Message.message in
-    let asking = c.in-Ok.asking in
-    let ask : asking.ask ≡ ask_of m = ap (λ a. a.ask) c.in-Ok.ensures in
-    let sum : sum_by asking ≡ sum_of m = ap sum_by c.in-Ok.ensures ∙ sum_asked m in
+    let asked = c.in-Ok.asked in
+    let request : asked.request ≡ request_of m = ap (λ a. a.request) c.in-Ok.ensures in
+    let sum : sum_by asked ≡ sum_of m = ap sum_by c.in-Ok.ensures ∙ sum_asked m in
     let (outcome, is, shown) = c.page_of_answer-page.ensures in
     let x : Exchange = record { message = m; outcome = outcome } in
     let is_one = subst (λ at. IsOutcome at c.step-answer.result outcome) sum is in
     turned_page _ _ _ _ _ _ _ _ _ _ c.in-Message.message x c.page_of_answer-page.result _ refl
     (rw c.in-Message.is at c.in_ok-message.ensures.comes)
-    (through_asked _ _ m asking.ask ask c.step-answer.result outcome is_one c.step-answer.ensures.does)
+    (through_asked _ _ m asked.request request c.step-answer.result outcome is_one c.step-answer.ensures.does)
     (shown ∙ ap (λ at. answer_page at (answer_to outcome)) sum) c.answer_with-in-Message.ensures.bytes
     c.answer_with-in-Message.ensures.turn
 

@@ -1,4 +1,4 @@
-//! What a request asks for.
+//! What a message asks for.
 use modpath::ModulePath;
 use modver::Version;
 use text::Text;
@@ -23,7 +23,7 @@ pub enum Resource {
     GoSum { path: ModulePath, version: Version },
 }
 
-/// What a request asks for.
+/// What a message asks for.
 #[derive(Drop)]
 pub enum Target {
     /// Anything but a GET or a PUT that the server knows.

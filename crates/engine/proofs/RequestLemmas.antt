@@ -7,12 +7,13 @@ use Rattle.std.proofs.lemmas.Str.{IsUtf8-from_ascii}
 use Rattle.modver.specs.Time.{has_time_form, is_moment}
 use Rattle.modver.proofs.Forms.{fits_form-ascii}
 use Rattle.framing.specs.Framing.{texts}
-use Rattle.framing.specs.Message.{Request}
-use Rattle.wire.specs.declared.request.Resource.TheVariants as resource
-use Rattle.wire.specs.declared.request.Target.{Target}
-use Rattle.wire.specs.declared.request.Target.TheVariants as target
-use Rattle.machine.specs.declared.ask.GivenTime.TheVariants.{Malformed}
-use Rattle.engine.specs.Ask.{time_in, given_time, ask_at, asking_of, is_summed, sum_at, sum_by, sum_of, target_in}
+use Rattle.framing.specs.Message.{MessageView}
+use Rattle.wire.specs.declared.named.Resource.TheVariants as resource
+use Rattle.wire.specs.declared.named.Target.{Target}
+use Rattle.wire.specs.declared.named.Target.TheVariants as target
+use Rattle.machine.specs.declared.request.GivenTime.TheVariants.{Malformed}
+use Rattle.engine.specs.Request.{time_in, given_time, request_at, message_request, is_summed, sum_at, sum_by, sum_of}
+use Rattle.engine.specs.Request.{target_in}
 
 -- more than one value of `Version-Time` is malformed
 pub many_times : (values : List (Vec ℕ Global)) → 1 < length values → given_time (texts values) ≡ Malformed
@@ -31,7 +32,8 @@ pub no_text : (text : List ℕ) → (IsUtf8 text → ⊥) → time_in text ≡ M
 no_text text never = time_or_not text (has_time_form text) (is_moment text) refl refl never
 
 -- the go.sum line that a message asks for is that of the go.mod that the machine is asked for
-sum_at_target : (m : Request) (t : Target) → sum_by (record { ask = ask_at m t; is_summed = is_summed t }) ≡ sum_at t
+sum_at_target : (m : MessageView) (t : Target)
+    → sum_by (record { request = request_at m t; is_summed = is_summed t }) ≡ sum_at t
 sum_at_target m target.Unreadable = refl
 sum_at_target m (target.Put key path version) = refl
 sum_at_target m (target.Get key (resource.Info path version)) = refl
@@ -42,5 +44,5 @@ sum_at_target m (target.Get key (resource.Latest path)) = refl
 sum_at_target m (target.Get key resource.Modules) = refl
 sum_at_target m (target.Get key (resource.GoSum path version)) = refl
 
-pub sum_asked : (m : Request) → sum_by (asking_of m) ≡ sum_of m
+pub sum_asked : (m : MessageView) → sum_by (message_request m) ≡ sum_of m
 sum_asked m = sum_at_target m (target_in m)

@@ -2,8 +2,8 @@
 ghost use Rattle.std.specs.Prelude.{◌≡◌, []};
 ghost use Rattle.machine.specs.Calls.{fault_of};
 
-use crate::asked::{Asked, Method, Outcome};
 use crate::noted::Noted;
+use crate::noted_shelves::{Method, NotedShelves, Outcome};
 use modpath::ModulePath;
 use modver::Version;
 use world::entry::{EntryRef, Heading, Holder, Seen};
@@ -16,19 +16,19 @@ use world::version_list::Versions;
 /// A store that is lent, with an account of what it was asked since. The account takes no memory and no time: only
 /// proofs read it. Nobody else can write it, or use the store inside.
 #[derive(Drop)]
-pub struct Asking<'a, S: Shelves> {
+pub struct LentShelves<'a, S: Shelves> {
     inner: &'a mut S,
     noted: Noted,
 }
 
-impl<'a, S: Shelves> Asking<'a, S> {
+impl<'a, S: Shelves> LentShelves<'a, S> {
     /// Returns a store that was asked nothing so far.
-    pub fn new(inner: &'a mut S) -> Asking<'a, S>
+    pub fn new(inner: &'a mut S) -> LentShelves<'a, S>
         ensures same_store { result.inner.ghost_name ≡ inner.entry.ghost_name }
         ensures value { result.inner.now ≡ inner.old }
         ensures calls { result.noted.calls ≡ [] }
     {
-        Asking {
+        LentShelves {
             inner,
             noted: Noted::new(),
         }
@@ -56,10 +56,10 @@ fn outcome<T>(method: Method, told: &Result<T, StoreFault>) -> Outcome
     }
 }
 
-impl<'a, S: Shelves> Asked for Asking<'a, S> {
+impl<'a, S: Shelves> NotedShelves for LentShelves<'a, S> {
     ghost shown = { λ a. S.shown a.inner.now };
 
-    ghost asked = { λ a. record { calls = a.noted.calls; source = a.inner.ghost_name } };
+    ghost history = { λ a. record { calls = a.noted.calls; source = a.inner.ghost_name } };
 
     fn key(&mut self, key: &str) -> Result<Option<Holder>, StoreFault> {
         let told = self.inner.key(key);

@@ -1,32 +1,35 @@
-//! What a message asks of the machine.
+//! The request in a message: what it asks of the machine.
 ghost use Rattle.std.specs.Prelude.{◌≡◌, ◌≤◌, take, drop, vec_len, IfOk};
 ghost use Rattle.framing.specs.Framing.{view, texts};
-ghost use Rattle.engine.specs.Ask as spec;
+ghost use Rattle.engine.specs.Request as spec;
 
-use machine::ask::{Ask, Body, GivenTime, Publish, Query};
+use machine::request::{Body, GivenTime, Publish, Query, Request};
 use modver::read_time;
 use std::alloc::AllocError;
 use wire::{Memory, Message, Resource, RouteTable, Target, length_value, target};
 use world::bytes::Bytes;
 
 /// What a message asks of the machine. For a go.sum line the machine is asked for the go.mod, so its replies and its
-/// laws know nothing of sums. The line takes its path and its version from the ask.
+/// laws know nothing of sums. The line takes its path and its version from the request.
 #[derive(Drop)]
-pub(crate) struct Asking {
-    pub(crate) ask: Ask,
-    /// The message asks for a go.sum line, and so the ask is for the go.mod.
+pub(crate) struct MessageRequest {
+    pub(crate) request: Request,
+    /// The message asks for a go.sum line, and so the request is for the go.mod.
     pub(crate) is_summed: bool,
 }
 
 /// Returns what the message asks. The go.mod of a publish is the first bytes of its body, as many as `Mod-Length` says,
 /// and its time is that of its `Version-Time`. Fails only if memory runs out.
-pub(crate) fn asking_of(routes: &mut RouteTable, message: Message) -> Result<Asking, Memory>
-    ensures { IfOk result (λ asking. asking ≡ spec.asking_of (view message)) }
+pub(crate) fn message_request(
+    routes: &mut RouteTable,
+    message: Message,
+) -> Result<MessageRequest, Memory>
+    ensures { IfOk result (λ asked. asked ≡ spec.message_request (view message)) }
 {
     let target = target(routes, &message.method, &message.target)?;
     let is_summed = is_summed(&target);
-    let ask = ask_at(message, target)?;
-    Ok(Asking { ask, is_summed })
+    let request = request_at(message, target)?;
+    Ok(MessageRequest { request, is_summed })
 }
 
 /// Whether the target asks for a go.sum line.
@@ -49,19 +52,19 @@ fn is_sum(resource: &Resource) -> bool
 }
 
 /// Returns what a message with this target asks. Fails only if memory runs out.
-fn ask_at(message: Message, target: Target) -> Result<Ask, AllocError>
-    ensures { IfOk result (λ ask. ask ≡ spec.ask_at (view message) target) }
+fn request_at(message: Message, target: Target) -> Result<Request, AllocError>
+    ensures { IfOk result (λ request. request ≡ spec.request_at (view message) target) }
 {
     match target {
-        Target::Unreadable => Ok(Ask::Unreadable),
-        Target::Get { key, resource } => Ok(Ask::Get {
+        Target::Unreadable => Ok(Request::Unreadable),
+        Target::Get { key, resource } => Ok(Request::Get {
             key,
             query: query_of(resource),
         }),
         Target::Put { key, path, version } => {
             let time = given_time(&message.version_times);
             let body = body_of(message)?;
-            Ok(Ask::Put {
+            Ok(Request::Put {
                 key,
                 publish: Publish {
                     path,
@@ -90,7 +93,7 @@ fn query_of(resource: Resource) -> Query
 }
 
 /// Returns the time that the values of `Version-Time` give: `Absent` for none, and `Malformed` for more than one.
-#[tactic(auto, using(crate::proofs::AskLemmas::many_times))]
+#[tactic(auto, using(crate::proofs::RequestLemmas::many_times))]
 fn given_time(values: &[Vec<u8>]) -> GivenTime
     ensures { result ≡ spec.given_time (texts values.now) }
 {

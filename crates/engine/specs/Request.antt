@@ -1,25 +1,25 @@
--- What a message asks of the machine.
+-- The request in a message: what it asks of the machine.
 use Rattle.std.specs.Prelude.{ℕ, List, [], ◌∷◌, Bool, true, false, if◌then◌else◌, Option, Some, None, nat_le, length}
 use Rattle.std.specs.Prelude.{take, drop}
 use Rattle.modver.specs.SemanticVersion.{SemanticVersion}
 use Rattle.framing.specs.Length.{length_value}
-use Rattle.framing.specs.Message.{Request}
+use Rattle.framing.specs.Message.{MessageView}
 use Rattle.wire.specs.Target.{target_of}
-use Rattle.wire.specs.declared.request.Resource.{Resource}
-use Rattle.wire.specs.declared.request.Resource.TheVariants as resource
-use Rattle.wire.specs.declared.request.Target.{Target}
-use Rattle.wire.specs.declared.request.Target.TheVariants as target
-use Rattle.machine.specs.declared.ask.Query.{Query}
-use Rattle.machine.specs.declared.ask.Query.TheVariants as query
-use Rattle.machine.specs.declared.ask.GivenTime.{GivenTime}
-use Rattle.machine.specs.declared.ask.GivenTime.TheVariants.{Absent, At, Malformed}
-use Rattle.machine.specs.declared.ask.Body.{Body}
-use Rattle.machine.specs.declared.ask.Ask.{Ask}
-use Rattle.machine.specs.declared.ask.Ask.TheVariants as ask
-use Rattle.machine.specs.declared.ask.Event.{Event}
-use Rattle.machine.specs.declared.ask.Event.TheVariants.{Asked}
+use Rattle.wire.specs.declared.named.Resource.{Resource}
+use Rattle.wire.specs.declared.named.Resource.TheVariants as resource
+use Rattle.wire.specs.declared.named.Target.{Target}
+use Rattle.wire.specs.declared.named.Target.TheVariants as target
+use Rattle.machine.specs.declared.request.Query.{Query}
+use Rattle.machine.specs.declared.request.Query.TheVariants as query
+use Rattle.machine.specs.declared.request.GivenTime.{GivenTime}
+use Rattle.machine.specs.declared.request.GivenTime.TheVariants.{Absent, At, Malformed}
+use Rattle.machine.specs.declared.request.Body.{Body}
+use Rattle.machine.specs.declared.request.Request.{Request}
+use Rattle.machine.specs.declared.request.Request.TheVariants as request
+use Rattle.machine.specs.declared.request.Event.{Event}
+use Rattle.machine.specs.declared.request.Event.TheVariants.{Requested}
 use Rattle.world.specs.Forms.{is_time}
-use Rattle.engine.specs.declared.ask.Asking.{Asking}
+use Rattle.engine.specs.declared.request.MessageRequest.{MessageRequest}
 
 -- a number, if it is at most this
 abbrev pub at_most : ℕ → Option ℕ → Option ℕ
@@ -38,7 +38,7 @@ split_at body None = None
 split_at body (Some n) = Some (record { gomod = take n body; zip = drop n body })
 
 -- the files of a publish, if the length of its go.mod is known
-abbrev pub body_of : Request → Option Body
+abbrev pub body_of : MessageView → Option Body
 body_of m = split_at m.body (gomod_len m.mod_lengths (length m.body))
 
 -- the time that a value writes, or malformed if it writes none
@@ -62,23 +62,23 @@ query_of resource.Modules = query.Modules
 query_of (resource.GoSum path version) = query.GoMod path version
 
 -- what a message with this target asks
-abbrev pub ask_at : Request → Target → Ask
-ask_at m target.Unreadable = ask.Unreadable
-ask_at m (target.Get key resource) = ask.Get key (query_of resource)
-ask_at m (target.Put key path version) =
-    ask.Put key (record { path = path; version = version; body = body_of m; time = given_time m.version_times })
+abbrev pub request_at : MessageView → Target → Request
+request_at m target.Unreadable = request.Unreadable
+request_at m (target.Get key resource) = request.Get key (query_of resource)
+request_at m (target.Put key path version) =
+    request.Put key (record { path = path; version = version; body = body_of m; time = given_time m.version_times })
 
 -- the target that the method and the target of a message write
-abbrev pub target_in : Request → Target
+abbrev pub target_in : MessageView → Target
 target_in m = target_of m.method m.target
 
 -- what a message asks
-abbrev pub ask_of : Request → Ask
-ask_of m = ask_at m (target_in m)
+abbrev pub request_of : MessageView → Request
+request_of m = request_at m (target_in m)
 
 -- the event that a message is
-abbrev pub event_of_message : Request → Event
-event_of_message m = Asked (ask_of m)
+abbrev pub event_of_message : MessageView → Event
+event_of_message m = Requested (request_of m)
 
 -- ---- go.sum lines
 
@@ -93,7 +93,7 @@ sum_at (target.Get key resource) = sum_in resource
 sum_at other = None
 
 -- the version whose go.sum line a message asks for, if it asks for one
-abbrev pub sum_of : Request → Option (List ℕ × SemanticVersion)
+abbrev pub sum_of : MessageView → Option (List ℕ × SemanticVersion)
 sum_of m = sum_at (target_in m)
 
 -- ---- go.sum lines, by what the machine is asked
@@ -109,14 +109,14 @@ is_summed (target.Get key resource) = is_sum resource
 is_summed other = false
 
 -- what a message asks, with whether it asks for a go.sum line
-abbrev pub asking_of : Request → Asking
-asking_of m = record { ask = ask_of m; is_summed = is_summed (target_in m) }
+abbrev pub message_request : MessageView → MessageRequest
+message_request m = record { request = request_of m; is_summed = is_summed (target_in m) }
 
 -- the version whose go.mod the machine is asked for, if it is asked for one
-abbrev pub gomod_asked : Ask → Option (List ℕ × SemanticVersion)
-gomod_asked (ask.Get key (query.GoMod path version)) = Some (path, version)
+abbrev pub gomod_asked : Request → Option (List ℕ × SemanticVersion)
+gomod_asked (request.Get key (query.GoMod path version)) = Some (path, version)
 gomod_asked other = None
 
 -- the version whose go.sum line is written, if one is
-abbrev pub sum_by : Asking → Option (List ℕ × SemanticVersion)
-sum_by asking = if asking.is_summed then gomod_asked asking.ask else None
+abbrev pub sum_by : MessageRequest → Option (List ℕ × SemanticVersion)
+sum_by asked = if asked.is_summed then gomod_asked asked.request else None

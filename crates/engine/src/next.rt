@@ -11,7 +11,7 @@ use wire::{Bad, Framer, Message, Next};
 
 /// What comes next on a stream.
 #[derive(Drop)]
-pub(crate) enum Incoming {
+pub(crate) enum MessageOrEnd {
     Message(Message),
     /// No message: this reply closes the stream, or nothing does at a good end.
     End(Option<Fixed>),
@@ -19,7 +19,7 @@ pub(crate) enum Incoming {
 
 /// Returns the next message if the framer holds a whole one, what closes the stream if it can't go on or memory runs
 /// out, and None if more bytes are needed. It does not ask an empty framer, because every stream begins with one.
-fn take(framer: &mut Framer) -> Option<Incoming>
+fn take(framer: &mut Framer) -> Option<MessageOrEnd>
     requires { framer.old.failure ≡ None }
     ensures { Takes framer.old result framer.new }
 {
@@ -27,11 +27,11 @@ fn take(framer: &mut Framer) -> Option<Incoming>
         return None;
     }
     match framer.next() {
-        Ok(Next::Message(message)) => Some(Incoming::Message(message)),
+        Ok(Next::Message(message)) => Some(MessageOrEnd::Message(message)),
         Ok(Next::NeedMore) => None,
-        Ok(Next::Bad(Bad::BadRequest)) => Some(Incoming::End(Some(Fixed::BadRequest))),
-        Ok(Next::Bad(Bad::TooLarge)) => Some(Incoming::End(Some(Fixed::TooLarge))),
-        Err(_) => Some(Incoming::End(Some(Fixed::Unavailable))),
+        Ok(Next::Bad(Bad::BadRequest)) => Some(MessageOrEnd::End(Some(Fixed::BadRequest))),
+        Ok(Next::Bad(Bad::TooLarge)) => Some(MessageOrEnd::End(Some(Fixed::TooLarge))),
+        Err(_) => Some(MessageOrEnd::End(Some(Fixed::Unavailable))),
     }
 }
 
@@ -41,7 +41,7 @@ pub(crate) fn next_message<R: Hear>(
     reader: &mut R,
     framer: &mut Framer,
     reads: &mut u64,
-) -> Result<Incoming, Io>
+) -> Result<MessageOrEnd, Io>
     requires { framer.old.failure ≡ None }
     ensures comes { Comes framer.old framer.new reads.old reads.new
         (R.account reader.old) (R.account reader.new) result }
@@ -52,15 +52,15 @@ pub(crate) fn next_message<R: Hear>(
     ensures cause { IfErr result (λ _. IsUnreadable reads.old (R.reads reader.old) (R.reads reader.new)) }
 {
     loop {
-        if let Some(incoming) = take(framer) {
-            return Ok(incoming);
+        if let Some(next) = take(framer) {
+            return Ok(next);
         }
         if *reads == 0 {
             return Err(Io::Read);
         }
         *reads -= 1;
         if let Progress::Ends(closing) = read_more(reader, framer)? {
-            return Ok(Incoming::End(closing));
+            return Ok(MessageOrEnd::End(closing));
         }
     }
 }

@@ -1,10 +1,10 @@
 use Rattle.std.proofs.Common.{◌≤◌}
 use Rattle.engine.specs.Causes.{AsksWhileUnfinished, Spends}
 use Rattle.engine.specs.Turn.{ReadSoFar}
-use Rattle.engine.proofs.incoming.next_message.Given as goal
+use Rattle.engine.proofs.next.next_message.Given as goal
 
-abbrev pub invariant-loop-incoming : goal.invariant-loop-incoming
-invariant-loop-incoming g l =
+abbrev pub invariant-loop-next : goal.invariant-loop-next
+invariant-loop-next g l =
     let account = g.R.Hear.account in
     let reads = g.R.Hear.reads in
     ReadSoFar l.fn.framer l.framer (account l.fn.reader) (account l.reader) l.fn.reads l.reads
@@ -12,5 +12,5 @@ invariant-loop-incoming g l =
     × Spends l.fn.reads l.reads (reads l.fn.reader) (reads l.reader)
     × ((reads l.fn.reader).failed ≤ (reads l.reader).failed)
 
-abbrev pub decreases-loop-incoming : goal.decreases-loop-incoming
-decreases-loop-incoming g l = l.reads
+abbrev pub decreases-loop-next : goal.decreases-loop-next
+decreases-loop-next g l = l.reads

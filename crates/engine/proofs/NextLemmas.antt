@@ -13,8 +13,8 @@ use Rattle.engine.specs.Exchange.{Exchange}
 use Rattle.engine.specs.Turn.{StaysNear, ReadsOn, Takes, ReadSoFar, TakesNext, Comes}
 use Rattle.engine.specs.declared.fault.Io.{Io}
 use Rattle.engine.specs.declared.fault.Io.TheVariants as io
-use Rattle.engine.specs.declared.incoming.Incoming.{Incoming}
-use Rattle.engine.specs.declared.incoming.Incoming.TheVariants as incoming
+use Rattle.engine.specs.declared.next.MessageOrEnd.{MessageOrEnd}
+use Rattle.engine.specs.declared.next.MessageOrEnd.TheVariants as came
 use Rattle.engine.specs.declared.read.Progress.TheVariants as progress
 use Rattle.engine.proofs.MessageLemmas.{message_shortens}
 use Rattle.engine.proofs.ReadLemmas.{near_few}
@@ -48,9 +48,9 @@ module _
   }
 
   -- what is taken comes next: a message that is whole, or the end if the bytes held can't go on
-  pub taken_comes : (new : Framing) (next : Incoming) → Takes now (Some next) new
+  pub taken_comes : (new : Framing) (next : MessageOrEnd) → Takes now (Some next) new
       → Comes old new reads reads_now u₀ u₁ (Ok next)
-  taken_comes new (incoming.Message message) (reads_it, sound) =
+  taken_comes new (came.Message message) (reads_it, sound) =
       let shorter : length new.held < length now.held = message_shortens now.held (view message) new.held reads_it in (
         far.bytes,
         far.consumed,
@@ -59,8 +59,8 @@ module _
         sound,
         omega (arith, shorter, far.less),
       )
-  taken_comes new (incoming.End None) none = absurd none
-  taken_comes new (incoming.End (Some closing)) (closes, memory) = record {
+  taken_comes new (came.End None) none = absurd none
+  taken_comes new (came.End (Some closing)) (closes, memory) = record {
     bytes = far.bytes;
     consumed = far.consumed;
     near = far.near;
@@ -80,7 +80,7 @@ module _
 
     -- if the read ended the stream, the end comes next
     pub end_comes : (closing : Option Fixed) (left : ℕ) → ReadsOn now next u₁ u₂ (Ok (progress.Ends closing))
-        → Comes old next reads left u₀ u₂ (Ok (incoming.End closing))
+        → Comes old next reads left u₀ u₂ (Ok (came.End closing))
     end_comes closing left (bytes, consumes, near, closes, some) = record {
       bytes = far.bytes ++ bytes;
       consumed = Gives-trans u₀ u₁ u₂ far.bytes bytes far.consumed consumes;
@@ -105,7 +105,7 @@ module _
 -- a message that was taken comes next, whatever its outcome
 pub message_next : (old new : Framing) (reads left : ℕ) (u u' : Account) (message : Message) (x : Exchange)
     → x.message ≡ view message
-    → Comes old new reads left u u' (Ok (incoming.Message message)) → TakesNext old new u u' (Answers x)
+    → Comes old new reads left u u' (Ok (came.Message message)) → TakesNext old new u u' (Answers x)
 message_next old new reads left u u' message x is (bytes, consumed, near, reads_it, sound, less) = record {
   bytes = bytes;
   consumed = consumed;

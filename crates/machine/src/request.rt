@@ -57,7 +57,7 @@ pub struct Publish {
 
 /// A request.
 #[derive(Drop)]
-pub enum Ask {
+pub enum Request {
     /// Neither a readable GET nor a readable PUT.
     Unreadable,
     Get { key: Text, query: Query },
@@ -67,7 +67,7 @@ pub enum Ask {
 /// A request or a registry command.
 #[derive(Drop)]
 pub enum Event {
-    Asked(Ask),
+    Requested(Request),
     /// Adds a team with a shelf of its own, as a member of a group if one is named.
     TeamAdd {
         name: Text,

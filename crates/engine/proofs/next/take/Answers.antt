@@ -1,7 +1,7 @@
 use Rattle.std.proofs.Common.{refl}
 use Rattle.framing.proofs.StreamLemmas.{unfinished_nothing}
 use Rattle.engine.proofs.ReadLemmas.{message_some}
-use Rattle.engine.proofs.incoming.take.Goals as goal
+use Rattle.engine.proofs.next.take.Goals as goal
 
 pub returns-in-Ok-Bad-BadRequest : goal.returns-in-Ok-Bad-BadRequest
 returns-in-Ok-Bad-BadRequest c = (

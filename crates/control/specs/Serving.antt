@@ -1,7 +1,7 @@
 -- Callers who are served from one moment to another, while a copy is made or not.
-use Rattle.std.specs.Prelude.{ℕ, ◌≡◌, ◌+◌, ◌⊎◌, ◌||◌, Bool, true, false, List, [], ◌∷◌, ◌++◌, length, All}
+use Rattle.std.specs.Prelude.{ℕ, ◌≡◌, ◌≤◌, ◌+◌, ◌⊎◌, ◌||◌, Bool, true, false, List, [], ◌∷◌, ◌++◌, length, All}
 use Rattle.std.specs.Prelude.{Option, Result}
-use Rattle.std.proofs.Common.{inl, refl}
+use Rattle.std.proofs.Common.{inl, inr, refl, arith}
 use Rattle.histories.specs.Account.{Account}
 use Rattle.histories.specs.Calls.{Reads, Writes}
 use Rattle.world.specs.Store.{Shown}
@@ -124,3 +124,16 @@ module _ {P O : Type 0} (heeded : O → Account × Reads) (told : O → Option (
 
   pub then_turns : (a b c : Instant P O S) → TakesTurns a b → TakesTurns b c → TakesTurns a c
   then_turns a b c one two = (one.0 ++ b ∷ two.0, turns_by a b c one.0 two.0 one.1 two.1)
+
+  no_fewer_turn : (a b : Instant P O S) → TakesTurn a b → (shown a.store).failures ≤ (shown b.store).failures
+  no_fewer_turn a b (inl (read, rest)) = read.failures
+  no_fewer_turn a b (inr served) = served.serves.through.no_fewer
+
+  no_fewer_by : (a b : Instant P O S) (by : List (Instant P O S)) → TakesTurnsBy a by b
+      → (shown a.store).failures ≤ (shown b.store).failures
+  no_fewer_by a b [] turn = no_fewer_turn a b turn
+  no_fewer_by a b (mid ∷ more) turns =
+      omega (arith, no_fewer_turn a mid turns.0, no_fewer_by mid b more turns.1)
+
+  pub no_fewer_turns : (a b : Instant P O S) → TakesTurns a b → (shown a.store).failures ≤ (shown b.store).failures
+  no_fewer_turns a b turns = no_fewer_by a b turns.0 turns.1

@@ -21,7 +21,7 @@ pub enum CopyRefusal {
 
 /// What copies a store while it is served, and counts what it keeps.
 pub trait Copies<S: Shelves> {
-    ghost use Rattle.std.specs.Prelude.{ℕ, ◌≤◌, ◌≢◌, List, Result, Err, IfErr, IfOk};
+    ghost use Rattle.std.specs.Prelude.{ℕ, ◌≢◌, List, Result, Err, IfErr, IfOk};
     ghost use Rattle.control.specs.Copying.{IsOnlyRead};
     ghost use Rattle.control.specs.declared.copies.CopyRefusal.{CopyRefusal};
     ghost use Rattle.control.specs.declared.copies.CopyRefusal.TheVariants.{Busy};
@@ -52,8 +52,6 @@ pub trait Copies<S: Shelves> {
         path: &str,
         between: &mut B,
     ) -> Result<(), CopyRefusal>
-        // No turn lowers the count of failures.
-        requires no_fewer { (a b : B) (s t : S) → B.went a b s t → (S.shown s).failures ≤ (S.shown t).failures }
         ensures turns { (mid : S) × B.went between.old between.new shelves.old mid
             × IsOnlyRead (S.shown mid) (S.shown shelves.new) }
         ensures came { copied shelves.old shelves.new path.now result }

@@ -322,7 +322,7 @@ impl<
     E: Tell,
 > Between<S> for Server<'x, C, P, O, L, K, D, E> {
     ghost use Rattle.socket.specs.Connections.{both};
-    ghost use Rattle.control.specs.Serving.{TakesTurns, then_turns, turns_rest};
+    ghost use Rattle.control.specs.Serving.{TakesTurns, no_fewer_turns, then_turns, turns_rest};
 
     ghost went = { λ old new s t. TakesTurns (both O.came O.reads) (both O.written O.writes)
         (both P.came P.reads) (both P.written P.writes) L.is_new S.shown K.copied K.counted
@@ -351,6 +351,8 @@ impl<
     ghost rests = { λ b s t read. turns_rest _ _ _ _ _ _ _ _ _ t read };
 
     ghost goes_on = { λ a b c r s t one two. then_turns _ _ _ _ _ _ _ _ _ _ _ one two };
+
+    ghost no_fewer = { λ a b s t turns. no_fewer_turns _ _ _ _ _ _ _ _ _ _ turns };
 }
 
 /// Its copies are made with turns of it.

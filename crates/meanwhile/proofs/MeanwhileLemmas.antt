@@ -1,5 +1,5 @@
 -- Stores that are as they were.
-use Rattle.std.proofs.Common.{refl, ◌∙◌}
+use Rattle.std.proofs.Common.{arith}
 use Rattle.std.specs.FinSet as set
 use Rattle.world.specs.Store.{Shown}
 use Rattle.world.specs.World.{place_cmp}
@@ -7,7 +7,7 @@ use Rattle.meanwhile.specs.Meanwhile.{IsAsItWas, Notes}
 
 pub as_it_was : (s : Shown) → IsAsItWas s s
 as_it_was s =
-    record { honest = λ h. h; stays = λ h w stands. stands; left = λ h w x y stands may. may; failures = refl }
+    record { honest = λ h. h; stays = λ h w stands. stands; left = λ h w x y stands may. may; failures = omega arith }
 
 pub as_it_was_then : (r s t : Shown) → IsAsItWas r s → IsAsItWas s t → IsAsItWas r t
 as_it_was_then r s t one two = record {
@@ -15,7 +15,7 @@ as_it_was_then r s t one two = record {
   stays = λ h w stands. two.stays h w (one.stays (two.honest h) w stands);
   left = λ h w x y stands may.
       let early = two.honest h in two.left h w x y (one.stays early w stands) (one.left early w x y stands may);
-  failures = two.failures ∙ one.failures;
+  failures = omega (arith, one.failures, two.failures);
 }
 
 -- a turn that does nothing notes nothing

@@ -1,5 +1,5 @@
 -- What happens to a store while it is copied.
-use Rattle.std.specs.Prelude.{◌≡◌, if◌then◌else◌, None}
+use Rattle.std.specs.Prelude.{◌≡◌, ◌≤◌, if◌then◌else◌, None}
 use Rattle.std.specs.FinMap as map
 use Rattle.std.specs.FinSet as set
 use Rattle.world.specs.declared.entry.Place.{Place}
@@ -26,9 +26,9 @@ abbrev pub Notes : Shown → Shown → set.FinSet place_cmp → set.FinSet place
 Notes old new before after = new.is_honest → (w : World) → old.stands w → NotesOne old new before after
 
 -- The store still stands for each world that it stood for, if a crash left one of two worlds, it still leaves one of
--- the two, and no failure was counted.
+-- the two, and the count of failures did not fall.
 pub record IsAsItWas (old new : Shown) : Type 0 where
   pub honest : new.is_honest → old.is_honest
   pub stays : new.is_honest → (w : World) → old.stands w → new.stands w
   pub left : new.is_honest → (w x y : World) → old.stands w → old.leaves x y → new.leaves x y
-  pub failures : new.failures ≡ old.failures
+  pub failures : old.failures ≤ new.failures

@@ -4,7 +4,7 @@ use world::shelves::Shelves;
 
 /// What is done with the served store between two slices of a copy of it.
 pub trait Between<S: Shelves> {
-    ghost use Rattle.std.specs.Prelude.{IsTrue};
+    ghost use Rattle.std.specs.Prelude.{◌≤◌, IsTrue};
     ghost use Rattle.meanwhile.specs.Meanwhile.{IsAsItWas, Notes};
 
     /// What turns do, one after another, with reads of the store between them: relates this value before and after them
@@ -23,4 +23,7 @@ pub trait Between<S: Shelves> {
 
     // Turns that follow turns are turns.
     ghost goes_on: { (a b c : Self) (r s t : S) → went a b r s → went b c s t → went a c r t };
+
+    // No turn lowers the count of failures.
+    ghost no_fewer: { (a b : Self) (s t : S) → went a b s t → (S.shown s).failures ≤ (S.shown t).failures };
 }

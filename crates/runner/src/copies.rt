@@ -1,6 +1,6 @@
 //! Copies of the store of a file while it is served, counts of its versions, and its size.
 
-ghost use Rattle.std.specs.Prelude.{◌≡◌, ◌≢◌, ◌≤◌, IfErr, IfOk};
+ghost use Rattle.std.specs.Prelude.{◌≡◌, ◌≢◌, IfErr, IfOk};
 ghost use Rattle.control.specs.Copying.{IsOnlyRead};
 ghost use Rattle.control.specs.declared.copies.CopyRefusal.TheVariants.{Busy};
 ghost use Rattle.sqlite_wal.specs.Files.{image_at};
@@ -133,8 +133,6 @@ where
     S: Alter,
     G: StoreFiles<OpenedStore, ClosedFile, StoreRefusal>,
     B: Between<SqlShelves<S>>,
-    requires no_fewer { (a b : _) (s t : _) → B.went a b s t →
-        (⟦<SqlShelves<S> as Shelves>⟧.shown s).failures ≤ (⟦<SqlShelves<S> as Shelves>⟧.shown t).failures }
     ensures turns { (mid : _) × B.went between.old between.new source.old mid × IsOnlyRead
         (⟦<SqlShelves<S> as Shelves>⟧.shown mid) (⟦<SqlShelves<S> as Shelves>⟧.shown source.new) }
     ensures came { CopiesTo ⟦<SqlShelves<S> as Shelves>⟧.shown (λ s. ⟦<Found as Shelves>⟧.shown s.shelves)
@@ -166,8 +164,6 @@ fn copy_into<C: Clock, S: Alter, B: Between<SqlShelves<S>>>(
     fresh: &mut OpenedStore,
     between: &mut B,
 ) -> Result<(), CopyRefusal>
-    requires no_fewer { (a b : _) (s t : _) → B.went a b s t →
-        (⟦<SqlShelves<S> as Shelves>⟧.shown s).failures ≤ (⟦<SqlShelves<S> as Shelves>⟧.shown t).failures }
     ensures turns { (mid : _) × B.went between.old between.new source.old mid × IsOnlyRead
         (⟦<SqlShelves<S> as Shelves>⟧.shown mid) (⟦<SqlShelves<S> as Shelves>⟧.shown source.new) }
     ensures came { CopiesInto ⟦<SqlShelves<S> as Shelves>⟧.shown (λ s. ⟦<Found as Shelves>⟧.shown s.shelves)

@@ -39,7 +39,7 @@ only_read a b kept kept_new n n_new spares same count = record {
   honest = was_clean a b spares.clean;
   stays = λ clean w so. ((spares.stays w so.0.0, so.0.1), subst (AreKept w) (sym same) so.1);
   left = λ clean w x y so only db may. only db (spares.left clean w so.0.0 db may);
-  failures = count;
+  failures = omega (arith, count);
 }
 
 -- an open connection stands for one world

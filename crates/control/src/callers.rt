@@ -184,7 +184,7 @@ fn obey_since<
 
 /// A source of peers and operators.
 pub trait Callers<P, O> {
-    ghost use Rattle.std.specs.Prelude.{◌≡◌, List, Option, IfOk, IfSome, MatchOption};
+    ghost use Rattle.std.specs.Prelude.{◌≡◌, Bool, List, Option, IfOk, IfSome, MatchOption};
     ghost use Rattle.socket.specs.Connections.{Accepts};
     ghost use Rattle.control.specs.declared.callers.Caller.{Caller};
 
@@ -193,6 +193,9 @@ pub trait Callers<P, O> {
 
     /// What is known of a caller who was just taken.
     ghost is_new: { Caller P O → Type 0 };
+
+    /// Whether the operator who is watched was seen to leave.
+    ghost left: { Self → Bool };
 
     /// Waits for the next connection, however long that takes, and returns its caller. Fails if the connection can't be
     /// taken.
@@ -212,7 +215,8 @@ pub trait Callers<P, O> {
         ensures same { waiting self.new ≡ waiting self.old };
 
     /// Whether the operator who is watched was seen to close its connection.
-    fn has_left(&self) -> bool;
+    fn has_left(&self) -> bool
+        ensures { result ≡ left self.now };
 }
 
 /// A peer of a port, or an operator of a Unix socket.
@@ -337,6 +341,8 @@ impl Callers<Connection<TcpStream, TcpStream>, Connection<UnixStream, UnixStream
     ghost use Rattle.control.specs.Visits.{IsUnheard};
 
     ghost waiting = { λ _. None };
+
+    ghost left = { λ d. d.left };
 
     /// Nothing has passed over the connection.
     ghost is_new = { λ caller. IsUnheard

@@ -1,5 +1,5 @@
 //! A turn between two slices of a copy: those who wait are served.
-ghost use Rattle.std.specs.Prelude.{◌≡◌, List, Option, IfOk, true, false};
+ghost use Rattle.std.specs.Prelude.{◌≡◌, List, Option, IfOk, IsTrue, true, false};
 ghost use Rattle.socket.specs.Connections.{Accepts, both};
 ghost use Rattle.meanwhile.specs.Meanwhile.{Notes};
 ghost use Rattle.meanwhile.specs.Noted.{IsNoted, with_said};
@@ -343,7 +343,14 @@ impl<
 
     /// Serves at most `MOST_SERVED` callers. The copy can't go on once an operator was told that the server ends, or
     /// once the one who ordered it has left.
-    fn turn(&mut self, shelves: &mut S, news: &mut Newcomers) -> bool {
+    fn turn(&mut self, shelves: &mut S, news: &mut Newcomers) -> bool
+        ensures went { ⟦<Server<'x, C, P, O, L, K, D, E> as Between<S>>⟧.went self.old self.new
+            shelves.old shelves.new }
+        ensures honest { (S.shown shelves.new).is_honest → (S.shown shelves.old).is_honest }
+        ensures notes { IsTrue result → Notes (S.shown shelves.old) (S.shown shelves.new) news.old news.new }
+        ensures stays { IsTrue result → L.left self.new.callers.now ≡ false }
+        ensures goes { IsTrue result → self.new.progress.stops ≡ false }
+    {
         let after = take_turn::<C, P, O, L, S, K, D, E, Brand>(self, shelves, news);
         !after.lost && !self.progress.stops && !self.callers.has_left()
     }

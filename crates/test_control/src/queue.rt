@@ -80,6 +80,8 @@ impl<P, O> Callers<P, O> for Queue<P, O> {
 
     ghost is_new = { λ _. Unit {0} };
 
+    ghost left = { λ q. q.leaves };
+
     fn next(&mut self) -> io::Result<Caller<P, O>> {
         self.callers
             .pop_front()

@@ -1,7 +1,7 @@
 -- Stores that note the places of newcomers.
 use Rattle.std.proofs.Common.{◌≡◌, Bool, true, false, refl, sym, ap, ◌∙◌, inl, inr, Result, Ok, Err}
 use Rattle.std.proofs.Common.{Option, Some, None, List, ℕ}
-use Rattle.std.specs.Prelude.{◌||◌, if◌then◌else◌, cond}
+use Rattle.std.specs.Prelude.{◌||◌, if◌then◌else◌, cond, not, is_some, unwrap_or}
 use Rattle.std.specs.Ordering.{eq_by_cmp}
 use Rattle.std.proofs.lemmas.Bool.{false≢true}
 use Rattle.std.proofs.lemmas.Map.Views.{tells_apart}
@@ -14,10 +14,11 @@ use Rattle.world.specs.declared.registry.RegistryReply.{RegistryReply}
 use Rattle.world.specs.declared.registry.RegistryReply.TheVariants.{Done, Name, Taken, NoTeam, NoKey, NoGroup}
 use Rattle.world.specs.declared.registry.StoreFault.{StoreFault}
 use Rattle.world.specs.Registry.{after_team_add, after_group_add, after_key_add, after_key_revoke, after_keys_revoke}
+use Rattle.world.specs.Registry.{team_added, group_added, lacks_group}
 use Rattle.world.specs.Store.{Shown, AfterCrash, DoesAt, DoesWhere, Reads, IsRoomFor}
-use Rattle.world.specs.World.{World, place_cmp, with_entry}
-use Rattle.world.proofs.Orders.{places_total, places_exact}
-use Rattle.meanwhile.specs.Meanwhile.{IsSince}
+use Rattle.world.specs.World.{World, common, is_team_name, place_cmp, with_entry, with_shelf}
+use Rattle.world.proofs.Orders.{get_elsewhere, places_total, places_exact, texts_total, texts_exact}
+use Rattle.meanwhile.specs.Meanwhile.{IsSince, KeepsShelves}
 use Rattle.meanwhile.specs.Noted.{IsNoted, NotesPlace, with_said}
 
 -- ---- calls
@@ -80,15 +81,20 @@ noted_does fits old new said said_new result value next later still does = recor
 -- ---- what is noted
 
 module _ (was : World → Type 0) (before : set.FinSet place_cmp) where
-  -- it goes by the entries alone
+  -- it goes by the entries and the shelves
   pub noted_entries : (lost : Bool) (now : set.FinSet place_cmp) (w x : World) → x.entries ≡ w.entries
-      → IsNoted lost was before now w → IsNoted lost was before now x
-  noted_entries true now w x same noted = tt
-  noted_entries false now w x same noted = record {
+      → KeepsShelves w x → IsNoted lost was before now w → IsNoted lost was before now x
+  noted_entries true now w x same kept noted = tt
+  noted_entries false now w x same kept noted = record {
     first = noted.first;
     stood = noted.stood;
-    since = λ v at q. noted.since v at q
-        ∙ ap (λ entries. if set.contains now q then None else map.get entries q) (sym same);
+    since = λ v at.
+        let since = noted.since v at in
+        record {
+          shelves = λ s parent there. kept s parent (since.shelves s parent there);
+          entries = λ q. since.entries q
+              ∙ ap (λ entries. if set.contains now q then None else map.get entries q) (sym same);
+        };
   }
 
   -- a place that is noted, of which it is told whether it is the one that was free
@@ -112,15 +118,21 @@ module _ (was : World → Type 0) (before : set.FinSet place_cmp) where
 
     -- a place that is free is noted, and the world stays, or gets an entry there
     stays_since : (v : World) → IsSince v w now → IsSince v w (set.insert now q)
-    stays_since v since p =
-        since p ∙ without_one (set.contains now p) (eq_by_cmp place_cmp p q) (map.get w.entries p) (free_at p)
-        ∙ ap (λ b. if b then None else map.get w.entries p) (sym (set.contains-insert places_total now q p))
+    stays_since v since = record {
+      shelves = since.shelves;
+      entries = λ p.
+          since.entries p ∙ without_one (set.contains now p) (eq_by_cmp place_cmp p q) (map.get w.entries p) (free_at p)
+          ∙ ap (λ b. if b then None else map.get w.entries p) (sym (set.contains-insert places_total now q p));
+    }
 
     grows_since : (e : Entry) (v : World) → IsSince v w now → IsSince v (with_entry w q e) (set.insert now q)
-    grows_since e v since p =
-        since p ∙ with_one (set.contains now p) (eq_by_cmp place_cmp p q) e (map.get w.entries p) (free_at p)
-        ∙ (λ i. if sym (set.contains-insert places_total now q p) i then None
-        else sym (map.get-insert places_total w.entries q e p) i)
+    grows_since e v since = record {
+      shelves = since.shelves;
+      entries = λ p.
+          since.entries p ∙ with_one (set.contains now p) (eq_by_cmp place_cmp p q) e (map.get w.entries p) (free_at p)
+          ∙ (λ i. if sym (set.contains-insert places_total now q p) i then None
+          else sym (map.get-insert places_total w.entries q e p) i);
+    }
 
     noted_still : (lost : Bool) → IsNoted lost was before now w → IsNoted lost was before (set.insert now q) w
     noted_still true noted = tt
@@ -159,6 +171,64 @@ module _ (was : World → Type 0) (before : set.FinSet place_cmp) where
       | inl all ↦ lost_all lost_new later w all
       | inr both ↦ rw (both.0, both.1) (noted_still now w q room.free lost noted)
     ]
+
+-- ---- the shelves of worlds with one more
+
+-- a name that was free is added
+one_more_shelf : (w : World) (name : List ℕ) (parent : Option (List ℕ)) → map.contains_key w.shelves name ≡ false
+    → KeepsShelves w (with_shelf w name parent)
+one_more_shelf w name parent free s up there =
+    get_elsewhere texts_total texts_exact w.shelves name parent s
+    (λ same. false≢true (sym free ∙ ap is_some (ap (map.get w.shelves) (sym same) ∙ there))) ∙ there
+
+team_kept : (w : World) (t : List ℕ) (group : Option (List ℕ)) (named taken lacks : Bool)
+    → map.contains_key w.shelves t ≡ taken
+    → KeepsShelves w (after_team_add w t group (if not named then Name else if taken then Taken
+    else if lacks then NoGroup else Done))
+team_kept w t group false taken lacks is s up there = there
+team_kept w t group true true lacks is s up there = there
+team_kept w t group true false true is s up there = there
+team_kept w t group true false false is s up there =
+    one_more_shelf w t (Some (unwrap_or group common)) is s up there
+
+pub team_shelves : (w : World) (t : List ℕ) (group : Option (List ℕ))
+    → KeepsShelves w (after_team_add w t group (team_added w t group))
+team_shelves w t group =
+    team_kept w t group (is_team_name t) (map.contains_key w.shelves t) (lacks_group w group) refl
+
+group_kept : (w : World) (g : List ℕ) (named taken : Bool) → map.contains_key w.shelves g ≡ taken
+    → KeepsShelves w (after_group_add w g (if not named then Name else if taken then Taken else Done))
+group_kept w g false taken is s up there = there
+group_kept w g true true is s up there = there
+group_kept w g true false is s up there = one_more_shelf w g None is s up there
+
+pub group_shelves : (w : World) (g : List ℕ) → KeepsShelves w (after_group_add w g (group_added w g))
+group_shelves w g = group_kept w g (is_team_name g) (map.contains_key w.shelves g) refl
+
+pub key_shelves : (w : World) (s k : List ℕ) (right : Right) (r : RegistryReply)
+    → KeepsShelves w (after_key_add w s k right r)
+key_shelves w s k right Done t up there = there
+key_shelves w s k right Name t up there = there
+key_shelves w s k right Taken t up there = there
+key_shelves w s k right NoTeam t up there = there
+key_shelves w s k right NoKey t up there = there
+key_shelves w s k right NoGroup t up there = there
+
+pub revoked_shelves : (w : World) (k : List ℕ) (r : RegistryReply) → KeepsShelves w (after_key_revoke w k r)
+revoked_shelves w k Done t up there = there
+revoked_shelves w k Name t up there = there
+revoked_shelves w k Taken t up there = there
+revoked_shelves w k NoTeam t up there = there
+revoked_shelves w k NoKey t up there = there
+revoked_shelves w k NoGroup t up there = there
+
+pub all_revoked_shelves : (w : World) (s : List ℕ) (r : RegistryReply) → KeepsShelves w (after_keys_revoke w s r)
+all_revoked_shelves w s Done t up there = there
+all_revoked_shelves w s Name t up there = there
+all_revoked_shelves w s Taken t up there = there
+all_revoked_shelves w s NoTeam t up there = there
+all_revoked_shelves w s NoKey t up there = there
+all_revoked_shelves w s NoGroup t up there = there
 
 -- ---- the entries of worlds with other shelves and keys
 

@@ -1,15 +1,21 @@
 -- What happens to a store while it is copied.
-use Rattle.std.specs.Prelude.{◌≡◌, ◌≤◌, if◌then◌else◌, None}
+use Rattle.std.specs.Prelude.{ℕ, ◌≡◌, ◌≤◌, List, Option, Some, None, if◌then◌else◌}
 use Rattle.std.specs.FinMap as map
 use Rattle.std.specs.FinSet as set
 use Rattle.world.specs.declared.entry.Place.{Place}
 use Rattle.world.specs.Store.{Shown}
 use Rattle.world.specs.World.{World, place_cmp}
 
--- the entries of w are those of the later world but for the newcomers
-abbrev pub IsSince : World → World → set.FinSet place_cmp → Type 0
-IsSince w later newcomers =
-    (q : Place) → map.get w.entries q ≡ (if set.contains newcomers q then None else map.get later.entries q)
+-- each shelf of w is in the later world, with the parent that it has in w
+abbrev pub KeepsShelves : World → World → Type 0
+KeepsShelves w later =
+    (s : List ℕ) (parent : Option (List ℕ)) → map.get w.shelves s ≡ Some parent → map.get later.shelves s ≡ Some parent
+
+-- the later world has the shelves of w, and its entries but for the newcomers are those of w
+pub record IsSince (w later : World) (newcomers : set.FinSet place_cmp) : Type 0 where
+  pub shelves : KeepsShelves w later
+  pub entries : (q : Place)
+      → map.get w.entries q ≡ (if set.contains newcomers q then None else map.get later.entries q)
 
 -- Of a world that the store stood for before the turn, a world is left that is as late as it: what was since the
 -- newcomers before the turn is since those after it.

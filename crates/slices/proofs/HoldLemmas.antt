@@ -85,10 +85,10 @@ whole w s holds = subst (Writing s) (lacks_none w holds.x holds.lacks) holds.wri
 module _ (w later : World) (newcomers : set.FinSet place_cmp) (since : IsSince w later newcomers) where
   pub was_there : (q : Place) (e : Entry) → set.contains newcomers q ≡ false → map.get later.entries q ≡ Some e
       → map.get w.entries q ≡ Some e
-  was_there q e old at = since q ∙ (ap (λ b. cond b None (map.get later.entries q)) old ∙ at)
+  was_there q e old at = since.entries q ∙ (ap (λ b. cond b None (map.get later.entries q)) old ∙ at)
 
   pub still_there : (q : Place) (e f : Entry) → map.get w.entries q ≡ Some e → map.get later.entries q ≡ Some f → f ≡ e
-  still_there q e f one two = go (set.contains newcomers q) (since q)
+  still_there q e f one two = go (set.contains newcomers q) (since.entries q)
     where
       go : (b : Bool) → map.get w.entries q ≡ cond b None (map.get later.entries q) → f ≡ e
       go true is = absurd (let none : ◌≡◌ {A = Option Entry} (Some e) None = sym one ∙ is in cc)

@@ -66,7 +66,10 @@ held_on a b kept kept_new n m before after w next reached notes honest clean lat
 
 -- a world is since no newcomers came what it is
 pub since_itself : (w : World) → IsSince w w set.empty
-since_itself w q = sym (ap (λ b. cond b None (map.get w.entries q)) (set.contains-empty place_cmp q))
+since_itself w = record {
+  shelves = λ s parent up. up;
+  entries = λ q. sym (ap (λ b. cond b None (map.get w.entries q)) (set.contains-empty place_cmp q));
+}
 
 -- once nothing is left, and no part is under way, the transaction holds the world
 pub done_is_whole : (w : World) (at : Cursor) (s : State) → (at.left ≡ 0) × (at.part ≡ None) → HoldsUpTo w at s

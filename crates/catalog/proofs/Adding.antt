@@ -45,7 +45,7 @@ gathers_failed f before goal a b c items more after rest of (Err e) fault is far
 
 -- ---- the line of a version, by what was read of it
 
-module _ (s p : List ℕ) (v : SemanticVersion) (marks : Marks) where
+module _ (seen_of : World → World) (s p : List ℕ) (v : SemanticVersion) (marks : Marks) where
   -- the line of a go.mod and of an outline, or none without the one or the other
   abbrev pub line_with : Option Heading → Option Outline → List ℕ
   line_with (Some heading) (Some it) = names p v ++ rest s marks heading it
@@ -62,16 +62,16 @@ module _ (s p : List ℕ) (v : SemanticVersion) (marks : Marks) where
   no_line (Some seen) none = cc
 
   module _ (old mid : Shown) (shown : Option Heading)
-      (read : Reads old mid (Ok shown) (λ w. heading w s p (version_text v))) (before : List ℕ) where
+      (read : Reads old mid (Ok shown) (λ w. heading (seen_of w) s p (version_text v))) (before : List ℕ) where
     -- adding nothing adds the line of a version that is not seen
-    pub adds_none : shown ≡ None → Adds old mid before before (Ok tt) (λ w. line_at w s p v marks)
+    pub adds_none : shown ≡ None → Adds old mid before before (Ok tt) (λ w. line_at (seen_of w) s p v marks)
     adds_none is = record {
       honest = read.honest;
       at = λ honest w stands.
           let here = read.at honest w stands in
           record {
             answer = sym (append-nil before)
-                ∙ ap (λ l. before ++ l) (no_line (view w s p (version_text v)) (sym is ∙ here.answer));
+                ∙ ap (λ l. before ++ l) (no_line (view (seen_of w) s p (version_text v)) (sym is ∙ here.answer));
             stays = here.stays;
             left = here.left;
           };
@@ -80,9 +80,9 @@ module _ (s p : List ℕ) (v : SemanticVersion) (marks : Marks) where
 
     -- adding the line of what was read adds that of the version
     pub adds_line : (new : Shown) (found : Option Outline) (heading : Heading) (it : Outline) (after : List ℕ)
-        → Reads mid new (Ok found) (λ w. outline w s p (version_text v)) → shown ≡ Some heading → found ≡ Some it
+        → Reads mid new (Ok found) (λ w. outline (seen_of w) s p (version_text v)) → shown ≡ Some heading → found ≡ Some it
         → after ≡ before ++ (names p v ++ rest s marks heading it)
-        → Adds old new before after (Ok tt) (λ w. line_at w s p v marks)
+        → Adds old new before after (Ok tt) (λ w. line_at (seen_of w) s p v marks)
     adds_line new found heading it after then is is_it says = record {
       honest = λ h. read.honest (then.honest h);
       at = λ honest w stands.
@@ -91,7 +91,7 @@ module _ (s p : List ℕ) (v : SemanticVersion) (marks : Marks) where
           record {
             answer = says ∙ ap (λ l. before ++ l)
                 ((λ i. line_with (sym is i) (sym is_it i)) ∙ (λ i. line_with (here.answer i) (there.answer i))
-                ∙ same_line (view w s p (version_text v)));
+                ∙ same_line (view (seen_of w) s p (version_text v)));
             stays = there.stays;
             left = λ x y was. there.left x y (here.left x y was);
           };

@@ -8,3 +8,7 @@ mod Numbers
 mod Modules
 mod Objects
 mod Lines
+mod ReadLemmas
+mod PastLemmas
+mod SinceLemmas
+mod TurnLemmas

@@ -185,7 +185,7 @@ module _ {X : Type 0} (f : World → X → List ℕ) (goal : World → List ℕ)
 -- ---- of a key
 
 -- bytes that were appended stay appended
-Appends-Keeps : (a b c : Option (List ℕ)) (bs : List ℕ) → Appends a b bs → Keeps b c → Appends a c bs
+pub Appends-Keeps : (a b c : Option (List ℕ)) (bs : List ℕ) → Appends a b bs → Keeps b c → Appends a c bs
 Appends-Keeps None b c bs p q = tt
 Appends-Keeps (Some x) None c bs p q = absurd p
 Appends-Keeps (Some x) (Some y) None bs p q = absurd q

@@ -6,9 +6,11 @@
 //! after those of another.
 #![tactic(auto)]
 
+pub mod between;
 pub mod laws;
 mod line;
 mod path;
 mod print;
+mod sight;
 
 pub use crate::print::{Unprinted, print_catalog};

@@ -5,6 +5,7 @@ ghost use Rattle.catalog.specs.Catalog.{lines_of_text, lines_seen};
 ghost use Rattle.catalog.specs.Printing as spec;
 
 use crate::path::lines_of;
+use crate::sight::Now;
 use engine::write::write_bytes;
 use histories::Tell;
 use outline::outlines::Outlines;
@@ -81,14 +82,14 @@ fn print_path<S: Outlines, O: Tell>(
         (O.contents output.new) result (λ w. lines_of_text w shelf.now text.now) }
     ensures fails { spec.FailsBy (O.writes output.old) (O.writes output.new) result }
 {
-    match lines_of(alloc, shelves, shelf, text) {
+    match lines_of(alloc, &Now, shelves, shelf, text) {
         Ok(lines) => put(output, lines.as_slice()),
         Err(fault) => Err(unread(fault)),
     }
 }
 
 /// Prints a text.
-fn put<O: Tell>(output: &mut O, text: &[u8]) -> Result<(), Unprinted>
+pub(crate) fn put<O: Tell>(output: &mut O, text: &[u8]) -> Result<(), Unprinted>
     ensures puts { spec.Puts (O.contents output.old) (O.contents output.new) text.now result }
     ensures fails { spec.FailsBy (O.writes output.old) (O.writes output.new) result }
 {
@@ -99,7 +100,7 @@ fn put<O: Tell>(output: &mut O, text: &[u8]) -> Result<(), Unprinted>
 }
 
 /// Flushes what was printed, and returns true.
-fn finish<O: Tell>(output: &mut O) -> Result<bool, Unprinted>
+pub(crate) fn finish<O: Tell>(output: &mut O) -> Result<bool, Unprinted>
     ensures bytes { Keeps (O.contents output.old) (O.contents output.new) }
     ensures fails { spec.FailsBy (O.writes output.old) (O.writes output.new) result }
     ensures which { MatchResult result (λ is. is ≡ true) (λ e. e ≡ Unprinted.Output) }
@@ -112,7 +113,7 @@ fn finish<O: Tell>(output: &mut O) -> Result<bool, Unprinted>
 }
 
 /// Returns the failure of a fault of the store.
-fn unread(fault: StoreFault) -> Unprinted
+pub(crate) fn unread(fault: StoreFault) -> Unprinted
     ensures { result ≡ spec.unread fault }
 {
     match fault {

@@ -1,2 +1,3 @@
 pub mod MeanwhileLemmas
 pub mod NotedLemmas
+pub mod NamedLemmas

@@ -1,10 +1,10 @@
 -- What happens to a store while it is copied.
-use Rattle.std.specs.Prelude.{ℕ, ◌≡◌, ◌≤◌, List, Option, Some, None, if◌then◌else◌}
+use Rattle.std.specs.Prelude.{ℕ, ◌≡◌, ◌≤◌, true, List, Option, Some, None, if◌then◌else◌}
 use Rattle.std.specs.FinMap as map
 use Rattle.std.specs.FinSet as set
 use Rattle.world.specs.declared.entry.Place.{Place}
 use Rattle.world.specs.Store.{Shown}
-use Rattle.world.specs.World.{World, place_cmp}
+use Rattle.world.specs.World.{World, place, place_cmp}
 
 -- each shelf of w is in the later world, with the parent that it has in w
 abbrev pub KeepsShelves : World → World → Type 0
@@ -16,6 +16,10 @@ pub record IsSince (w later : World) (newcomers : set.FinSet place_cmp) : Type 0
   pub shelves : KeepsShelves w later
   pub entries : (q : Place)
       → map.get w.entries q ≡ (if set.contains newcomers q then None else map.get later.entries q)
+
+-- one of the newcomers has this path and this version, on whichever shelf
+abbrev pub IsNamed : set.FinSet place_cmp → List ℕ → List ℕ → Type 0
+IsNamed newcomers p v = (s : List ℕ) × (set.contains newcomers (place s p v) ≡ true)
 
 -- Of a world that the store stood for before the turn, a world is left that is as late as it: what was since the
 -- newcomers before the turn is since those after it.
@@ -30,6 +34,10 @@ pub record NotesOne (old new : Shown) (before after : set.FinSet place_cmp) : Ty
 -- disks are honest
 abbrev pub Notes : Shown → Shown → set.FinSet place_cmp → set.FinSet place_cmp → Type 0
 Notes old new before after = new.is_honest → (w : World) → old.stands w → NotesOne old new before after
+
+-- if the disks are honest, the store stands for no two worlds
+abbrev pub StandsForOne : Shown → Type 0
+StandsForOne shown = shown.is_honest → (w x : World) → shown.stands w → shown.stands x → w ≡ x
 
 -- The store still stands for each world that it stood for, if a crash left one of two worlds, it still leaves one of
 -- the two, and the count of failures did not fall.

@@ -1,4 +1,4 @@
-//! What is done between two slices of a copy.
+//! What is done between two slices of a copy, or two lines of a catalog.
 use crate::newcomers::Newcomers;
 use world::shelves::Shelves;
 

@@ -4,5 +4,6 @@
 #![tactic(auto)]
 
 pub mod between;
+pub mod definite;
 pub mod newcomers;
 pub mod noting;

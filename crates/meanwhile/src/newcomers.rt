@@ -1,6 +1,7 @@
 //! The places that were published since a moment.
-ghost use Rattle.std.specs.Prelude.{◌≡◌, OnOk, OnErr};
+ghost use Rattle.std.specs.Prelude.{◌≡◌, ◌↔◌, ◌&&◌, IsTrue, OnOk, OnErr, bytes_eq};
 ghost use Rattle.std.specs.FinSet as set;
+ghost use Rattle.meanwhile.specs.Meanwhile.{IsNamed};
 
 use std::alloc::{AllocError, Global};
 use std::collections::BTreeSet;
@@ -42,6 +43,18 @@ impl Newcomers {
         self.places.contains(place)
     }
 
+    /// Whether one of them has this path and this version, on whichever shelf.
+    pub fn names(&self, path: &str, version: &str) -> bool
+        ensures { IsTrue result ↔ IsNamed self.now path.now version.now }
+    {
+        for place in self.places.iter() {
+            if is_of(place, path, version) {
+                return true;
+            }
+        }
+        false
+    }
+
     /// Adds a place. Fails only if memory runs out, and then leaves the set as it was.
     pub fn note(&mut self, place: Place) -> Result<(), AllocError>
         ensures ok { OnOk result (self.new ≡ set.insert self.old place) }
@@ -50,4 +63,11 @@ impl Newcomers {
         self.places.insert(place)?;
         Ok(())
     }
+}
+
+/// Whether a place has this path and this version.
+fn is_of(place: &Place, path: &str, version: &str) -> bool
+    ensures { result ≡ (bytes_eq place.now.path path.now && bytes_eq place.now.version version.now) }
+{
+    place.path.as_str() == path && place.version.as_str() == version
 }

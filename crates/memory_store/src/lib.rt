@@ -8,6 +8,7 @@
 //! - [`outlines`], [`named`]: the two traits over that of a store.
 #![tactic(auto)]
 
+mod definite;
 mod entry_map;
 mod kept_lists;
 pub mod map_shelves;

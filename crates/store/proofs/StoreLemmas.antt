@@ -53,7 +53,7 @@ counted_on before now given fault r on counted =
     subst (IsCounted before now given) (sym (it.1 ∙ ap (λ e. Err e) it.2)) counted
 
 -- what holds of the answer holds of what was counted
-counted_ok : {T : Type 0} (given : Result T Error) (r : Result T StoreFault) (P : T → Type 0)
+pub counted_ok : {T : Type 0} (given : Result T Error) (r : Result T StoreFault) (P : T → Type 0)
     → IfOk r (λ x. given ≡ Ok x) → IfOk given P → IfOk r P
 counted_ok given (Ok x) P same holds = subst (λ g. IfOk g P) same holds
 counted_ok given (Err e) P same holds = tt

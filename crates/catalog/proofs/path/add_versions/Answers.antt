@@ -12,11 +12,11 @@ pub loop-version-init : goal.loop-version-init
 loop-version-init g c =
     let s = c.args.shelf.now in
     let p = c.args.path.now in
-    let latest = c.args.rules.now.latest in
+    let latest = c.args.account.now.latest in
     record {
       index = refl;
       gathers = λ m flags.
-          gathers_none (λ w v. line_at w s p v (marks_of m latest v)) c.args.lines.now.items
+          gathers_none (λ w v. line_at (g.V.Sight.world c.args.sight.now w) s p v (marks_of m latest v)) c.args.lines.now.items
           (g.S.Shelves.shown c.args.shelves.now) c.args.versions.now;
     }
 
@@ -25,7 +25,7 @@ loop-version-preserved g c =
     let s = c.args.shelf.now in
     let p = c.args.path.now in
     let vs = c.args.versions.now in
-    let latest = c.args.rules.now.latest in
+    let latest = c.args.account.now.latest in
     let at = c.loop-version.version-index in
     let item = c.version-item.result in
     let lt = c.loop-version-test.true in
@@ -35,12 +35,12 @@ loop-version-preserved g c =
     record {
       index = ap (λ n. n + 1) c.loop-version.invariant.index;
       gathers = λ m flags.
-          gathered_next (λ w v. line_at w s p v (marks_of m latest v)) c.args.lines.now.items
-          (λ w. lines_by w s p m latest vs) _ _ _ c.loop-version.lines.items c.add_version.new.lines.items _ item _
+          gathered_next (λ w v. line_at (g.V.Sight.world c.args.sight.now w) s p v (marks_of m latest v)) c.args.lines.now.items
+          (λ w. lines_by (g.V.Sight.world c.args.sight.now w) s p m latest vs) _ _ _ c.loop-version.lines.items c.add_version.new.lines.items _ item _
           (drop (at + 1) vs) (at_drop_more (λ rest. rest) vs at item lt) c.version-item.is
           (c.loop-version.invariant.gathers m flags)
           (subst (λ k. Adds (g.S.Shelves.shown c.loop-version.shelves) (g.S.Shelves.shown c.add_version.new.shelves)
-          c.loop-version.lines.items c.add_version.new.lines.items (Ok tt) (λ w. line_at w s p item k))
+          c.loop-version.lines.items c.add_version.new.lines.items (Ok tt) (λ w. line_at (g.V.Sight.world c.args.sight.now w) s p item k))
           (c.marks-marks.ensures m vs flags here) c.in_ok-add_version.ensures);
     }
 
@@ -49,9 +49,9 @@ returns-in_err-add_version g c = λ m flags.
     let s = c.args.shelf.now in
     let p = c.args.path.now in
     let vs = c.args.versions.now in
-    let latest = c.args.rules.now.latest in
+    let latest = c.args.account.now.latest in
     let lines = c.add_version.new.lines.items in
-    gathers_failed (λ w v. line_at w s p v (marks_of m latest v)) c.args.lines.now.items
-    (λ w. lines_by w s p m latest vs) _ _ _ c.loop-version.lines.items lines lines
+    gathers_failed (λ w v. line_at (g.V.Sight.world c.args.sight.now w) s p v (marks_of m latest v)) c.args.lines.now.items
+    (λ w. lines_by (g.V.Sight.world c.args.sight.now w) s p m latest vs) _ _ _ c.loop-version.lines.items lines lines
     (drop c.loop-version.version-index vs) _ c.from_residual.result c.in_err-add_version.field-0.0
     c.from_residual.ensures.1 (c.loop-version.invariant.gathers m flags) c.in_err-add_version.ensures

@@ -11,9 +11,9 @@ invariant-loop-version g l =
     let s = g.S.Shelves in
     record {
       index : l.index ≡ l.version-index;
-      gathers : (m : Option GoModule) → l.rules.retracted.items ≡ map (is_retracted_by m) l.versions
+      gathers : (m : Option GoModule) → l.account.retracted.items ≡ map (is_retracted_by m) l.versions
           → HoldsThroughout (s.shown l.fn.shelves) (s.shown l.shelves)
-          (Gathers (λ w v. line_at w l.shelf l.path v (marks_of m l.rules.latest v)) l.fn.lines.items
-          (λ w. lines_by w l.shelf l.path m l.rules.latest l.versions) l.lines.items
+          (Gathers (λ w v. line_at (g.V.Sight.world l.sight w) l.shelf l.path v (marks_of m l.account.latest v)) l.fn.lines.items
+          (λ w. lines_by (g.V.Sight.world l.sight w) l.shelf l.path m l.account.latest l.versions) l.lines.items
           (drop l.version-index l.versions));
     }

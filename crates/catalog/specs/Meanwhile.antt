@@ -1,0 +1,114 @@
+-- How much of a catalog reached an output that was printed a line at a time, with turns of others between two lines.
+use Rattle.std.specs.Prelude.{◌≡◌, ◌<◌, ◌≤◌, ℕ, Bool, true, false, List, Option, Some, None, Result, Ok, Err}
+use Rattle.std.specs.Prelude.{IfErr, IsErrOf, OnOk}
+use Rattle.std.specs.FinMap as map
+use Rattle.std.specs.FinSet as set
+use Rattle.std.specs.Io.KnownBytes.{Appends}
+use Rattle.histories.specs.Calls.{Writes}
+use Rattle.meanwhile.specs.Meanwhile.{IsSince}
+use Rattle.world.specs.Store.{Shown, GrewOrFull}
+use Rattle.world.specs.World.{World, IsWorld, place_cmp}
+use Rattle.world.specs.declared.entry.Holder.{Holder}
+use Rattle.world.specs.declared.registry.StoreFault.{StoreFault}
+use Rattle.catalog.specs.Printing.{IsFront, lines_of_key, unread}
+use Rattle.catalog.specs.declared.between.CatalogEnd.{CatalogEnd}
+use Rattle.catalog.specs.declared.between.CatalogEnd.TheVariants as end
+use Rattle.catalog.specs.declared.print.Unprinted.TheVariants as why
+
+-- ---- the past of a store
+
+-- the store has come of this world, which has the shelf, since these newcomers came
+pub record HasBeen (shown : Shown) (newcomers : set.FinSet place_cmp) (s : List ℕ) (w : World) : Type 0 where
+  pub is : IsWorld w
+  pub shelf : map.contains_key w.shelves s ≡ true
+  pub later : World
+  pub stands : shown.stands later
+  pub since : IsSince w later newcomers
+
+-- What is known of what a store was before the newcomers came, to a shelf that it had. Nothing is known of what a crash
+-- leaves of that.
+abbrev pub past : Shown → set.FinSet place_cmp → List ℕ → Shown
+past shown newcomers s = record {
+  stands = HasBeen shown newcomers s;
+  is_honest = shown.is_honest;
+  leaves = λ _ _. ⊥;
+  failures = shown.failures;
+}
+
+-- what is known of a store, where it has the shelf
+abbrev pub there : Shown → List ℕ → Shown
+there shown s = record {
+  stands = λ w. shown.stands w × (map.contains_key w.shelves s ≡ true);
+  is_honest = shown.is_honest;
+  leaves = λ _ _. ⊥;
+  failures = shown.failures;
+}
+
+-- ---- what was printed
+
+-- in this world all of the lines were printed, or a beginning of them and then there was a failure; after all of them
+-- the store still stands for it
+pub record PrintsOnAt {T : Type 0} (new : Shown) (w : World) (result : Result T CatalogEnd)
+    (lines printed : List ℕ) : Type 0 where
+  pub all : OnOk result (printed ≡ lines)
+  pub front : IsFront printed lines
+  pub stays : OnOk result (new.stands w)
+
+-- If the disks are honest, then in each world that the store stood for these lines were printed, or a beginning of them
+-- and then there was a failure. Honest or not, a fault of a device has a cause.
+pub record PrintsOn {T : Type 0} (old new : Shown) (written written_new : Option (List ℕ)) (result : Result T CatalogEnd)
+    (lines : World → List ℕ) : Type 0 where
+  pub printed : List ℕ
+  pub appends : Appends written written_new printed
+  pub honest : new.is_honest → old.is_honest
+  pub at : new.is_honest → (w : World) → old.stands w → PrintsOnAt new w result (lines w) printed
+  pub no_fewer : old.failures ≤ new.failures
+  pub device : IsErrOf result (end.Unprinted why.Device) → GrewOrFull old.failures new.failures
+
+-- If the disks are honest, then after Ok the store stands for each world that it stood for. Honest or not, a fault of a
+-- device has a cause.
+pub record StaysOn {T : Type 0} (old new : Shown) (result : Result T CatalogEnd) : Type 0 where
+  pub honest : new.is_honest → old.is_honest
+  pub at : new.is_honest → (w : World) → old.stands w → OnOk result (new.stands w)
+  pub no_fewer : old.failures ≤ new.failures
+  pub device : IsErrOf result (end.Unprinted why.Device) → GrewOrFull old.failures new.failures
+
+-- the calls to the output that failed did not become fewer, and a failure of the output has one
+pub record FailsOn {T : Type 0} (writes writes_new : Writes) (result : Result T CatalogEnd) : Type 0 where
+  pub no_fewer : writes.failed ≤ writes_new.failed
+  pub output : IsErrOf result (end.Unprinted why.Output) → writes.failed < writes_new.failed
+
+-- the output did not fail
+abbrev pub IsNotOutput : {T : Type 0} → Result T CatalogEnd → Type 0
+IsNotOutput result = IfErr result (λ e. e ≡ end.Unprinted why.Output → ⊥)
+
+-- the failure of a fault of the store
+abbrev pub unread_on : StoreFault → CatalogEnd
+unread_on fault = end.Unprinted (unread fault)
+
+-- ---- of a key
+
+-- `true` means that there is such a key, and `false` that there is none
+abbrev pub AnswersOn : Option Holder → Result Bool CatalogEnd → Type 0
+AnswersOn held (Ok true) = (h : Holder) × (held ≡ Some h)
+AnswersOn held (Ok false) = held ≡ None
+AnswersOn held (Err e) = Unit {0}
+
+-- in this world all lines of the key were printed, exactly one for each version that its shelf sees, or a beginning of
+-- them and then there was a failure
+pub record PrintsKeyAt (w : World) (held : Option Holder) (result : Result Bool CatalogEnd) (printed : List ℕ) : Type 0
+  where
+    pub all : OnOk result (printed ≡ lines_of_key held w)
+    pub front : IsFront printed (lines_of_key held w)
+    pub answers : AnswersOn held result
+
+-- If the disks are honest to the end, so it is in each world that the store stood for before the call, whatever came
+-- to it meanwhile. Honest or not, a fault of a device has a cause.
+pub record PrintsCatalogOn (old new : Shown) (key : List ℕ) (written written_new : Option (List ℕ))
+    (result : Result Bool CatalogEnd) : Type 0 where
+  pub printed : List ℕ
+  pub appends : Appends written written_new printed
+  pub honest : new.is_honest → old.is_honest
+  pub at : new.is_honest → (w : World) → old.stands w → PrintsKeyAt w (map.get w.keys key) result printed
+  pub no_fewer : old.failures ≤ new.failures
+  pub device : IsErrOf result (end.Unprinted why.Device) → GrewOrFull old.failures new.failures

@@ -1,0 +1,372 @@
+//! A catalog that is printed a line at a time, while others have turns with the store.
+ghost use Rattle.std.specs.Prelude.{◌≡◌, [], true, List, Option, ℕ, IfOk, MatchResult, OnOk, map};
+ghost use Rattle.std.specs.FinSet as set;
+ghost use Rattle.std.specs.Io.KnownBytes.{Keeps};
+ghost use Rattle.gomod.specs.Module.{GoModule};
+ghost use Rattle.world.specs.Store.{Reads};
+ghost use Rattle.world.specs.World.{place_cmp};
+ghost use Rattle.meanwhile.specs.Meanwhile.{IsAsItWas};
+ghost use Rattle.catalog.specs.Catalog.{is_retracted_by, line_at, lines_by, lines_of_path, lines_of_text, lines_seen};
+ghost use Rattle.catalog.specs.Meanwhile as spec;
+ghost use Rattle.catalog.specs.Sight.{facts_in, facts_of};
+
+use crate::line::Marks;
+use crate::path::{Account, account_of, add_version, marks};
+use crate::print::{Unprinted, finish, put, unread};
+use crate::sight::Then;
+use histories::Tell;
+use keyring::Keyring;
+use meanwhile::between::Between;
+use meanwhile::definite::Definite;
+use meanwhile::newcomers::Newcomers;
+use modpath::ModulePath;
+use modver::Version;
+use outline::outlines::Outlines;
+use std::alloc::Global;
+use world::bytes::Bytes;
+use world::forms::path_of;
+use world::registry::StoreFault;
+
+/// Why not all of a catalog was printed.
+#[derive(Clone, Copy, Debug, Drop, PartialEq, Eq)]
+pub enum CatalogEnd {
+    /// It failed as one without turns.
+    Unprinted(Unprinted),
+    /// A turn ended it.
+    Ended,
+}
+
+/// An output that says whether it has room. No clause depends on it.
+pub trait Room {
+    /// Whether it is to be given no more before the next turn.
+    fn is_full(&self) -> bool;
+}
+
+/// Prints the catalog of a key as the store is at the call, and returns true: exactly one line for each version that
+/// the shelf of the key sees then, as `print_catalog` does. `between` takes a turn after each line, and more turns as
+/// long as the output has no room. What a turn publishes, adds or takes away changes no line. Returns false if there
+/// is no such key. If it fails or is ended, a beginning of the lines is printed.
+pub fn print_between<S: Outlines + Keyring + Definite, O: Tell + Room, B: Between<S>>(
+    alloc: Global,
+    shelves: &mut S,
+    key: &str,
+    output: &mut O,
+    between: &mut B,
+) -> Result<bool, CatalogEnd>
+    // The catalog is of the world that the store stood for at first.
+    ensures prints { spec.PrintsCatalogOn (S.shown shelves.old) (S.shown shelves.new) key.now
+        (O.contents output.old) (O.contents output.new) result }
+    // The store was read and had turns.
+    ensures went { B.went between.old between.new shelves.old shelves.new }
+    ensures fails { spec.FailsOn (O.writes output.old) (O.writes output.new) result }
+    // What was printed is flushed.
+    ensures flushed { IfOk result (λ is. is ≡ true → (O.writes output.new).unflushed ≡ []) }
+{
+    let holder = match shelves.key(key) {
+        Ok(Some(holder)) => holder,
+        Ok(None) => return Ok(false),
+        Err(fault) => return Err(unread_on(fault)),
+    };
+    match print_all(alloc, shelves, holder.shelf.as_str(), output, between) {
+        Ok(()) => finish_on(output),
+        Err(why) => Err(why),
+    }
+}
+
+/// Prints the lines of all versions that a shelf sees at the call.
+fn print_all<S: Outlines + Keyring + Definite, O: Tell + Room, B: Between<S>>(
+    alloc: Global,
+    shelves: &mut S,
+    shelf: &str,
+    output: &mut O,
+    between: &mut B,
+) -> Result<(), CatalogEnd>
+    ensures prints { (news : set.FinSet place_cmp) × spec.PrintsOn (spec.there (S.shown shelves.old) shelf.now)
+        (spec.past (S.shown shelves.new) news shelf.now) (O.contents output.old) (O.contents output.new) result
+        (λ w. lines_seen w shelf.now) }
+    ensures went { B.went between.old between.new shelves.old shelves.new }
+    ensures fails { spec.FailsOn (O.writes output.old) (O.writes output.new) result }
+{
+    let paths = match shelves.paths(shelf) {
+        Ok(paths) => paths,
+        Err(fault) => return Err(unread_on(fault)),
+    };
+    let mut news = Newcomers::new(alloc);
+    for text in paths.iter() {
+        print_text(
+            alloc,
+            shelves,
+            shelf,
+            text.as_str(),
+            output,
+            &mut news,
+            between,
+        )?;
+    }
+    Ok(())
+}
+
+/// Prints the lines of the path that a text is, or none if it is no path.
+fn print_text<S: Outlines + Keyring + Definite, O: Tell + Room, B: Between<S>>(
+    alloc: Global,
+    shelves: &mut S,
+    shelf: &str,
+    text: &str,
+    output: &mut O,
+    news: &mut Newcomers,
+    between: &mut B,
+) -> Result<(), CatalogEnd>
+    ensures prints { spec.PrintsOn (spec.past (S.shown shelves.old) news.old shelf.now)
+        (spec.past (S.shown shelves.new) news.new shelf.now) (O.contents output.old) (O.contents output.new) result
+        (λ w. lines_of_text w shelf.now text.now) }
+    ensures went { B.went between.old between.new shelves.old shelves.new }
+    ensures fails { spec.FailsOn (O.writes output.old) (O.writes output.new) result }
+{
+    match path_of(alloc, text) {
+        Ok(Some(path)) => print_path(alloc, shelves, shelf, &path, output, news, between),
+        Ok(None) => Ok(()),
+        Err(_) => Err(CatalogEnd::Unprinted(Unprinted::Memory)),
+    }
+}
+
+/// Prints the lines of a path.
+fn print_path<S: Outlines + Keyring + Definite, O: Tell + Room, B: Between<S>>(
+    alloc: Global,
+    shelves: &mut S,
+    shelf: &str,
+    path: &ModulePath,
+    output: &mut O,
+    news: &mut Newcomers,
+    between: &mut B,
+) -> Result<(), CatalogEnd>
+    ensures prints { spec.PrintsOn (spec.past (S.shown shelves.old) news.old shelf.now)
+        (spec.past (S.shown shelves.new) news.new shelf.now) (O.contents output.old) (O.contents output.new) result
+        (λ w. lines_of_path w shelf.now path.now) }
+    ensures went { B.went between.old between.new shelves.old shelves.new }
+    ensures fails { spec.FailsOn (O.writes output.old) (O.writes output.new) result }
+{
+    match read_account(alloc, shelves, shelf, path, news) {
+        Ok(account) => {
+            let versions = account.versions.as_slice();
+            print_account(
+                alloc, shelves, shelf, path, versions, &account, output, news, between,
+            )
+        }
+        Err(fault) => Err(unread_on(fault)),
+    }
+}
+
+/// Has turns taken, and then prints the lines of the versions of a path.
+fn print_account<S: Outlines + Keyring + Definite, O: Tell + Room, B: Between<S>>(
+    alloc: Global,
+    shelves: &mut S,
+    shelf: &str,
+    path: &ModulePath,
+    versions: &[Version],
+    account: &Account,
+    output: &mut O,
+    news: &mut Newcomers,
+    between: &mut B,
+) -> Result<(), CatalogEnd>
+    ensures prints { (m : Option GoModule) → account.now.retracted.items ≡ map (is_retracted_by m) versions.now
+        → spec.PrintsOn (spec.past (S.shown shelves.old) news.old shelf.now)
+        (spec.past (S.shown shelves.new) news.new shelf.now) (O.contents output.old) (O.contents output.new) result
+        (λ w. lines_by w shelf.now path.now m account.now.latest versions.now) }
+    ensures went { B.went between.old between.new shelves.old shelves.new }
+    ensures fails { spec.FailsOn (O.writes output.old) (O.writes output.new) result }
+{
+    match take_turns(shelves, output, news, between) {
+        Ok(()) => print_versions(
+            alloc, shelves, shelf, path, versions, account, output, news, between,
+        ),
+        Err(why) => Err(why),
+    }
+}
+
+/// Prints the lines of the versions of a path.
+fn print_versions<S: Outlines + Keyring + Definite, O: Tell + Room, B: Between<S>>(
+    alloc: Global,
+    shelves: &mut S,
+    shelf: &str,
+    path: &ModulePath,
+    versions: &[Version],
+    account: &Account,
+    output: &mut O,
+    news: &mut Newcomers,
+    between: &mut B,
+) -> Result<(), CatalogEnd>
+    ensures prints { (m : Option GoModule) → account.now.retracted.items ≡ map (is_retracted_by m) versions.now
+        → spec.PrintsOn (spec.past (S.shown shelves.old) news.old shelf.now)
+        (spec.past (S.shown shelves.new) news.new shelf.now) (O.contents output.old) (O.contents output.new) result
+        (λ w. lines_by w shelf.now path.now m account.now.latest versions.now) }
+    ensures went { B.went between.old between.new shelves.old shelves.new }
+    ensures fails { spec.FailsOn (O.writes output.old) (O.writes output.new) result }
+{
+    let mut index = 0;
+    for version in versions {
+        let marks = marks(account, index, version);
+        print_version(
+            alloc, shelves, shelf, path, version, marks, output, news, between,
+        )?;
+        index += 1;
+    }
+    Ok(())
+}
+
+/// Prints the line of a version, if the shelf saw it, and has turns taken.
+fn print_version<S: Outlines + Keyring + Definite, O: Tell + Room, B: Between<S>>(
+    alloc: Global,
+    shelves: &mut S,
+    shelf: &str,
+    path: &ModulePath,
+    version: &Version,
+    marks: Marks,
+    output: &mut O,
+    news: &mut Newcomers,
+    between: &mut B,
+) -> Result<(), CatalogEnd>
+    ensures prints { spec.PrintsOn (spec.past (S.shown shelves.old) news.old shelf.now)
+        (spec.past (S.shown shelves.new) news.new shelf.now) (O.contents output.old) (O.contents output.new) result
+        (λ w. line_at w shelf.now path.now version.now marks) }
+    ensures went { B.went between.old between.new shelves.old shelves.new }
+    ensures fails { spec.FailsOn (O.writes output.old) (O.writes output.new) result }
+{
+    match read_line(alloc, shelves, shelf, path, version, marks, news) {
+        Ok(line) => print_line(shelves, line.as_slice(), output, news, between),
+        Err(fault) => Err(unread_on(fault)),
+    }
+}
+
+/// Prints a text, and has turns taken.
+fn print_line<S: Definite, O: Tell + Room, B: Between<S>>(
+    shelves: &mut S,
+    line: &[u8],
+    output: &mut O,
+    news: &mut Newcomers,
+    between: &mut B,
+) -> Result<(), CatalogEnd>
+    ensures prints { (s : List ℕ) → spec.PrintsOn (spec.past (S.shown shelves.old) news.old s)
+        (spec.past (S.shown shelves.new) news.new s) (O.contents output.old) (O.contents output.new) result
+        (λ _. line.now) }
+    ensures went { B.went between.old between.new shelves.old shelves.new }
+    ensures fails { spec.FailsOn (O.writes output.old) (O.writes output.new) result }
+{
+    match put(output, line) {
+        Ok(()) => take_turns(shelves, output, news, between),
+        Err(why) => Err(CatalogEnd::Unprinted(why)),
+    }
+}
+
+/// Has a turn taken, and more as long as the output has no room.
+fn take_turns<S: Definite, O: Tell + Room, B: Between<S>>(
+    shelves: &mut S,
+    output: &O,
+    news: &mut Newcomers,
+    between: &mut B,
+) -> Result<(), CatalogEnd>
+    ensures stays { (s : List ℕ) → spec.StaysOn (spec.past (S.shown shelves.old) news.old s)
+        (spec.past (S.shown shelves.new) news.new s) result }
+    ensures went { B.went between.old between.new shelves.old shelves.new }
+    ensures output { spec.IsNotOutput result }
+{
+    for _ in 0..u64::MAX {
+        take_turn(shelves, news, between)?;
+        if !output.is_full() {
+            return Ok(());
+        }
+    }
+    Err(CatalogEnd::Ended)
+}
+
+/// Has a turn taken.
+fn take_turn<S: Definite, B: Between<S>>(
+    shelves: &mut S,
+    news: &mut Newcomers,
+    between: &mut B,
+) -> Result<(), CatalogEnd>
+    ensures stays { (s : List ℕ) → spec.StaysOn (spec.past (S.shown shelves.old) news.old s)
+        (spec.past (S.shown shelves.new) news.new s) result }
+    ensures went { B.went between.old between.new shelves.old shelves.new }
+    ensures output { spec.IsNotOutput result }
+{
+    match shelves.settle() {
+        Ok(()) => {
+            if between.turn(shelves, news) {
+                Ok(())
+            } else {
+                Err(CatalogEnd::Ended)
+            }
+        }
+        Err(fault) => Err(unread_on(fault)),
+    }
+}
+
+/// Returns what a path said before the newcomers. Fails if the store meets a fault or memory runs out.
+fn read_account<S: Outlines + Keyring>(
+    alloc: Global,
+    shelves: &mut S,
+    shelf: &str,
+    path: &ModulePath,
+    news: &Newcomers,
+) -> Result<Account, StoreFault>
+    ensures reads { Reads (spec.past (S.shown shelves.old) news.now shelf.now)
+        (spec.past (S.shown shelves.new) news.now shelf.now) (facts_in result)
+        (λ w. facts_of w shelf.now path.now) }
+    ensures only { IsAsItWas (S.shown shelves.old) (S.shown shelves.new) }
+    ensures flags { IfOk result (λ account. account.retracted.items
+        ≡ map (is_retracted_by account.ruling) account.versions) }
+{
+    account_of(alloc, &Then { news }, shelves, shelf, path)
+}
+
+/// Returns the line of a version, or no text if the shelf saw nothing of it before the newcomers. Fails if the store
+/// meets a fault or memory runs out.
+fn read_line<S: Outlines + Keyring>(
+    alloc: Global,
+    shelves: &mut S,
+    shelf: &str,
+    path: &ModulePath,
+    version: &Version,
+    marks: Marks,
+    news: &Newcomers,
+) -> Result<Bytes, StoreFault>
+    ensures reads { Reads (spec.past (S.shown shelves.old) news.now shelf.now)
+        (spec.past (S.shown shelves.new) news.now shelf.now) result
+        (λ w. line_at w shelf.now path.now version.now marks) }
+    ensures only { IsAsItWas (S.shown shelves.old) (S.shown shelves.new) }
+{
+    let mut line = Vec::new(alloc);
+    match add_version(
+        alloc,
+        &Then { news },
+        shelves,
+        shelf,
+        path,
+        version,
+        marks,
+        &mut line,
+    ) {
+        Ok(()) => Ok(Bytes::new(line)),
+        Err(fault) => Err(fault),
+    }
+}
+
+/// Flushes what was printed, and returns true.
+fn finish_on<O: Tell>(output: &mut O) -> Result<bool, CatalogEnd>
+    ensures bytes { Keeps (O.contents output.old) (O.contents output.new) }
+    ensures fails { spec.FailsOn (O.writes output.old) (O.writes output.new) result }
+    ensures which { MatchResult result (λ is. is ≡ true) (λ e. e ≡ CatalogEnd.Unprinted Unprinted.Output) }
+    ensures flushed { OnOk result ((O.writes output.new).unflushed ≡ []) }
+{
+    match finish(output) {
+        Ok(is) => Ok(is),
+        Err(why) => Err(CatalogEnd::Unprinted(why)),
+    }
+}
+
+/// Returns the failure of a fault of the store.
+fn unread_on(fault: StoreFault) -> CatalogEnd
+    ensures { result ≡ spec.unread_on fault }
+{
+    CatalogEnd::Unprinted(unread(fault))
+}

@@ -1,0 +1,10 @@
+//! A store in memory stands for one world.
+use crate::map_shelves::MapShelves;
+use meanwhile::definite::Definite;
+use world::registry::StoreFault;
+
+impl Definite for MapShelves {
+    fn settle(&mut self) -> Result<(), StoreFault> {
+        Ok(())
+    }
+}

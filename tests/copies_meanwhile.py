@@ -6,6 +6,7 @@ yet. `copies` has what a copy is made of and refused for, and `copy_kills` the k
 """
 
 import os
+import re
 import select
 import signal
 import socket
@@ -27,6 +28,7 @@ from lib.tables import connected, put_versions, rows_of, settled
 ZIPS, MOST_ZIPS, LENGTH = 48, 128, 1_048_576
 LARGE = "example.com/large"
 DONE = 0, b"", ""
+MADE = b"done\n", False
 # the row numbers that sqlite takes
 LEAST, MOST = -(2**63), 2**63 - 1
 
@@ -65,6 +67,13 @@ def statuses(store, *requests):
     return [status for status, _ in answered(["--db", store], requests)]
 
 
+def pinged(suite, health):
+    """A ping during a copy is answered, and tells how many versions that has, of how many."""
+    suite.holds("a ping is answered", health.startswith(b"connections=1 "), health)
+    far = re.search(rb" copying=(\d+)/(\d+) shelves=", health)
+    suite.holds("it tells how far the copy is", far and int(far[1]) < int(far[2]) == MOST_ZIPS + 1, health)
+
+
 def meanwhile(suite):
     """All that is asked and ordered during a copy is done at once, and the copy has nothing of it."""
     large_store("served.db", range(1, MOST_ZIPS + 1))
@@ -72,7 +81,7 @@ def meanwhile(suite):
     suite.equal("a version", server.status(put("example.com/lib", "v1.0.0", GOMOD, b"zip")), 201)
     shelves = run(["shelf-list", "--control", CONTROL])
     it = Underway(server, "one.db")
-    suite.holds("a ping is answered", it.health.startswith(b"connections=1 "), it.health)
+    pinged(suite, it.health)
     for name, found, wanted in (
         ("a GET", server.status(get(f"{LARGE}/@v/v1.{ZIPS - 1}.0.zip")), 200),
         ("a list", server.told(get(LIST)).endswith(b"\r\n\r\nv1.0.0\n"), True),
@@ -93,7 +102,7 @@ def meanwhile(suite):
     ):  # fmt: skip
         suite.equal(f"{name}, during a copy", found, wanted)
     suite.holds("the copy is not ended yet", it.is_on())
-    suite.equal("then it is made", it.told(), b"done\n")
+    suite.equal("then it is made, and no ping tells of it", (it.told(), b" copying=" in server.order(b"ping\n")), MADE)
     suite.holds("the second was not begun", not os.path.lexists("two.db"))
     suite.equal("a copy after it", copy("three.db"), DONE)
     server.kill()

@@ -27,7 +27,7 @@ from lib.suite import Suite
 TIME = rb"\d{4}-\d\d-\d\dT\d\d:\d\d:\d\dZ"
 FORM = re.compile(
     rb"connections=(\d+) 2xx=(\d+) 4xx=(\d+) 5xx=(\d+) unanswered=(\d+) store-failures=(\d+) "
-    rb"since=(%s) versions=(\d+) bytes=(\d+) log=(\d+)(?: copied=(%s))? shelves=(\d+)\n"
+    rb"since=(%s) versions=(\d+) bytes=(\d+) log=(\d+)(?: copied=(%s))?(?: copying=\d+/\d+)? shelves=(\d+)\n"
     rb"((?:shelf [a-z0-9-]+ publishes=\d+ fetches=\d+\n)*)" % (TIME, TIME)
 )
 PING = ["ping", "--control", CONTROL]
@@ -62,6 +62,8 @@ FALSE = [
     LINE.replace(b"alpha", b"a" * 33), LINE.replace(b"publishes=1", b"publishes=1 publishes=1"),
     LINE.replace(b" bytes=8192 log=32", b" log=32 bytes=8192"), LINE.replace(b"log=32", b"log=-32"),
     LINE.replace(b"log=32", b"log=32 log=32"), LINE.replace(b"18:50", b"24:50"),
+    LINE.replace(b" shelves", b" copying=12 shelves"), LINE.replace(b" shelves", b" copying=1/2/3 shelves"),
+    LINE.replace(b" shelves", b" copying=1/-2 shelves"), LINE.replace(b" copied", b" copying=1/2 copied"),
     LINE.replace(b"shelves=2", b"shelves=3"),
 ]  # fmt: skip
 # the place of each class of statuses among the counts
@@ -301,7 +303,7 @@ def behind(suite):
 
 def false(suite):
     """What the command prints of a server that lies: nothing but the lines of a health."""
-    for line in (LINE, SHORT, LONGEST):
+    for line in (LINE, SHORT, LINE.replace(b" shelves", b" copying=1200/50000 shelves"), LONGEST):
         suite.equal(f"a health of {len(line)} bytes", by_false_server(PING[:-1], line), ((0, line, ""), b"ping\n"))
     for told in FALSE:
         suite.equal(f"a server that tells {told[:60]!r}", by_false_server(PING[:-1], told), (refusal("io"), b"ping\n"))

@@ -33,7 +33,7 @@ module _ {S : Type 0} (shown : S → Shown) (copied : S → S → List ℕ → R
   pub counted_first : (told : Result ℕ StoreFault) → IfOk told (λ n. counted old mid n)
       → GoesOnRead shown copied counted old new since most
   counted_first (Ok n) came =
-      let figures : Figures = record { bytes = None; log = None; copied = None; traffic = None } in
+      let figures : Figures = record { bytes = None; log = None; copied = None; copying = None; traffic = None } in
       let health : Health =
       record { tally = tally_of since []; store_failures = (shown mid).failures; versions = n; figures = figures } in
       behind (Ok health) (λ h w stands all. (

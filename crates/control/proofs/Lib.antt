@@ -17,5 +17,6 @@ pub mod NoticeLemmas
 pub mod ServeLemmas
 pub mod CallsLemmas
 pub mod ServingLemmas
+pub mod FarLemmas
 pub mod UnnotedLemmas
 pub mod IsolatedLemmas

@@ -109,6 +109,18 @@ module _ {O : Type 0} (heeded : O → Account × Reads) (told : O → Option (Li
     lists = obeys.1.lists;
   }
 
+  -- this was told
+  pub obeyed_told : (operator after : O) (stops : Bool) (result : Result Told Io)
+      → (obeys : Obeys copied pinged idle meanwhile old new (heeded operator).0 (heeded after).0 (told operator).0
+      (told after).0 result)
+      → (cause : IfErr result (IsCausedIn most_tries (heeded operator).1 (heeded after).1 (told operator).1
+      (told after).1)) → (stopped : IsTrue stops ↔ (result ≡ Ok (spoken.Outcome Stopping)))
+      → (obeyed_one operator after stops result obeys cause stopped).audience.told ≡ result
+  unfolding obeyed_one
+  obeyed_told operator after stops (Ok outcome) obeys cause stopped = refl
+  obeyed_told operator after stops (Err io.Read) obeys cause stopped = refl
+  obeyed_told operator after stops (Err io.Write) obeys cause stopped = refl
+
 -- a peer was answered, where a failure has its cause
 pub answered_one : {P : Type 0} (heard : P → Account × Reads) (written : P → Option (List ℕ) × Writes) (old new : Shown)
     (peer after : P) (told : Answered)

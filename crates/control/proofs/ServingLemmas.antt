@@ -12,6 +12,7 @@ use Rattle.world.specs.Store.{Shown}
 use Rattle.world.specs.World.{World}
 use Rattle.world.specs.declared.registry.StoreFault.{StoreFault}
 use Rattle.meanwhile.specs.Meanwhile.{IsAsItWas}
+use Rattle.meanwhile.specs.declared.between.HowFar.{HowFar}
 use Rattle.engine.specs.declared.fault.Io.{Io}
 use Rattle.socket.specs.Connections.{Come, exchanges_of}
 use Rattle.control.specs.Copying.{turns_in, has_read, AllRead, GoesThroughSteps, IsOnlyRead}
@@ -142,6 +143,16 @@ obeys_unsaid heeded told copied pinged idle meanwhile old new operator stops nex
   came = next.came;
   lists = next.lists;
 }
+
+-- that changes nothing of what was told
+pub unsaid_told : {O : Type 0} (heeded : O → Account × Reads) (told : O → Option (List ℕ) × Writes)
+    (copied : List ℕ → Result (Unit {0}) CopyRefusal → Type 0) (pinged : Result Health StoreFault → Type 0)
+    (idle meanwhile : Type 0) (old new : Shown) (operator : O) (stops : Bool)
+    → (next : ObeysOne heeded told copied pinged idle meanwhile operator stops old new)
+    → (obeys_unsaid heeded told copied pinged idle meanwhile old new operator stops next).audience.told
+    ≡ next.audience.told
+unfolding obeys_unsaid
+unsaid_told heeded told copied pinged idle meanwhile old new operator stops next = refl
 
 -- ---- from one moment to another
 
@@ -414,10 +425,11 @@ module _ {P O : Type 0} (heeded : O → Account × Reads) (told : O → Option (
 
     -- an operator, for whom no copy was made
     pub serves_told : (waiting rest : Option (List (Caller P O))) (p q : Progress) (s t : S) (operator : O)
+        (far : HowFar)
         → Come waiting rest (Operator operator ∷ []) → is_new (Operator operator) → p.stops ≡ false
-        → ObeysMeanwhile heeded told shown copied counted operator p q s t → From true waiting rest p q s t
+        → ObeysMeanwhile heeded told shown copied counted operator far p q s t → From true waiting rest p q s t
     unfolding serves_operator
-    serves_told waiting rest p q s t operator comes fresh going next =
+    serves_told waiting rest p q s t operator far comes fresh going next =
         serves_operator true waiting rest p q s t (Unit {0}) (IsOnlyRead (shown s) (shown t)) p.tally operator
         next.stops comes fresh going refl next.obeys
         (through_told (Unit {0}) (shown s) (shown t) next.obeys.audience.heard

@@ -1,5 +1,6 @@
 -- What a server knows of its store beside the versions.
 use Rattle.std.specs.Prelude.{ℕ, ◌≡◌, List, [], ◌∷◌, ◌++◌, Option, Some, None, option_copied, Result, Ok, Err}
+use Rattle.meanwhile.specs.declared.between.HowFar.{HowFar}
 use Rattle.control.specs.declared.copies.CopyRefusal.{CopyRefusal}
 use Rattle.control.specs.declared.health.Figures.{Figures}
 use Rattle.control.specs.declared.traffic.Traffic.{Traffic}
@@ -11,12 +12,13 @@ NotesTime times old (Some time) (Ok u) = (before : List (List ℕ)) × (times �
 NotesTime times old None (Ok u) = Unit {0}
 NotesTime times old new (Err why) = new ≡ old
 
--- The sizes are those of figures of which this is known, and the rest is what is kept.
-pub record TellsKept (known : Figures → Type 0) (traffic : Traffic) (copied : Option (List ℕ))
+-- The sizes are those of figures of which this is known, and the rest is what is kept, and how far a copy is.
+pub record TellsKept (known : Figures → Type 0) (traffic : Traffic) (copied : Option (List ℕ)) (copying : Option HowFar)
     (f : Figures) : Type 0 where
   pub sizes : Figures
   pub are_known : known sizes
   pub bytes : f.bytes ≡ sizes.bytes
   pub log : f.log ≡ sizes.log
   pub time : f.copied ≡ copied
+  pub how_far : f.copying ≡ copying
   pub counts : option_copied f.traffic ≡ Some traffic

@@ -7,6 +7,7 @@ use Rattle.world.specs.Store.{GrewOrFull}
 use Rattle.world.specs.declared.registry.StoreFault.{StoreFault}
 use Rattle.world.specs.declared.registry.StoreFault.TheVariants.{Device}
 use Rattle.engine.specs.declared.fault.Io.{Io}
+use Rattle.meanwhile.specs.declared.between.HowFar.{HowFar}
 use Rattle.control.specs.Traffic as traffic
 use Rattle.control.specs.declared.health.Figures.{Figures}
 use Rattle.control.specs.declared.health.Health.{Health}
@@ -81,6 +82,11 @@ abbrev pub time_word : List ℕ → Option (List ℕ) → List ℕ
 time_word name None = []
 time_word name (Some time) = name ++ time
 
+-- a word that tells under a name how many entries of how many a copy has, or none
+abbrev pub how_far_word : List ℕ → Option HowFar → List ℕ
+how_far_word name None = []
+how_far_word name (Some far) = name ++ (decimal far.done ++ (codes "/" ++ decimal far.all))
+
 -- how many shelves have counts
 abbrev pub shelves_in : Option Traffic → ℕ
 shelves_in None = 0
@@ -95,7 +101,8 @@ lines_in (Some t) = traffic.lines_of t
 abbrev pub words_of : Figures → List ℕ
 words_of f =
     number_word (codes " bytes=") f.bytes
-    ++ (number_word (codes " log=") f.log ++ time_word (codes " copied=") f.copied)
+    ++ (number_word (codes " log=") f.log
+    ++ (time_word (codes " copied=") f.copied ++ how_far_word (codes " copying=") f.copying))
 
 -- how many shelves have counts, the end of the line, and their lines
 abbrev pub shelves_text : Figures → List ℕ

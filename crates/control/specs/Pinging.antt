@@ -1,8 +1,9 @@
 -- What a ping does, and what it is told.
-use Rattle.std.specs.Prelude.{ℕ, ◌≡◌, ◌⊎◌, Result, Ok, Err}
+use Rattle.std.specs.Prelude.{ℕ, ◌≡◌, ◌⊎◌, Some, Result, Ok, Err}
 use Rattle.world.specs.Store.{Shown}
 use Rattle.world.specs.declared.registry.StoreFault.{StoreFault}
 use Rattle.world.specs.declared.registry.StoreFault.TheVariants.{Memory}
+use Rattle.meanwhile.specs.declared.between.HowFar.{HowFar}
 use Rattle.control.specs.Copying.{IsOnlyRead}
 use Rattle.control.specs.Health.{IsPinged, line_of}
 use Rattle.control.specs.Hearing.{told_of_ping}
@@ -30,3 +31,9 @@ abbrev pub TellsPing : (Figures → Type 0) → (Result Health StoreFault → Ty
 TellsPing known pinged (spoken.Health lines) = (h : Health) × pinged (Ok h) × known h.figures × (lines ≡ line_of h)
 TellsPing known pinged (spoken.Outcome outcome) = Unit {0}
 TellsPing known pinged (spoken.List lines) = Unit {0}
+
+-- where the lines of a health are told, they tell that the copy is so far
+abbrev pub TellsHowFar : HowFar → Told → Type 0
+TellsHowFar far (spoken.Health lines) = (h : Health) × (h.figures.copying ≡ Some far) × (lines ≡ line_of h)
+TellsHowFar far (spoken.Outcome outcome) = Unit {0}
+TellsHowFar far (spoken.List lines) = Unit {0}

@@ -1,6 +1,6 @@
 -- Callers who are served from one moment to another, while a copy is made or not.
 use Rattle.std.specs.Prelude.{ℕ, ◌≡◌, ◌≤◌, ◌+◌, ◌⊎◌, ◌||◌, Bool, true, false, List, [], ◌∷◌, ◌++◌, length, All}
-use Rattle.std.specs.Prelude.{Option, Result}
+use Rattle.std.specs.Prelude.{Option, Result, IfOk}
 use Rattle.std.proofs.Common.{inl, inr, refl, arith}
 use Rattle.histories.specs.Account.{Account}
 use Rattle.histories.specs.Calls.{Reads, Writes}
@@ -8,9 +8,11 @@ use Rattle.world.specs.Store.{Shown}
 use Rattle.world.specs.World.{World}
 use Rattle.socket.specs.Connections.{Come}
 use Rattle.meanwhile.specs.Meanwhile.{IsAsItWas}
+use Rattle.meanwhile.specs.declared.between.HowFar.{HowFar}
 use Rattle.control.specs.Copying.{AllRead, IsOnlyRead, turns_in, has_read}
 use Rattle.control.specs.Health.{Answered, IsPinged, with_one}
 use Rattle.control.specs.Notices.{WritesNotices}
+use Rattle.control.specs.Pinging.{TellsHowFar}
 use Rattle.control.specs.Turns.{GoesThroughTurns}
 use Rattle.control.specs.Visits.{Call, OfPeer, OfOperator, Untaken, AnswersOne, IsCallThere, IsNoStop, IsStop, ObeysOne}
 use Rattle.control.specs.Visits.{TellsTally}
@@ -40,18 +42,21 @@ EndsBy {P} {O} false true calls =
     (first : List (Call P O)) × (last : Call P O) × (calls ≡ first ++ last ∷ []) × All IsNoStop first × IsStop last
 EndsBy false false calls = All IsNoStop calls
 
--- an operator was obeyed while a copy is made, with the tally of the moment; no copy was made for it
+-- An operator was obeyed while a copy is made, with the tally of the moment. No copy was made for it, and a ping was
+-- told how far the one is.
 pub record ObeysMeanwhile {O : Type 0} (heeded : O → Account × Reads) (told : O → Option (List ℕ) × Writes)
     {S : Type 0} (shown : S → Shown) (copied : S → S → List ℕ → Result (Unit {0}) CopyRefusal → Type 0)
-    (counted : S → S → ℕ → Type 0) (operator : O) (before after : Progress) (old new : S) : Type 0 where
-  pub stops : Bool
-  pub obeys : ObeysOne heeded told (copied old new)
-      (IsPinged before.tally (shown old).failures (shown new).failures (counted old new)) (Unit {0})
-      (IsOnlyRead (shown old) (shown new)) operator stops (shown old) (shown new)
-  pub tally : after.tally ≡ before.tally
-  pub left : after.left ≡ before.left
-  pub taken : after.taken ≡ before.taken + 1
-  pub ends : after.stops ≡ (before.stops || stops)
+    (counted : S → S → ℕ → Type 0) (operator : O) (far : HowFar) (before after : Progress) (old new : S) : Type 0
+  where
+    pub stops : Bool
+    pub obeys : ObeysOne heeded told (copied old new)
+        (IsPinged before.tally (shown old).failures (shown new).failures (counted old new)) (Unit {0})
+        (IsOnlyRead (shown old) (shown new)) operator stops (shown old) (shown new)
+    pub tally : after.tally ≡ before.tally
+    pub left : after.left ≡ before.left
+    pub taken : after.taken ≡ before.taken + 1
+    pub ends : after.stops ≡ (before.stops || stops)
+    pub tells : IfOk obeys.audience.told (TellsHowFar far)
 
 -- a peer was answered, and counts as a connection
 pub record ServesPeer {P : Type 0} (heard : P → Account × Reads) (written : P → Option (List ℕ) × Writes) (peer : P)

@@ -95,7 +95,7 @@ pub trait Operator {
             shelves.old shelves.new (came self) (came result.operator) (written self) (written result.operator)
             result.told }
         // A ping is told what `copies` knows of the store, and nothing else.
-        ensures figures { IfOk result.told (TellsPing (K.figured shelves.new) (IsPinged tally.now
+        ensures figures { IfOk result.told (TellsPing (K.figured copies.old shelves.new) (IsPinged tally.now
             (S.shown shelves.old).failures (S.shown shelves.new).failures (K.counted shelves.old shelves.new))) }
         // It fails only if a call to read or to write failed or was refused, or if no read is left.
         ensures cause { IfErr result.told (IsCausedIn most_tries
@@ -158,7 +158,7 @@ fn obey_since<
         (⟦<Hearing<R> as Hear>⟧.account operator.reader) (⟦<Hearing<R> as Hear>⟧.account result.operator.reader)
         (⟦<Telling<W> as Write>⟧.contents operator.writer) (⟦<Telling<W> as Write>⟧.contents result.operator.writer)
         result.told }
-    ensures figures { IfOk result.told (TellsPing (K.figured shelves.new) (IsPinged tally.now
+    ensures figures { IfOk result.told (TellsPing (K.figured copies.old shelves.new) (IsPinged tally.now
         (S.shown shelves.old).failures (S.shown shelves.new).failures (K.counted shelves.old shelves.new))) }
     ensures cause { IfErr result.told (IsCausedIn most_tries
         (⟦<Hearing<R> as Hear>⟧.reads operator.reader) (⟦<Hearing<R> as Hear>⟧.reads result.operator.reader)

@@ -87,8 +87,8 @@ pub trait CopyOrders<S: Shelves> {
     /// What a count says, by the store before and after it, and the number.
     ghost counted: { S → S → ℕ → Type 0 };
 
-    /// What is known of the figures of a store, by the store.
-    ghost figured: { S → Figures → Type 0 };
+    /// What is known of the figures of a store, by this value and the store.
+    ghost figured: { Self → S → Figures → Type 0 };
 
     /// What happens while an order to copy is carried out: relates this value before and after it to the store before
     /// and after it.
@@ -109,5 +109,5 @@ pub trait CopyOrders<S: Shelves> {
 
     /// Returns what is known of the store beside its versions. Does not open its file.
     fn figures<'s>(&self, shelves: &'s S) -> Figures<'s>
-        ensures { figured shelves.now result };
+        ensures { figured self.now shelves.now result };
 }

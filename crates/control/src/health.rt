@@ -5,6 +5,7 @@ ghost use Rattle.control.specs.Health.{IsHealthLine, HasNamesIf, line_of};
 
 use crate::tally::Tally;
 use crate::traffic::{ShelfTraffic, Traffic};
+use meanwhile::between::HowFar;
 use modver::{TimeText, read_time};
 use std::alloc::{AllocError, Global};
 use std::str;
@@ -30,6 +31,8 @@ pub struct Figures<'a> {
     pub log: Option<u64>,
     /// When the last copy of it was made, if one was and the clock could be read then.
     pub copied: Option<TimeText>,
+    /// How far the copy of it is that is being made, if one is.
+    pub copying: Option<HowFar>,
     /// The counts of its shelves, if they are kept.
     pub traffic: Option<&'a Traffic>,
 }
@@ -69,7 +72,8 @@ impl<'a> Figures<'a> {
     {
         add_number(alloc, line, " bytes=", self.bytes)?;
         add_number(alloc, line, " log=", self.log)?;
-        add_time(line, " copied=", self.copied)
+        add_time(line, " copied=", self.copied)?;
+        add_how_far(alloc, line, " copying=", self.copying)
     }
 
     /// Adds the word that tells how many shelves have counts, the end of the line, and their lines. Fails only if
@@ -123,6 +127,22 @@ fn add_time(line: &mut String, name: &str, time: Option<TimeText>) -> Result<(),
     };
     line.push_str(name)?;
     line.push_str(time.as_str())
+}
+
+/// Adds a word that tells under a name how far a copy is, if one is being made. Fails only if memory runs out.
+fn add_how_far(
+    alloc: Global,
+    line: &mut String,
+    name: &str,
+    how_far: Option<HowFar>,
+) -> Result<(), AllocError>
+    ensures { OnOk result (string_bytes line.new ≡ string_bytes line.old ++ spec.how_far_word name.now how_far) }
+{
+    let Some(how_far) = how_far else {
+        return Ok(());
+    };
+    let word = format!(in alloc; "{}{}/{}", name, how_far.done, how_far.all)?;
+    line.push_str(word.as_str())
 }
 
 /// Adds a word that tells a number under a name, if there is one. Fails only if memory runs out.
@@ -214,6 +234,7 @@ fn line_with(alloc: Global, first: &str, traffic: &Traffic, got: &[u8]) -> Optio
             bytes: number_in(first, "bytes="),
             log: number_in(first, "log="),
             copied: time_in(first, "copied="),
+            copying: how_far_in(first, "copying="),
             traffic: Some(traffic),
         },
     };
@@ -240,6 +261,16 @@ fn time_in(line: &str, name: &str) -> Option<TimeText> {
     None
 }
 
+/// How far a word of a line tells under a name that a copy is, if one does.
+fn how_far_in(line: &str, name: &str) -> Option<HowFar> {
+    for word in line.split(' ') {
+        if let Some(found) = how_far(word, name) {
+            return Some(found);
+        }
+    }
+    None
+}
+
 /// The shelf and its counts that a line tells, if it is the line of a shelf.
 fn shelf_in(line: &str) -> Option<(&str, ShelfTraffic)> {
     let mut words = line.strip_prefix("shelf ")?.split(' ');
@@ -255,6 +286,15 @@ fn number(word: Option<&str>, name: &str) -> Option<u64> {
         Ok(number) => Some(number),
         Err(_) => None,
     }
+}
+
+/// How far a word tells under a name that a copy is.
+fn how_far(word: &str, name: &str) -> Option<HowFar> {
+    let (done, all) = word.strip_prefix(name)?.split_once('/')?;
+    Some(HowFar {
+        done: done.parse().ok()?,
+        all: all.parse().ok()?,
+    })
 }
 
 /// The time that a word gives under a name.

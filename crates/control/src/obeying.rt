@@ -44,8 +44,8 @@ pub fn obey<R: Hear, W: Tell, S: Keyring, K: CopyOrders<S>>(
         shelves.old shelves.new (R.account reader.old) (R.account reader.new)
         (W.contents writer.old) (W.contents writer.new) result }
     // A ping is told what `copies` knows of the store, and nothing else.
-    ensures figures { IfOk result (TellsPing (K.figured shelves.new) (IsPinged tally.now (S.shown shelves.old).failures
-        (S.shown shelves.new).failures (K.counted shelves.old shelves.new))) }
+    ensures figures { IfOk result (TellsPing (K.figured copies.old shelves.new) (IsPinged tally.now
+        (S.shown shelves.old).failures (S.shown shelves.new).failures (K.counted shelves.old shelves.new))) }
     // It fails only if a call of the reader or of the writer failed, or if no read is left.
     ensures cause { IfErr result (IsCausedIn most_tries (R.reads reader.old) (R.reads reader.new)
         (W.writes writer.old) (W.writes writer.new)) }
@@ -86,8 +86,8 @@ fn hear<R: Hear, S: Keyring, K: CopyOrders<S>>(
 ) -> Result<Told, Io>
     ensures hears { HearsBy S.shown K.copied K.counted K.meanwhile tally.now copies.old copies.new
         shelves.old shelves.new (R.account reader.old) (R.account reader.new) result }
-    ensures figures { IfOk result (TellsPing (K.figured shelves.new) (IsPinged tally.now (S.shown shelves.old).failures
-        (S.shown shelves.new).failures (K.counted shelves.old shelves.new))) }
+    ensures figures { IfOk result (TellsPing (K.figured copies.old shelves.new) (IsPinged tally.now
+        (S.shown shelves.old).failures (S.shown shelves.new).failures (K.counted shelves.old shelves.new))) }
     ensures cause { IfErr result (λ _. IsUnreadable most_tries (R.reads reader.old) (R.reads reader.new)) }
 {
     match read_line(alloc, reader) {
@@ -107,7 +107,7 @@ fn heed<S: Keyring, K: CopyOrders<S>>(
 ) -> Told
     ensures heeds { HeedsBy S.shown K.copied K.counted K.meanwhile tally.now copies.old copies.new
         shelves.old shelves.new got.now result }
-    ensures figures { TellsPing (K.figured shelves.new) (IsPinged tally.now (S.shown shelves.old).failures
+    ensures figures { TellsPing (K.figured copies.old shelves.new) (IsPinged tally.now (S.shown shelves.old).failures
         (S.shown shelves.new).failures (K.counted shelves.old shelves.new)) result }
 {
     match line_of_bytes(got) {

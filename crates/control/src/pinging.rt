@@ -22,7 +22,7 @@ pub(crate) fn ping<S: Shelves, K: CopyOrders<S>>(
     copies: &K,
 ) -> Told
     ensures pings { Pings S.shown K.counted tally.now shelves.old shelves.new result }
-    ensures figures { TellsPing (K.figured shelves.new) (IsPinged tally.now (S.shown shelves.old).failures
+    ensures figures { TellsPing (K.figured copies.now shelves.new) (IsPinged tally.now (S.shown shelves.old).failures
         (S.shown shelves.new).failures (K.counted shelves.old shelves.new)) result }
 {
     match copies.versions(shelves) {

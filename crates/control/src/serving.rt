@@ -17,6 +17,7 @@ use crate::traffic::Traffic;
 use crate::watched::{Loan, Watched};
 use engine::Io;
 use histories::Tell;
+use meanwhile::between::HowFar;
 use modver::TimeText;
 use socket::{After, Peer};
 use std::alloc::Global;
@@ -43,6 +44,8 @@ pub(crate) struct Server<'x, C, P, O, L, K, D, E> {
     pub(crate) traffic: Traffic,
     /// When the last copy was made, for those who ask while the next one is.
     pub(crate) copied: Option<TimeText>,
+    /// How far the copy is that is being made, for those who ask then.
+    pub(crate) how_far: HowFar,
     peers: PhantomData<P>,
     operators: PhantomData<O>,
 }
@@ -90,6 +93,7 @@ impl<
             progress: Progress::new(since, connections),
             traffic: Traffic::new(alloc),
             copied: None,
+            how_far: HowFar { done: 0, all: 0 },
             peers: PhantomData,
             operators: PhantomData,
         }

@@ -20,7 +20,7 @@ use crate::serving::{Server, is_stopping};
 use crate::watched::{Loan, Watched};
 use histories::Tell;
 use keyring::Keyring;
-use meanwhile::between::Between;
+use meanwhile::between::{Between, HowFar};
 use meanwhile::newcomers::Newcomers;
 use meanwhile::noting::{Moment, Noting};
 use socket::Peer;
@@ -37,11 +37,14 @@ const MOST_SERVED: u32 = 16;
 #[derive(Drop)]
 struct BusyCopies<'b, K> {
     copies: &'b K,
+    /// How far that one is.
+    how_far: HowFar,
 }
 
 impl<'a, 'b, 'c, N: Loan, M: Moment, S: Shelves, K: Copies<S>> CopyOrders<
     Watched<'a, N, Noting<'c, M, S>>,
 > for BusyCopies<'b, K> {
+    ghost use Rattle.std.specs.Prelude.{Some};
     ghost use Rattle.meanwhile.specs.Noted.{IsNoted, with_said};
     ghost use Rattle.control.specs.Copying.{IsOnlyRead};
     ghost use Rattle.control.specs.Figures.{TellsKept};
@@ -50,7 +53,8 @@ impl<'a, 'b, 'c, N: Loan, M: Moment, S: Shelves, K: Copies<S>> CopyOrders<
 
     ghost counted = { λ old new n. K.counted old.inner.now.inner.now new.inner.now.inner.now n };
 
-    ghost figured = { λ w f. TellsKept (K.figured w.inner.now.inner.now) w.traffic w.copied f };
+    /// They tell how far the copy is.
+    ghost figured = { λ b w f. TellsKept (K.figured w.inner.now.inner.now) w.traffic w.copied (Some b.how_far) f };
 
     /// The store is only read.
     ghost meanwhile = { λ _ _ old new. IsOnlyRead
@@ -75,7 +79,7 @@ impl<'a, 'b, 'c, N: Loan, M: Moment, S: Shelves, K: Copies<S>> CopyOrders<
     }
 
     fn figures<'s>(&self, shelves: &'s Watched<'a, N, Noting<'c, M, S>>) -> Figures<'s> {
-        shelves.figures_with(figures_in(self.copies, shelves.inner))
+        shelves.figures_with(figures_in(self.copies, shelves.inner), Some(self.how_far))
     }
 }
 
@@ -128,7 +132,8 @@ fn obey_meanwhile<
         ⟦<Noting<'b, M, S> as Shelves>⟧.shown
         (λ old new path told. K.copied old.inner.now new.inner.now path told)
         (λ old new n. K.counted old.inner.now new.inner.now n)
-        operator server.old.progress server.new.progress watched.old.inner.now watched.new.inner.now }
+        operator server.old.how_far server.old.progress server.new.progress
+        watched.old.inner.now watched.new.inner.now }
     ensures same { server.new.callers ≡ server.old.callers }
     ensures same_errors { server.new.errors.ghost_name ≡ server.old.errors.ghost_name }
     ensures notes { WritesNotices (E.contents server.old.errors.now) (E.contents server.new.errors.now) }
@@ -137,6 +142,7 @@ fn obey_meanwhile<
     let tally = server.progress.tally;
     let mut copies = BusyCopies {
         copies: server.copies,
+        how_far: server.how_far,
     };
     let after = operator.obeyed(server.alloc, server.clock, &tally, watched, &mut copies);
     watched.note_told(&after.told);
@@ -355,6 +361,13 @@ impl<
         !after.lost && !self.progress.stops && !self.callers.has_left()
     }
 
+    fn note_how_far(&mut self, how_far: HowFar)
+        ensures same { (s : S) → ⟦<Server<'x, C, P, O, L, K, D, E> as Between<S>>⟧.went self.old self.new s s }
+        ensures noted { self.new.how_far ≡ how_far }
+    {
+        self.how_far = how_far;
+    }
+
     ghost rests = { λ b s t read. turns_rest _ _ _ _ _ _ _ _ _ t read };
 
     ghost goes_on = { λ a b c r s t one two. then_turns _ _ _ _ _ _ _ _ _ _ _ one two };
@@ -376,6 +389,7 @@ impl<
     D: Calendar + Drop,
     E: Tell,
 > CopyOrders<Watched<'a, N, S>> for Server<'x, C, P, O, L, K, D, E> {
+    ghost use Rattle.std.specs.Prelude.{None};
     ghost use Rattle.socket.specs.Connections.{both};
     ghost use Rattle.control.specs.Copying.{IsOnlyRead};
     ghost use Rattle.control.specs.Figures.{TellsKept};
@@ -385,7 +399,8 @@ impl<
 
     ghost counted = { λ old new n. K.counted old.inner.now new.inner.now n };
 
-    ghost figured = { λ w f. TellsKept (K.figured w.inner.now) w.traffic w.copied f };
+    /// No copy is being made.
+    ghost figured = { λ _ w f. TellsKept (K.figured w.inner.now) w.traffic w.copied None f };
 
     ghost meanwhile = { λ old new s t. (mid : S)
         × ⟦<Server<'x, C, P, O, L, K, D, E> as Between<S>>⟧.went old new s.inner.now mid
@@ -402,6 +417,7 @@ impl<
         let copies = self.copies;
         self.callers.watch_operator();
         self.copied = shelves.copied;
+        self.how_far = HowFar { done: 0, all: 0 };
         mem::swap(&mut self.traffic, &mut shelves.traffic);
         let told = copies.copy(shelves.inner, path, self);
         mem::swap(&mut self.traffic, &mut shelves.traffic);
@@ -418,6 +434,6 @@ impl<
     }
 
     fn figures<'s>(&self, shelves: &'s Watched<'a, N, S>) -> Figures<'s> {
-        shelves.figures_with(self.copies.figures(shelves.inner))
+        shelves.figures_with(self.copies.figures(shelves.inner), None)
     }
 }

@@ -23,6 +23,7 @@ use crate::told::Told;
 use crate::traffic::{Traffic, Transfer};
 use engine::Io;
 use keyring::Keyring;
+use meanwhile::between::HowFar;
 use modpath::ModulePath;
 use modver::{TimeText, Version};
 use std::alloc::Global;
@@ -149,14 +150,19 @@ impl<'a, N: Loan, S: Shelves> Watched<'a, N, S> {
         self.copied = time;
     }
 
-    /// Returns the figures with these sizes, and with what is kept here.
-    pub(crate) fn figures_with<'s>(&'s self, sizes: Figures<'s>) -> Figures<'s>
-        ensures { TellsKept (λ known. known ≡ sizes.entry) self.now.traffic self.now.copied result }
+    /// Returns the figures with these sizes, how far a copy is, and with what is kept here.
+    pub(crate) fn figures_with<'s>(
+        &'s self,
+        sizes: Figures<'s>,
+        copying: Option<HowFar>,
+    ) -> Figures<'s>
+        ensures { TellsKept (λ known. known ≡ sizes.entry) self.now.traffic self.now.copied copying result }
     {
         Figures {
             bytes: sizes.bytes,
             log: sizes.log,
             copied: self.copied,
+            copying,
             traffic: Some(&self.traffic),
         }
     }

@@ -2,6 +2,13 @@
 use crate::newcomers::Newcomers;
 use world::shelves::Shelves;
 
+/// How many entries of a store were copied, and how many it had when the copy was ordered.
+#[derive(Clone, Copy, Drop, PartialEq, Eq)]
+pub struct HowFar {
+    pub done: u64,
+    pub all: u64,
+}
+
 /// What is done with the served store between two slices of a copy of it.
 pub trait Between<S: Shelves> {
     ghost use Rattle.std.specs.Prelude.{◌≤◌, IsTrue};
@@ -17,6 +24,10 @@ pub trait Between<S: Shelves> {
         ensures went { went self.old self.new shelves.old shelves.new }
         ensures honest { (S.shown shelves.new).is_honest → (S.shown shelves.old).is_honest }
         ensures notes { IsTrue result → Notes (S.shown shelves.old) (S.shown shelves.new) news.old news.new };
+
+    /// Notes how far a copy has come. It is no turn.
+    fn note_how_far(&mut self, how_far: HowFar)
+        ensures same { (s : S) → went self.old self.new s s };
 
     // No turn is needed to read the store.
     ghost rests: { (b : Self) (s t : S) → IsAsItWas (S.shown s) (S.shown t) → went b b s t };

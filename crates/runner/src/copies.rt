@@ -73,8 +73,9 @@ impl<'a, S: Alter> Copies<SqlShelves<S>> for FileCopies<'a> {
 
     ghost counted = { CountsIn ⟦<SqlShelves<S> as Shelves>⟧.shown };
 
-    /// It keeps no time of a copy and counts no shelf. What the system tells of the sizes is not known.
-    ghost figured = { λ _ f. (f.copied ≡ None) × (f.traffic ≡ None) };
+    /// It keeps no time of a copy, does not know of one that is being made, and counts no shelf. What the system tells
+    /// of the sizes is not known.
+    ghost figured = { λ _ f. (f.copied ≡ None) × (f.copying ≡ None) × (f.traffic ≡ None) };
 
     fn served(&self) -> &str {
         self.db
@@ -108,6 +109,7 @@ impl<'a, S: Alter> Copies<SqlShelves<S>> for FileCopies<'a> {
             bytes: size_of_file(self.host.rt, self.db),
             log: self.log_size(),
             copied: None,
+            copying: None,
             traffic: None,
         }
     }

@@ -17,7 +17,7 @@ ghost use Rattle.store.specs.Shown.{shown_of, shown_with};
 use crate::extract::refusal_of;
 use crate::store::{SqlShelves, fault};
 use kept::kept::Kept;
-use meanwhile::between::Between;
+use meanwhile::between::{Between, HowFar};
 use meanwhile::newcomers::Newcomers;
 use setup::copy::copy_registry;
 use setup::judge::is_blank;
@@ -160,15 +160,16 @@ impl<S: Alter> SqlShelves<S> {
     {
         copy_registry(self.alloc, &mut self.conn, tx)?;
         let entries = self.entries_kept()?;
-        self.copy_entries(tx, Cursor::new(entries), pace, between)
+        self.copy_entries(tx, Cursor::new(entries), entries, pace, between)
     }
 
-    /// Copies the entries that are left from the cursor on, inside a transaction, a slice at a time, and has `between`
-    /// take a turn after each slice. Returns whether it copied all of them.
+    /// Copies the entries that are left of `all` from the cursor on, inside a transaction, a slice at a time, and has
+    /// `between` take a turn after each slice. Returns whether it copied all of them.
     fn copy_entries<F: Alter, P: Pace, B: Between<SqlShelves<S>>>(
         &mut self,
         tx: &mut Transaction<'_, F>,
         at: Cursor,
+        all: u64,
         pace: &mut P,
         between: &mut B,
     ) -> Result<bool, CopyError>
@@ -187,7 +188,7 @@ impl<S: Alter> SqlShelves<S> {
             if at.is_done() {
                 return Ok(true);
             }
-            match self.copy_on(tx, &mut news, at, pace, between)? {
+            match self.copy_on(tx, &mut news, at, all, pace, between)? {
                 Some(next) => at = next,
                 None => return Ok(false),
             }
@@ -195,13 +196,14 @@ impl<S: Alter> SqlShelves<S> {
         Err(CopyError::Source(Error::SqliteFailure(ErrorCode::TooBig)))
     }
 
-    /// Copies a slice, and has `between` take a turn. Returns where the walk goes on, or None if `between` ended the
-    /// copy.
+    /// Copies a slice, tells `between` how many of `all` entries are copied, and has it take a turn. Returns where the
+    /// walk goes on, or None if `between` ended the copy.
     fn copy_on<F: Alter, P: Pace, B: Between<SqlShelves<S>>>(
         &mut self,
         tx: &mut Transaction<'_, F>,
         news: &mut Newcomers,
         at: Cursor,
+        all: u64,
         pace: &mut P,
         between: &mut B,
     ) -> Result<Option<Cursor>, CopyError>
@@ -217,6 +219,8 @@ impl<S: Alter> SqlShelves<S> {
             (state F.Store tx.new.conn.now))) }
     {
         let next = copy_slice(&mut self.conn, tx, news, at, pace)?;
+        let done = all.saturating_sub(next.left);
+        between.note_how_far(HowFar { done, all });
         if between.turn(self, news) {
             Ok(Some(next))
         } else {

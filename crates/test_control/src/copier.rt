@@ -3,7 +3,7 @@ ghost use Rattle.std.specs.Prelude.{◌≢◌, IfErr};
 ghost use Rattle.control.specs.declared.copies.CopyRefusal.TheVariants.{Busy};
 
 use control::{Copies, CopyOrders, CopyRefusal, Figures};
-use meanwhile::between::Between;
+use meanwhile::between::{Between, HowFar};
 use meanwhile::newcomers::Newcomers;
 use std::alloc::Global;
 use world::registry::StoreFault;
@@ -42,6 +42,7 @@ fn figures_of<'s>() -> Figures<'s> {
         bytes: Some(8_192),
         log: Some(4_152),
         copied: None,
+        copying: None,
         traffic: None,
     }
 }
@@ -57,13 +58,17 @@ impl<S: Shelves> Copies<S> for Copier {
         "shelves.db"
     }
 
-    /// Has `between` take one turn. Fails with `Ended` if that ended the copy.
+    /// Tells `between` how far the copy is, and has it take one turn. Fails with `Ended` if that ended the copy.
     fn copy<B: Between<S>>(
         &self,
         shelves: &mut S,
         path: &str,
         between: &mut B,
     ) -> Result<(), CopyRefusal> {
+        between.note_how_far(HowFar {
+            done: 1_200,
+            all: 50_000,
+        });
         if !between.turn(shelves, &mut Newcomers::new(self.alloc)) {
             return Err(CopyRefusal::Ended);
         }
@@ -87,7 +92,7 @@ impl<S: Shelves> CopyOrders<S> for Copier {
 
     ghost counted = { λ _ _ _. Unit {0} };
 
-    ghost figured = { λ _ _. Unit {0} };
+    ghost figured = { λ _ _ _. Unit {0} };
 
     ghost meanwhile = { λ _ _ _ _. Unit {0} };
 

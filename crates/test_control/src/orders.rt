@@ -114,27 +114,38 @@ ccaaf6d99f2c8ac7|bad|revoke-fingerprint ccaaf6d99f2c8ac7|Io
 ccaaf6d99f2c8ac7||revoke-fingerprint ccaaf6d99f2c8ac7|Io
 ccaaf6d9 9f2c8ac7|done||NoKey";
 
-/// What a server replies to a ping, what is printed, and how the command ends. A `/` is in the place of the end of a
+/// What a server replies to a ping, what is printed, and how the command ends. A `;` is in the place of the end of a
 /// line, and `@` in that of the words that each reply begins with.
 const HEALTHS: &str = "\
 @ shelves=0|@ shelves=0|done
 @ bytes=4096 shelves=0|@ bytes=4096 shelves=0|done
-@ bytes=8192 log=32 copied=2026-11-26T18:50:00Z shelves=2/shelf alpha publishes=1 fetches=0/shelf common publishes=0 \
-fetches=7|@ bytes=8192 log=32 copied=2026-11-26T18:50:00Z shelves=2/shelf alpha publishes=1 fetches=0/shelf common \
+@ bytes=8192 log=32 copied=2026-11-26T18:50:00Z shelves=2;shelf alpha publishes=1 fetches=0;shelf common publishes=0 \
+fetches=7|@ bytes=8192 log=32 copied=2026-11-26T18:50:00Z shelves=2;shelf alpha publishes=1 fetches=0;shelf common \
 publishes=0 fetches=7|done
+@ copying=1200/50000 shelves=0|@ copying=1200/50000 shelves=0|done
+@ log=32 copied=2026-11-26T18:50:00Z copying=0/0 shelves=0|@ log=32 copied=2026-11-26T18:50:00Z copying=0/0 \
+shelves=0|done
 @||Io
 0@ shelves=0||Io
 @ shelves=0 ||Io
 @ shelves=00||Io
 @ shelves=1||Io
-@ shelves=0/||Io
-@ shelves=0/shelf alpha publishes=1 fetches=0||Io
-@ shelves=1/shelf Alpha publishes=1 fetches=0||Io
-@ shelves=1/shelf  publishes=1 fetches=0||Io
-@ shelves=2/shelf beta publishes=1 fetches=0/shelf alpha publishes=1 fetches=0||Io
-@ shelves=2/shelf alpha publishes=1 fetches=0/shelf alpha publishes=1 fetches=0||Io
+@ shelves=0;||Io
+@ shelves=0;shelf alpha publishes=1 fetches=0||Io
+@ shelves=1;shelf Alpha publishes=1 fetches=0||Io
+@ shelves=1;shelf  publishes=1 fetches=0||Io
+@ shelves=2;shelf beta publishes=1 fetches=0;shelf alpha publishes=1 fetches=0||Io
+@ shelves=2;shelf alpha publishes=1 fetches=0;shelf alpha publishes=1 fetches=0||Io
 @ log=32 bytes=8192 shelves=0||Io
 @ copied=2026-11-26T24:50:00Z shelves=0||Io
+@ copying=1200 shelves=0||Io
+@ copying=1200/ shelves=0||Io
+@ copying=/50000 shelves=0||Io
+@ copying=1200/50000/1 shelves=0||Io
+@ copying=01200/50000 shelves=0||Io
+@ copying=1200/18446744073709551616 shelves=0||Io
+@ copying=1200/50000 copying=1200/50000 shelves=0||Io
+@ copying=1200/50000 copied=2026-11-26T18:50:00Z shelves=0||Io
 connections=124||Io
 device||Device
 memory||Memory
@@ -296,7 +307,7 @@ fn is_sent(alloc: Global, row: &str) -> Result<bool, Fail> {
 /// Returns the lines that stand in a column of `HEALTHS`, with their ends.
 fn lines_in(alloc: Global, column: &str) -> Result<String, Fail> {
     let text = format!(in alloc; "{column}\n")?;
-    let lines = text.replace(alloc, "/", "\n")?;
+    let lines = text.replace(alloc, ";", "\n")?;
     Ok(lines.replace(alloc, "@", BEGIN)?)
 }
 

@@ -28,7 +28,7 @@ const GET_ZIP: &[u8] = b"GET /k/alphakey00000001/example.com/lib/@v/v1.0.0.zip H
 /// zip.
 const HEALTH: &str = "\
 connections=3 2xx=2 4xx=1 5xx=0 unanswered=0 store-failures=0 since=2026-11-26T18:40:00Z versions=7 bytes=8192 \
-log=4152 shelves=1
+log=4152 copying=1200/50000 shelves=1
 shelf alpha publishes=1 fetches=1
 ";
 

@@ -81,6 +81,6 @@ pub returns-in-Some-List-clause-figures : goal.returns-in-Some-List-clause-figur
 returns-in-Some-List-clause-figures g c =
     let s = g.S.Shelves in
     let k = g.K.CopyOrders in
-    tells_no_ping (k.figured c.list.new.shelves)
+    tells_no_ping (k.figured c.args.copies.now c.list.new.shelves)
     (IsPinged c.args.tally.now (s.shown c.args.shelves.now).failures (s.shown c.list.new.shelves).failures
     (k.counted c.args.shelves.now c.list.new.shelves)) _ _ c.list.ensures.tells

@@ -11,8 +11,8 @@ pub returns-in-Ok-clause-figures : goal.returns-in-Ok-clause-figures
 returns-in-Ok-clause-figures g c =
     let s = g.S.Shelves in
     let k = g.K.CopyOrders in
-    tells_counted (k.figured c.versions.new.shelves) c.args.tally.now (s.shown c.args.shelves.now).failures
-    (s.shown c.versions.new.shelves).failures (k.counted c.args.shelves.now c.versions.new.shelves) _ _
+    tells_counted (k.figured c.args.copies.now c.versions.new.shelves) c.args.tally.now
+    (s.shown c.args.shelves.now).failures (s.shown c.versions.new.shelves).failures (k.counted c.args.shelves.now c.versions.new.shelves) _ _
     refl c.failures.ensures c.in-Ok.ensures.counted c.figures.ensures c.tell.ensures
 
 pub returns-in-Err-clause-pings : goal.returns-in-Err-clause-pings

@@ -1,21 +1,33 @@
-use Rattle.std.proofs.Common.{◌∙◌, refl}
+use Rattle.std.proofs.Common.{◌∙◌, refl, subst, sym}
+use Rattle.std.specs.Prelude.{IfOk}
 use Rattle.socket.specs.Connections.{both}
-use Rattle.control.proofs.ServeLemmas.{obeyed_one}
-use Rattle.control.proofs.ServingLemmas.{obeys_unsaid}
+use Rattle.control.specs.Health.{IsPinged}
+use Rattle.control.specs.Pinging.{TellsHowFar}
+use Rattle.control.proofs.FarLemmas.{obeys_meanwhile, tells_how_far}
+use Rattle.control.proofs.ServeLemmas.{obeyed_one, obeyed_told}
+use Rattle.control.proofs.ServingLemmas.{obeys_unsaid, unsaid_told}
 use Rattle.control.proofs.turn.obey_meanwhile.Goals as goal
 
 pub returns-clause-obeys : goal.returns-clause-obeys
 returns-clause-obeys g c =
     let o = g.O.Operator in
-    record {
-      stops = c.is_stopping.result;
-      obeys = rw (c.tell.ensures.store, c.note_told.ensures.same)
-          (rw c.count_operator.ensures.tally at
-          (obeys_unsaid (both o.came o.reads) (both o.written o.writes) _ _ _ _ _ _ _ _
-          (obeyed_one (both o.came o.reads) (both o.written o.writes) _ _ _ _ _ _ _ _ _ _ c.obeyed-after.ensures.obeys
-          c.obeyed-after.ensures.cause c.is_stopping.ensures)));
-      tally = rw c.tell.ensures.progress (c.end_if.ensures.tally ∙ c.count_operator.ensures.tally);
-      left = rw c.tell.ensures.progress (c.end_if.ensures.left ∙ c.count_operator.ensures.left);
-      taken = rw c.tell.ensures.progress (c.end_if.ensures.taken ∙ c.count_operator.ensures.taken);
-      ends = rw (c.tell.ensures.progress, c.end_if.ensures.stops, c.count_operator.ensures.stops) refl;
-    }
+    let far = c.args.server.now.how_far in
+    let given = c.obeyed-after.ensures in
+    let obeyed = obeyed_one (both o.came o.reads) (both o.written o.writes) _ _ _ _ _ _ _ _ c.is_stopping.result _
+    given.obeys given.cause c.is_stopping.ensures in
+    let shown = g.S.Shelves.shown in
+    let w = c.obeyed-after.new.shelves in
+    let old = c.args.watched.now.inner.now.inner.now in
+    let new = w.inner.now.inner.now in
+    let told = tells_how_far far (g.K.Copies.figured new) w.traffic w.copied
+    (IsPinged c.count_operator.new.self.tally (shown old).failures (shown new).failures
+    (g.K.Copies.counted old new)) c.obeyed-after.result.told given.figures in
+    rw (c.tell.ensures.store, c.note_told.ensures.same)
+    (obeys_meanwhile _ _ _ _ _ far _ _ _ _ _ _ _ (obeys_unsaid _ _ _ _ _ _ _ _ _ _ obeyed)
+    (subst (λ r. IfOk r (TellsHowFar far))
+    (sym (unsaid_told _ _ _ _ _ _ _ _ _ _ obeyed ∙ obeyed_told _ _ _ _ _ _ _ _ _ _ _ _ _ _ _)) told)
+    c.count_operator.ensures.tally
+    (rw c.tell.ensures.progress (c.end_if.ensures.tally ∙ c.count_operator.ensures.tally))
+    (rw c.tell.ensures.progress (c.end_if.ensures.left ∙ c.count_operator.ensures.left))
+    (rw c.tell.ensures.progress (c.end_if.ensures.taken ∙ c.count_operator.ensures.taken))
+    (rw (c.tell.ensures.progress, c.end_if.ensures.stops, c.count_operator.ensures.stops) refl))

@@ -6,7 +6,7 @@ use Rattle.control.proofs.turn.serve_next.Goals as goal
 pub returns-in-Ok-Operator-clause-serves : goal.returns-in-Ok-Operator-clause-serves
 returns-in-Ok-Operator-clause-serves g c = λ waiting takes fresh.
     rw c.obey_meanwhile.ensures.same
-    (serves_told _ _ _ _ _ _ _ _ waiting _ _ _ _ _ c.in-Ok-Operator.operator
+    (serves_told _ _ _ _ _ _ _ _ waiting _ _ _ _ _ c.in-Ok-Operator.operator _
     (rw c.in-Ok-Operator.field-0-is at (rw c.in-Ok-Operator.is at takes))
     (rw c.in-Ok-Operator.field-0-is at (rw c.in-Ok-Operator.is at fresh)) c.requires.0 c.obey_meanwhile.ensures.obeys)
 

@@ -11,10 +11,12 @@ returns-in_err-next-clause-went g c =
 
 pub returns-then-turn-clause-went : goal.returns-then-turn-clause-went
 returns-then-turn-clause-went g c =
-    g.met.B.Between.goes_on c.args.between.now c.args.between.now c.turn.new.self c.args.self.now _ c.turn.new.shelves
+    g.met.B.Between.goes_on c.args.between.now c.note_how_far.new.self c.turn.new.self c.args.self.now _
+    c.turn.new.shelves
+    (g.met.B.Between.goes_on c.args.between.now c.args.between.now c.note_how_far.new.self c.args.self.now _ _
     (g.met.B.Between.rests c.args.between.now c.args.self.now _
     (only_read (state g.S.Store c.args.self.now.conn) (state g.S.Store c.copy_slice.new.source) c.args.self.now.kept _
-    c.args.self.now.failures _ c.in_ok-next.ensures.reads refl refl))
+    c.args.self.now.failures _ c.in_ok-next.ensures.reads refl refl)) (c.note_how_far.ensures.same _))
     c.turn.ensures.went
 
 pub returns-then-turn-clause-copies : goal.returns-then-turn-clause-copies
@@ -31,8 +33,10 @@ returns-then-turn-clause-copies g c clean good w held =
 
 pub returns-else-turn-clause-went : goal.returns-else-turn-clause-went
 returns-else-turn-clause-went g c =
-    g.met.B.Between.goes_on c.args.between.now c.args.between.now c.turn.new.self c.args.self.now _ c.turn.new.shelves
+    g.met.B.Between.goes_on c.args.between.now c.note_how_far.new.self c.turn.new.self c.args.self.now _
+    c.turn.new.shelves
+    (g.met.B.Between.goes_on c.args.between.now c.args.between.now c.note_how_far.new.self c.args.self.now _ _
     (g.met.B.Between.rests c.args.between.now c.args.self.now _
     (only_read (state g.S.Store c.args.self.now.conn) (state g.S.Store c.copy_slice.new.source) c.args.self.now.kept _
-    c.args.self.now.failures _ c.in_ok-next.ensures.reads refl refl))
+    c.args.self.now.failures _ c.in_ok-next.ensures.reads refl refl)) (c.note_how_far.ensures.same _))
     c.turn.ensures.went

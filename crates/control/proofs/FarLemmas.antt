@@ -1,0 +1,58 @@
+-- What a ping is told while a copy is made.
+use Rattle.std.specs.Prelude.{◌||◌, IfOk}
+use Rattle.std.proofs.Common.{Bool, ℕ, ◌+◌, ◌≡◌, subst, List, Option, Some, Result, Ok, Err}
+use Rattle.histories.specs.Account.{Account}
+use Rattle.histories.specs.Calls.{Reads, Writes}
+use Rattle.meanwhile.specs.declared.between.HowFar.{HowFar}
+use Rattle.world.specs.Store.{Shown}
+use Rattle.world.specs.declared.registry.StoreFault.{StoreFault}
+use Rattle.engine.specs.declared.fault.Io.{Io}
+use Rattle.control.specs.Copying.{IsOnlyRead}
+use Rattle.control.specs.Figures.{TellsKept}
+use Rattle.control.specs.Health.{IsPinged}
+use Rattle.control.specs.Pinging.{TellsHowFar, TellsPing}
+use Rattle.control.specs.Serving.{ObeysMeanwhile}
+use Rattle.control.specs.Visits.{ObeysOne}
+use Rattle.control.specs.declared.copies.CopyRefusal.{CopyRefusal}
+use Rattle.control.specs.declared.health.Figures.{Figures}
+use Rattle.control.specs.declared.health.Health.{Health}
+use Rattle.control.specs.declared.progress.Progress.{Progress}
+use Rattle.control.specs.declared.tally.Tally.{Tally}
+use Rattle.control.specs.declared.told.Told.{Told}
+use Rattle.control.specs.declared.told.Told.TheVariants as spoken
+use Rattle.control.specs.declared.traffic.Traffic.{Traffic}
+
+-- the lines of a health that are told tell how far the copy is, where this is known of its figures
+pub tells_how_far : (far : HowFar) (known : Figures → Type 0) (traffic : Traffic) (copied : Option (List ℕ))
+    (pinged : Result Health StoreFault → Type 0) (told : Result Told Io)
+    → IfOk told (TellsPing (TellsKept known traffic copied (Some far)) pinged) → IfOk told (TellsHowFar far)
+tells_how_far far known traffic copied pinged (Ok (spoken.Health lines)) (h, came, is, same) = (h, is.how_far, same)
+tells_how_far far known traffic copied pinged (Ok (spoken.Outcome outcome)) tells = tt
+tells_how_far far known traffic copied pinged (Ok (spoken.List lines)) tells = tt
+tells_how_far far known traffic copied pinged (Err e) tells = tt
+
+module _ {O : Type 0} (heeded : O → Account × Reads) (told : O → Option (List ℕ) × Writes) {S : Type 0}
+    (shown : S → Shown) (copied : S → S → List ℕ → Result (Unit {0}) CopyRefusal → Type 0)
+    (counted : S → S → ℕ → Type 0) where
+  abbrev Obeyed : Tally → O → Bool → S → S → Type 0
+  Obeyed tally operator stops s t = ObeysOne heeded told (copied s t)
+      (IsPinged tally (shown s).failures (shown t).failures (counted s t)) (Unit {0})
+      (IsOnlyRead (shown s) (shown t)) operator stops (shown s) (shown t)
+
+  -- an operator was obeyed while a copy is made, with a tally that is that of the moment
+  pub obeys_meanwhile : (far : HowFar) (tally : Tally) (operator : O) (stops : Bool) (p q : Progress) (s t : S)
+      → (o : Obeyed tally operator stops s t) → IfOk o.audience.told (TellsHowFar far) → tally ≡ p.tally
+      → q.tally ≡ p.tally → q.left ≡ p.left → q.taken ≡ p.taken + 1 → q.stops ≡ (p.stops || stops)
+      → ObeysMeanwhile heeded told shown copied counted operator far p q s t
+  obeys_meanwhile far tally operator stops p q s t o tells same tally_q left taken ends =
+      let now : (x : Obeyed p.tally operator stops s t) × IfOk x.audience.told (TellsHowFar far) =
+      subst (λ u. (x : Obeyed u operator stops s t) × IfOk x.audience.told (TellsHowFar far)) same (o, tells) in
+      record {
+        stops = stops;
+        obeys = now.0;
+        tally = tally_q;
+        left = left;
+        taken = taken;
+        ends = ends;
+        tells = now.1;
+      }

@@ -1,7 +1,6 @@
 -- Some shelves of a world as a world of their own.
 use Rattle.std.proofs.Common.{◌≡◌, ◌≢◌, ◌⊎◌, ℕ, ◌≤◌, List, [], ◌∷◌, ◌++◌, Bool, true, false, cond, refl, ◌∙◌, sym, ap}
 use Rattle.std.proofs.Common.{subst, Option, Some, None, length, get_or, zero, suc, ◌<◌, inl, inr, arith, true≢false}
-use Rattle.std.specs.Borrow.{Bor}
 use Rattle.std.specs.Prelude.{bytes_eq, ◌&&◌, ◌||◌, is_some, map as each}
 use Rattle.std.specs.FinMap as map
 use Rattle.std.proofs.lemmas.Bool.{and_parts, and_from, or_left, or_right, or_cases}
@@ -13,16 +12,15 @@ use Rattle.world.specs.declared.entry.Entry.{Entry}
 use Rattle.world.specs.declared.entry.Holder.{Holder}
 use Rattle.world.specs.World.{World, IsWorld, common, chain, above, group_in, is_among, sees, place_cmp, count}
 use Rattle.world.specs.World.{version_limit}
-use Rattle.world.specs.Part.{part, IsTeam, is_held}
+use Rattle.world.specs.Part.{IsTeam, is_held}
 use Rattle.world.proofs.Ties.{neither}
 use Rattle.world.proofs.Orders.{texts_total, texts_exact, places_total, places_exact, text_self, text_same, test_alike}
 use Rattle.world.proofs.Parts.{text_alike, some_left, passed, still, gone}
 use Rattle.world.proofs.Sees.{sees_common, sees_parent, sees_through, only_common}
-use Rattle.statements.specs.Shelves.{names_of, added, AreShelves, AreAllShelves}
+use Rattle.statements.specs.Shelves.{names_of, added, AreShelves}
 use Rattle.statements.specs.declared.shelf_list.Shelf.{Shelf}
 use Rattle.statements.proofs.ShelfListLemmas.{or_apart, added_names, added_has}
-use Rattle.setup.specs.Parts.{part_of, chains, AreOf, AddsTeam, ListsTeams, Chooses}
-use Rattle.setup.specs.declared.choice.Wanted.TheVariants as wanted
+use Rattle.setup.specs.Parts.{part_of, part_of_teams, chains, AreOf, AddsTeam, ListsTeams}
 
 pub is_there : (ss : List (List ℕ)) (s : List ℕ) → Has ss s → is_among ss s ≡ true
 is_there ss s h = some_from (bytes_eq s) ss s h (text_self s)
@@ -201,9 +199,6 @@ pub one_chain : (w : World) (t s : List ℕ) → is_among (chains w (t ∷ [])) 
 one_chain w t s = among_either (chain w t) (common ∷ []) s
     ∙ or_taken _ _ (λ is. ap (is_among (chain w t)) (only_common s is) ∙ sees_common w t)
 
-pub part_of_one : (w : World) (t : List ℕ) → part_of w (chains w (t ∷ [])) ≡ part w t
-part_of_one w t = part_same w (chains w (t ∷ [])) (chain w t) (one_chain w t)
-
 -- one more team adds its chain
 pub chains_more : (w : World) (ts : List (List ℕ)) (t s : List ℕ)
     → is_among (chains w (ts ++ t ∷ [])) s ≡ (is_among (chains w ts) s || is_among (chain w t) s)
@@ -322,17 +317,10 @@ pub not_all : (w : World) (ts : List (List ℕ)) (t : List ℕ) (shelves : List 
     → AddsTeam w t shelves None → ListsTeams w ts None
 not_all w ts t shelves there none = λ are. none (are.1 t there)
 
--- ---- the choice
-
-pub teams_chosen : (w : World) (it : Bor (List (Bor (List ℕ)))) (o : Option (List Shelf))
-    → ListsTeams w (each (λ t. t.now) it.now) o → Chooses w (wanted.Teams it) o
-teams_chosen w it None h = h
-teams_chosen w it (Some shelves) h =
-    (h.0, h.1.are, part_same w (common ∷ names_of shelves) (chains w (each (λ t. t.now) it.now)) h.1.same)
-
-pub all_chosen : (w : World) → IsWorld w → (shelves : List Shelf) → AreAllShelves w shelves
-    → Chooses w wanted.All (Some shelves)
-all_chosen w is shelves all = (tt, all.are, part_all w (common ∷ names_of shelves) is all.each_is)
+-- the shelves of the list, with `common`, make the part of the teams
+pub listed_part : (w : World) (ts : List (List ℕ)) (shelves : List Shelf) → ListsTeams w ts (Some shelves)
+    → part_of w (common ∷ names_of shelves) ≡ part_of_teams ts w
+listed_part w ts shelves lists = part_same w (common ∷ names_of shelves) (chains w ts) lists.1.same
 
 -- ---- whether a team is named
 

@@ -1,4 +1,4 @@
--- Copying some shelves of a store into a fresh store: those that some teams see, or all.
+-- Copying the shelves of a store that some teams see into a fresh store.
 use Rattle.std.specs.Prelude.{ℕ, ◌≡◌, ◌≢◌, List, [], ◌∷◌, ◌++◌, map as each, Bool, true}
 use Rattle.std.specs.Prelude.{false, Option, Some, None, Result, Ok, Err, OnOk, OnErr, IsTrue}
 use Rattle.std.specs.FinMap as map
@@ -11,12 +11,10 @@ use Rattle.statements.specs.Extract.{OfWorlds, PutsShelf, CopiesKeys, CopiesVers
 use Rattle.statements.specs.Shelves.{names_of, added, AreShelves, AreAllShelves}
 use Rattle.statements.specs.declared.extract_rows.CopyError.{CopyError}
 use Rattle.statements.specs.declared.shelf_list.Shelf.{Shelf}
-use Rattle.world.specs.Part.{IsTeam, is_held, part}
+use Rattle.world.specs.Part.{IsTeam, is_held}
 use Rattle.world.specs.Store.{Shown}
 use Rattle.world.specs.World.{World, IsWorld, common, chain, is_among, only_common}
 use Rattle.setup.specs.Extracted.{IsRead, IsUnfit, AfterFill}
-use Rattle.setup.specs.declared.choice.Wanted.{Wanted}
-use Rattle.setup.specs.declared.choice.Wanted.TheVariants as wanted
 use Rattle.setup.specs.declared.judge.Judged.{Judged}
 use Rattle.setup.specs.declared.judge.Judged.TheVariants as judged
 use Rattle.setup.specs.declared.write.Rows.{Rows}
@@ -67,33 +65,17 @@ abbrev pub ListsTeams : World → List (List ℕ) → Option (List Shelf) → Ty
 ListsTeams w ts None = ¬ AreTeams w ts
 ListsTeams w ts (Some shelves) = AreTeams w ts × AreOf w (chains w ts) shelves
 
--- what is wanted exists: each wanted team does
-abbrev pub IsThere : World → Wanted → Type 0
-IsThere w (wanted.Teams ts) = AreTeams w (each (λ t. t.now) ts.now)
-IsThere w wanted.All = Unit {0}
+-- the world of the shelves that the teams see
+abbrev pub part_of_teams : List (List ℕ) → World → World
+part_of_teams ts w = part_of w (chains w ts)
 
--- the names of the shelves that are wanted
-abbrev pub shelves_of : World → Wanted → List (List ℕ)
-shelves_of w (wanted.Teams ts) = chains w (each (λ t. t.now) ts.now)
-shelves_of w wanted.All = map.keys w.shelves
-
--- the world of the shelves that are wanted
-abbrev pub wanted_part : Wanted → World → World
-wanted_part (wanted.Teams ts) w = part_of w (chains w (each (λ t. t.now) ts.now))
-wanted_part wanted.All w = w
-
--- the shelves, with `common`, are those that are wanted; None: what is wanted does not exist
-abbrev pub Chooses : World → Wanted → Option (List Shelf) → Type 0
-Chooses w it None = ¬ IsThere w it
-Chooses w it (Some shelves) = IsThere w it × AreShelves w shelves
-    × (part_of w (common ∷ names_of shelves) ≡ wanted_part it w)
-
--- the verdict on copying wanted shelves of w into a store of x
-abbrev pub IsJudged : World → World → Wanted → Judged → Type 0
-IsJudged w x it (judged.Fit shelves) =
-    IsThere w it × AreShelves w shelves × (part_of w (common ∷ names_of shelves) ≡ wanted_part it w) × (x ≡ only_common)
-IsJudged w x it judged.NoTeam = ¬ IsThere w it
-IsJudged w x it judged.NotEmpty = IsThere w it × (x ≢ only_common)
+-- the verdict on copying the part of some teams of w into a store of x
+abbrev pub IsJudged : World → World → List (List ℕ) → Judged → Type 0
+IsJudged w x ts (judged.Fit shelves) =
+    AreTeams w ts × AreShelves w shelves × (part_of w (common ∷ names_of shelves) ≡ part_of_teams ts w)
+    × (x ≡ only_common)
+IsJudged w x ts judged.NoTeam = ¬ AreTeams w ts
+IsJudged w x ts judged.NotEmpty = AreTeams w ts × (x ≢ only_common)
 
 -- whether the shelves are to be written
 abbrev pub is_fit : Judged → Bool
@@ -148,7 +130,7 @@ MakesPart shelves source db after =
     (w : World) → Means source w → IsWorld w → AreShelves w shelves
     → StandFor db only_common → Means after (part_of w (common ∷ names_of shelves))
 
--- ---- the calls `extract`, `extract_teams` and `copy`
+-- ---- the calls `extract_teams` and `copy_between`
 
 -- What the result of copying shelves into a store of x says: it is done, or why it is refused, or memory ran out or a
 -- device failed. `NoTeam` comes before `NotEmpty`.
@@ -180,18 +162,6 @@ pub record FillsBy (There : World → Type 0) (next : World → World)
       source_new.is_honest → fresh_new.is_honest → (w x : World) → source.stands w → fresh.stands x
       → FillsAt fresh fresh_new (There w) (next w) x result
 
--- the wanted shelves are put into a fresh store
-abbrev pub Fills : Wanted → Shown → Shown → Shown → Shown → Result (Unit {0}) StoreRefusal → Type 0
-Fills it = FillsBy (λ w. IsThere w it) (wanted_part it)
-
--- the part of this team is put into a fresh store
-abbrev pub Extracts : List ℕ → Shown → Shown → Shown → Shown → Result (Unit {0}) StoreRefusal → Type 0
-Extracts t = FillsBy (λ w. IsTeam w t) (λ w. part w t)
-
 -- the part of these teams is put into a fresh store
 abbrev pub ExtractsTeams : List (List ℕ) → Shown → Shown → Shown → Shown → Result (Unit {0}) StoreRefusal → Type 0
-ExtractsTeams ts = FillsBy (λ w. AreTeams w ts) (λ w. part_of w (chains w ts))
-
--- the whole store is put into a fresh store
-abbrev pub CopiesAll : Shown → Shown → Shown → Shown → Result (Unit {0}) StoreRefusal → Type 0
-CopiesAll = FillsBy (λ _. Unit {0}) (λ w. w)
+ExtractsTeams ts = FillsBy (λ w. AreTeams w ts) (part_of_teams ts)

@@ -1,26 +1,16 @@
-//! Chooses the shelves of a store to copy into a fresh one.
+//! Finds the shelves of a store that some teams see.
 
 ghost use Rattle.std.specs.Prelude.{◌≡◌, map as each, IfOk, IsSome, IsTrue};
 ghost use Rattle.sqlite.specs.Held.{state};
 ghost use Rattle.world.specs.World.{IsWorld};
 ghost use Rattle.statements.specs.Calls.{InEachWorld, Spares};
-ghost use Rattle.setup.specs.Parts.{with_parent_and_team, AddsTeam, ListsTeams, Chooses};
+ghost use Rattle.setup.specs.Parts.{with_parent_and_team, AddsTeam, ListsTeams};
 
 use sqlite::{Alter, Connection, Error};
 use statements::registry::find_shelf;
 use statements::shelf_list::{Shelf, ShelfList};
-use statements::shelves::find_shelves;
 use std::alloc::{AllocError, Global};
 use text::Text;
-
-/// The shelves to copy.
-#[derive(Clone, Copy, Drop)]
-pub enum Wanted<'a> {
-    /// The shelves that these teams see.
-    Teams(&'a [&'a str]),
-    /// All shelves.
-    All,
-}
 
 /// Returns the list with the parent of a team and then the team added. Fails if memory runs out.
 fn with_parent_and_team(
@@ -62,7 +52,7 @@ fn add_team<S: Alter>(
 }
 
 /// Returns the shelves other than `common` that these teams see, or None if no team is named or a name is not a team's.
-fn list_teams<S: Alter>(
+pub(crate) fn list_teams<S: Alter>(
     alloc: Global,
     source: &mut Connection<S>,
     teams: &[&str],
@@ -83,22 +73,4 @@ fn list_teams<S: Alter>(
         list = longer;
     }
     Ok(Some(list))
-}
-
-/// Returns the shelves other than `common` to copy, or None if teams are wanted and none is named or a name is not a
-/// team's.
-pub(crate) fn choose<S: Alter>(
-    alloc: Global,
-    source: &mut Connection<S>,
-    wanted: Wanted<'_>,
-) -> Result<Option<ShelfList>, Error>
-    ensures spares { Spares (state S.Store source.old) (state S.Store source.new) }
-    ensures answer { InEachWorld (state S.Store source.old) (state S.Store source.new) (λ _ new w.
-        IfOk result (λ list. (IsSome list → IsTrue new.is_open)
-        × (IsWorld w → Chooses w wanted.entry list))) }
-{
-    match wanted {
-        Wanted::Teams(teams) => list_teams(alloc, source, teams),
-        Wanted::All => Ok(Some(find_shelves(alloc, source)?)),
-    }
 }

@@ -1,6 +1,6 @@
-//! Copies shelves of a store into a fresh one, if they exist and the fresh one has only `common`.
+//! Copies the shelves that some teams see into a fresh store, with keys and entries, or all shelves with their keys.
 
-ghost use Rattle.std.specs.Prelude.{◌≡◌, ◌≤◌, false, IfOk, OnOk, is_ok};
+ghost use Rattle.std.specs.Prelude.{◌≡◌, map as each, ◌≤◌, false, IfOk, OnOk, is_ok};
 ghost use Rattle.sqlite.specs.Held.{state};
 ghost use Rattle.sqlite.specs.State.{HasCleanDisk};
 ghost use Rattle.sqlite_trees.specs.View.{doubt};
@@ -9,9 +9,8 @@ ghost use Rattle.tables.specs.Means.{StandsFor};
 ghost use Rattle.statements.specs.Calls.{Spares, ChangesAt};
 ghost use Rattle.statements.specs.Rows.{GoesOn, Writing};
 ghost use Rattle.setup.specs.Extracted.{InEachTwo};
-ghost use Rattle.setup.specs.Parts.{IsJudged, is_fit, is_written, registry_of, wanted_part};
+ghost use Rattle.setup.specs.Parts.{IsJudged, is_fit, is_written, part_of_teams, registry_of};
 
-use crate::choice::Wanted;
 use crate::judge::{Judged, judge};
 use crate::write::{write_part, write_registry};
 use sqlite::{Alter, Connection, Transaction};
@@ -19,12 +18,12 @@ use statements::extract_rows::CopyError;
 use statements::shelves::find_shelves;
 use std::alloc::Global;
 
-/// Copies the wanted shelves into a fresh store, if they exist and the store has only `common`, and returns the
-/// verdict. Fails with `Source` or `Fresh`, by the store that failed.
-pub fn copy_shelves<S: Alter, F: Alter>(
+/// Copies the shelves that some teams see into a fresh store, with their keys and entries, if each name is a team's and
+/// the store has only `common`, and returns the verdict. Fails with `Source` or `Fresh`, by the store that failed.
+pub fn copy_teams<S: Alter, F: Alter>(
     alloc: Global,
     source: &mut Connection<S>,
-    wanted: Wanted<'_>,
+    teams: &[&str],
     fresh: &mut Connection<F>,
 ) -> Result<Judged, CopyError>
     ensures reads { Spares (state S.Store source.old) (state S.Store source.new) }
@@ -33,13 +32,13 @@ pub fn copy_shelves<S: Alter, F: Alter>(
         → Spares (state F.Store fresh.old) (state F.Store fresh.new)) }
     ensures verdict { InEachTwo (state S.Store source.old) (state S.Store source.new)
         (state F.Store fresh.old) (state F.Store fresh.new)
-        (λ w x. IfOk result (IsJudged w x wanted.entry)) }
+        (λ w x. IfOk result (IsJudged w x (each (λ team. team.now) teams.now))) }
     ensures changes { InEachTwo (state S.Store source.old) (state S.Store source.new)
         (state F.Store fresh.old) (state F.Store fresh.new)
         (λ w x. ChangesAt (state F.Store fresh.old) (state F.Store fresh.new)
-        (is_written result) x (wanted_part wanted.entry w)) }
+        (is_written result) x (part_of_teams (each (λ team. team.now) teams.now) w)) }
 {
-    let judged = judge(alloc, source, wanted, fresh)?;
+    let judged = judge(alloc, source, teams, fresh)?;
     match judged {
         Judged::Fit(shelves) => {
             write_part(source, &shelves, fresh)?;

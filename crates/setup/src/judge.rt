@@ -1,7 +1,7 @@
 //! Judges whether shelves may be copied into a fresh store: the wanted teams exist, and the fresh store has only
 //! `common`.
 
-ghost use Rattle.std.specs.Prelude.{◌≡◌, Decides, IfOk, IsTrue};
+ghost use Rattle.std.specs.Prelude.{◌≡◌, map as each, Decides, IfOk, IsTrue};
 ghost use Rattle.sqlite.specs.Held.{state};
 ghost use Rattle.sqlite.specs.State.{HasCleanDisk};
 ghost use Rattle.world.specs.World.{IsWorld, only_common};
@@ -10,7 +10,7 @@ ghost use Rattle.statements.specs.Calls.{InEachWorld, Spares};
 ghost use Rattle.setup.specs.Extracted.{HasOtherShelf, HasKey, HasEntry};
 ghost use Rattle.setup.specs.Parts.{IsJudged, is_fit};
 
-use crate::choice::{Wanted, choose};
+use crate::choice::list_teams;
 use sqlite::{Alter, Connection, Error, params};
 use statements::extract_rows::CopyError;
 use statements::query::find_row;
@@ -83,7 +83,7 @@ pub fn is_blank<F: Alter>(conn: &mut Connection<F>) -> Result<bool, Error>
 pub(crate) fn judge<S: Alter, F: Alter>(
     alloc: Global,
     source: &mut Connection<S>,
-    wanted: Wanted<'_>,
+    teams: &[&str],
     fresh: &mut Connection<F>,
 ) -> Result<Judged, CopyError>
     ensures spares { Spares (state S.Store source.old) (state S.Store source.new) }
@@ -92,10 +92,10 @@ pub(crate) fn judge<S: Alter, F: Alter>(
         IfOk result (λ judged. IsTrue (is_fit judged) → IsTrue new.is_open)) }
     ensures verdict { HasCleanDisk (state S.Store source.new) → HasCleanDisk (state F.Store fresh.new)
         → (w x : _) → StandsFor (state S.Store source.old) w → StandsFor (state F.Store fresh.old) x
-        → IfOk result (λ judged. IsJudged w x wanted.entry judged
+        → IfOk result (λ judged. IsJudged w x (each (λ team. team.now) teams.now) judged
         × (IsTrue (is_fit judged) → IsTrue (state F.Store fresh.new).is_open)) }
 {
-    let Some(shelves) = choose(alloc, source, wanted)? else {
+    let Some(shelves) = list_teams(alloc, source, teams)? else {
         return Ok(Judged::NoTeam);
     };
     match is_blank(fresh) {

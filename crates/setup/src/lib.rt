@@ -6,7 +6,7 @@
 //! |---|---|
 //! | `adopt::open_tables` | `tables::fit::stand_for_world`, or `tables::create::create` if there are no tables |
 //! | `judge::is_blank` | `statements::query::find_row` for a shelf other than `common`, a key and an entry |
-//! | `copy::copy_shelves` | `find_shelf` or `find_shelves`, `is_blank`; in one transaction, `extract_rows` |
+//! | `copy::copy_teams` | `find_shelf`, `is_blank`; in one transaction, `extract_rows` |
 //! | `copy::copy_registry` | `find_shelves`, and `put_shelf` and `extract_rows::copy_keys` of `statements` |
 //!
 //! What contracts say of values holds if the disk has returned what was written.

@@ -1,7 +1,6 @@
 -- Some shelves, written whole or not at all, as a call of a store.
 use Rattle.std.proofs.Common.{◌≡◌, ◌≢◌, ℕ, List, [], ◌∷◌, Result, Ok, Err, is_ok, inl, inr, refl, sym, subst}
 use Rattle.sqlite.specs.State.{State, HasCleanDisk}
-use Rattle.world.specs.Part.{IsTeam}
 use Rattle.world.specs.Store.{Shown}
 use Rattle.world.specs.World.{World, IsWorld}
 use Rattle.tables.specs.Means.{Stands, StandsFor}
@@ -13,10 +12,7 @@ use Rattle.kept.specs.declared.kept.Kept.{Kept}
 use Rattle.kept.specs.Kept.{AreKept, IsNothing}
 use Rattle.kept.proofs.KeptLemmas.{nothing_kept}
 use Rattle.setup.specs.Extracted.{IsRead, IsUnfit, AfterFill}
-use Rattle.setup.specs.Parts.{AreTeams, wanted_part, SaysOfCopy, FillsAt, FillsBy, Extracts, ExtractsTeams}
-use Rattle.setup.specs.declared.choice.Wanted.{Wanted}
-use Rattle.setup.specs.declared.choice.Wanted.TheVariants as wanted
-use Rattle.setup.proofs.PartLemmas.{chains_world, part_of_one, not_cons}
+use Rattle.setup.specs.Parts.{SaysOfCopy, FillsAt, FillsBy}
 use Rattle.setup.specs.declared.refusal.StoreRefusal.{StoreRefusal}
 use Rattle.setup.specs.declared.refusal.StoreRefusal.TheVariants as refusal
 use Rattle.store.proofs.StoreLemmas.{narrow}
@@ -43,11 +39,6 @@ fault_tells There x refusal.Memory a b c = tt
 fault_tells There x refusal.BadSchema a b c = absurd (a refl)
 fault_tells There x refusal.NotEmpty a b c = absurd (b refl)
 fault_tells There x refusal.NoTeam a b c = absurd (c refl)
-
--- the wanted shelves of a world are a world
-pub wanted_is_world : (it : Wanted) (w : World) → IsWorld w → IsWorld (wanted_part it w)
-wanted_is_world (wanted.Teams ts) w is = chains_world w _ is
-wanted_is_world wanted.All w is = is
 
 -- after a change from x to the next world, done if the result is Ok, a crash leaves what `AfterFill` says
 pub after_fill : (old new : State) (x next : World) (result : Result (Unit {0}) StoreRefusal) → HasCleanDisk new
@@ -140,40 +131,4 @@ fills_kept There next a a_new b b_new kept kept_new old new n n_new m m_new r sa
   spares = λ unfit. read_kept b b_new old new m m_new none (does.spares unfit);
   at = λ h good w x sw sx.
       fills_at_kept (There w) (next w) x b b_new old new m m_new r none (does.at h good w x sw.0 sx.0);
-}
-
--- ---- one team
-
-one_team : (w : World) (t : List ℕ) → IsTeam w t → AreTeams w (t ∷ [])
-one_team w t is = (
-  not_cons t [],
-  λ u there.
-      elim there [ inl same ↦ subst (IsTeam w) (sym same) is | inr none ↦ absurd none ],
-)
-
-one_tells : (w x : World) (t : List ℕ) (r : Result (Unit {0}) StoreRefusal) → SaysOfCopy (AreTeams w (t ∷ [])) x r
-    → SaysOfCopy (IsTeam w t) x r
-one_tells w x t (Ok u) h = (h.0.1 t (inl refl), h.1)
-one_tells w x t (Err refusal.NoTeam) h = λ is. h (one_team w t is)
-one_tells w x t (Err refusal.NotEmpty) h = (h.0.1 t (inl refl), h.1)
-one_tells w x t (Err refusal.BadSchema) h = absurd h
-one_tells w x t (Err refusal.Device) h = tt
-one_tells w x t (Err refusal.Memory) h = tt
-
--- extracting the list of one team is extracting the team
-pub extracts_one : (source source_new fresh fresh_new : Shown) (t : List ℕ) (r : Result (Unit {0}) StoreRefusal)
-    → ExtractsTeams (t ∷ []) source source_new fresh fresh_new r → Extracts t source source_new fresh fresh_new r
-extracts_one source source_new fresh fresh_new t r does = record {
-  reads = does.reads;
-  honest = does.honest;
-  spares = does.spares;
-  at = λ h good w x sw sx.
-      let it = does.at h good w x sw sx in
-      let same = part_of_one w t in
-      record {
-        tells = one_tells w x t r it.tells;
-        ok = subst (λ p. OnOk r (fresh_new.stands p)) same it.ok;
-        err = it.err;
-        crash = subst (AfterFill fresh fresh_new x r) same it.crash;
-      };
 }

@@ -26,7 +26,7 @@
 //! | `insert` | `statements::entries::add_entry` |
 //! | `team_add`, `group_add`, `key_add` | `add_team`, `add_group`, `add_key` of `statements::registry` |
 //! | `key_revoke`, `keys_revoke` | `statements::revoke::revoke_key`, `revoke_keys` |
-//! | `extract`, `extract_teams`, `copy` | `setup::copy::copy_shelves`, which writes in one transaction |
+//! | `extract_teams` | `setup::copy::copy_teams`, which writes in one transaction |
 //! | `copy_between` | `setup::copy::copy_registry`, then `slices::slice::copy_slice` repeatedly, in one transaction |
 //! | `keys`, `shelves` | `statements::named::find_keys`, `find_shelf_names` |
 //! | `parent` | `statements::registry::find_shelf` |

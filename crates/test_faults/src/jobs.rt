@@ -77,7 +77,7 @@ fn extracted<T: Alter, S: Alter>(
     fresh: &mut SqlShelves<S>,
 ) -> Result<u8, Fail> {
     set_up(alloc, whole)?;
-    Ok(u8::from(whole.extract("alpha", fresh).is_ok()))
+    Ok(u8::from(whole.extract_teams(&["alpha"], fresh).is_ok()))
 }
 
 /// Does a job that any shelves can do, and returns the bits of the pieces that were acknowledged.

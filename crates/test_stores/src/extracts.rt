@@ -61,33 +61,33 @@ on-part|PART
 ====
 a part of two members has their group once
 on-whole|GROUPED
-extract-teams|gamma delta = ()
+extract|gamma delta = ()
 on-part|PART_OF_ONE_GROUP
 on-whole|SAME_OF_GROUPED
 ====
 a team that is named twice is as one
 on-whole|GROUPED
-extract-teams|gamma gamma = ()
+extract|gamma gamma = ()
 on-part|PART_OF_GAMMA
 on-whole|SAME_OF_GROUPED
 ====
 a part of teams of two groups has both
 on-whole|TWO_GROUPS
-extract-teams|delta gamma = ()
+extract|delta gamma = ()
 on-part|PART_OF_TWO_GROUPS
 on-whole|WHOLE_OF_TWO_GROUPS
 ====
 each name is that of a team, whatever the other store holds
 on-whole|TWO_GROUPS
-extract-teams|gamma tools = NoTeam
-extract-teams|common gamma = NoTeam
-extract-teams|gamma delta beta = NoTeam
-extract-teams| = NoTeam
+extract|gamma tools = NoTeam
+extract|common gamma = NoTeam
+extract|gamma delta beta = NoTeam
+extract| = NoTeam
 on-part|TWO_GROUPS
-extract-teams|gamma tools = NoTeam
-extract-teams|common gamma = NoTeam
-extract-teams|gamma delta beta = NoTeam
-extract-teams| = NoTeam
+extract|gamma tools = NoTeam
+extract|common gamma = NoTeam
+extract|gamma delta beta = NoTeam
+extract| = NoTeam
 ====
 a copy has all, and then is not empty
 on-whole|TWO_GROUPS

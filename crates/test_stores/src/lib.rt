@@ -8,6 +8,8 @@
 #[cfg(test)]
 mod adopted_tables;
 #[cfg(test)]
+mod alone;
+#[cfg(test)]
 mod extracts;
 #[cfg(test)]
 mod in_memory;

@@ -1,11 +1,26 @@
 //! Runs scripts on stores in memory.
+use crate::alone::{Alone, EachRow};
 use crate::extracts::script;
 use sqlite::{Alter, Connection, MemStore};
 use std::alloc::Global;
 use std::test::Fail;
+use store::between::CopyEnd;
+use store::refusal::StoreRefusal;
 use store::store::SqlShelves;
 use test_support::calls::wrong_row;
 use test_support::rows::{call_of, column};
+
+/// Copies a store into another one while nobody is served. A copy that was ended counts as one that met a fault.
+fn copied<S: Alter>(
+    whole: &mut SqlShelves<S>,
+    part: &mut SqlShelves<S>,
+) -> Result<(), StoreRefusal> {
+    match whole.copy_between(part, &mut EachRow, &mut Alone) {
+        Ok(()) => Ok(()),
+        Err(CopyEnd::Refused(refusal)) => Err(refusal),
+        Err(CopyEnd::Ended) => Err(StoreRefusal::Device),
+    }
+}
 
 /// Makes a part or a copy as a call says, and returns `()` or the name of the refusal.
 fn made<S: Alter>(
@@ -14,12 +29,10 @@ fn made<S: Alter>(
     part: &mut SqlShelves<S>,
     call: &str,
 ) -> Result<String, Fail> {
-    let names = column(call, 1);
     let outcome = match column(call, 0) {
-        "copy" => whole.copy(part),
-        "extract" => whole.extract(names, part),
+        "copy" => copied(whole, part),
         _ => {
-            let teams: Vec<&str> = names.split_whitespace().collect(alloc)?;
+            let teams: Vec<&str> = column(call, 1).split_whitespace().collect(alloc)?;
             whole.extract_teams(teams.as_slice(), part)
         }
     };
@@ -41,7 +54,7 @@ fn wrong_call<'a, S: Alter>(
         "part" => wrong_row(alloc, part, rest),
         "on-part" => wrong_row(alloc, part, script(rest)?),
         "on-whole" => wrong_row(alloc, whole, script(rest)?),
-        "copy" | "extract" | "extract-teams" => {
+        "copy" | "extract" => {
             let outcome = made(alloc, whole, part, call_of(row))?;
             Ok(if row.ends_with(outcome.as_str()) {
                 ""
@@ -56,7 +69,7 @@ fn wrong_call<'a, S: Alter>(
 /// Runs a script on two empty stores, one row a line, and returns the first row that is answered otherwise, or the
 /// empty text. The first store is the whole, the other takes a part or a copy of it.
 ///
-/// - `copy`, `extract` and a team, `extract-teams` and teams: makes the copy or the part.
+/// - `copy`, `extract` and teams: makes the copy or the part.
 /// - `on-whole` and `on-part`: runs the script of this name on the store.
 /// - `part` and a row of `test_support`: runs the row on the part. Any other row runs on the whole.
 fn wrong_row_of_two<'a, S: Alter>(

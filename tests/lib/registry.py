@@ -50,6 +50,7 @@ SUITES = (
     listed("control_sockets"),
     listed("copies"),
     listed("copies_meanwhile"),
+    listed("copies_on_disk", "strace"),
     listed("copy_kills", is_long=True),
     listed("departures", "go"),
     listed("doctor"),

@@ -9,7 +9,7 @@ use runner::system::{SystemOlderFiles, SystemStoreFiles};
 use runner::{Command, run};
 use std::io::IsTerminal;
 use std::rt::HostRuntime;
-use store::files::is_new_store;
+use store::files::{PageRoom, is_new_store};
 use store::refusal::StoreRefusal;
 
 /// Runs commands. A run of the program reaches the files of stores only by it.
@@ -69,8 +69,8 @@ impl<'a> Runner for SystemStores<'a> {
         output: &mut O,
     ) -> Result<bool, CommandRefusal> {
         let mut host = SystemHost { rt: self.rt };
-        let mut files = SystemStoreFiles::new(self.rt);
-        let mut targets = SystemStoreFiles::new(self.rt);
+        let mut files = SystemStoreFiles::new(self.rt, PageRoom::Zip);
+        let mut targets = SystemStoreFiles::new(self.rt, PageRoom::Zip);
         let mut older = SystemOlderFiles::new(self.rt);
         run(
             &mut host,

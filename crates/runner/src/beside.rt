@@ -2,7 +2,7 @@
 //! a name makes the database unreadable, so none is made there.
 
 use commands::files::is_same_file;
-use std::fs;
+use std::fs::{self, File};
 use std::io::{self, ErrorKind};
 use std::rt::HostRuntime;
 use store::refusal::StoreRefusal;
@@ -52,6 +52,20 @@ fn is_file(rt: &HostRuntime, path: &str) -> bool {
     match fs::metadata(rt, path) {
         Ok(found) => found.is_file(),
         Err(_) => false,
+    }
+}
+
+/// Has the system write to the disk what it has of the log of the store at `path`. Does nothing if the log can't be
+/// opened or memory runs out for its name.
+pub(crate) fn sync_log(rt: &HostRuntime, path: &str) {
+    let Ok(real) = real_name(rt, path) else {
+        return;
+    };
+    let Ok(log) = format!(in rt.alloc(); "{}-wal", real.as_str()) else {
+        return;
+    };
+    if let Ok(file) = File::open(rt, log.as_str()) {
+        let _ = file.sync_data();
     }
 }
 

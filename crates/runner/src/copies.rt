@@ -19,10 +19,12 @@ use commands::files::size_of_file;
 use control::{Copies, CopyRefusal, Figures};
 use files::files::{StoreFiles, Use};
 use meanwhile::between::Between;
+use slices::pace::Pace;
 use sqlite::{Alter, Start};
 use std::rt::HostRuntime;
 use std::time::Clock;
 use store::between::CopyEnd;
+use store::files::PageRoom;
 use store::refusal::StoreRefusal;
 use store::store::SqlShelves;
 use world::registry::StoreFault;
@@ -88,7 +90,7 @@ impl<'a, S: Alter> Copies<SqlShelves<S>> for FileCopies<'a> {
         between: &mut B,
     ) -> Result<(), CopyRefusal> {
         let rt = self.host.rt;
-        let mut targets = SystemStoreFiles::new(rt);
+        let mut targets = SystemStoreFiles::new(rt, PageRoom::Slice);
         copy_to(
             rt,
             &self.host,
@@ -152,7 +154,8 @@ where
         Ok(file) => file,
         Err(unopened) => return Err(uncopied(unopened)),
     };
-    let told = copy_into(clock, source, &mut fresh.store, between);
+    let mut pace = SlicePace::new(clock, looks, to);
+    let told = copy_into(&mut pace, source, &mut fresh.store, between);
     targets.close(fresh);
     told
 }
@@ -160,8 +163,8 @@ where
 /// Makes an open store a copy of the served one, a slice at a time, and has `between` take a turn after each slice.
 /// Fails with `NotEmpty` if it has more than an empty store, `Device` if a disk fails, `Memory` if memory runs out, and
 /// `Ended` if `between` ended the copy.
-fn copy_into<C: Clock, S: Alter, B: Between<SqlShelves<S>>>(
-    clock: &C,
+fn copy_into<P: Pace, S: Alter, B: Between<SqlShelves<S>>>(
+    pace: &mut P,
     source: &mut SqlShelves<S>,
     fresh: &mut OpenedStore,
     between: &mut B,
@@ -172,8 +175,7 @@ fn copy_into<C: Clock, S: Alter, B: Between<SqlShelves<S>>>(
         source.old source.new fresh.old fresh.new result }
     ensures begun { IfErr result (λ why. why ≢ Busy) }
 {
-    let mut pace = SlicePace::new(clock);
-    copied(source.copy_between(&mut fresh.shelves, &mut pace, between))
+    copied(source.copy_between(&mut fresh.shelves, pace, between))
 }
 
 /// Returns the result of a copy, by that of the store.

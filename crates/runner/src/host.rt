@@ -4,7 +4,7 @@ ghost use Rattle.commands.specs.Action.{Acts};
 ghost use Rattle.runner.specs.Copies.{CopiesFile, CountsIn};
 ghost use Rattle.runner.specs.Opened.{HasBegun};
 
-use crate::beside::check_name;
+use crate::beside::{check_name, sync_log};
 use crate::copies::FileCopies;
 use crate::extract::extract_file;
 use crate::found::{AsFound, ClosedFile, Found, FoundTables, OpenedStore};
@@ -143,6 +143,10 @@ impl<'a> Looks for SystemHost<'a> {
 
     fn check_name(&self, db: &str, to: &str) -> Result<(), StoreRefusal> {
         check_name(self.rt, db, to)
+    }
+
+    fn settle_log(&self, path: &str) {
+        sync_log(self.rt, path);
     }
 }
 

@@ -1,4 +1,4 @@
-//! What a command looks at before it opens a store.
+//! What a command asks of files that it opens as stores, or has open.
 use store::refusal::StoreRefusal;
 
 /// Looks at files. They change none, so no history has them.
@@ -15,4 +15,8 @@ pub trait Looks {
     /// Tests the name of a new store. Fails with `Device` if SQLite has a use for that file, by its name or by a link:
     /// for the database at `db`, or for another that stands there. Fails with `Memory` if memory runs out.
     fn check_name(&self, db: &str, to: &str) -> Result<(), StoreRefusal>;
+
+    /// Has the system write to the disk what it has of the log of the store at `path`, which stays as it is. If that
+    /// fails, the commit meets it too, and tells.
+    fn settle_log(&self, path: &str);
 }

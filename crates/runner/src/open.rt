@@ -10,7 +10,7 @@ use files::files::Use;
 use sqlite::Start;
 use std::io::{self, ErrorKind};
 use std::rt::HostRuntime;
-use store::files::names_no_file;
+use store::files::{PageRoom, names_no_file};
 use store::open::FileShelves;
 use store::refusal::StoreRefusal;
 use world::shelves::Shelves;
@@ -25,13 +25,14 @@ pub(crate) fn open_for<T: Start>(
     path: &str,
     start: T,
     purpose: Use,
+    room: PageRoom,
 ) -> Result<FileShelves<T>, StoreRefusal>
     ensures { IfOk result (HasBegun ⟦<FileShelves<T> as Shelves>⟧.shown (image_at T.Start)) }
 {
     if matches!(purpose, Use::Reading) && !names_no_file(path) && is_unmade(rt, path) {
-        open_unnamed(rt, path, start)
+        open_unnamed(rt, path, start, room)
     } else {
-        open_named(rt, path, start)
+        open_named(rt, path, start, room)
     }
 }
 
@@ -49,6 +50,7 @@ fn open_unnamed<T: Start>(
     rt: &HostRuntime,
     path: &str,
     start: T,
+    room: PageRoom,
 ) -> Result<FileShelves<T>, StoreRefusal>
     ensures { IfOk result (HasBegun ⟦<FileShelves<T> as Shelves>⟧.shown (image_at T.Start)) }
 {
@@ -56,7 +58,7 @@ fn open_unnamed<T: Start>(
         Ok(files) => files,
         Err(error) => return Err(unnamed_refusal(error)),
     };
-    let opened = open_named(rt, files.path.as_str(), start);
+    let opened = open_named(rt, files.path.as_str(), start, room);
     files.unlink(rt);
     opened
 }
@@ -74,10 +76,11 @@ fn open_named<T: Start>(
     rt: &HostRuntime,
     path: &str,
     start: T,
+    room: PageRoom,
 ) -> Result<FileShelves<T>, StoreRefusal>
     ensures { IfOk result (HasBegun ⟦<FileShelves<T> as Shelves>⟧.shown (image_at T.Start)) }
 {
-    match FileShelves::open_from(rt, path, start) {
+    match FileShelves::open_from(rt, path, start, room) {
         Ok(shelves) => Ok(shelves),
         Err((refusal, _)) => Err(refusal),
     }

@@ -1,4 +1,5 @@
 //! How long a slice of a copy takes.
+use crate::looks::Looks;
 use slices::pace::Pace;
 use std::time::{Clock, Duration, Instant};
 
@@ -8,46 +9,81 @@ const MILLIS: u64 = 5;
 /// The bytes of a slice. The last piece or go.mod in it may exceed them.
 const BYTES: usize = 1 << 20;
 
+/// After how many bytes the log of the copy is first written to the disk, so that the commit has little to wait for.
+const FIRST_SETTLED: usize = 4 << 20;
+
+/// After how many bytes it is written at the latest.
+const LAST_SETTLED: usize = 64 << 20;
+
+/// The most milliseconds that this may take before the next time is put off.
+const SLOW_MILLIS: u64 = 20;
+
 /// Ends a slice after 5 ms or 1 MiB, whichever comes first. If the clock can't be read, only bytes count.
+///
+/// The log is written to the disk as it grows. Where that takes more than 20 ms, the next time comes after twice as
+/// many bytes: on a slow disk or a busy one, those who wait meet it a few times and no more.
 #[derive(Drop)]
-pub(crate) struct SlicePace<'a, C: Clock> {
+pub(crate) struct SlicePace<'a, C: Clock, L: Looks> {
     clock: &'a C,
+    looks: &'a L,
+    /// The file that is copied to.
+    to: &'a str,
     begun: Option<Instant>,
     bytes: usize,
+    /// The bytes that were copied since the log was last written to the disk, and how many there may be.
+    unsettled: usize,
+    settled_at: usize,
 }
 
-impl<'a, C: Clock> SlicePace<'a, C> {
-    pub(crate) fn new(clock: &'a C) -> SlicePace<'a, C> {
+impl<'a, C: Clock, L: Looks> SlicePace<'a, C, L> {
+    pub(crate) fn new(clock: &'a C, looks: &'a L, to: &'a str) -> SlicePace<'a, C, L> {
         SlicePace {
             clock,
+            looks,
+            to,
             begun: None,
             bytes: 0,
+            unsettled: 0,
+            settled_at: FIRST_SETTLED,
         }
     }
 
-    /// Whether 5 ms have passed since the slice began.
-    fn is_late(&self) -> bool {
+    /// Writes the log to the disk, and puts the next time off if that took long.
+    fn settle(&mut self) {
+        self.looks.settle_log(self.to);
+        self.unsettled = 0;
+        if self.has_taken(SLOW_MILLIS) {
+            self.settled_at = self.settled_at.saturating_mul(2).min(LAST_SETTLED);
+        }
+    }
+
+    /// Whether so many milliseconds have passed since the slice began.
+    fn has_taken(&self, millis: u64) -> bool {
         let Some(begun) = self.begun else {
             return false;
         };
         match begun.elapsed(self.clock) {
-            Ok(passed) => passed >= Duration::from_millis(MILLIS),
+            Ok(passed) => passed >= Duration::from_millis(millis),
             Err(_) => false,
         }
     }
 }
 
-impl<'a, C: Clock> Pace for SlicePace<'a, C> {
+impl<'a, C: Clock, L: Looks> Pace for SlicePace<'a, C, L> {
     fn begin(&mut self) {
         self.begun = Instant::now(self.clock).ok();
         self.bytes = 0;
+        if self.unsettled >= self.settled_at {
+            self.settle();
+        }
     }
 
     fn note(&mut self, bytes: usize) {
         self.bytes = self.bytes.saturating_add(bytes);
+        self.unsettled = self.unsettled.saturating_add(bytes);
     }
 
     fn is_spent(&mut self) -> bool {
-        self.bytes >= BYTES || self.is_late()
+        self.bytes >= BYTES || self.has_taken(MILLIS)
     }
 }

@@ -13,6 +13,7 @@ use sqlite::Start;
 use sqlite_trees::store::Store;
 use std::fs;
 use std::rt::HostRuntime;
+use store::files::PageRoom;
 use store::open_older::open_older;
 use store::refusal::StoreRefusal;
 use world::shelves::Shelves;
@@ -21,16 +22,18 @@ use world::shelves::Shelves;
 #[derive(Drop)]
 pub struct SystemStoreFiles<'a> {
     rt: &'a HostRuntime,
+    room: PageRoom,
     noted: Record<Deed<ClosedFile>>,
 }
 
 impl<'a> SystemStoreFiles<'a> {
-    /// Returns the files of the system, to which nothing was done.
-    pub fn new(rt: &'a HostRuntime) -> SystemStoreFiles<'a>
+    /// Returns the files of the system, to which nothing was done. Each is opened with this room in memory.
+    pub fn new(rt: &'a HostRuntime, room: PageRoom) -> SystemStoreFiles<'a>
         ensures { result.noted.deeds ≡ [] }
     {
         SystemStoreFiles {
             rt,
+            room,
             noted: Record::new(),
         }
     }
@@ -51,7 +54,7 @@ impl<'a> StoreFiles<OpenedStore, ClosedFile, StoreRefusal> for SystemStoreFiles<
         name: &'n str,
         purpose: Use,
     ) -> Result<OpenFile<'n, OpenedStore>, StoreRefusal> {
-        match open_for(self.rt, name, AsFound, purpose) {
+        match open_for(self.rt, name, AsFound, purpose, self.room) {
             Ok(shelves) => {
                 self.noted.note(name.as_bytes(), &Deed::Opened);
                 Ok(OpenFile {

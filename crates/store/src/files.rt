@@ -22,14 +22,35 @@ use std::fs;
 use std::hash::{BuildHasher, RandomState};
 use std::io::{self, ErrorKind};
 
-/// How many pages of 4,096 bytes stay in memory once they are read. The largest zip has 4,100 pages, so a zip that is
-/// asked for again is not read again, nor are the pages that lead to it. The kit keeps 2,000, with which each `.zip`
-/// reads all its pages from the system and digests them again.
+/// What a store has room in memory for. Pages have 4,096 bytes.
 ///
-/// The kit's other figure stays: the log grows to 1,000 frames of a page each before it is copied into the file. With
-/// 16 times as many, a publish of 1 or 16 MiB takes up to a tenth less time, but each opening reads and digests a log
-/// of 64 MiB.
-const KEPT_PAGES: usize = 8_192;
+/// In both cases the log grows to the kit's 1,000 frames of a page each before it is copied into the file. With 16
+/// times as many, a publish of 1 or 16 MiB takes up to a tenth less time, but each opening reads and digests a log of
+/// 64 MiB.
+#[derive(Clone, Copy, Drop)]
+pub enum PageRoom {
+    /// For the largest zip, which has 4,100 pages. One that is asked for again is not read again, nor are the pages
+    /// that lead to it. With the kit's 2,000, each `.zip` reads all its pages from the system and digests them again.
+    Zip,
+    /// For a slice of a copy: a store that is filled while another one is served. The pages that it writes go to the
+    /// log 1 MiB at a time, so that nobody waits for more.
+    Slice,
+}
+
+impl PageRoom {
+    /// The options of a connection with this room. The number salts its log.
+    fn options(self, seed: u64) -> Options {
+        let (cache_pages, spill_pages) = match self {
+            PageRoom::Zip => (8_192, 2_000),
+            PageRoom::Slice => (1_024, 256),
+        };
+        Options {
+            cache_pages,
+            spill_pages,
+            ..Options::new(seed)
+        }
+    }
+}
 
 /// The page size of a new file.
 const NEW_SIZE: usize = 4_096;
@@ -121,6 +142,7 @@ pub(crate) fn connect_files<D: Disk + Drop>(
     alloc: Global,
     mut files: Files<D>,
     seed: u64,
+    room: PageRoom,
 ) -> Result<Connection<FileStore<D>>, (StoreRefusal, Leftover<D>)>
     requires log { IsTrue (D.Disk.is_usable files.log) }
     requires db { IsTrue (D.Disk.is_usable files.db) }
@@ -132,15 +154,11 @@ pub(crate) fn connect_files<D: Disk + Drop>(
         → IsCleanLeft e.1 → HoldsNoDatabase (image_of D.Disk files)) }
     ensures unharmed { IfErr result (λ e. IsCleanLeft e.1 → LeavesFiles files e.1) }
 {
-    let options = Options {
-        cache_pages: KEPT_PAGES,
-        ..Options::new(seed)
-    };
     match judge(alloc, &mut files) {
         Ok(()) => {}
         Err(refusal) => return Err((refusal, Leftover::Files(files))),
     }
-    connect_judged(alloc, files, options)
+    connect_judged(alloc, files, room.options(seed))
 }
 
 /// Refuses files that sqlite would take for ones with no database yet, and write over, though no broken-off start

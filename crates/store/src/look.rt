@@ -8,7 +8,7 @@ ghost use Rattle.setup.specs.Opened.{IsOfOpening};
 ghost use Rattle.store.specs.Restart.{HoldsNoStore, Keeps};
 ghost use Rattle.store.specs.Still.{AreStill};
 
-use crate::files::SHORTEST_LOG;
+use crate::files::{PageRoom, SHORTEST_LOG};
 use crate::open::open_over;
 use peek::Peek;
 use setup::refusal::StoreRefusal;
@@ -173,7 +173,7 @@ fn is_no_store<D: Disk + Drop>(alloc: Global, files: Files<D>, seed: u64) -> (bo
     requires settled { (it : _) → outcomes D.Disk files.log files.db it → it ≡ image_of D.Disk files }
     ensures { IsTrue result.0 → AreClean D.Disk result.1.log result.1.db → HoldsNoStore (image_of D.Disk files) }
 {
-    match open_over(alloc, files, seed) {
+    match open_over(alloc, files, seed, PageRoom::Slice) {
         Ok(shelves) => (false, shelves.close().into_store().close()),
         Err((StoreRefusal::BadSchema, left)) => (true, left.into_files()),
         Err((_, left)) => (false, left.into_files()),

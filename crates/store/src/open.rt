@@ -9,7 +9,7 @@ ghost use Rattle.setup.specs.Opened.{IsOfOpening};
 ghost use Rattle.store.specs.Names.{IsNoFileName};
 ghost use Rattle.store.specs.Restart.{HoldsStore, HoldsNoStore, IsStray, RecoversStore, Keeps};
 
-use crate::files::{connect_files, open_pair};
+use crate::files::{PageRoom, connect_files, open_pair};
 use crate::look::look;
 use crate::store::SqlShelves;
 use setup::refusal::StoreRefusal;
@@ -45,6 +45,7 @@ pub(crate) fn open_over<D: Disk + Drop>(
     alloc: Global,
     files: Files<D>,
     seed: u64,
+    room: PageRoom,
 ) -> Result<SqlShelves<FileStore<D>>, (StoreRefusal, Leftover<D>)>
     requires log { IsTrue (D.Disk.is_usable files.log) }
     requires db { IsTrue (D.Disk.is_usable files.db) }
@@ -60,7 +61,7 @@ pub(crate) fn open_over<D: Disk + Drop>(
     ensures keeps { IfErr result (λ e. IsCleanLeft e.1 → Keeps (image_of D.Disk files) e.1) }
     ensures none_failed { IfOk result (λ s. s.failures ≡ 0) }
 {
-    let connection = connect_files(alloc, files, seed)?;
+    let connection = connect_files(alloc, files, seed, room)?;
     match SqlShelves::adopt(alloc, connection) {
         Ok(shelves) => Ok(shelves),
         Err((refusal, conn)) => Err((refusal, Leftover::Store(conn.into_store()))),
@@ -87,6 +88,7 @@ impl<T: Start> SqlShelves<FileStore<FileFrom<T>>> {
         rt: &HostRuntime,
         path: &str,
         start: T,
+        room: PageRoom,
     ) -> Result<FileShelves<T>, (StoreRefusal, Option<Leftover<FileFrom<T>>>)>
         ensures no_file { IsNoFileName path.now → IsErrAnd result (λ e. e.0 ≡ StoreRefusal.Device) }
         ensures begins { IfOk result (λ s. HasCleanDisk (file_state s.conn) → (w : _)
@@ -109,7 +111,7 @@ impl<T: Start> SqlShelves<FileStore<FileFrom<T>>> {
             Ok(files) => files,
             Err(refused) => return Err(refused),
         };
-        match open_over(rt.alloc(), files, seed) {
+        match open_over(rt.alloc(), files, seed, room) {
             Ok(shelves) => Ok(shelves),
             Err((refusal, left)) => Err((refusal, Some(left))),
         }

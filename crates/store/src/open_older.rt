@@ -9,7 +9,7 @@ ghost use Rattle.store.specs.Older.{FindsOlder};
 ghost use Rattle.store.specs.Restart.{Keeps};
 ghost use Rattle.setup.specs.Opened.{IsOfOpening};
 
-use crate::files::{connect_files, open_pair};
+use crate::files::{PageRoom, connect_files, open_pair};
 use setup::refusal::StoreRefusal;
 use sqlite::{Connection, FileFrom, FileStore, Leftover, Start};
 use std::rt::HostRuntime;
@@ -36,7 +36,7 @@ pub fn open_older<T: Start>(
         Ok(opened) => opened,
         Err(refusal) => return Err((refusal, None)),
     };
-    match connect_files(rt.alloc(), files, seed) {
+    match connect_files(rt.alloc(), files, seed, PageRoom::Zip) {
         Ok(conn) => Ok(conn),
         Err((refusal, left)) => Err((refusal, Some(left))),
     }

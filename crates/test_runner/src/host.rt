@@ -40,6 +40,8 @@ impl<'a> Looks for MemoryHost<'a> {
     fn check_name(&self, _db: &str, _to: &str) -> Result<(), StoreRefusal> {
         Ok(())
     }
+
+    fn settle_log(&self, _path: &str) {}
 }
 
 impl<'a> ActionHost<MapShelves> for MemoryHost<'a> {

@@ -77,6 +77,7 @@ SUITES = (
     listed("pages"),
     listed("pasted", "bash"),
     listed("paths", "sqlite3"),
+    listed("progress"),
     listed("proofs_page"),
     listed("public_proxy", "nginx openssl go umount"),
     listed("publish", "curl git go"),

@@ -95,7 +95,10 @@ pub fn import<S: Shelves, L: Read + Drop, F: Sources, O: Tell>(
             number,
             output,
         ) {
-            Ok(Step::Row(accepts)) => accepted = both(accepted, accepts),
+            Ok(Step::Row(accepts)) => {
+                sources.row_done(number);
+                accepted = both(accepted, accepts);
+            }
             Ok(Step::Over(closing)) => return close(number, closing, accepted, output),
             Err(fault) => return Err(fault),
         }

@@ -4,8 +4,8 @@ ghost use Rattle.commands.specs.ImportFile as spec;
 ghost use Rattle.commands.specs.Printed.{FailsEarlyOrByOutput};
 
 use crate::import::{Ending, import};
+use crate::import_progress::ShownFiles;
 use crate::refusal::CommandRefusal;
-use crate::sources::SystemFiles;
 use engine::Io;
 use histories::Tell;
 use std::fs::File;
@@ -14,7 +14,8 @@ use world::shelves::Shelves;
 
 /// Publishes each row of the list in a file, with files of the system, and returns whether the whole list was read and
 /// every row accepted. `BadRow` if the header or a row is bad. `Io` if the list can't be opened, and then nothing is
-/// done, or if a line can't be printed: then a beginning of it is printed, or all of it.
+/// done, or if a line can't be printed: then a beginning of it is printed, or all of it. On a terminal it shows how far
+/// it is.
 pub fn import_file<S: Shelves, O: Tell>(
     rt: &HostRuntime,
     shelves: &mut S,
@@ -29,11 +30,13 @@ pub fn import_file<S: Shelves, O: Tell>(
     ensures cause { FailsEarlyOrByOutput shelves.old shelves.new (O.contents output.old) (O.contents output.new)
         (O.writes output.old) (O.writes output.new) result }
 {
-    let Ok(list) = File::open(rt, list) else {
+    let Ok(rows) = File::open(rt, list) else {
         return Err(CommandRefusal::Io);
     };
-    let files = SystemFiles { rt };
-    import_ending(import(rt.alloc(), shelves, key, list, &files, output))
+    let files = ShownFiles::new(rt, list);
+    let ended = import(rt.alloc(), shelves, key, rows, &files, output);
+    files.clear();
+    import_ending(ended)
 }
 
 /// Returns the result of the command for how the import ended.

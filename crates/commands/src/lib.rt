@@ -16,6 +16,7 @@
 //! | with `--control`; `copy`, `stop` | sends an order to a running `serve`, and ends by its outcome | [`order`] |
 //! | `key-list`, `shelf-list` with `--control` | asks a running `serve` for the list, and prints it | [`listing`] |
 //! | `ping` | asks a running `serve` for its health, and prints the line | [`ping`] |
+//! | `copy`, `import` | show on a terminal how far they are | [`progress`], [`copy_progress`], `import_progress` |
 //!
 //! If the output of a command fails, because a call to write or to flush failed, a beginning of its text is printed, or
 //! all of it, and it ends with `Io`.
@@ -27,12 +28,14 @@
 
 pub mod action;
 pub mod answer;
+pub mod copy_progress;
 pub mod exit;
 pub mod files;
 pub mod import;
 pub mod import_file;
 pub mod import_line;
 pub mod import_list;
+mod import_progress;
 pub mod inventory;
 mod inventory_text;
 pub mod laws;
@@ -44,6 +47,7 @@ pub mod new_key;
 pub mod order;
 pub mod ping;
 mod printing;
+pub mod progress;
 pub mod publish;
 pub mod random_bytes;
 pub mod refusal;

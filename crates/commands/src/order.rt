@@ -2,12 +2,13 @@
 ghost use Rattle.std.specs.Prelude.{◌≡◌, option_copied};
 ghost use Rattle.commands.specs.Order as spec;
 
+use crate::copy_progress::{AwaitedCopy, patient_server_at};
+use crate::progress::StderrLine;
 use crate::refusal::{CommandRefusal, ending};
 use control::{Order, Outcome, Untold, ask, ask_to_copy, ask_to_revoke, ask_to_stop, server_at};
 use histories::{Hear, Hearing, Tell, Telling};
 use std::alloc::Global;
-use std::io::{self, Write};
-use std::os::unix::net::UnixStream;
+use std::io::Write;
 use std::rt::HostRuntime;
 use world::names::{COMMON, is_key, is_team_name};
 
@@ -140,30 +141,24 @@ pub fn revoke_over<R: Hear, W: Tell>(
 }
 
 /// Has the `serve` that listens at a socket copy its store into the file of a path, as that server sees it, and waits
-/// for that as long as it takes. `NotEmpty` if the file has more than an empty store or is that of the served store.
-/// `Device` if nobody listens there, the system refuses the connection, the file can't be opened, SQLite has a use for
-/// it beside a database, or a disk failed. `Memory` if memory ran out there, or here for the line. `Busy` if the server
-/// is making another copy, and `Ended` if it ended this one. `Name` if no line can carry the path: nothing was sent.
-/// `Io` if no outcome of a copy came.
+/// for that as long as it takes. On a terminal it shows how far the copy is. `NotEmpty` if the file has more than an
+/// empty store or is that of the served store. `Device` if nobody listens there, the system refuses the connection, the
+/// file can't be opened, SQLite has a use for it beside a database, or a disk failed. `Memory` if memory ran out there,
+/// or here for the line. `Busy` if the server is making another copy, and `Ended` if it ended this one. `Name` if no
+/// line can carry the path: nothing was sent. `Io` if no outcome of a copy came.
 pub fn copy_at(rt: &HostRuntime, control: &str, path: &str) -> Result<(), CommandRefusal>
     ensures { spec.CopiesThere path.now result }
 {
-    match patient_server_at(rt, control) {
+    let line = StderrLine::on_stderr(rt, "copy");
+    match patient_server_at(rt, control, &line) {
         Ok(server) => copy_over(
             rt.alloc(),
-            &mut Hearing::new(&server),
+            &mut Hearing::new(AwaitedCopy::new(rt, control, &server, line)),
             &mut Telling::new(&server),
             path,
         ),
         Err(_) => Err(CommandRefusal::Device),
     }
-}
-
-/// A connection to the server that listens at a socket, each read from which waits as long as it takes.
-fn patient_server_at(rt: &HostRuntime, control: &str) -> io::Result<UnixStream> {
-    let server = server_at(rt, control)?;
-    server.set_read_timeout(None)?;
-    Ok(server)
 }
 
 /// Writes the line that orders a copy, and reads the line of its outcome. Fails as `copy_at` does once it is connected.

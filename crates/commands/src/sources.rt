@@ -27,7 +27,7 @@ impl From<AllocError> for SourceFault {
     }
 }
 
-/// A source of files.
+/// A source of files, which are read for the rows of a list.
 pub trait Sources {
     ghost use Rattle.std.specs.Prelude.{ℕ, List, Option, ◌<◌, ◌^◌};
     ghost use Rattle.commands.specs.Sources.{IsRead};
@@ -40,6 +40,9 @@ pub trait Sources {
     fn bytes(&self, name: &str, most: u64) -> Result<Bytes, SourceFault>
         requires { most < 2 ^ 63 }
         ensures { IsRead most (known self.now name.now) result };
+
+    /// Hears that the row of this number was done. No clause depends on it.
+    fn row_done(&self, _number: u64) {}
 }
 
 /// The files of the system, whose bytes are not known.

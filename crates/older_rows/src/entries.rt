@@ -10,12 +10,13 @@ ghost use Rattle.older_rows.specs.Visits.{Moves, is_done};
 ghost use Rattle.older_rows.specs.Entries.{ShowsEntry, ShowsZip, ShowsKeys, IsFitRow, PutsEntry};
 ghost use Rattle.older_rows.specs.Entered.{PutsEntries};
 
-use crate::walk::{Visit, visit_rows};
+use crate::walk::{RowMeter, Visit, visit_rows};
 use modver::Version;
 use older::schema::Format;
 use sqlite::{Alter, Connection, Error, Row, Transaction};
 use statements::extract_rows::CopyError;
 use statements::keyed::KeyedVersion;
+use statements::meter::{Meter, len_at};
 use statements::rows::put_entry;
 use std::alloc::{AllocError, Global};
 use tables::columns::{blob_at, int_at, is_blob_at, text_at};
@@ -171,13 +172,38 @@ impl Visit for EntryRows {
     }
 }
 
+/// Has a meter hear of the versions of schema 1, which come with their zips.
+#[derive(Drop)]
+struct WholeMeter<'m, M: Meter> {
+    meter: &'m M,
+}
+
+impl<'m, M: Meter> RowMeter for WholeMeter<'m, M> {
+    fn note_row(&self, row: &Row) {
+        self.meter.note_zip(false, len_at(row, 6));
+    }
+}
+
+/// Has a meter hear of the versions of schema 2.
+#[derive(Drop)]
+struct VersionMeter<'m, M: Meter> {
+    meter: &'m M,
+}
+
+impl<'m, M: Meter> RowMeter for VersionMeter<'m, M> {
+    fn note_row(&self, row: &Row) {
+        self.meter.note_version(len_at(row, 4));
+    }
+}
+
 /// Puts in each version of schema 1 with its go.mod and its zip. Returns false if one may not stand at its place.
 /// A version without a row of `body` shows NULL for its zip. The index of places has this order, so the database sorts
 /// nothing.
-fn put_with_zips<S: Alter, F: Alter>(
+fn put_with_zips<S: Alter, F: Alter, M: Meter>(
     alloc: Global,
     source: &mut Connection<S>,
     tx: &mut Transaction<'_, F>,
+    meter: &M,
 ) -> Result<bool, CopyError>
     ensures same_reference { tx.new.conn.ghost_name ≡ tx.old.conn.ghost_name }
     ensures moves { Moves Format.One (PutsEntries Format.One) (state S.Store source.old) (state S.Store source.new)
@@ -197,14 +223,16 @@ fn put_with_zips<S: Alter, F: Alter>(
          LEFT JOIN body AS b ON b.id = v.id ORDER BY v.shelf, v.path, v.version",
         tx,
         &mut rows,
+        &WholeMeter { meter },
     )
 }
 
 /// Puts in each version of schema 2 with its go.mod. Returns false if one may not stand at its place.
-fn put_without_zips<S: Alter, F: Alter>(
+fn put_without_zips<S: Alter, F: Alter, M: Meter>(
     alloc: Global,
     source: &mut Connection<S>,
     tx: &mut Transaction<'_, F>,
+    meter: &M,
 ) -> Result<bool, CopyError>
     ensures same_reference { tx.new.conn.ghost_name ≡ tx.old.conn.ghost_name }
     ensures moves { Moves Format.Two (PutsEntries Format.Two) (state S.Store source.old) (state S.Store source.new)
@@ -223,16 +251,18 @@ fn put_without_zips<S: Alter, F: Alter>(
         "SELECT shelf, path, version, time, mod, id, order_key, rank_key FROM version ORDER BY shelf, path, version",
         tx,
         &mut rows,
+        &VersionMeter { meter },
     )
 }
 
 /// Puts in each version with its go.mod, and in schema 1 with its zip. Returns false if one may not stand at its place.
 /// Fails with `Source` or `Fresh`, by the store that failed.
-pub(crate) fn put_entries<S: Alter, F: Alter>(
+pub(crate) fn put_entries<S: Alter, F: Alter, M: Meter>(
     alloc: Global,
     source: &mut Connection<S>,
     format: Format,
     tx: &mut Transaction<'_, F>,
+    meter: &M,
 ) -> Result<bool, CopyError>
     ensures same_reference { tx.new.conn.ghost_name ≡ tx.old.conn.ghost_name }
     ensures moves { Moves format (PutsEntries format) (state S.Store source.old) (state S.Store source.new)
@@ -240,7 +270,7 @@ pub(crate) fn put_entries<S: Alter, F: Alter>(
     ensures cause { FailsAs format (state S.Store source.old) (state S.Store source.new) result }
 {
     match format {
-        Format::One => put_with_zips(alloc, source, tx),
-        Format::Two => put_without_zips(alloc, source, tx),
+        Format::One => put_with_zips(alloc, source, tx, meter),
+        Format::Two => put_without_zips(alloc, source, tx, meter),
     }
 }

@@ -14,15 +14,17 @@ use crate::shelves::put_shelves;
 use older::schema::Format;
 use sqlite::{Alter, Connection, Transaction};
 use statements::extract_rows::CopyError;
+use statements::meter::Meter;
 use std::alloc::Global;
 
 /// Fills a store that has only `common` with all that an older one has: its shelves, its keys, its versions and its
-/// zips. Returns false if the older tables stand for no world.
-pub(crate) fn fill<S: Alter, F: Alter>(
+/// zips. Returns false if the older tables stand for no world. A meter hears of the rows of versions and zips.
+pub(crate) fn fill<S: Alter, F: Alter, M: Meter>(
     alloc: Global,
     source: &mut Connection<S>,
     format: Format,
     tx: &mut Transaction<'_, F>,
+    meter: &M,
 ) -> Result<bool, CopyError>
     ensures same_reference { tx.new.conn.ghost_name ≡ tx.old.conn.ghost_name }
     ensures moves { Moves format (Fills format) (state S.Store source.old) (state S.Store source.new)
@@ -38,8 +40,8 @@ pub(crate) fn fill<S: Alter, F: Alter>(
     if !put_keys(source, format, tx)? {
         return Ok(false);
     }
-    if !put_entries(alloc, source, format, tx)? {
+    if !put_entries(alloc, source, format, tx, meter)? {
         return Ok(false);
     }
-    put_zips(source, format, tx)
+    put_zips(source, format, tx, meter)
 }

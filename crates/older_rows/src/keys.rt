@@ -12,6 +12,7 @@ use older::schema::Format;
 use sqlite::types::ValueRef;
 use sqlite::{Alter, Connection, Error, Row, Transaction};
 use statements::extract_rows::{CopyError, Keys, RowSink};
+use statements::meter::Unmetered;
 use tables::columns::text_at;
 use world::entry::Right;
 use world::names::is_key;
@@ -89,5 +90,6 @@ pub(crate) fn put_keys<S: Alter, F: Alter>(
         "SELECT token, shelf, publish FROM access",
         tx,
         &mut KeyRows,
+        &Unmetered,
     )
 }

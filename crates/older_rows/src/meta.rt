@@ -11,6 +11,7 @@ use crate::walk::{Visit, visit_rows};
 use older::schema::Format;
 use sqlite::{Alter, Connection, Error, Row, Transaction};
 use statements::extract_rows::CopyError;
+use statements::meter::Unmetered;
 use tables::columns::{int_at, text_at};
 
 /// Visits the rows of `meta` and refuses one that does not name this schema. It puts none into the fresh store, which
@@ -64,6 +65,7 @@ pub(crate) fn names_schema<S: Alter, F: Alter>(
         "SELECT name, value FROM meta",
         tx,
         &mut rows,
+        &Unmetered,
     )? {
         return Ok(false);
     }

@@ -9,10 +9,11 @@ ghost use Rattle.older_rows.specs.Causes.{FailsAs};
 ghost use Rattle.older_rows.specs.Visits.{Moves, is_done};
 ghost use Rattle.older_rows.specs.Entered.{PutsZips};
 
-use crate::walk::{Visit, visit_rows};
+use crate::walk::{RowMeter, Visit, visit_rows};
 use older::schema::Format;
 use sqlite::{Alter, Connection, Error, Row, Transaction};
 use statements::extract_rows::{CopyError, Pieces, RowSink};
+use statements::meter::{Meter, is_zero_at, len_at};
 use tables::pieces::{LastPiece, may_go_on, piece_at};
 
 /// Visits the rows of `piece` in the order of their versions and numbers. The pieces of a version must be numbered from
@@ -39,10 +40,23 @@ impl Visit for ZipRows {
     }
 }
 
+/// Has a meter hear of the pieces of zips.
+#[derive(Drop)]
+struct ZipMeter<'m, M: Meter> {
+    meter: &'m M,
+}
+
+impl<'m, M: Meter> RowMeter for ZipMeter<'m, M> {
+    fn note_row(&self, row: &Row) {
+        self.meter.note_zip(is_zero_at(row, 1), len_at(row, 2));
+    }
+}
+
 /// Puts in the pieces of schema 2. Returns false if they are not the pieces of zips.
-fn put_pieces<S: Alter, F: Alter>(
+fn put_pieces<S: Alter, F: Alter, M: Meter>(
     source: &mut Connection<S>,
     tx: &mut Transaction<'_, F>,
+    meter: &M,
 ) -> Result<bool, CopyError>
     ensures same_reference { tx.new.conn.ghost_name ≡ tx.old.conn.ghost_name }
     ensures moves { Moves Format.Two (PutsZips Format.Two) (state S.Store source.old) (state S.Store source.new)
@@ -55,15 +69,17 @@ fn put_pieces<S: Alter, F: Alter>(
         "SELECT version, number, bytes FROM piece ORDER BY version, number",
         tx,
         &mut ZipRows { last: None },
+        &ZipMeter { meter },
     )
 }
 
 /// Puts in the zips. Returns false if their pieces are not those of zips. In schema 1 the zips came with their
 /// versions. Fails with `Source` or `Fresh`, by the store that failed.
-pub(crate) fn put_zips<S: Alter, F: Alter>(
+pub(crate) fn put_zips<S: Alter, F: Alter, M: Meter>(
     source: &mut Connection<S>,
     format: Format,
     tx: &mut Transaction<'_, F>,
+    meter: &M,
 ) -> Result<bool, CopyError>
     ensures same_reference { tx.new.conn.ghost_name ≡ tx.old.conn.ghost_name }
     ensures moves { Moves format (PutsZips format) (state S.Store source.old) (state S.Store source.new)
@@ -72,6 +88,6 @@ pub(crate) fn put_zips<S: Alter, F: Alter>(
 {
     match format {
         Format::One => Ok(true),
-        Format::Two => put_pieces(source, tx),
+        Format::Two => put_pieces(source, tx, meter),
     }
 }

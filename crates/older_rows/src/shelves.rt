@@ -10,6 +10,7 @@ use crate::walk::{Visit, visit_rows};
 use older::schema::Format;
 use sqlite::{Alter, Connection, Error, Row, Transaction};
 use statements::extract_rows::CopyError;
+use statements::meter::Unmetered;
 use statements::rows::put_shelf;
 use std::alloc::Global;
 use tables::columns::text_at;
@@ -65,7 +66,14 @@ pub(crate) fn put_shelves<S: Alter, F: Alter>(
         has_common: false,
         names: TextSet::new(alloc),
     };
-    if !visit_rows(source, format, "SELECT name FROM shelf", tx, &mut rows)? {
+    if !visit_rows(
+        source,
+        format,
+        "SELECT name FROM shelf",
+        tx,
+        &mut rows,
+        &Unmetered,
+    )? {
         return Ok(false);
     }
     Ok(rows.has_common)

@@ -18,6 +18,7 @@ ghost use Rattle.older_rows.specs.Visits.{IsFilledBy};
 use older::schema::Format;
 use sqlite::{Alter, Connection, Error, ErrorCode, Row, Transaction};
 use statements::extract_rows::CopyError;
+use statements::meter::Unmetered;
 
 /// Visits the rows of a table, and may note something of those before.
 pub(crate) trait Visit {
@@ -33,15 +34,26 @@ pub(crate) trait Visit {
             → Puts self.old row.now old.now.trees self.new new.now.trees × Filling new)) };
 }
 
+/// Hears of the rows of a table that were put in. No clause depends on it.
+pub(crate) trait RowMeter {
+    /// Hears that a row was put in.
+    fn note_row(&self, row: &Row);
+}
+
+impl RowMeter for Unmetered {
+    fn note_row(&self, _row: &Row) {}
+}
+
 /// Visits each row that a query shows of the tables of a format, while the query is read, so only one row is in memory.
 /// Returns true after the last row, and false at the first row that the visitor refuses. Fails with `Source` if the
-/// older store does, and with `Fresh` if the fresh one does.
-pub(crate) fn visit_rows<S: Alter, F: Alter, V: Visit>(
+/// older store does, and with `Fresh` if the fresh one does. A meter hears of each row that was put in.
+pub(crate) fn visit_rows<S: Alter, F: Alter, V: Visit, M: RowMeter>(
     source: &mut Connection<S>,
     format: Format,
     sql: &str,
     tx: &mut Transaction<'_, F>,
     visitor: &mut V,
+    meter: &M,
 ) -> Result<bool, CopyError>
     requires plain { IsPlain (understood (schema_of format) sql.now) }
     requires tables { reads_listing (schema_of format) sql.now ≡ false }
@@ -71,7 +83,7 @@ pub(crate) fn visit_rows<S: Alter, F: Alter, V: Visit>(
             Err(error) => return Err(CopyError::Source(error)),
         };
         match visitor.visit(tx, row) {
-            Ok(true) => {}
+            Ok(true) => meter.note_row(row),
             Ok(false) => return Ok(false),
             Err(error) => return Err(CopyError::Fresh(error)),
         }

@@ -10,6 +10,7 @@ use crate::fill::fill;
 use older::schema::Format;
 use sqlite::{Alter, Connection, Error, ErrorCode};
 use statements::extract_rows::CopyError;
+use statements::meter::Meter;
 use statements::transaction::commit_if;
 use std::alloc::Global;
 
@@ -21,12 +22,14 @@ fn is_whole(filled: &Result<bool, CopyError>) -> bool
 }
 
 /// Writes all that an older store has into a fresh one that has only `common`, in one transaction. Returns false, and
-/// writes nothing, if the older tables stand for no world. Fails with `Source` or `Fresh`, by the store that failed.
-pub fn write_world<S: Alter, F: Alter>(
+/// writes nothing, if the older tables stand for no world. A meter hears of the rows of versions and zips. Fails with
+/// `Source` or `Fresh`, by the store that failed.
+pub fn write_world<S: Alter, F: Alter, M: Meter>(
     alloc: Global,
     source: &mut Connection<S>,
     format: Format,
     fresh: &mut Connection<F>,
+    meter: &M,
 ) -> Result<bool, CopyError>
     ensures migrates { Migrates format (state S.Store source.old) (state S.Store source.new)
         (state F.Store fresh.old) (state F.Store fresh.new) (is_done result) }
@@ -36,7 +39,7 @@ pub fn write_world<S: Alter, F: Alter>(
         return Err(CopyError::Fresh(Error::SqliteFailure(ErrorCode::TransactionState)));
     }
     let mut tx = fresh.transaction();
-    let filled = fill(alloc, source, format, &mut tx);
+    let filled = fill(alloc, source, format, &mut tx, meter);
     match commit_if(tx, is_whole(&filled)) {
         Ok(()) => filled,
         Err(error) => Err(CopyError::Fresh(error)),

@@ -5,6 +5,7 @@ ghost use Rattle.runner.specs.Extract.{ExtractsFile, ExtractsPart, Fills};
 ghost use Rattle.store.specs.Extracted.{HasCauseInEither};
 ghost use Rattle.store.specs.Parts.{ExtractsTeams};
 
+use crate::copy_line::CopyLine;
 use crate::found::{ClosedFile, Found, OpenedStore};
 use crate::looks::Looks;
 use commands::refusal::CommandRefusal;
@@ -17,7 +18,7 @@ use world::shelves::Shelves;
 
 /// Puts some teams' part of the store of one file into the store of another. Fails with the refusals of the store; with
 /// `NotEmpty` if both paths lead to one file, which stays empty if it was; and with `Device` if SQLite has a use for
-/// the second file.
+/// the second file. On a terminal it shows how far it is.
 ///
 /// If the first file is empty, it compares the files before it opens either. Otherwise it compares them after it opened
 /// the first, because opening the second would meet the first one's lock and fail with `Device`. If a file with bytes
@@ -78,7 +79,9 @@ where
         Ok(file) => file,
         Err(unopened) => return Err(unmade(command_refusal(unopened))),
     };
-    let told = extract_part(source, teams, &mut fresh.store);
+    let line = CopyLine::new(looks.line("extract"));
+    let told = extract_part(source, teams, &mut fresh.store, &line);
+    line.clear();
     targets.close(fresh);
     told
 }
@@ -88,11 +91,12 @@ fn extract_part(
     source: &mut OpenedStore,
     teams: &[&str],
     fresh: &mut OpenedStore,
+    line: &CopyLine<'_>,
 ) -> Result<(), CommandRefusal>
     ensures { ExtractsPart (λ s. ⟦<Found as Shelves>⟧.shown s.shelves) (λ s. ⟦<Found as Shelves>⟧.shown s.shelves)
         source.old source.new fresh.old fresh.new (each (λ team. team.now) teams.now) result }
 {
-    match extract_teams(&mut source.shelves, teams, fresh) {
+    match extract_teams(&mut source.shelves, teams, fresh, line) {
         Ok(()) => Ok(()),
         Err(refusal) => Err(command_refusal(refusal)),
     }
@@ -104,6 +108,7 @@ fn extract_teams<S: Alter>(
     source: &mut SqlShelves<S>,
     teams: &[&str],
     fresh: &mut OpenedStore,
+    line: &CopyLine<'_>,
 ) -> Result<(), StoreRefusal>
     ensures extracts { ExtractsTeams (each (λ team. team.now) teams.now)
         (⟦<SqlShelves<S> as Shelves>⟧.shown source.old) (⟦<SqlShelves<S> as Shelves>⟧.shown source.new)
@@ -111,5 +116,5 @@ fn extract_teams<S: Alter>(
     ensures cause { HasCauseInEither source.old.failures source.new.failures
         fresh.old.shelves.failures fresh.new.shelves.failures result }
 {
-    source.extract_teams(teams, &mut fresh.shelves)
+    source.extract_teams(teams, &mut fresh.shelves, line)
 }

@@ -17,6 +17,7 @@ use commands::listing::list_at;
 use commands::new_key::order_new_at;
 use commands::order::{copy_at, order_at, revoke_at, stop_at};
 use commands::ping::ping_at;
+use commands::progress::StderrLine;
 use commands::refusal::CommandRefusal;
 use control::{Listing, Order};
 use file_action::host::ActionHost;
@@ -147,6 +148,11 @@ impl<'a> Looks for SystemHost<'a> {
 
     fn settle_log(&self, path: &str) {
         sync_log(self.rt, path);
+    }
+
+    fn line(&self, verb: &'static str) -> Option<StderrLine<'_>> {
+        let line = StderrLine::on_stderr(self.rt, verb);
+        if line.is_shown() { Some(line) } else { None }
     }
 }
 

@@ -25,6 +25,7 @@ ghost use Rattle.runner.specs.Command.{Runs};
 
 mod beside;
 mod copies;
+mod copy_line;
 mod extract;
 pub mod found;
 pub mod host;
@@ -34,6 +35,7 @@ mod migrate;
 mod old_file;
 pub mod older_files;
 mod open;
+mod opening;
 mod slice_pace;
 pub mod system;
 pub mod unnamed;

@@ -1,4 +1,5 @@
-//! What a command asks of files that it opens as stores, or has open.
+//! What a command asks of files that it opens as stores, or has open, and where it shows how far it is.
+use commands::progress::StderrLine;
 use store::refusal::StoreRefusal;
 
 /// Looks at files. They change none, so no history has them.
@@ -19,4 +20,9 @@ pub trait Looks {
     /// Has the system write to the disk what it has of the log of the store at `path`, which stays as it is. If that
     /// fails, the commit meets it too, and tells.
     fn settle_log(&self, path: &str);
+
+    /// Returns a line on a terminal for a command that begins now, or None if there is no terminal.
+    fn line(&self, _verb: &'static str) -> Option<StderrLine<'_>> {
+        None
+    }
 }

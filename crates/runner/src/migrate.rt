@@ -6,6 +6,7 @@ ghost use Rattle.runner.specs.Opened as spec;
 ghost use Rattle.sqlite.specs.Held.{state};
 ghost use Rattle.store.specs.Migrated.{HasCauseInOne, Migrates};
 
+use crate::copy_line::CopyLine;
 use crate::found::{ClosedFile, Found, FoundTables, OpenedStore};
 use crate::looks::Looks;
 use crate::older_files::OlderFiles;
@@ -30,7 +31,11 @@ pub(crate) trait OlderStore {
     ghost state_of: { Self → State };
 
     /// Puts what it has into an open store. Fails with the refusals of the store.
-    fn migrate_into(&mut self, fresh: &mut OpenedStore) -> Result<(), CommandRefusal>
+    fn migrate_into(
+        &mut self,
+        fresh: &mut OpenedStore,
+        line: &CopyLine<'_>,
+    ) -> Result<(), CommandRefusal>
         ensures { MigratesInto state_of (λ s. ⟦<Found as Shelves>⟧.shown s.shelves)
             self.old self.new fresh.old fresh.new result };
 }
@@ -40,8 +45,12 @@ impl OlderStore for ClosedFile {
 
     ghost state_of = { λ c. state ⟦<FoundTables as Store>⟧ c.connection };
 
-    fn migrate_into(&mut self, fresh: &mut OpenedStore) -> Result<(), CommandRefusal> {
-        command_result(migrate_from(&mut self.connection, fresh))
+    fn migrate_into(
+        &mut self,
+        fresh: &mut OpenedStore,
+        line: &CopyLine<'_>,
+    ) -> Result<(), CommandRefusal> {
+        command_result(migrate_from(&mut self.connection, fresh, line))
     }
 }
 
@@ -51,8 +60,12 @@ impl OlderStore for Connection<MemStore> {
 
     ghost state_of = { state over_memory };
 
-    fn migrate_into(&mut self, fresh: &mut OpenedStore) -> Result<(), CommandRefusal> {
-        command_result(migrate_from(self, fresh))
+    fn migrate_into(
+        &mut self,
+        fresh: &mut OpenedStore,
+        line: &CopyLine<'_>,
+    ) -> Result<(), CommandRefusal> {
+        command_result(migrate_from(self, fresh, line))
     }
 }
 
@@ -61,13 +74,14 @@ impl OlderStore for Connection<MemStore> {
 fn migrate_from<S: Alter>(
     old: &mut Connection<S>,
     fresh: &mut OpenedStore,
+    line: &CopyLine<'_>,
 ) -> Result<(), StoreRefusal>
     ensures migrates { Migrates (state S.Store old.old) (state S.Store old.new)
         (⟦<Found as Shelves>⟧.shown fresh.old.shelves) (⟦<Found as Shelves>⟧.shown fresh.new.shelves) result }
     ensures cause { HasCauseInOne (state S.Store old.old) (state S.Store old.new)
         fresh.old.shelves.failures fresh.new.shelves.failures result }
 {
-    migrate(old, &mut fresh.shelves)
+    migrate(old, &mut fresh.shelves, line)
 }
 
 /// Returns the result of the command, by that of the store.
@@ -84,7 +98,8 @@ fn command_result(migrated: Result<(), StoreRefusal>) -> Result<(), CommandRefus
 /// the refusals of the store, and with `NotEmpty` if both names lead to one file, which stays as it was.
 ///
 /// It opens the older store before the other, and judges its tables after it opened the other. What it opens is a copy.
-/// An older file that has no bytes, or is missing, has no tables: it is neither opened nor made.
+/// An older file that has no bytes, or is missing, has no tables: it is neither opened nor made. On a terminal it shows
+/// how far it is.
 pub(crate) fn migrate_file<L, Q, G>(
     alloc: Global,
     looks: &L,
@@ -201,7 +216,9 @@ where
         Ok(file) => file,
         Err(unopened) => return Err(unmade(command_refusal(unopened))),
     };
-    let told = old.migrate_into(&mut fresh.store);
+    let line = CopyLine::new(looks.line("migrate 2/2"));
+    let told = old.migrate_into(&mut fresh.store, &line);
+    line.clear();
     targets.close(fresh);
     told
 }

@@ -3,6 +3,7 @@
 //! sqlite opens the files of a store to write: it makes the log if there is none, and writes behind the last commit of
 //! a log that another program wrote. So it opens a copy, which stands beside the new store.
 
+use crate::copy_line::{FilesLine, ShownFile};
 use crate::unnamed::Unnamed;
 use os::RangeLock;
 use std::fs::{self, File, Metadata, OpenOptions};
@@ -144,14 +145,20 @@ fn has_journal(rt: &HostRuntime, path: &str) -> io::Result<bool> {
     Ok(read == 1 && first[0] != 0)
 }
 
-/// Copies a database file, and its log if there is one. If that fails, it leaves no copy.
+/// Copies a database file, and its log if there is one, and shows on a terminal how far it is. If that fails, it leaves
+/// no copy.
 fn copy_both(
     rt: &HostRuntime,
     db: &LockedFile,
     log: &Option<LockedFile>,
     to: &Unnamed,
 ) -> io::Result<()> {
-    match copy_file(rt, db, to.path.as_str()) {
+    let log_size = match log {
+        Some(log) => log.found.len(),
+        None => 0,
+    };
+    let line = FilesLine::new(rt, "migrate 1/2", db.found.len().saturating_add(log_size));
+    match copy_file(rt, db, to.path.as_str(), &line) {
         Ok(()) => {}
         Err(_) if is_foreign(db, log)? => return Err(ErrorKind::InvalidData.into()),
         Err(error) => return Err(error),
@@ -159,7 +166,7 @@ fn copy_both(
     let Some(log) = log else {
         return Ok(());
     };
-    let copied = copy_file(rt, log, to.log.as_str());
+    let copied = copy_file(rt, log, to.log.as_str(), &line);
     if copied.is_err() {
         let _ = fs::remove_file(rt, to.path.as_str());
     }
@@ -176,13 +183,24 @@ fn is_foreign(db: &LockedFile, log: &Option<LockedFile>) -> io::Result<bool> {
 
 /// Copies a file into a new one, which only its owner may read. Fails if there is such a file already, or if the system
 /// fails; then it leaves no copy.
-fn copy_file(rt: &HostRuntime, from: &LockedFile, to: &str) -> io::Result<()> {
+fn copy_file(
+    rt: &HostRuntime,
+    from: &LockedFile,
+    to: &str,
+    line: &FilesLine<'_>,
+) -> io::Result<()> {
     let copy = OpenOptions::new()
         .write(true)
         .create_new(true)
         .mode(0o600)
         .open(rt, to)?;
-    match io::copy(&mut &from.file, &mut &copy) {
+    let mut shown = ShownFile {
+        file: &from.file,
+        line,
+    };
+    let copied = io::copy(&mut shown, &mut &copy);
+    line.clear();
+    match copied {
         Ok(_) => Ok(()),
         Err(error) => {
             let _ = fs::remove_file(rt, to);

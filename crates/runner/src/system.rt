@@ -6,6 +6,7 @@ use crate::found::{AsFound, ClosedFile, Found, FoundTables, OpenedStore};
 use crate::old_file::copy_of;
 use crate::older_files::OlderFiles;
 use crate::open::open_for;
+use crate::opening::opening_line;
 use crate::unnamed::Unnamed;
 use files::files::{Deed, OpenFile, StoreFiles, Use};
 use files::record::Record;
@@ -54,7 +55,10 @@ impl<'a> StoreFiles<OpenedStore, ClosedFile, StoreRefusal> for SystemStoreFiles<
         name: &'n str,
         purpose: Use,
     ) -> Result<OpenFile<'n, OpenedStore>, StoreRefusal> {
-        match open_for(self.rt, name, AsFound, purpose, self.room) {
+        let line = opening_line(self.rt, name);
+        let opened = open_for(self.rt, name, AsFound, purpose, self.room);
+        line.clear();
+        match opened {
             Ok(shelves) => {
                 self.noted.note(name.as_bytes(), &Deed::Opened);
                 Ok(OpenFile {

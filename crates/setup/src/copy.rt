@@ -15,16 +15,19 @@ use crate::judge::{Judged, judge};
 use crate::write::{write_part, write_registry};
 use sqlite::{Alter, Connection, Transaction};
 use statements::extract_rows::CopyError;
+use statements::meter::Meter;
 use statements::shelves::find_shelves;
 use std::alloc::Global;
 
 /// Copies the shelves that some teams see into a fresh store, with their keys and entries, if each name is a team's and
-/// the store has only `common`, and returns the verdict. Fails with `Source` or `Fresh`, by the store that failed.
-pub fn copy_teams<S: Alter, F: Alter>(
+/// the store has only `common`, and returns the verdict. A meter hears of the rows of versions and zips. Fails with
+/// `Source` or `Fresh`, by the store that failed.
+pub fn copy_teams<S: Alter, F: Alter, M: Meter>(
     alloc: Global,
     source: &mut Connection<S>,
     teams: &[&str],
     fresh: &mut Connection<F>,
+    meter: &M,
 ) -> Result<Judged, CopyError>
     ensures reads { Spares (state S.Store source.old) (state S.Store source.new) }
     ensures clean { doubt (state F.Store fresh.old).is_clean ≤ doubt (state F.Store fresh.new).is_clean }
@@ -41,7 +44,7 @@ pub fn copy_teams<S: Alter, F: Alter>(
     let judged = judge(alloc, source, teams, fresh)?;
     match judged {
         Judged::Fit(shelves) => {
-            write_part(source, &shelves, fresh)?;
+            write_part(source, &shelves, fresh, meter)?;
             Ok(Judged::Fit(shelves))
         }
         Judged::NoTeam => Ok(Judged::NoTeam),

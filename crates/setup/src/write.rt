@@ -13,6 +13,7 @@ ghost use Rattle.setup.specs.Parts.{part_of, Puts, PutsRegistry, PutsShelves, Co
 
 use sqlite::{Alter, Connection, Error, ErrorCode, Transaction};
 use statements::extract_rows::{CopyError, copy_keys, copy_pieces, copy_versions};
+use statements::meter::{Meter, Unmetered};
 use statements::rows::put_shelf;
 use statements::shelf_list::{Shelf, ShelfList};
 use statements::transaction::commit_if;
@@ -53,12 +54,13 @@ fn put_shelves<F: Alter>(tx: &mut Transaction<'_, F>, shelves: &[Shelf]) -> Resu
     Ok(())
 }
 
-/// Copies the rows of one kind of a shelf.
-fn copy_rows<S: Alter, F: Alter>(
+/// Copies the rows of one kind of a shelf, and has a meter hear of those of versions and zips.
+fn copy_rows<S: Alter, F: Alter, M: Meter>(
     source: &mut Connection<S>,
     rows: Rows,
     shelf: &str,
     tx: &mut Transaction<'_, F>,
+    meter: &M,
 ) -> Result<(), CopyError>
     ensures same_reference { tx.new.conn.ghost_name ≡ tx.old.conn.ghost_name }
     ensures copies { Copies (CopiesRows rows shelf.now) (state S.Store source.old) (state S.Store source.new)
@@ -66,26 +68,27 @@ fn copy_rows<S: Alter, F: Alter>(
 {
     match rows {
         Rows::Keys => copy_keys(source, tx, shelf),
-        Rows::Versions => copy_versions(source, tx, shelf),
-        Rows::Pieces => copy_pieces(source, tx, shelf),
+        Rows::Versions => copy_versions(source, tx, shelf, meter),
+        Rows::Pieces => copy_pieces(source, tx, shelf, meter),
     }
 }
 
 /// Copies the rows of one kind of `common`, and then of each of these shelves in turn.
-fn copy_along<S: Alter, F: Alter>(
+fn copy_along<S: Alter, F: Alter, M: Meter>(
     source: &mut Connection<S>,
     rows: Rows,
     shelves: &[Shelf],
     tx: &mut Transaction<'_, F>,
+    meter: &M,
 ) -> Result<(), CopyError>
     ensures same_reference { tx.new.conn.ghost_name ≡ tx.old.conn.ghost_name }
     ensures copies { Copies (Along (CopiesRows rows) (common ∷ names_of shelves.now))
         (state S.Store source.old) (state S.Store source.new)
         (state F.Store tx.old.conn.now) (state F.Store tx.new.conn.now) (is_ok result) }
 {
-    copy_rows(source, rows, COMMON, tx)?;
+    copy_rows(source, rows, COMMON, tx, meter)?;
     for shelf in shelves {
-        copy_rows(source, rows, shelf.name.as_str(), tx)?;
+        copy_rows(source, rows, shelf.name.as_str(), tx, meter)?;
     }
     Ok(())
 }
@@ -110,15 +113,16 @@ pub(crate) fn write_registry<S: Alter, F: Alter>(
         Ok(()) => {}
         Err(error) => return Err(CopyError::Fresh(error)),
     }
-    copy_along(source, Rows::Keys, shelves, tx)
+    copy_along(source, Rows::Keys, shelves, tx, &Unmetered)
 }
 
 /// Fills a store that has only `common`: writes the rows of these shelves, each after its parent, and copies the keys,
 /// the versions and the zips of `common` and of these shelves.
-fn fill<S: Alter, F: Alter>(
+fn fill<S: Alter, F: Alter, M: Meter>(
     source: &mut Connection<S>,
     shelves: &ShelfList,
     tx: &mut Transaction<'_, F>,
+    meter: &M,
 ) -> Result<(), CopyError>
     ensures same_reference { tx.new.conn.ghost_name ≡ tx.old.conn.ghost_name }
     ensures fills { Copies (MakesPart shelves.now)
@@ -127,16 +131,17 @@ fn fill<S: Alter, F: Alter>(
 {
     write_registry(source, shelves, tx)?;
     let shelves = shelves.as_slice();
-    copy_along(source, Rows::Versions, shelves, tx)?;
-    copy_along(source, Rows::Pieces, shelves, tx)
+    copy_along(source, Rows::Versions, shelves, tx, meter)?;
+    copy_along(source, Rows::Pieces, shelves, tx, meter)
 }
 
-/// Writes these shelves and `common` into a store that has only `common`, all or nothing. Fails with `Source` or
-/// `Fresh`, by the store that failed.
-pub(crate) fn write_part<S: Alter, F: Alter>(
+/// Writes these shelves and `common` into a store that has only `common`, all or nothing, and has a meter hear of the
+/// rows of versions and zips. Fails with `Source` or `Fresh`, by the store that failed.
+pub(crate) fn write_part<S: Alter, F: Alter, M: Meter>(
     source: &mut Connection<S>,
     shelves: &ShelfList,
     fresh: &mut Connection<F>,
+    meter: &M,
 ) -> Result<(), CopyError>
     ensures clean { doubt (state S.Store source.old).is_clean ≤ doubt (state S.Store source.new).is_clean }
     ensures clean_too { doubt (state F.Store fresh.old).is_clean ≤ doubt (state F.Store fresh.new).is_clean }
@@ -151,7 +156,7 @@ pub(crate) fn write_part<S: Alter, F: Alter>(
         return Err(CopyError::Fresh(Error::SqliteFailure(ErrorCode::TransactionState)));
     }
     let mut tx = fresh.transaction();
-    let written = fill(source, shelves, &mut tx);
+    let written = fill(source, shelves, &mut tx, meter);
     match commit_if(tx, written.is_ok()) {
         Ok(()) => written,
         Err(error) => Err(CopyError::Fresh(error)),

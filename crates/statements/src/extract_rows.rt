@@ -18,6 +18,7 @@ ghost use Rattle.statements.specs.Rows.{Filling, GoesOn, PutsPiece, PutsVersion}
 ghost use Rattle.statements.specs.Extract.{Copies, OfWorlds, AllFit, IsKeyShown, PutsKey};
 ghost use Rattle.statements.specs.Extract.{CopiesKeys, IsVersionShown, CopiesVersions, CopiesPieces};
 
+use crate::meter::{Meter, is_zero_at, len_at};
 use crate::pieces::{insert_piece, lent_bytes};
 use sqlite::types::ValueRef;
 use sqlite::{Alter, Connection, Error, ErrorCode, Row, Transaction, params};
@@ -162,12 +163,33 @@ impl RowSink for Versions {
     }
 }
 
-/// Copies the rows of the versions on one shelf into another store, inside a transaction of that store. Fails with
-/// `Source` or `Fresh`, by the store that failed.
-pub fn copy_versions<S: Alter, F: Alter>(
+/// Writes rows as [`Versions`] does, and has a meter hear of each.
+#[derive(Drop)]
+struct MeteredVersions<'m, M: Meter> {
+    meter: &'m M,
+}
+
+impl<'m, M: Meter> RowSink for MeteredVersions<'m, M> {
+    ghost Fits = { IsVersionShown };
+
+    ghost Puts = { PutsVersion };
+
+    fn put<F: Alter>(&self, tx: &mut Transaction<'_, F>, row: &Row) -> Result<(), Error> {
+        let put = Versions.put(tx, row);
+        if put.is_ok() {
+            self.meter.note_version(len_at(row, 5));
+        }
+        put
+    }
+}
+
+/// Copies the rows of the versions on one shelf into another store, inside a transaction of that store, and has a meter
+/// hear of each. Fails with `Source` or `Fresh`, by the store that failed.
+pub fn copy_versions<S: Alter, F: Alter, M: Meter>(
     source: &mut Connection<S>,
     tx: &mut Transaction<'_, F>,
     shelf: &str,
+    meter: &M,
 ) -> Result<(), CopyError>
     ensures same_reference { tx.new.conn.ghost_name ≡ tx.old.conn.ghost_name }
     ensures copies { Copies (CopiesVersions shelf.now) (state S.Store source.old) (state S.Store source.new)
@@ -178,7 +200,7 @@ pub fn copy_versions<S: Alter, F: Alter>(
         "SELECT id, shelf, path, version, time, mod, order_key, rank_key FROM version WHERE shelf = ?1",
         params![shelf],
         tx,
-        &Versions,
+        &MeteredVersions { meter },
     )
 }
 
@@ -197,13 +219,34 @@ impl RowSink for Pieces {
     }
 }
 
-/// Copies the rows of the zips on one shelf into another store, inside a transaction of that store. Fails with `Source`
-/// or `Fresh`, by the store that failed. The query joins `version`, whose index finds the shelf, with `piece`, whose
-/// index finds the pieces of a version.
-pub fn copy_pieces<S: Alter, F: Alter>(
+/// Writes rows as [`Pieces`] does, and has a meter hear of each.
+#[derive(Drop)]
+struct MeteredPieces<'m, M: Meter> {
+    meter: &'m M,
+}
+
+impl<'m, M: Meter> RowSink for MeteredPieces<'m, M> {
+    ghost Fits = { λ _. ⊤ };
+
+    ghost Puts = { PutsPiece };
+
+    fn put<F: Alter>(&self, tx: &mut Transaction<'_, F>, row: &Row) -> Result<(), Error> {
+        let put = Pieces.put(tx, row);
+        if put.is_ok() {
+            self.meter.note_zip(is_zero_at(row, 1), len_at(row, 2));
+        }
+        put
+    }
+}
+
+/// Copies the rows of the zips on one shelf into another store, inside a transaction of that store, and has a meter
+/// hear of each. Fails with `Source` or `Fresh`, by the store that failed. The query joins `version`, whose index finds
+/// the shelf, with `piece`, whose index finds the pieces of a version.
+pub fn copy_pieces<S: Alter, F: Alter, M: Meter>(
     source: &mut Connection<S>,
     tx: &mut Transaction<'_, F>,
     shelf: &str,
+    meter: &M,
 ) -> Result<(), CopyError>
     ensures same_reference { tx.new.conn.ghost_name ≡ tx.old.conn.ghost_name }
     ensures copies { Copies (CopiesPieces shelf.now) (state S.Store source.old) (state S.Store source.new)
@@ -214,6 +257,6 @@ pub fn copy_pieces<S: Alter, F: Alter>(
         "SELECT p.version, p.number, p.bytes FROM version AS v JOIN piece AS p ON p.version = v.id WHERE v.shelf = ?1",
         params![shelf],
         tx,
-        &Pieces,
+        &MeteredPieces { meter },
     )
 }

@@ -33,6 +33,7 @@
 //! | `pieces::insert_zip` | write a row of `piece` for each piece of the zip |
 //! | `extract_rows::copy_keys`, `copy_versions`, `copy_pieces` | read the rows of a shelf and write each into another |
 //! | `extract_rows::RowSink::put` | write a row with the values of a row of another store |
+//! | `meter::Meter` | none: it hears of the rows of versions and zips that were copied |
 //!
 //! The rows of an entry are a row of `version`, with the order keys of the version, and a row of `piece` for each piece
 //! of the zip.
@@ -46,6 +47,7 @@ pub mod compare;
 pub mod entries;
 pub mod extract_rows;
 pub mod keyed;
+pub mod meter;
 pub mod named;
 mod numbers;
 pub mod outlines;

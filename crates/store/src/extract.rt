@@ -13,6 +13,7 @@ use setup::judge::Judged;
 use setup::refusal::StoreRefusal;
 use sqlite::Alter;
 use statements::extract_rows::CopyError;
+use statements::meter::Meter;
 use world::registry::StoreFault;
 
 /// Returns the refusal for a fault of a store.
@@ -31,17 +32,18 @@ pub(crate) fn refusal_of(fault: StoreFault) -> StoreRefusal
 impl<S: Alter> SqlShelves<S> {
     /// Copies the part of some teams into the fresh store: the shelves that any of them sees, all their entries, and
     /// their keys with their rights. The names of the shelves are read first, then the rows one at a time, and all are
-    /// written in one transaction. Naming a team twice changes nothing.
+    /// written in one transaction. Naming a team twice changes nothing. A meter hears of the rows of versions and zips.
     ///
     /// Fails with `NoTeam` if no team is named or a name is not a team's (`common` and groups are no teams), otherwise
     /// with `NotEmpty` if the fresh store has another shelf, a key or an entry; with `Device` if a disk failed and with
     /// `Memory` if memory ran out. Then both stores are as they were; the source always is. After Ok, a crash leaves
     /// only the part in the fresh store, wherever an earlier fault had left that; after `NoTeam` and `NotEmpty`,
     /// nothing that it did not leave before; after another failure, as `AfterFill` says, it may leave the part too.
-    pub fn extract_teams<F: Alter>(
+    pub fn extract_teams<F: Alter, M: Meter>(
         &mut self,
         teams: &[&str],
         fresh: &mut SqlShelves<F>,
+        meter: &M,
     ) -> Result<(), StoreRefusal>
         ensures extracts { ExtractsTeams (each (λ team. team.now) teams.now)
             (shown_with (state S.Store self.old.conn) self.old.kept self.old.failures)
@@ -52,15 +54,16 @@ impl<S: Alter> SqlShelves<S> {
             fresh.old.failures fresh.new.failures result }
     {
         fresh.kept = Kept::new(fresh.alloc);
-        self.extract_rows(teams, fresh)
+        self.extract_rows(teams, fresh, meter)
     }
 
     /// Copies the part of some teams into the tables of the fresh store, and leaves what both stores keep as it is.
     /// Fails as `extract_teams` does.
-    fn extract_rows<F: Alter>(
+    fn extract_rows<F: Alter, M: Meter>(
         &mut self,
         teams: &[&str],
         fresh: &mut SqlShelves<F>,
+        meter: &M,
     ) -> Result<(), StoreRefusal>
         ensures extracts { ExtractsTeams (each (λ team. team.now) teams.now)
             (shown_of (state S.Store self.old.conn)) (shown_of (state S.Store self.new.conn))
@@ -69,7 +72,7 @@ impl<S: Alter> SqlShelves<S> {
         ensures cause { HasCauseInEither self.old.failures self.new.failures
             fresh.old.failures fresh.new.failures result }
     {
-        match copy_teams(self.alloc, &mut self.conn, teams, &mut fresh.conn) {
+        match copy_teams(self.alloc, &mut self.conn, teams, &mut fresh.conn, meter) {
             Ok(Judged::Fit(_)) => Ok(()),
             Ok(Judged::NoTeam) => Err(StoreRefusal::NoTeam),
             Ok(Judged::NotEmpty) => Err(StoreRefusal::NotEmpty),

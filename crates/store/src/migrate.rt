@@ -15,6 +15,7 @@ use setup::judge::is_blank;
 use setup::refusal::{StoreRefusal, open_refusal};
 use sqlite::{Alter, Connection, Error, ErrorCode};
 use statements::extract_rows::CopyError;
+use statements::meter::Meter;
 use std::alloc::Global;
 
 /// The outcome of a migration in which no store failed.
@@ -48,10 +49,11 @@ fn outcome_of(written: Result<bool, CopyError>) -> Result<Migrated, CopyError>
 
 /// Writes the world of an older store into a fresh one. Returns `NotEmpty` if the fresh store has more than `common`,
 /// and then `BadSchema` if the older tables are those of no older schema or stand for no world.
-fn migrate_rows<S: Alter, F: Alter>(
+fn migrate_rows<S: Alter, F: Alter, M: Meter>(
     alloc: Global,
     old: &mut Connection<S>,
     fresh: &mut Connection<F>,
+    meter: &M,
 ) -> Result<Migrated, CopyError>
     ensures migrates { MigratesRows (state S.Store old.old) (state S.Store old.new)
         (state F.Store fresh.old) (state F.Store fresh.new) result }
@@ -64,20 +66,22 @@ fn migrate_rows<S: Alter, F: Alter>(
     let Some(format) = format_of(old.schema()) else {
         return Ok(Migrated::BadSchema);
     };
-    outcome_of(write_world(alloc, old, format, fresh))
+    outcome_of(write_world(alloc, old, format, fresh, meter))
 }
 
 /// Copies all that a store of schema 1 or 2 has into the fresh store: each shelf but `common` becomes a team without a
-/// group. The older store is only read, a row at a time, and all rows are written in one transaction.
+/// group. The older store is only read, a row at a time, and all rows are written in one transaction. A meter hears of
+/// the rows of versions and zips.
 ///
 /// Fails with `NotEmpty` if the fresh store has another shelf, a key or an entry, otherwise with `BadSchema` if the
 /// tables of the older store are those of no older schema or stand for no world; with `Device` if a disk failed and
 /// with `Memory` if memory ran out. Then both stores are as they were. After Ok, a crash leaves only the older world in
 /// the fresh store, wherever an earlier fault had left that; after `NotEmpty`, nothing that it did not leave before;
 /// after another failure, as `AfterFill` says, it may leave the older world too.
-pub fn migrate<S: Alter, F: Alter>(
+pub fn migrate<S: Alter, F: Alter, M: Meter>(
     old: &mut Connection<S>,
     fresh: &mut SqlShelves<F>,
+    meter: &M,
 ) -> Result<(), StoreRefusal>
     ensures migrates { Migrates (state S.Store old.old) (state S.Store old.new)
         (shown_with (state F.Store fresh.old.conn) fresh.old.kept fresh.old.failures)
@@ -86,7 +90,7 @@ pub fn migrate<S: Alter, F: Alter>(
         (state S.Store old.old) (state S.Store old.new) fresh.old.failures fresh.new.failures result }
 {
     fresh.kept = Kept::new(fresh.alloc);
-    match migrate_rows(fresh.alloc, old, &mut fresh.conn) {
+    match migrate_rows(fresh.alloc, old, &mut fresh.conn, meter) {
         Ok(Migrated::Whole) => Ok(()),
         Ok(Migrated::NotEmpty) => Err(StoreRefusal::NotEmpty),
         Ok(Migrated::BadSchema) => Err(StoreRefusal::BadSchema),

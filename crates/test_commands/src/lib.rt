@@ -11,4 +11,6 @@ mod calls;
 #[cfg(test)]
 mod in_memory;
 #[cfg(test)]
+mod progress;
+#[cfg(test)]
 mod scripts;

@@ -5,6 +5,7 @@ use crate::steps::{done, set_up};
 use crate::worlds::told_by;
 use memory_store::map_shelves::MapShelves;
 use sqlite::{Alter, Connection};
+use statements::meter::Unmetered;
 use std::alloc::Global;
 use std::test::Fail;
 use store::store::SqlShelves;
@@ -77,7 +78,7 @@ fn extracted<T: Alter, S: Alter>(
     fresh: &mut SqlShelves<S>,
 ) -> Result<u8, Fail> {
     set_up(alloc, whole)?;
-    Ok(u8::from(whole.extract_teams(&["alpha"], fresh).is_ok()))
+    Ok(u8::from(whole.extract_teams(&["alpha"], fresh, &Unmetered).is_ok()))
 }
 
 /// Does a job that any shelves can do, and returns the bits of the pieces that were acknowledged.

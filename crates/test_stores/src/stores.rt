@@ -2,6 +2,7 @@
 use crate::alone::{Alone, EachRow};
 use crate::extracts::script;
 use sqlite::{Alter, Connection, MemStore};
+use statements::meter::Unmetered;
 use std::alloc::Global;
 use std::test::Fail;
 use store::between::CopyEnd;
@@ -33,7 +34,7 @@ fn made<S: Alter>(
         "copy" => copied(whole, part),
         _ => {
             let teams: Vec<&str> = column(call, 1).split_whitespace().collect(alloc)?;
-            whole.extract_teams(teams.as_slice(), part)
+            whole.extract_teams(teams.as_slice(), part, &Unmetered)
         }
     };
     match outcome {

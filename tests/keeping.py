@@ -85,7 +85,7 @@ def refuses(suite, machine, command, misuses):
 
 def at_once(suite, machine):
     """Two backups in one second: each is made whole or refused, and none is inside another."""
-    at, slow = f"{machine.folder}/var/backups/goshelf", "goshelf copy"
+    at, slow = f"{machine.folder}/var/backups/goshelf", "order_copy "
     text = machine.read("usr/local/bin/goshelf-backup")
     machine.write("usr/local/bin/goshelf-backup", text.replace(slow, f"sleep 1; {slow}"))
     both = "goshelf-backup & sleep 0.5; set +e; goshelf-backup stop; echo $?; wait $!; echo $?"

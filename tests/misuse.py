@@ -111,6 +111,30 @@ def units(suite, machine):
     )
 
 
+def shared(suite, machine):
+    """Without the file that the commands source, as after half an installation, each ends before it does anything."""
+    at = f"{machine.folder}/root/deploy/common.sh"
+    os.rename(at, f"{at}.aside")
+    before = sorted(os.listdir(f"{machine.folder}/var/backups/goshelf")), machine.read("serve.pid")
+    for words in (
+        "backup",
+        "backup stop",
+        "restore --yes last",
+        "forget --yes alpha example.com/lib v1.0.0",
+        "catalog",
+        "metrics",
+        "watch",
+        "copy store",
+        "warm store",
+    ):
+        told = machine.sh(f"goshelf-{words}")
+        is_right = told[0] != 0 and told[1] == "" and f"{machine.folder}/usr/share/goshelf/deploy/common.sh" in told[2]
+        suite.holds(f"goshelf-{words} without common.sh", is_right, told)
+    after = sorted(os.listdir(f"{machine.folder}/var/backups/goshelf")), machine.read("serve.pid")
+    suite.equal("and nothing has changed", after, before)
+    os.rename(f"{at}.aside", at)
+
+
 def links(suite, machine):
     """A link in the place of a file of nginx's: it stays, or the command refuses it."""
     at = f"{machine.folder}/etc/nginx"
@@ -181,7 +205,7 @@ def examined(file, program=PROGRAM):
 
 
 def main():
-    parts = (prepared, backups, full_disk, forgotten, units, links, shards, doctor)
+    parts = (prepared, backups, full_disk, forgotten, units, shared, links, shards, doctor)
     return play(Suite(), "the machine", "an operator's commands need root", Machine, parts)
 
 

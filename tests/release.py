@@ -29,6 +29,7 @@ WANTED = {
     "bench/RESULTS.md",
     "deploy/systemd/goshelf.service",
     "deploy/warm/goshelf-warm",
+    "deploy/common.sh",
     "deploy/goshelf-paths",
     "deploy/nginx/paths.map",
     "deploy/nginx/elsewhere.conf",

@@ -20,6 +20,8 @@ from lib.suite import Suite
 SUITE = Suite()
 COMMANDS = sorted(glob.glob("deploy/**/goshelf-*", root_dir=ROOT, recursive=True))
 SCRIPTS = ["tools/adopt", "tools/catalog", "tools/publish", "tools/release", "tools/shards", "tests/all", *COMMANDS]
+# what several of the commands source
+COMMON = "deploy/common.sh"
 # folders with files in Python
 FOLDERS = ("tests", "tools", "bench", "deploy")
 LONGEST_LINE, LONGEST_FILE = 120, 500
@@ -70,6 +72,25 @@ def python(files):
         SUITE.skip("black", f"the machine has no {BLACK}")
 
 
+def shell():
+    """The files in sh pass shellcheck, and what several commands of deploy/ do alike stands in one of them."""
+    installed = [f"deploy/debian/{it}" for it in ("postinst", "prerm", "postrm")]
+    for script in (COMMON, *SCRIPTS, *installed):
+        if script == COMMON or read(script).startswith("#!/bin/sh\n"):
+            SUITE.equal(f"shellcheck {script}", ran("shellcheck", "-x", "--source-path=.", script), (0, "", ""))
+    homes = {}
+    for script in (COMMON, *COMMANDS):
+        for body in re.findall(r"^\w+\(\) \{\n((?:    .*\n){2,})\}", read(script), re.M):
+            homes.setdefault(body, []).append(script)
+    SUITE.equal("no function of two lines stands in two commands", [it for it in homes.values() if len(it) > 1], [])
+    for subject, text in (
+        ("the name of a backup", "[0-9]Z'"),
+        ("an order to copy", 'goshelf copy --control "$control"'),
+        ("a command as the owner of a folder", "setpriv "),
+    ):
+        SUITE.equal(f"{subject} has one home", [it for it in (COMMON, *COMMANDS) if text in read(it)], [COMMON])
+
+
 def suites():
     """The registry lists each suite, and each stands alone."""
     names = [it.removesuffix(".py") for it in sorted(os.listdir(os.path.join(ROOT, "tests"))) if it.endswith(".py")]
@@ -100,10 +121,7 @@ def main():
         status, output, errors = told = ran(os.path.join(ROOT, script), "--nosuch")
         SUITE.holds(f"{script} --nosuch", (status, output) == (2, "") and usage in errors, told)
     SUITE.holds("the commands of deploy/ are found", len(COMMANDS) > 10, COMMANDS)
-    for script in (*SCRIPTS, *(f"deploy/debian/{it}" for it in ("postinst", "prerm", "postrm"))):
-        with open(os.path.join(ROOT, script), encoding="utf-8") as file:
-            if file.readline() == "#!/bin/sh\n":
-                SUITE.equal(f"shellcheck {script}", ran("shellcheck", script), (0, "", ""))
+    shell()
     settings()
     python(in_python())
     suites()

@@ -28,6 +28,57 @@ DONE = 0, b"", ""
 LONGEST = 4_087
 # the longest path in an order
 SAID = 4_090
+# files of `refused`, to none of which a copy is made
+FILES = ("served.db", "served.db-wal", "other.db", "other.db-wal", "made.db", "made.db-wal", "text")
+# where no copy is made, and the word of the refusal
+PLACES = (
+    ("text", "not-empty"),
+    ("other.db", "device"),
+    ("made.db", "not-empty"),
+    ("served.db", "not-empty"),
+    ("./served.db", "not-empty"),
+    ("named.db", "not-empty"),
+    ("linked.db", "not-empty"),
+    ("served.db-wal", "device"),
+    ("linked.log", "device"),
+    ("served.db-journal", "device"),
+    ("./served.db-shm", "device"),
+    ("named.db-journal", "device"),
+    ("other.db-journal", "device"),
+    ("text-wal", "device"),
+    ("folder", "device"),
+    ("none/one.db", "device"),
+    ("nowhere.db", "device"),
+    ("/dev/null", "device"),
+    ("", "device"),
+    (":memory:", "device"),
+    ("file:one.db", "device"),
+    ("a path.db", "name"),
+    ("path\n", "name"),
+    ("p" * SAID, "device"),
+    ("p" * (SAID + 1), "name"),
+)
+# bytes of an operator, and what is told of them
+LINES = (
+    (b"copy\n", b"bad\n"),
+    (b"copy \n", b"device\n"),
+    (b"copy a b\n", b"bad\n"),
+    (b"Copy one.db\n", b"bad\n"),
+    (b"copy one.db", b"bad\n"),
+    (b"copy one.db\n\n", b"bad\n"),
+    (b"copy " + b"p" * (SAID + 1) + b"\n", b"bad\n"),
+)
+# what a server tells, and the word by which the copy ends
+ANSWERS = (
+    (b"", "io"),
+    (b"bad\n", "io"),
+    (b"stopping\n", "io"),
+    (b"not-empty\n", "not-empty"),
+    (b"device\n", "device"),
+    (b"memory\n", "memory"),
+    (b"busy\n", "busy"),
+    (b"ended\n", "ended"),
+)
 
 
 def copy(to, control=CONTROL):
@@ -143,6 +194,14 @@ def loaded(suite):
     )
 
 
+def linked():
+    """Gives the store that is served, and one that is not there, more names."""
+    os.link("served.db", "linked.db")
+    os.link("served.db-wal", "linked.log")
+    os.symlink("served.db", "named.db")
+    os.symlink("none/one.db", "nowhere.db")
+
+
 def refused(suite):
     """What no copy is made of; nothing is changed then, and peers are answered."""
     new_store("served.db", ("alpha", KEY))
@@ -153,36 +212,17 @@ def refused(suite):
     server = Server("served.db", CONTROL)
     suite.equal("a version", server.status(put("example.com/lib", "v1.0.0", GOMOD, b"zip")), 201)
     suite.equal("a copy", copy("made.db"), DONE)
-    os.link("served.db", "linked.db")
-    os.link("served.db-wal", "linked.log")
-    os.symlink("served.db", "named.db")
-    os.symlink("none/one.db", "nowhere.db")
-    files = ["served.db", "served.db-wal", "other.db", "other.db-wal", "made.db", "made.db-wal", "text"]
-    before, names = [read(it) for it in files], sorted(os.listdir("."))
+    linked()
+    before, names = [read(it) for it in FILES], sorted(os.listdir("."))
     other = Server("other.db", "other")
-    rows = [
-        ("text", "not-empty"), ("other.db", "device"), ("made.db", "not-empty"), ("served.db", "not-empty"),
-        ("./served.db", "not-empty"),
-        (os.path.abspath("served.db"), "not-empty"), ("named.db", "not-empty"), ("linked.db", "not-empty"),
-        ("served.db-wal", "device"),
-        ("linked.log", "device"), ("served.db-journal", "device"), ("./served.db-shm", "device"),
-        ("named.db-journal", "device"),
-        (os.path.abspath("served.db-journal"), "device"), ("other.db-journal", "device"), ("text-wal", "device"),
-        ("folder", "device"), ("none/one.db", "device"), ("nowhere.db", "device"), ("/dev/null", "device"),
-        ("", "device"), (":memory:", "device"),
-        ("file:one.db", "device"), ("a path.db", "name"), ("path\n", "name"), ("p" * SAID, "device"),
-        ("p" * (SAID + 1), "name"),
-    ]  # fmt: skip
-    for to, word in rows:
+    absolute = (os.path.abspath("served.db"), "not-empty"), (os.path.abspath("served.db-journal"), "device")
+    for to, word in (*PLACES, *absolute):
         suite.equal(f"a copy to {to[:60]!r}", copy(to), refusal(word))
         suite.counts(f"a peer after {to!r}", None if server.status(get(LIST)) == 200 else "not answered")
-    suite.equal("the files are as they were", [read(it) for it in files], before)
+    suite.equal("the files are as they were", [read(it) for it in FILES], before)
     # (opening a file that is no store leaves a log beside it)
     suite.equal("and no others", [it for it in sorted(os.listdir(".")) if it not in names], ["other", "text-wal"])
-    for sent, told in ((b"copy\n", b"bad\n"), (b"copy \n", b"device\n"), (b"copy a b\n", b"bad\n"),
-        (b"Copy one.db\n", b"bad\n"),
-                       (b"copy one.db", b"bad\n"), (b"copy one.db\n\n", b"bad\n"),
-                       (b"copy " + b"p" * (SAID + 1) + b"\n", b"bad\n")):  # fmt: skip
+    for sent, told in LINES:
         suite.equal(f"told of {sent[:60]!r}", server.order(sent), told)
     suite.equal("no copy was made", os.path.lexists("one.db"), False)
     other.kill()
@@ -190,29 +230,25 @@ def refused(suite):
     server.kill()
     for name in ("linked.db", "linked.log"):
         os.unlink(name)
-    suite.equal(
-        "the store is whole",
-        run(["inventory", "--db", "served.db", "--key", KEY])[:2],
-        run(["inventory", "--db", "made.db", "--key", KEY])[:2],
-    )
+    seen = [run(["inventory", "--db", it, "--key", KEY])[:2] for it in ("served.db", "made.db")]
+    suite.equal("the store is whole", seen[0], seen[1])
+
+
+def beside(suite):
+    """A copy whose log would be the store that is served."""
     new_store("odd-wal", ("alpha", KEY))
     server = Server("odd-wal", CONTROL)
     suite.equal("a copy whose log would be the store", copy("odd"), refusal("device"))
     suite.equal("which is held all the same", run(["inventory", "--db", "odd-wal", "--key", KEY]), refusal("device"))
     suite.equal("and answers on", server.status(put("example.com/lib", "v1.0.0", GOMOD)), 201)
     server.kill()
+
+
+def told(suite):
+    """How a copy ends by what a server tells, and the words that are refused."""
     words = ["copy", "--to", "one.db", "--control"]
-    for told, word in (
-        (b"", "io"),
-        (b"bad\n", "io"),
-        (b"stopping\n", "io"),
-        (b"not-empty\n", "not-empty"),
-        (b"device\n", "device"),
-        (b"memory\n", "memory"),
-        (b"busy\n", "busy"),
-        (b"ended\n", "ended"),
-    ):
-        suite.equal(f"a server that tells {told}", by_false_server(words, told), (refusal(word), b"copy one.db\n"))
+    for answer, word in ANSWERS:
+        suite.equal(f"a server that tells {answer}", by_false_server(words, answer), (refusal(word), b"copy one.db\n"))
     suite.equal("one that tells done", by_false_server(words, b"done\n"), (DONE, b"copy one.db\n"))
     for words in (
         ["copy"],
@@ -248,4 +284,4 @@ def full(suite):
 
 
 if __name__ == "__main__":
-    sys.exit(in_new_folders(Suite(), whole, loaded, refused, full))
+    sys.exit(in_new_folders(Suite(), whole, loaded, refused, beside, told, full))

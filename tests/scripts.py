@@ -24,7 +24,7 @@ SCRIPTS = ["tools/adopt", "tools/catalog", "tools/publish", "tools/release", "to
 COMMON = "deploy/common.sh"
 # folders with files in Python
 FOLDERS = ("tests", "tools", "bench", "deploy")
-LONGEST_LINE, LONGEST_FILE = 120, 500
+LONGEST_LINE, LONGEST_FILE, LONGEST_FUNCTION = 120, 500, 40
 # the black of Debian 12: another may lay files out otherwise
 BLACK = "black, 23."
 
@@ -61,6 +61,13 @@ def python(files):
     SUITE.equal(f"no line in Python has more than {LONGEST_LINE} characters", long_lines, [])
     long_files = [it for it in files if read(it).count("\n") > LONGEST_FILE]
     SUITE.equal(f"no file in Python has more than {LONGEST_FILE} lines", long_files, [])
+    nodes = [(it, node) for it in files for node in ast.walk(ast.parse(read(it)))]
+    long_functions = [
+        f"{it}: {node.name}"
+        for it, node in nodes
+        if isinstance(node, ast.FunctionDef) and node.end_lineno - node.lineno >= LONGEST_FUNCTION
+    ]
+    SUITE.equal(f"no function in Python has more than {LONGEST_FUNCTION} lines", long_functions, [])
     if shutil.which("pyflakes3"):
         SUITE.equal("pyflakes", ran("pyflakes3", *files), (0, "", ""))
     else:

@@ -1,5 +1,5 @@
-//! Changes to a store while it is served: an operator sends an order over a Unix socket, and gets the line of its
-//! outcome.
+//! A store that is served to peers on a port and to operators on a Unix socket. An operator sends a line that orders a
+//! change, a copy or the end, or asks for a list or for the health, and gets what came of it.
 //!
 //! | what | where |
 //! |---|---|

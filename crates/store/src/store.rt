@@ -1,4 +1,4 @@
-//! The store that the machine runs over.
+//! Shelves as rows of SQL tables, with what is kept of them in memory: a store of `world`, which also shows outlines.
 
 ghost use Rattle.std.specs.Prelude.{◌≡◌, ◌≤◌, ◌⊎◌, IfOk, IfErr, IsTrue};
 ghost use Rattle.sqlite.specs.Held.{state};

@@ -3,8 +3,8 @@
 
 It comes on standard error, and only if that is a terminal: `copy`, `import`, `extract` and `migrate` say how much is
 done, and each command that it opens a large store. The same run over a pipe prints the same, ends the same and
-leaves the same files. A command is made to last long enough by a file that it has to wait for, or by a stop of a second
-in the middle. The terminal is one that the suite reads: what is on it at the end, and where the cursor is.
+leaves the same files. A command is made to last long enough by a file that it has to wait for, or by many short stops.
+The terminal is one that the suite reads: what is on it at the end, and where the cursor is.
 """
 
 import os
@@ -204,20 +204,18 @@ def large_store(file):
     assert (status, told) == (0, ""), told
 
 
-def held_up(words, made, child=None):
-    """A command on a terminal that is stopped for a time once it has made a file, or whose server is. It is tried
-    anew where it was done before it could be stopped. Returns how it ended."""
-    for _ in range(20):
+def slowed(words, made, server=None):
+    """A command on a terminal that gets a moment and then stands still for a hundred of them until it draws a line, or
+    whose server does. A machine on which it ends first stands still for longer. Returns how it ended."""
+    for still in (0.1, 0.3, 1.0):
         remove_store(made)
         shown = OnTerminal(*words)
-        while not (os.path.exists(made) and os.path.getsize(made) > 0) and shown.child.poll() is None:
+        slow = server or shown.child
+        while not shown.shown and shown.child.poll() is None:
+            slow.send_signal(signal.SIGSTOP)
+            shown.read(still)
+            slow.send_signal(signal.SIGCONT)
             time.sleep(0.001)
-        if child is None:
-            shown.hold(HELD)
-        else:
-            child.send_signal(signal.SIGSTOP)
-            time.sleep(2 * HELD)
-            child.send_signal(signal.SIGCONT)
         told = shown.end()
         if told[2]:
             return told
@@ -225,14 +223,14 @@ def held_up(words, made, child=None):
 
 
 def stores(suite):
-    """The lines of `extract` and `migrate`, each stopped for a second as soon as it has made a file."""
+    """The lines of `extract` and `migrate`, each made slow."""
     large_store("large.db")
     older("older.db", 2, "large.db")
     for words, verb in (
         (("extract", "--db", "large.db", "--team", "alpha", "--to", "made.db"), "extract"),
-        (("migrate", "--from", "older.db", "--to", "made.db"), "migrate 2/2"),
+        (("migrate", "--from", "older.db", "--to", "made.db"), r"migrate [12]/2"),
     ):
-        status, out, text = held_up(words, "made.db-wal")
+        status, out, text = slowed(words, "made.db")
         suite.holds(f"the lines of {words[0]} are taken away", is_fit(text, verb), repr(text))
         seen = run(["inventory", "--db", "made.db", "--key", KEYS["A"]])
         remove_store("made.db")
@@ -334,12 +332,12 @@ def copies(suite):
 
 
 def copy_of_a_server(suite):
-    """A copy that a server makes, which is stopped for some seconds in the middle."""
+    """A copy by a server that is made slow."""
     large_store("large.db")
     server = Server("large.db", CONTROL)
     to = os.path.abspath("copy.db")
-    status, out, text = held_up(("copy", "--control", CONTROL, f"--to={to}"), to + "-wal", server.child)
-    suite.equal("a server that was stopped ends its copy", (status, out), (0, b""))
+    status, out, text = slowed(("copy", "--control", CONTROL, f"--to={to}"), to, server.child)
+    suite.equal("a slow server ends its copy", (status, out), (0, b""))
     suite.holds("and its copy is shown", is_fit(text, "copy"), repr(text))
     server.stop()
 

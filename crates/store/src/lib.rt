@@ -42,6 +42,7 @@
 pub mod between;
 mod chain;
 mod counting;
+mod definite;
 mod extract;
 pub mod files;
 pub mod laws;

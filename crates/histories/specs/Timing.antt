@@ -1,5 +1,5 @@
 -- How long reads and writes may wait. Lists of calls have the last call first.
-use Rattle.std.specs.Prelude.{ℕ, ◌≡◌, ◌+◌, ◌-◌, ◌<◌, ◌≤◌, Bool, false, List, [], ◌∷◌, ◌++◌, Option, Some, None, ⊤}
+use Rattle.std.specs.Prelude.{ℕ, ◌≡◌, ◌+◌, ◌-◌, ◌<◌, ◌≤◌, Bool, true, false, List, [], ◌∷◌, ◌++◌, Option, Some, None, ⊤}
 use Rattle.std.specs.Duration.{as_nanos}
 use Rattle.std.specs.Time.{instant_nanos}
 use Rattle.std.specs.declared.time.Instant.{Instant}
@@ -60,6 +60,16 @@ EachMayBegin allowed start (Moves bytes ∷ before) = EachMayBegin allowed start
 abbrev pub KeepsTime : (ℕ → ℕ) → List Call → List Call → Type 0
 KeepsTime allowed old new = ∥ ((since : List Call) × (new ≡ since ++ old) × EachMayBegin allowed old since) ∥₁
 
+-- From old to new there are stretches: the first begins with old, and the others with these calls, the last of them
+-- first. In each stretch each read and each write began in time.
+abbrev pub Stretches : (ℕ → ℕ) → List Call → List (List Call) → List Call → Type 0
+Stretches allowed old [] new = KeepsTime allowed old new
+Stretches allowed old (start ∷ starts) new = Stretches allowed old starts start × KeepsTime allowed start new
+
+-- From old to new each read and each write began in time, where the time may have begun anew between two of them.
+abbrev pub KeepsEach : (ℕ → ℕ) → List Call → List Call → Type 0
+KeepsEach allowed old new = ∥ ((starts : List (List Call)) × Stretches allowed old starts new) ∥₁
+
 -- ---- what a stream in time knows
 
 -- the time began at the first reading among these calls, if there is one
@@ -81,3 +91,13 @@ pub record Since (allowed : ℕ → ℕ) (start : List Call) (first : Option Ins
 abbrev pub IsReady : (ℕ → ℕ) → List Call → Option Instant → ℕ → Bool → List Call → Type 0
 IsReady allowed start first moved waits calls =
     ∥ ((s : Since allowed start first moved waits calls) × MayBegin allowed start s.since) ∥₁
+
+-- These calls came in stretches, and so it is from the start of the last.
+abbrev pub SinceLast : (ℕ → ℕ) → List Call → Option Instant → ℕ → List Call → Type 0
+SinceLast allowed old first moved calls =
+    ∥ ((start : List Call) × KeepsEach allowed old start × ∥ Since allowed start first moved true calls ∥₁) ∥₁
+
+-- Whatever the start was, from it so it still is.
+abbrev pub StaysSince : (ℕ → ℕ) → Option Instant → Option Instant → ℕ → ℕ → List Call → List Call → Type 0
+StaysSince allowed first first_new moved moved_new calls calls_new = (start : List Call)
+    → ∥ Since allowed start first moved true calls ∥₁ → ∥ Since allowed start first_new moved_new true calls_new ∥₁

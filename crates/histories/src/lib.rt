@@ -15,6 +15,7 @@ mod patience;
 mod record;
 mod start;
 mod telling;
+mod telling_in_stretches;
 mod telling_in_time;
 mod wait;
 
@@ -26,6 +27,7 @@ pub use hearing::{Hear, Hearing};
 pub use hearing_in_time::HearingInTime;
 pub use patience::Patience;
 pub use start::Start;
-pub use telling::{Tell, Telling};
+pub use telling::{Restart, Tell, Telling};
+pub use telling_in_stretches::TellingInStretches;
 pub use telling_in_time::TellingInTime;
 pub use wait::{BoundRead, BoundWrite, HasCalls};

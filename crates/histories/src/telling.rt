@@ -31,6 +31,14 @@ pub trait Tell: Write {
         ensures calls { CallsFlush (writes self.old) (writes self.new) result };
 }
 
+/// A writer whose writes may have a limited time, which can begin anew.
+pub trait Restart: Tell {
+    /// Begins a stretch of writes, which has its own time.
+    fn restart(&mut self)
+        ensures bytes { Self.contents self.new ≡ Self.contents self.old }
+        ensures writes { Self.writes self.new ≡ Self.writes self.old };
+}
+
 /// Any writer, with an account of what it took, which is its `contents`.
 #[derive(Drop)]
 pub struct Telling<W> {
@@ -132,6 +140,11 @@ impl<W: Write> Tell for Telling<W> {
             }
         }
     }
+}
+
+/// Its writes have no limit.
+impl<W: Write> Restart for Telling<W> {
+    fn restart(&mut self) {}
 }
 
 impl<W: Write> HasCalls for Telling<W> {

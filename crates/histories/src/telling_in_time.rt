@@ -1,6 +1,10 @@
 //! A writer that has a limited time.
-ghost use Rattle.std.specs.Prelude.{◌≡◌, true, OnOk};
-ghost use Rattle.histories.specs.Timing.{IsReady, KeepsTime, Since};
+ghost use Rattle.std.specs.Prelude.{◌≡◌, true, List, OnOk};
+ghost use Rattle.std.specs.Io.{WritesAtMost};
+ghost use Rattle.std.specs.Io.KnownBytes.{WriteAppends};
+ghost use Rattle.histories.specs.Calls.{CallsWrite};
+ghost use Rattle.histories.specs.Timing.{IsReady, KeepsTime, Since, StaysSince};
+ghost use Rattle.histories.specs.declared.call.Call.{Call};
 
 use crate::patience::{Patience, Watch};
 use crate::start::Start;
@@ -42,20 +46,51 @@ impl<'a, C: Clock, P: Patience, K: Start, W: BoundWrite + Drop> TellingInTime<'a
     {
         self.inner
     }
+}
 
-    /// Bounds the next write by what is left of the time. Fails if none is left, or if the clock can't be read or the
-    /// bound can't be set.
-    fn bound(&mut self) -> io::Result<()>
-        ensures contents { ⟦<Telling<W> as Write>⟧.contents self.new.inner
-            ≡ ⟦<Telling<W> as Write>⟧.contents self.old.inner }
-        ensures writes { ⟦<Telling<W> as Tell>⟧.writes self.new.inner ≡ ⟦<Telling<W> as Tell>⟧.writes self.old.inner }
-        ensures ready { OnOk result (IsReady P.allowed K.calls
-            self.new.watch.first self.new.watch.moved true self.new.inner.calls.calls) }
-    {
-        let now = self.inner.look(self.clock)?;
-        let left = self.watch.left(now)?;
-        self.inner.bound(left)
+/// Writes some bytes in the time that is watched, and counts them. A call that fails before it comes to the writer is
+/// noted as one that failed.
+pub(crate) fn tell_in_time<C: Clock, P: Patience, W: BoundWrite + Drop>(
+    inner: &mut Telling<W>,
+    clock: &C,
+    watch: &mut Watch<P>,
+    buf: &[u8],
+) -> io::Result<usize>
+    ensures bound { WritesAtMost result buf.now }
+    ensures bytes { WriteAppends (⟦<Telling<W> as Write>⟧.contents inner.old)
+        (⟦<Telling<W> as Write>⟧.contents inner.new) result buf.now }
+    ensures calls { CallsWrite (⟦<Telling<W> as Tell>⟧.writes inner.old) (⟦<Telling<W> as Tell>⟧.writes inner.new)
+        result buf.now }
+    ensures since { StaysSince P.allowed watch.old.first watch.new.first watch.old.moved watch.new.moved
+        inner.old.calls.calls inner.new.calls.calls }
+{
+    if let Err(e) = bound(inner, clock, watch) {
+        inner.refuse();
+        return Err(e);
     }
+    let n = inner.tell(buf)?;
+    watch.count(n);
+    Ok(n)
+}
+
+/// Bounds the next write by what is left of the time. Fails if none is left, or if the clock can't be read or the
+/// bound can't be set.
+fn bound<C: Clock, P: Patience, W: BoundWrite + Drop>(
+    inner: &mut Telling<W>,
+    clock: &C,
+    watch: &mut Watch<P>,
+) -> io::Result<()>
+    ensures contents { ⟦<Telling<W> as Write>⟧.contents inner.new ≡ ⟦<Telling<W> as Write>⟧.contents inner.old }
+    ensures writes { ⟦<Telling<W> as Tell>⟧.writes inner.new ≡ ⟦<Telling<W> as Tell>⟧.writes inner.old }
+    ensures since { StaysSince P.allowed watch.old.first watch.new.first watch.old.moved watch.new.moved
+        inner.old.calls.calls inner.new.calls.calls }
+    ensures ready { (start : List Call)
+        → ∥ Since P.allowed start watch.old.first watch.old.moved true inner.old.calls.calls ∥₁
+        → OnOk result (IsReady P.allowed start watch.new.first watch.new.moved true inner.new.calls.calls) }
+{
+    let now = inner.look(clock)?;
+    let left = watch.left(now)?;
+    inner.bound(left)
 }
 
 impl<'a, C: Clock, P: Patience, K: Start, W: BoundWrite + Drop> Write
@@ -77,13 +112,7 @@ impl<'a, C: Clock, P: Patience, K: Start, W: BoundWrite + Drop> Tell
     ghost writes = { λ t. ⟦<Telling<W> as Tell>⟧.writes t.inner };
 
     fn tell(&mut self, buf: &[u8]) -> io::Result<usize> {
-        if let Err(e) = self.bound() {
-            self.inner.refuse();
-            return Err(e);
-        }
-        let n = self.inner.tell(buf)?;
-        self.watch.count(n);
-        Ok(n)
+        tell_in_time(&mut self.inner, self.clock, &mut self.watch, buf)
     }
 
     fn settle(&mut self) -> io::Result<()> {

@@ -15,7 +15,7 @@ use Rattle.engine.specs.declared.fault.Io.{Io}
 use Rattle.engine.specs.declared.fault.Io.TheVariants as io
 use Rattle.engine.specs.declared.next.MessageOrEnd.{MessageOrEnd}
 use Rattle.engine.specs.declared.next.MessageOrEnd.TheVariants as came
-use Rattle.engine.specs.declared.read.Progress.TheVariants as progress
+use Rattle.engine.specs.declared.read.AfterRead.TheVariants as after_read
 use Rattle.engine.proofs.MessageLemmas.{message_shortens}
 use Rattle.engine.proofs.ReadLemmas.{near_few}
 
@@ -79,7 +79,7 @@ module _
         (is, (far.bytes, Gives-kept u₀ u₁ u₂ far.bytes far.consumed keeps, subst IsUnfinished far.held waits))
 
     -- if the read ended the stream, the end comes next
-    pub end_comes : (closing : Option Fixed) (left : ℕ) → ReadsOn now next u₁ u₂ (Ok (progress.Ends closing))
+    pub end_comes : (closing : Option Fixed) (left : ℕ) → ReadsOn now next u₁ u₂ (Ok (after_read.Ends closing))
         → Comes old next reads left u₀ u₂ (Ok (came.End closing))
     end_comes closing left (bytes, consumes, near, closes, some) = record {
       bytes = far.bytes ++ bytes;
@@ -91,7 +91,7 @@ module _
     }
 
     -- if the read gave more bytes, these were read too
-    pub more_read : (left : ℕ) → left + 1 ≡ reads_now → ReadsOn now next u₁ u₂ (Ok progress.GoesOn)
+    pub more_read : (left : ℕ) → left + 1 ≡ reads_now → ReadsOn now next u₁ u₂ (Ok after_read.GoesOn)
         → length next.held ≤ length now.held + body_read_limit → ReadSoFar old next u₀ u₂ reads left
     more_read left one (bytes, consumes, near, is) few = record {
       bytes = far.bytes ++ bytes;

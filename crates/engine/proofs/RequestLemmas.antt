@@ -8,9 +8,9 @@ use Rattle.modver.specs.Time.{has_time_form, is_moment}
 use Rattle.modver.proofs.Forms.{fits_form-ascii}
 use Rattle.framing.specs.Framing.{texts}
 use Rattle.framing.specs.Message.{MessageView}
-use Rattle.wire.specs.declared.named.Resource.TheVariants as resource
-use Rattle.wire.specs.declared.named.Target.{Target}
-use Rattle.wire.specs.declared.named.Target.TheVariants as target
+use Rattle.wire.specs.declared.resource.Resource.TheVariants as resource
+use Rattle.wire.specs.declared.resource.Target.{Target}
+use Rattle.wire.specs.declared.resource.Target.TheVariants as target
 use Rattle.machine.specs.declared.request.GivenTime.TheVariants.{Malformed}
 use Rattle.engine.specs.Request.{time_in, given_time, request_at, message_request, is_summed, sum_at, sum_by, sum_of}
 use Rattle.engine.specs.Request.{target_in}

@@ -3,8 +3,8 @@ use Rattle.std.specs.Prelude.{ℕ, ◌≡◌, ◌⊎◌, List, [], ◌∷◌, Bo
 use Rattle.latest.specs.Latest.{IsTop}
 use Rattle.modver.specs.SemanticVersion.{SemanticVersion}
 use Rattle.wire.specs.Reply.{reply_bytes, fixed_bytes, info_bytes}
-use Rattle.wire.specs.declared.named.Resource.{Resource}
-use Rattle.wire.specs.declared.named.Target.TheVariants as target
+use Rattle.wire.specs.declared.resource.Resource.{Resource}
+use Rattle.wire.specs.declared.resource.Target.TheVariants as target
 use Rattle.wire.specs.declared.reply.Fixed.TheVariants.{NotFound, Unavailable}
 use Rattle.wire.specs.declared.reply.MediaType.TheVariants.{Json}
 use Rattle.world.specs.World.{World, IsWorld, chain}

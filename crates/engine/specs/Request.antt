@@ -5,10 +5,10 @@ use Rattle.modver.specs.SemanticVersion.{SemanticVersion}
 use Rattle.framing.specs.Length.{length_value}
 use Rattle.framing.specs.Message.{MessageView}
 use Rattle.wire.specs.Target.{target_of}
-use Rattle.wire.specs.declared.named.Resource.{Resource}
-use Rattle.wire.specs.declared.named.Resource.TheVariants as resource
-use Rattle.wire.specs.declared.named.Target.{Target}
-use Rattle.wire.specs.declared.named.Target.TheVariants as target
+use Rattle.wire.specs.declared.resource.Resource.{Resource}
+use Rattle.wire.specs.declared.resource.Resource.TheVariants as resource
+use Rattle.wire.specs.declared.resource.Target.{Target}
+use Rattle.wire.specs.declared.resource.Target.TheVariants as target
 use Rattle.machine.specs.declared.request.Query.{Query}
 use Rattle.machine.specs.declared.request.Query.TheVariants as query
 use Rattle.machine.specs.declared.request.GivenTime.{GivenTime}

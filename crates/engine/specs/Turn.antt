@@ -17,8 +17,8 @@ use Rattle.engine.specs.declared.fault.Io.{Io}
 use Rattle.engine.specs.declared.fault.Io.TheVariants as io
 use Rattle.engine.specs.declared.next.MessageOrEnd.{MessageOrEnd}
 use Rattle.engine.specs.declared.next.MessageOrEnd.TheVariants as came
-use Rattle.engine.specs.declared.read.Progress.{Progress}
-use Rattle.engine.specs.declared.read.Progress.TheVariants as progress
+use Rattle.engine.specs.declared.read.AfterRead.{AfterRead}
+use Rattle.engine.specs.declared.read.AfterRead.TheVariants as after_read
 use Rattle.engine.specs.declared.session.Turn.{Turn}
 use Rattle.engine.specs.declared.session.Turn.TheVariants as turn
 
@@ -41,11 +41,11 @@ pub record StaysNear (held bytes : List ℕ) : Type 0 where
   pub few : length late ≤ read_limit
 
 -- what a read gave the framer, or why it closes the stream; memory runs out only for bytes that came
-abbrev pub ReadsOn : Framing → Framing → Account → Account → Result Progress Io → Type 0
-ReadsOn old new unread unread_new (Ok progress.GoesOn) =
+abbrev pub ReadsOn : Framing → Framing → Account → Account → Result AfterRead Io → Type 0
+ReadsOn old new unread unread_new (Ok after_read.GoesOn) =
     (bytes : List ℕ) × Gives unread unread_new bytes × StaysNear old.held bytes
     × (new ≡ record old { held = old.held ++ bytes })
-ReadsOn old new unread unread_new (Ok (progress.Ends closing)) =
+ReadsOn old new unread unread_new (Ok (after_read.Ends closing)) =
     (bytes : List ℕ) × Gives unread unread_new bytes × StaysNear old.held bytes
     × ((more : List ℕ) → MayFollow unread_new more → IsClosing (old.held ++ (bytes ++ more)) closing)
     × (closing ≡ Some fixed.Unavailable → bytes ≢ [])

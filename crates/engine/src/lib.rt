@@ -50,7 +50,6 @@
 #![tactic(auto)]
 
 mod answer;
-mod exchange;
 pub mod fault;
 pub mod laws;
 mod next;

@@ -4,7 +4,7 @@ ghost use Rattle.engine.specs.Causes.{AsksWhileUnfinished, IsUnreadable, Spends}
 ghost use Rattle.engine.specs.Turn.{Comes, Takes};
 
 use crate::fault::Io;
-use crate::read::{Progress, read_more};
+use crate::read::{AfterRead, read_more};
 use histories::Hear;
 use wire::reply::Fixed;
 use wire::{Bad, Framer, Message, Next};
@@ -59,7 +59,7 @@ pub(crate) fn next_message<R: Hear>(
             return Err(Io::Read);
         }
         *reads -= 1;
-        if let Progress::Ends(closing) = read_more(reader, framer)? {
+        if let AfterRead::Ends(closing) = read_more(reader, framer)? {
             return Ok(MessageOrEnd::End(closing));
         }
     }

@@ -1,8 +1,9 @@
 //! What is written for a reply of the machine.
 ghost use Rattle.std.specs.Prelude.{◌≡◌, Some, IfOk, OnErr};
+ghost use Rattle.engine.specs.Exchange.{Outcome, answer_to};
 ghost use Rattle.engine.specs.Request.{sum_by};
 ghost use Rattle.engine.specs.Reply as spec;
-ghost use Rattle.engine.specs.Reply.{IsComposed, IsSummed};
+ghost use Rattle.engine.specs.Reply.{IsComposed, IsOutcome, IsSummed, answer_page};
 
 use crate::request::MessageRequest;
 use gosum::sum_line;
@@ -14,6 +15,7 @@ use std::alloc::Global;
 use wire::reply::{Fixed, MediaType};
 use wire::{Memory, info_body};
 use world::bytes::Bytes;
+use world::registry::StoreFault;
 
 /// What is written for a reply.
 #[derive(Drop)]
@@ -106,5 +108,24 @@ pub(crate) fn page_of(alloc: Global, asked: &MessageRequest, reply: Reply) -> Re
         }
         Reply::Versions(versions) => Ok(Page::Body(MediaType::TextPlain, versions.lines(alloc)?)),
         Reply::Paths(paths) => Ok(Page::Body(MediaType::TextPlain, paths.lines(alloc)?)),
+    }
+}
+
+/// Returns what is written for the machine's answer: its reply, or the 503 if the store met a fault or memory runs out
+/// for the body of the reply.
+pub(crate) fn page_of_answer(
+    alloc: Global,
+    asked: &MessageRequest,
+    answer: Result<Reply, StoreFault>,
+) -> Page
+    ensures { (outcome : Outcome) × IsOutcome (sum_by asked.now) answer outcome
+        × (result ≡ answer_page (sum_by asked.now) (answer_to outcome)) }
+{
+    let Ok(reply) = answer else {
+        return Page::Fixed(Fixed::Unavailable);
+    };
+    match page_of(alloc, asked, reply) {
+        Ok(page) => page,
+        Err(_) => Page::Fixed(Fixed::Unavailable),
     }
 }

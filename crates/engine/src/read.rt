@@ -25,7 +25,7 @@ const BODY_READ_LIMIT: usize = 65_536;
 
 /// What a read led to.
 #[derive(Clone, Copy, Drop)]
-pub(crate) enum Progress {
+pub(crate) enum AfterRead {
     /// Bytes came, and the framer holds them.
     GoesOn,
     /// This reply closes the stream, or nothing does at a good end.
@@ -60,7 +60,11 @@ fn read_some<R: Hear>(reader: &mut R, chunk: &mut [u8]) -> Result<usize, Io>
 
 /// Reads once and feeds the framer what came. Returns `Ends` at the end of the input, with the 400 if the framer holds
 /// something, and with the 503 if memory runs out. `Io::Read` if the read fails.
-fn feed_some<R: Hear>(reader: &mut R, framer: &mut Framer, chunk: &mut [u8]) -> Result<Progress, Io>
+fn feed_some<R: Hear>(
+    reader: &mut R,
+    framer: &mut Framer,
+    chunk: &mut [u8],
+) -> Result<AfterRead, Io>
     requires waits { IsUnfinished framer.old.held }
     requires room { 0 < length chunk.old }
     requires near { (bytes : List ℕ) → length bytes ≤ length chunk.old → StaysNear framer.old.held bytes }
@@ -73,11 +77,11 @@ fn feed_some<R: Hear>(reader: &mut R, framer: &mut Framer, chunk: &mut [u8]) -> 
     ensures fails { FailsWith (R.reads reader.old).failed (R.reads reader.new).failed result }
 {
     match read_some(reader, chunk)? {
-        0 if framer.is_empty() => Ok(Progress::Ends(None)),
-        0 => Ok(Progress::Ends(Some(Fixed::BadRequest))),
+        0 if framer.is_empty() => Ok(AfterRead::Ends(None)),
+        0 => Ok(AfterRead::Ends(Some(Fixed::BadRequest))),
         n => match framer.feed(&chunk[..n]) {
-            Ok(()) => Ok(Progress::GoesOn),
-            Err(_) => Ok(Progress::Ends(Some(Fixed::Unavailable))),
+            Ok(()) => Ok(AfterRead::GoesOn),
+            Err(_) => Ok(AfterRead::Ends(Some(Fixed::Unavailable))),
         },
     }
 }
@@ -85,7 +89,7 @@ fn feed_some<R: Hear>(reader: &mut R, framer: &mut Framer, chunk: &mut [u8]) -> 
 /// Reads once for a message that lacks more than `READ_LIMIT` bytes, and reads no byte after it. Returns and fails as
 /// `feed_some` does.
 #[inline(never)]
-fn read_body<R: Hear>(reader: &mut R, framer: &mut Framer, missing: usize) -> Result<Progress, Io>
+fn read_body<R: Hear>(reader: &mut R, framer: &mut Framer, missing: usize) -> Result<AfterRead, Io>
     requires waits { IsUnfinished framer.old.held }
     requires long { read_limit < missing }
     requires missing { (bytes : List ℕ) → length bytes < missing → IsUnfinished (framer.old.held ++ bytes) }
@@ -104,7 +108,7 @@ fn read_body<R: Hear>(reader: &mut R, framer: &mut Framer, missing: usize) -> Re
 
 /// Reads once and feeds the framer what came: at most 4,096 bytes, or 65,536 while more than 4,096 are known to be
 /// missing of a message. Returns and fails as `feed_some` does.
-pub(crate) fn read_more<R: Hear>(reader: &mut R, framer: &mut Framer) -> Result<Progress, Io>
+pub(crate) fn read_more<R: Hear>(reader: &mut R, framer: &mut Framer) -> Result<AfterRead, Io>
     requires { IsUnfinished framer.old.held }
     ensures on { ReadsOn framer.old framer.new (R.account reader.old) (R.account reader.new) result }
     ensures few { length framer.new.held ≤ length framer.old.held + body_read_limit }

@@ -7,10 +7,9 @@ ghost use Rattle.engine.specs.Served.{closing_bytes};
 ghost use Rattle.engine.specs.Turn.{EndsBy, IsAnswered, IsClosed, Turns, turn_status, work};
 ghost use Rattle.engine.specs.Written.{Writes};
 
-use crate::exchange::page_of_answer;
 use crate::fault::Io;
 use crate::next::{MessageOrEnd, next_message};
-use crate::page::Page;
+use crate::page::{Page, page_of_answer};
 use crate::request::message_request;
 use crate::write::{flush, write_fixed, write_page};
 use histories::{Hear, Tell};

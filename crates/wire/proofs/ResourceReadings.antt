@@ -26,8 +26,8 @@ use Rattle.wire.specs.declared.routes.Area.{Area}
 use Rattle.wire.specs.declared.routes.Area.TheVariants as area
 use Rattle.wire.specs.declared.resources.VersionFile.{VersionFile}
 use Rattle.wire.specs.declared.resources.VersionFile.TheVariants as file
-use Rattle.wire.specs.declared.named.Resource.{Resource}
-use Rattle.wire.specs.declared.named.Resource.TheVariants as resource
+use Rattle.wire.specs.declared.resource.Resource.{Resource}
+use Rattle.wire.specs.declared.resource.Resource.TheVariants as resource
 use Rattle.wire.proofs.ModuleVersionReadings.{path-cut, path-is, path-taken, module-version-is, module-version-taken}
 use Rattle.wire.proofs.ModuleVersionReadings.{version-is, version-taken}
 use Rattle.wire.proofs.RouteReadings.{StandsIn, area-is, area-path, own-is}

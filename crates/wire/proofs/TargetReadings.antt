@@ -15,9 +15,9 @@ use Rattle.wire.specs.declared.routes.Area.{Area}
 use Rattle.wire.specs.declared.routes.Area.TheVariants as area
 use Rattle.framing.specs.declared.message.Memory.{Memory}
 use Rattle.wire.specs.declared.module_version.ModuleVersion.{ModuleVersion}
-use Rattle.wire.specs.declared.named.Resource.{Resource}
-use Rattle.wire.specs.declared.named.Target.{Target}
-use Rattle.wire.specs.declared.named.Target.TheVariants as target
+use Rattle.wire.specs.declared.resource.Resource.{Resource}
+use Rattle.wire.specs.declared.resource.Target.{Target}
+use Rattle.wire.specs.declared.resource.Target.TheVariants as target
 use Rattle.wire.proofs.ModuleVersionReadings.{module-version-is, module-version-taken}
 use Rattle.wire.proofs.ResourceReadings.{path-area, resource-is, resource-taken, same-text}
 use Rattle.wire.proofs.RouteReadings.{area-is, routed-is, routed-taken, split-utf8}

@@ -13,10 +13,10 @@ use Rattle.modver.specs.SemanticVersion.{SemanticVersion, version_text}
 use Rattle.wire.specs.ModuleVersion.{IsPathWith, IsModuleVersion}
 use Rattle.wire.specs.Resource.{IsOwn, IsResource}
 use Rattle.wire.specs.Target.{Asks, IsKeyed, IsTextThroughout}
-use Rattle.wire.specs.declared.named.Resource.{Resource}
-use Rattle.wire.specs.declared.named.Resource.TheVariants as resource
-use Rattle.wire.specs.declared.named.Target.{Target}
-use Rattle.wire.specs.declared.named.Target.TheVariants as target
+use Rattle.wire.specs.declared.resource.Resource.{Resource}
+use Rattle.wire.specs.declared.resource.Resource.TheVariants as resource
+use Rattle.wire.specs.declared.resource.Target.{Target}
+use Rattle.wire.specs.declared.resource.Target.TheVariants as target
 use Rattle.wire.proofs.ResourceReadings.{dash-decoded}
 use Rattle.wire.proofs.PlainBytes.{ascii-from, escaped-ascii, path-plain, version-plain}
 use Rattle.wire.proofs.RouteReadings.{IsSplit, split-taken}

@@ -10,8 +10,8 @@ use Rattle.wire.specs.declared.resources.VersionFile.{VersionFile}
 use Rattle.wire.specs.declared.resources.VersionFile.TheVariants as file
 use Rattle.wire.specs.declared.routes.Area.{Area}
 use Rattle.wire.specs.declared.routes.Area.TheVariants as area
-use Rattle.wire.specs.declared.named.Resource.{Resource}
-use Rattle.wire.specs.declared.named.Resource.TheVariants as resource
+use Rattle.wire.specs.declared.resource.Resource.{Resource}
+use Rattle.wire.specs.declared.resource.Resource.TheVariants as resource
 
 -- the rest begins with a plain `-/`, and what follows it decodes to this text
 pub record IsOwn (rest text : List ℕ) : Type 0 where

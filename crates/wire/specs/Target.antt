@@ -11,9 +11,9 @@ use Rattle.wire.specs.Route.{routed_of}
 use Rattle.wire.specs.declared.module_version.ModuleVersion.{ModuleVersion}
 use Rattle.wire.specs.declared.routes.Area.{Area}
 use Rattle.wire.specs.declared.routes.Area.TheVariants as area
-use Rattle.wire.specs.declared.named.Resource.{Resource}
-use Rattle.wire.specs.declared.named.Target.{Target}
-use Rattle.wire.specs.declared.named.Target.TheVariants as target
+use Rattle.wire.specs.declared.resource.Resource.{Resource}
+use Rattle.wire.specs.declared.resource.Target.{Target}
+use Rattle.wire.specs.declared.resource.Target.TheVariants as target
 
 -- `/k/`, a key, which is text without a slash, a slash and a rest
 pub record IsKeyed (text key rest : List ℕ) : Type 0 where

@@ -2,7 +2,7 @@
 //! contracts are the laws.
 ghost use Rattle.std.specs.Prelude.{◌≡◌, ℕ, List};
 ghost use Rattle.wire.specs.Target.{Asks, IsTextThroughout, ReadsTarget, target_of};
-ghost use Rattle.wire.specs.declared.named.Target.{Target};
+ghost use Rattle.wire.specs.declared.resource.Target.{Target};
 
 pub use framing::laws::{
     a_message_may_be_taken_out, a_stream_is_made_of_messages, messages_make_a_stream,

@@ -5,7 +5,7 @@ ghost use Rattle.percent_encoding.specs.Percent.{percent_decode as percent_decod
 ghost use Rattle.wire.specs.Resource as spec;
 
 use crate::module_version::{ModuleVersion, cut, read_module_version, read_path, read_version};
-use crate::named::Resource;
+use crate::resource::Resource;
 use crate::routes::Area;
 use framing::Memory;
 use modpath::ModulePath;

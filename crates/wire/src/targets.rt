@@ -5,7 +5,7 @@ ghost use Rattle.wire.specs.Route.{routed_of};
 ghost use Rattle.wire.specs.Target.{asked_or, get_of, module_version_in, put_of, target_of, ReadsTarget};
 
 use crate::module_version::{ModuleVersion, read_module_version};
-use crate::named::Target;
+use crate::resource::Target;
 use crate::resources::{decoded, read_resource};
 use crate::routes::{Area, RouteTable, Routed};
 use framing::Memory;

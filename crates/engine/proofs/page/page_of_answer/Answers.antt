@@ -1,6 +1,6 @@
 use Rattle.std.proofs.Common.{refl}
 use Rattle.engine.specs.Exchange.{Unserved, Met, Served}
-use Rattle.engine.proofs.exchange.page_of_answer.Goals as goal
+use Rattle.engine.proofs.page.page_of_answer.Goals as goal
 
 pub returns-in_default : goal.returns-in_default
 returns-in_default c = rw c.in_default.is (Met c.in_default.field-0, refl, refl)

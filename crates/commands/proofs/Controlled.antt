@@ -13,15 +13,14 @@ use Rattle.machine.specs.Machine.{after, reply_to}
 use Rattle.machine.specs.declared.reply.Reply.{Reply}
 use Rattle.machine.specs.declared.reply.Reply.TheVariants.{Registry}
 use Rattle.control.specs.Asking.{Asks}
-use Rattle.control.specs.Copying.{GoesThroughSteps}
-use Rattle.control.specs.Hearing.{Heard, Carried, Copied, Listed, Pinged, Named, Stop, NoOrder, NoMemory}
+use Rattle.control.specs.Copying.{Making, ToPath, GoesThroughSteps}
+use Rattle.control.specs.Hearing.{Heard, Carried, Made, Listed, Pinged, Named, Stop, NoOrder, NoMemory}
 use Rattle.control.specs.Hearing.{GoesAs, IsHeardIn, steps_heard}
 use Rattle.control.specs.Hearing.{told_heard}
 use Rattle.control.specs.Line.{IsSaid, IsSent, IsCopyTo, copy_words, named_words}
 use Rattle.control.specs.Order.{Orders, said_in, event_of, outcome_in}
 use Rattle.control.specs.Outcome.{outcome_of}
 use Rattle.control.specs.Words.{Said, IsTextOf, space, is_word, is_word_byte, behind, line_end}
-use Rattle.control.specs.declared.copies.CopyRefusal.{CopyRefusal}
 use Rattle.control.specs.declared.health.Health.{Health}
 use Rattle.control.specs.declared.outcome.Outcome.{Outcome}
 use Rattle.control.specs.declared.outcome.Outcome.TheVariants as outcome
@@ -134,7 +133,7 @@ module _ (idle meanwhile : Type 0) (old new : Shown) (sent : List ℕ) (order as
   heard_so honest stands is same asks (Carried other told) from outcome tells ends through =
       carried honest stands is same asks other from told
       (ends ∙ ap (λ o. told_ending (unsayable asked) (Ok o)) (ap outcome_in_told tells)) through.1
-  heard_so honest stands is same asks (Copied path told) from outcome tells ends through =
+  heard_so honest stands is same asks (Made (ToPath path told)) from outcome tells ends through =
       absurd (no_copy sent path asked asks from)
   heard_so honest stands is same asks (Pinged told) from outcome tells ends through =
       absurd (no_word (codes "ping") refl (said_in asked) (subst (λ got. IsSent got asked) from asks))
@@ -149,10 +148,10 @@ module _ (idle meanwhile : Type 0) (old new : Shown) (sent : List ℕ) (order as
   heard_so honest stands is same asks NoOrder from outcome tells ends through = absurd (from.0 asked asks)
   heard_so honest stands is same asks NoMemory from outcome tells ends through = absurd from
 
-pub ends_as_on_the_store : (copied : List ℕ → Result (Unit {0}) CopyRefusal → Type 0)
+pub ends_as_on_the_store : (made : Making → Type 0)
     (pinged : Result Health StoreFault → Type 0) (idle meanwhile : Type 0) (old new : Shown)
-    → ((w : World) → old.stands w → IsWorld w) → EndsAsOnTheStore copied pinged idle meanwhile old new
-ends_as_on_the_store copied pinged idle meanwhile old new sound order result w two honest stands =
+    → ((w : World) → old.stands w → IsWorld w) → EndsAsOnTheStore made pinged idle meanwhile old new
+ends_as_on_the_store made pinged idle meanwhile old new sound order result w two honest stands =
     let asked = two.command.asked in
     let asks = subst (λ told. Asks two.unread two.unread_new (Some []) (Some two.sent) asked told) two.heard
     two.command.asks in

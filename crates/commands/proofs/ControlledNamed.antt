@@ -8,15 +8,14 @@ use Rattle.world.specs.World.{World}
 use Rattle.world.specs.declared.registry.RegistryReply.{RegistryReply}
 use Rattle.world.specs.declared.registry.StoreFault.{StoreFault}
 use Rattle.control.specs.Asking.{AsksToRevoke}
-use Rattle.control.specs.Copying.{GoesThroughSteps}
-use Rattle.control.specs.Hearing.{Heard, Carried, Copied, Listed, Pinged, Named, Stop, NoOrder, NoMemory}
+use Rattle.control.specs.Copying.{Making, ToPath, GoesThroughSteps}
+use Rattle.control.specs.Hearing.{Heard, Carried, Made, Listed, Pinged, Named, Stop, NoOrder, NoMemory}
 use Rattle.control.specs.Hearing.{GoesAs, IsHeardIn, ListsBy, told_heard}
 use Rattle.control.specs.Line.{IsNaming, copy_words, named_words}
 use Rattle.control.specs.Naming.{Finds, Naming, NamesOne, NamesNone, Unread, named_result, named_steps}
 use Rattle.control.specs.Order.{said_in}
 use Rattle.control.specs.Outcome.{outcome_of}
 use Rattle.control.specs.Words.{Said}
-use Rattle.control.specs.declared.copies.CopyRefusal.{CopyRefusal}
 use Rattle.control.specs.declared.health.Health.{Health}
 use Rattle.control.specs.declared.listing.Listing.TheVariants.{Keys, Shelves}
 use Rattle.control.specs.declared.order.Order.TheVariants.{KeyRevoke}
@@ -74,7 +73,7 @@ module _ (idle meanwhile : Type 0) (old new : Shown) (f : List ℕ) (result : Re
       (ends ∙ ap (λ o. told_ending NoKey (Ok o)) (ap outcome_in_told tells) ∙ ends_so (named_result naming))
   heard_so sent honest stands asks (Carried order told) from outcome tells ends through lists =
       absurd (no_named_words f order (same_said sent (named_words f) (said_in order) asks from))
-  heard_so sent honest stands asks (Copied path told) from outcome tells ends through lists =
+  heard_so sent honest stands asks (Made (ToPath path told)) from outcome tells ends through lists =
       absurd (no_copy_words f path (same_said sent (named_words f) (copy_words path) asks from))
   heard_so sent honest stands asks (Pinged told) from outcome tells ends through lists =
       absurd (no_word (codes "ping") refl (named_words f) (subst (λ got. IsNaming got f) from asks))
@@ -87,10 +86,10 @@ module _ (idle meanwhile : Type 0) (old new : Shown) (f : List ℕ) (result : Re
   heard_so sent honest stands asks NoOrder from outcome tells ends through lists = absurd (from.5 f asks)
   heard_so sent honest stands asks NoMemory from outcome tells ends through lists = absurd from
 
-pub revokes_as_on_the_store : (copied : List ℕ → Result (Unit {0}) CopyRefusal → Type 0)
+pub revokes_as_on_the_store : (made : Making → Type 0)
     (pinged : Result Health StoreFault → Type 0) (idle meanwhile : Type 0) (old new : Shown)
-    → RevokesAsOnTheStore copied pinged idle meanwhile old new
-revokes_as_on_the_store copied pinged idle meanwhile old new f result w two honest stands =
+    → RevokesAsOnTheStore made pinged idle meanwhile old new
+revokes_as_on_the_store made pinged idle meanwhile old new f result w two honest stands =
     let asks = subst (λ told. AsksToRevoke two.unread two.unread_new (Some []) (Some two.sent) f told) two.heard
     two.command.asks in
     let sends : IsNaming two.sent f = subst (λ got. IsNaming got f) (sym asks.2) asks.1 in

@@ -3,22 +3,21 @@ use Rattle.std.proofs.Common.{◌≡◌, ℕ, List, [], ◌∷◌, Option, None,
 use Rattle.std.proofs.lemmas.List.Elements.{All-cons}
 use Rattle.world.specs.Store.{Shown}
 use Rattle.world.specs.declared.registry.StoreFault.{StoreFault}
-use Rattle.control.specs.Copying.{AllRead, Counted, GoesOnRead, IsOnlyRead, TellsSince}
+use Rattle.control.specs.Copying.{Making, AllRead, Counted, GoesOnRead, IsOnlyRead, TellsSince}
 use Rattle.control.specs.Health.{tally_of}
-use Rattle.control.specs.declared.copies.CopyRefusal.{CopyRefusal}
 use Rattle.control.specs.declared.health.Figures.{Figures}
 use Rattle.control.specs.declared.health.Health.{Health}
 use Rattle.control.proofs.StepLemmas.{steps_more}
 use Rattle.control.proofs.TurnLemmas.{turns_read}
 
-module _ {S : Type 0} (shown : S → Shown) (copied : S → S → List ℕ → Result (Unit {0}) CopyRefusal → Type 0)
+module _ {S : Type 0} (shown : S → Shown) (made : S → S → Making → Type 0)
     (counted : S → S → ℕ → Type 0) (old mid new : S) (since : List ℕ) (most : ℕ)
     (read : IsOnlyRead (shown old) (shown mid))
-    (goes : GoesOnRead shown copied counted mid new since most) where
+    (goes : GoesOnRead shown made counted mid new since most) where
   behind : (told : Result Health StoreFault)
       → ((shown new).is_honest → (w : _) → (shown old).stands w
-      → AllRead shown copied counted w goes.steps → AllRead shown copied counted w (Counted told ∷ goes.steps))
-      → TellsSince since (Counted told) → GoesOnRead shown copied counted old new since most
+      → AllRead shown made counted w goes.steps → AllRead shown made counted w (Counted told ∷ goes.steps))
+      → TellsSince since (Counted told) → GoesOnRead shown made counted old new since most
   behind told more tells = record {
     steps = Counted told ∷ goes.steps;
     few = goes.few;
@@ -31,7 +30,7 @@ module _ {S : Type 0} (shown : S → Shown) (copied : S → S → List ℕ → R
 
   -- the count is told as one of a ping that comes before all connections, at this time
   pub counted_first : (told : Result ℕ StoreFault) → IfOk told (λ n. counted old mid n)
-      → GoesOnRead shown copied counted old new since most
+      → GoesOnRead shown made counted old new since most
   counted_first (Ok n) came =
       let figures : Figures = record { bytes = None; log = None; copied = None; copying = None; traffic = None } in
       let health : Health =

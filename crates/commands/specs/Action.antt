@@ -12,7 +12,7 @@ use Rattle.commands.specs.Opening.{AnswersAll}
 use Rattle.commands.specs.Publish.{asked_by, PublishesFiles}
 use Rattle.commands.specs.RandomBytes.{Drawn, no_draws}
 use Rattle.commands.specs.Report.{PrintsCatalogOf, PrintsInventory, PrintsKeys, PrintsRequirements, PrintsShelves}
-use Rattle.commands.specs.Serve.{Copied, Counted, ListensAs}
+use Rattle.commands.specs.Serve.{Made, Counted, ListensAs}
 use Rattle.commands.specs.declared.refusal.CommandRefusal.{CommandRefusal}
 use Rattle.commands.specs.declared.serve.Entrance.{Entrance}
 use Rattle.commands.specs.declared.action.Action.{Action}
@@ -34,7 +34,7 @@ abbrev pub acceptance : Result (Unit {0}) CommandRefusal → Result Bool Command
 acceptance (Ok u) = Ok true
 acceptance (Err refusal) = Err refusal
 
-module _ {S : Type 0} (shown : S → Shown) (copied : Copied S) (counted : Counted S) (old new : Moment S) where
+module _ {S : Type 0} (shown : S → Shown) (made : Made S) (counted : Counted S) (old new : Moment S) where
   -- the order was carried out on the store, and nothing was read or written
   pub record RegistersAlone (order : Order) (result : Result Bool CommandRefusal) : Type 0 where
     pub ended : Result (Unit {0}) CommandRefusal
@@ -69,7 +69,7 @@ module _ {S : Type 0} (shown : S → Shown) (copied : Copied S) (counted : Count
       (result : Result Bool CommandRefusal) : Type 0 where
     pub times : List (List ℕ)
     pub ended : Result (Unit {0}) CommandRefusal
-    pub serves : ListensAs shown copied counted [] times old.store new.store entrance connections control
+    pub serves : ListensAs shown made counted [] times old.store new.store entrance connections control
         old.written new.written ended
     pub told : result ≡ acceptance ended
     pub came : new.came ≡ old.came

@@ -5,9 +5,9 @@ use Rattle.world.specs.World.{World}
 use Rattle.world.specs.declared.registry.StoreFault.{StoreFault}
 use Rattle.machine.specs.Machine.{after}
 use Rattle.keyring.specs.Revoke.{after_revoke_with, revoked_with}
+use Rattle.control.specs.Copying.{Making}
 use Rattle.control.specs.Hearing.{Heeds}
 use Rattle.control.specs.Order.{event_of, outcome_in}
-use Rattle.control.specs.declared.copies.CopyRefusal.{CopyRefusal}
 use Rattle.control.specs.declared.health.Health.{Health}
 use Rattle.control.specs.declared.order.Order.{Order}
 use Rattle.control.specs.declared.outcome.Outcome.{Outcome}
@@ -17,7 +17,7 @@ use Rattle.commands.specs.Order.{OrdersOver, RevokesOver}
 use Rattle.commands.specs.declared.refusal.CommandRefusal.{CommandRefusal}
 
 -- The command wrote these bytes, the server did what they order, and the command got its outcome.
-pub record AreConnected (copied : List ℕ → Result (Unit {0}) CopyRefusal → Type 0)
+pub record AreConnected (made : Making → Type 0)
     (pinged : Result Health StoreFault → Type 0) (idle meanwhile : Type 0)
     (old new : Shown) (order : Order) (result : Result (Unit {0}) CommandRefusal) : Type 0 where
   pub unread : Option (List ℕ)
@@ -26,7 +26,7 @@ pub record AreConnected (copied : List ℕ → Result (Unit {0}) CopyRefusal →
   pub told : Outcome
   pub command : OrdersOver unread unread_new (Some []) (Some sent) order result
   pub heard : command.told ≡ Ok told
-  pub server : Heeds copied pinged idle meanwhile old new sent (spoken.Outcome told)
+  pub server : Heeds made pinged idle meanwhile old new sent (spoken.Outcome told)
 
 -- The command ends by the machine's reply to the order in this world, and the store stands for the world after it. Or
 -- it ends by a fault of the store, which still stands for this world.
@@ -37,18 +37,18 @@ EndsAt new w order result =
 
 -- On an honest disk, the command ends so in each world that the store stood for.
 abbrev pub EndsAsOnTheStore :
-    (List ℕ → Result (Unit {0}) CopyRefusal → Type 0) → (Result Health StoreFault → Type 0)
+    (Making → Type 0) → (Result Health StoreFault → Type 0)
     → (idle meanwhile : Type 0) → Shown → Shown → Type 0
-EndsAsOnTheStore copied pinged idle meanwhile old new =
+EndsAsOnTheStore made pinged idle meanwhile old new =
     (order : Order) (result : Result (Unit {0}) CommandRefusal) (w : World)
-    → AreConnected copied pinged idle meanwhile old new order result → new.is_honest → old.stands w
+    → AreConnected made pinged idle meanwhile old new order result → new.is_honest → old.stands w
     → EndsAt new w order result
 
 -- ---- a key that is named by its fingerprint
 
 -- The command wrote these bytes, the server did what they order, and the command got its outcome.
 pub record AreConnectedToRevoke
-    (copied : List ℕ → Result (Unit {0}) CopyRefusal → Type 0) (pinged : Result Health StoreFault → Type 0)
+    (made : Making → Type 0) (pinged : Result Health StoreFault → Type 0)
     (idle meanwhile : Type 0) (old new : Shown) (f : List ℕ) (result : Result (Unit {0}) CommandRefusal) : Type 0 where
   pub unread : Option (List ℕ)
   pub unread_new : Option (List ℕ)
@@ -56,7 +56,7 @@ pub record AreConnectedToRevoke
   pub told : Outcome
   pub command : RevokesOver unread unread_new (Some []) (Some sent) f result
   pub heard : command.told ≡ Ok told
-  pub server : Heeds copied pinged idle meanwhile old new sent (spoken.Outcome told)
+  pub server : Heeds made pinged idle meanwhile old new sent (spoken.Outcome told)
 
 -- The command ends by the outcome of revoking the key that has this fingerprint in this world, and the store stands for
 -- the world after that. Or it ends by a fault of the store, which still stands for this world.
@@ -67,9 +67,9 @@ RevokesAt new w f result =
 
 -- On an honest disk, the command ends so in each world that the store stood for.
 abbrev pub RevokesAsOnTheStore :
-    (List ℕ → Result (Unit {0}) CopyRefusal → Type 0) → (Result Health StoreFault → Type 0)
+    (Making → Type 0) → (Result Health StoreFault → Type 0)
     → (idle meanwhile : Type 0) → Shown → Shown → Type 0
-RevokesAsOnTheStore copied pinged idle meanwhile old new =
+RevokesAsOnTheStore made pinged idle meanwhile old new =
     (f : List ℕ) (result : Result (Unit {0}) CommandRefusal) (w : World)
-    → AreConnectedToRevoke copied pinged idle meanwhile old new f result → new.is_honest → old.stands w
+    → AreConnectedToRevoke made pinged idle meanwhile old new f result → new.is_honest → old.stands w
     → RevokesAt new w f result

@@ -4,8 +4,7 @@ use Rattle.std.specs.Io.KnownBytes.{Appends}
 use Rattle.world.specs.Store.{Shown}
 use Rattle.socket.specs.Connections.{GoesThroughMost}
 use Rattle.control.specs.Calendar.{Shows}
-use Rattle.control.specs.Copying.{GoesOnRead}
-use Rattle.control.specs.declared.copies.CopyRefusal.{CopyRefusal}
+use Rattle.control.specs.Copying.{Making, GoesOnRead}
 use Rattle.commands.specs.Printed.{PrintsFront}
 use Rattle.commands.specs.declared.refusal.CommandRefusal.{CommandRefusal}
 use Rattle.commands.specs.declared.refusal.CommandRefusal.TheVariants.{Io}
@@ -51,9 +50,9 @@ Listens shown old new entrance connections written written_new result =
     (λ _. Announces entrance written written_new × GoesThroughMost (shown old) (shown new) connections)
     (λ e. (e ≡ Io) × (new ≡ old) × AnnouncesFront entrance written written_new)
 
--- what a copy does: a relation of the store before and after it, the path, and the result
-abbrev pub Copied : Type 0 → Type 1
-Copied S = S → S → List ℕ → Result (Unit {0}) CopyRefusal → Type 0
+-- what is made of a store: a relation of it before and after that, and of what was made
+abbrev pub Made : Type 0 → Type 1
+Made S = S → S → Making → Type 0
 
 -- what a count says, by the store before and after it, and the number
 abbrev pub Counted : Type 0 → Type 1
@@ -62,28 +61,28 @@ Counted S = S → S → ℕ → Type 0
 -- The calendar showed one time more, and each ping was told that the server began then. The store went through at most
 -- as many requests as there are connections, with orders between them, and copies of the machine's world at the moment
 -- of each order, and versions counted in that of each ping.
-pub record ServesSince {S : Type 0} (shown : S → Shown) (copied : Copied S) (counted : Counted S)
+pub record ServesSince {S : Type 0} (shown : S → Shown) (made : Made S) (counted : Counted S)
     (times times_new : List (List ℕ)) (old new : S) (connections : ℕ) : Type 0 where
   pub since : List ℕ
   pub shows : Shows times times_new (Some since)
-  pub goes : GoesOnRead shown copied counted old new since connections
+  pub goes : GoesOnRead shown made counted old new since connections
 
 -- The entrance was printed, and the store was served so. Or it ended before it served, because the entrance or the
 -- socket can't be opened, the clock can't be read, the output failed or memory ran out, and a beginning of the line was
 -- printed, and the store stays as it was.
 abbrev pub ListensToBoth :
-    {S : Type 0} → (S → Shown) → Copied S → Counted S → List (List ℕ) → List (List ℕ) → S → S → Entrance → ℕ
+    {S : Type 0} → (S → Shown) → Made S → Counted S → List (List ℕ) → List (List ℕ) → S → S → Entrance → ℕ
     → Option (List ℕ) → Option (List ℕ) → Result (Unit {0}) CommandRefusal → Type 0
-ListensToBoth shown copied counted times times_new old new entrance connections written written_new result =
+ListensToBoth shown made counted times times_new old new entrance connections written written_new result =
     MatchResult result
-    (λ _. Announces entrance written written_new × ServesSince shown copied counted times times_new old new connections)
+    (λ _. Announces entrance written written_new × ServesSince shown made counted times times_new old new connections)
     (λ e. (e ≡ Io) × (new ≡ old) × AnnouncesFront entrance written written_new)
 
 -- serving without a socket of operators, or with one
 abbrev pub ListensAs :
-    {S : Type 0} → (S → Shown) → Copied S → Counted S → List (List ℕ) → List (List ℕ) → S → S → Entrance → ℕ
+    {S : Type 0} → (S → Shown) → Made S → Counted S → List (List ℕ) → List (List ℕ) → S → S → Entrance → ℕ
     → Option (List ℕ) → Option (List ℕ) → Option (List ℕ) → Result (Unit {0}) CommandRefusal → Type 0
-ListensAs shown copied counted times times_new old new entrance connections None written written_new result =
+ListensAs shown made counted times times_new old new entrance connections None written written_new result =
     Listens shown old new entrance connections written written_new result
-ListensAs shown copied counted times times_new old new entrance connections (Some path) written written_new result =
-    ListensToBoth shown copied counted times times_new old new entrance connections written written_new result
+ListensAs shown made counted times times_new old new entrance connections (Some path) written written_new result =
+    ListensToBoth shown made counted times times_new old new entrance connections written written_new result

@@ -88,7 +88,7 @@ pub fn act_on<S: Outlines + Keyring, K: Copies<S>, I: Hear, O: Tell>(
     input: &mut I,
     output: &mut O,
 ) -> Result<bool, CommandRefusal>
-    ensures { spec.Acts S.shown K.copied K.counted
+    ensures { spec.Acts S.shown K.made K.counted
         (record { store = shelves.old; came = I.account input.old; written = O.contents output.old })
         (record { store = shelves.new; came = I.account input.new; written = O.contents output.new })
         result action.now }

@@ -25,7 +25,7 @@ pub fn rows_are_whole()
 /// on the store of a file: by the machine's reply to its order in the world that the store stood for, and the store
 /// stands for the world after it; or by a fault of the store, which changes nothing.
 pub fn orders_end_as_on_the_store<S: Shelves, K: CopyOrders<S>>()
-    ensures { (old new : S) (copies copies_new : K) (tally : Tally) → EndsAsOnTheStore (K.copied old new)
+    ensures { (old new : S) (copies copies_new : K) (tally : Tally) → EndsAsOnTheStore (K.made old new)
         (IsPinged tally (S.shown old).failures (S.shown new).failures (K.counted old new))
         (copies_new ≡ copies) (K.meanwhile copies copies_new old new) (S.shown old) (S.shown new) }
 {}
@@ -34,7 +34,7 @@ pub fn orders_end_as_on_the_store<S: Shelves, K: CopyOrders<S>>()
 /// does on the store of a file: the key that has the fingerprint in the world that the store stood for is revoked, or
 /// it ends with `no-key` if no key has it or several have; or by a fault of the store, which changes nothing.
 pub fn revocations_end_as_on_the_store<S: Shelves, K: CopyOrders<S>>()
-    ensures { (old new : S) (copies copies_new : K) (tally : Tally) → RevokesAsOnTheStore (K.copied old new)
+    ensures { (old new : S) (copies copies_new : K) (tally : Tally) → RevokesAsOnTheStore (K.made old new)
         (IsPinged tally (S.shown old).failures (S.shown new).failures (K.counted old new))
         (copies_new ≡ copies) (K.meanwhile copies copies_new old new) (S.shown old) (S.shown new) }
 {}

@@ -56,7 +56,7 @@ pub fn serve<D: Calendar, S: Keyring, K: Copies<S>, O: Tell, E: Tell>(
     output: &mut O,
     errors: &mut E,
 ) -> Result<(), CommandRefusal>
-    ensures serves { ListensAs S.shown K.copied K.counted (D.shown calendar.old) (D.shown calendar.new)
+    ensures serves { ListensAs S.shown K.made K.counted (D.shown calendar.old) (D.shown calendar.new)
         shelves.old shelves.new entrance connections (option_copied control.entry)
         (O.contents output.old) (O.contents output.new) result }
     // What was printed is flushed.
@@ -98,7 +98,7 @@ fn serve_operators<D: Calendar, S: Keyring, K: Copies<S>, O: Tell, E: Tell>(
     output: &mut O,
     errors: &mut E,
 ) -> Result<(), CommandRefusal>
-    ensures serves { ListensToBoth S.shown K.copied K.counted (D.shown calendar.old) (D.shown calendar.new)
+    ensures serves { ListensToBoth S.shown K.made K.counted (D.shown calendar.old) (D.shown calendar.new)
         shelves.old shelves.new entrance connections (O.contents output.old) (O.contents output.new) result }
     ensures flushed { OnOk result ((O.writes output.new).unflushed ≡ []) }
     ensures notes { WritesNotices (E.contents errors.old) (E.contents errors.new) }
@@ -132,7 +132,7 @@ fn serve_told<S: Keyring, K: Copies<S>, E: Tell>(
     connections: u32,
     errors: &mut E,
 )
-    ensures goes { GoesOnRead S.shown K.copied K.counted shelves.old shelves.new since connections }
+    ensures goes { GoesOnRead S.shown K.made K.counted shelves.old shelves.new since connections }
     ensures notes { WritesNotices (E.contents errors.old) (E.contents errors.new) }
 {
     let alloc = rt.alloc();

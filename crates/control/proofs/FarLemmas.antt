@@ -7,13 +7,12 @@ use Rattle.meanwhile.specs.declared.between.HowFar.{HowFar}
 use Rattle.world.specs.Store.{Shown}
 use Rattle.world.specs.declared.registry.StoreFault.{StoreFault}
 use Rattle.engine.specs.declared.fault.Io.{Io}
-use Rattle.control.specs.Copying.{IsOnlyRead}
+use Rattle.control.specs.Copying.{Making, IsOnlyRead}
 use Rattle.control.specs.Figures.{TellsKept}
 use Rattle.control.specs.Health.{IsPinged}
 use Rattle.control.specs.Pinging.{TellsHowFar, TellsPing}
 use Rattle.control.specs.Serving.{ObeysMeanwhile}
 use Rattle.control.specs.Visits.{ObeysOne}
-use Rattle.control.specs.declared.copies.CopyRefusal.{CopyRefusal}
 use Rattle.control.specs.declared.health.Figures.{Figures}
 use Rattle.control.specs.declared.health.Health.{Health}
 use Rattle.control.specs.declared.progress.Progress.{Progress}
@@ -32,10 +31,10 @@ tells_how_far far known traffic copied pinged (Ok (spoken.List lines)) tells = t
 tells_how_far far known traffic copied pinged (Err e) tells = tt
 
 module _ {O : Type 0} (heeded : O → Account × Reads) (told : O → Option (List ℕ) × Writes) {S : Type 0}
-    (shown : S → Shown) (copied : S → S → List ℕ → Result (Unit {0}) CopyRefusal → Type 0)
+    (shown : S → Shown) (made : S → S → Making → Type 0)
     (counted : S → S → ℕ → Type 0) where
   abbrev Obeyed : Tally → O → Bool → S → S → Type 0
-  Obeyed tally operator stops s t = ObeysOne heeded told (copied s t)
+  Obeyed tally operator stops s t = ObeysOne heeded told (made s t)
       (IsPinged tally (shown s).failures (shown t).failures (counted s t)) (Unit {0})
       (IsOnlyRead (shown s) (shown t)) operator stops (shown s) (shown t)
 
@@ -43,7 +42,7 @@ module _ {O : Type 0} (heeded : O → Account × Reads) (told : O → Option (Li
   pub obeys_meanwhile : (far : HowFar) (tally : Tally) (operator : O) (stops : Bool) (p q : Progress) (s t : S)
       → (o : Obeyed tally operator stops s t) → IfOk o.audience.told (TellsHowFar far) → tally ≡ p.tally
       → q.tally ≡ p.tally → q.left ≡ p.left → q.taken ≡ p.taken + 1 → q.stops ≡ (p.stops || stops)
-      → ObeysMeanwhile heeded told shown copied counted operator far p q s t
+      → ObeysMeanwhile heeded told shown made counted operator far p q s t
   obeys_meanwhile far tally operator stops p q s t o tells same tally_q left taken ends =
       let now : (x : Obeyed p.tally operator stops s t) × IfOk x.audience.told (TellsHowFar far) =
       subst (λ u. (x : Obeyed u operator stops s t) × IfOk x.audience.told (TellsHowFar far)) same (o, tells) in

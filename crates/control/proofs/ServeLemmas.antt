@@ -14,9 +14,9 @@ use Rattle.engine.specs.Store.{GoesThrough}
 use Rattle.engine.specs.declared.fault.Io.{Io}
 use Rattle.engine.specs.declared.fault.Io.TheVariants as io
 use Rattle.socket.specs.Connections.{Come, exchanges_of}
-use Rattle.control.specs.Copying.{Turned, turns_in, has_read, GoesOnRead, GoesThroughSteps}
+use Rattle.control.specs.Copying.{Making, Turned, turns_in, has_read, GoesOnRead, GoesThroughSteps}
 use Rattle.control.specs.Health.{Answered}
-use Rattle.control.specs.Hearing.{Heard, Carried, Copied, Listed, Pinged, Named, Stop, NoOrder, NoMemory}
+use Rattle.control.specs.Hearing.{Heard, Carried, Made, Listed, Pinged, Named, Stop, NoOrder, NoMemory}
 use Rattle.control.specs.Hearing.{Obeys, WritesSome}
 use Rattle.control.specs.Line.{most_tries}
 use Rattle.control.specs.Naming.{NamesOne, NamesNone, Unread}
@@ -26,7 +26,6 @@ use Rattle.control.specs.Visits.{Call, OfPeer, OfOperator, Untaken, steps_if}
 use Rattle.control.specs.Visits.{steps_with, peers, AnswersOne, ObeysOne}
 use Rattle.control.specs.Visits.{ReadsEach}
 use Rattle.control.specs.declared.callers.Caller.{Caller}
-use Rattle.control.specs.declared.copies.CopyRefusal.{CopyRefusal}
 use Rattle.control.specs.declared.health.Health.{Health}
 use Rattle.control.specs.declared.told.Told.{Told}
 use Rattle.control.specs.declared.told.Told.TheVariants as spoken
@@ -52,7 +51,7 @@ first_message (Some (Closes closing)) = omega arith
 no_message : (heard : Option Heard) → messages (turns_in (steps_if heard)) ≡ 0
 no_message None = refl
 no_message (Some (Carried order told)) = refl
-no_message (Some (Copied path told)) = refl
+no_message (Some (Made making)) = refl
 no_message (Some (Pinged told)) = refl
 no_message (Some (Listed listing told)) = refl
 no_message (Some (Named f (NamesOne key told))) = refl
@@ -63,15 +62,15 @@ no_message (Some NoOrder) = refl
 no_message (Some NoMemory) = refl
 
 module _ {O : Type 0} (heeded : O → Account × Reads) (told : O → Option (List ℕ) × Writes)
-    (copied : List ℕ → Result (Unit {0}) CopyRefusal → Type 0)
+    (made : Making → Type 0)
     (pinged : Result Health StoreFault → Type 0) (idle meanwhile : Type 0) (old new : Shown) where
   -- an operator was obeyed, where a failure has its cause
   pub obeyed_one : (operator after : O) (stops : Bool) (result : Result Told Io)
-      → Obeys copied pinged idle meanwhile old new (heeded operator).0 (heeded after).0 (told operator).0
+      → Obeys made pinged idle meanwhile old new (heeded operator).0 (heeded after).0 (told operator).0
       (told after).0 result
       → IfErr result (IsCausedIn most_tries (heeded operator).1 (heeded after).1 (told operator).1 (told after).1)
       → (IsTrue stops ↔ (result ≡ Ok (spoken.Outcome Stopping)))
-      → ObeysOne heeded told copied pinged idle meanwhile operator stops old new
+      → ObeysOne heeded told made pinged idle meanwhile operator stops old new
   obeyed_one operator after stops (Ok outcome) obeys cause stopped = record {
     audience = record { before = operator; after = after; heard = Some obeys.0.heard; told = Ok outcome };
     begins = refl;
@@ -111,7 +110,7 @@ module _ {O : Type 0} (heeded : O → Account × Reads) (told : O → Option (Li
 
   -- this was told
   pub obeyed_told : (operator after : O) (stops : Bool) (result : Result Told Io)
-      → (obeys : Obeys copied pinged idle meanwhile old new (heeded operator).0 (heeded after).0 (told operator).0
+      → (obeys : Obeys made pinged idle meanwhile old new (heeded operator).0 (heeded after).0 (told operator).0
       (told after).0 result)
       → (cause : IfErr result (IsCausedIn most_tries (heeded operator).1 (heeded after).1 (told operator).1
       (told after).1)) → (stopped : IsTrue stops ↔ (result ≡ Ok (spoken.Outcome Stopping)))
@@ -202,11 +201,11 @@ module _ {P O : Type 0} where
 
   module _ (heeded : O → Account × Reads) (told : O → Option (List ℕ) × Writes)
       (heard : P → Account × Reads) (written : P → Option (List ℕ) × Writes) (is_new : Caller P O → Type 0)
-      {S : Type 0} (shown : S → Shown) (copied : S → S → List ℕ → Result (Unit {0}) CopyRefusal → Type 0)
+      {S : Type 0} (shown : S → Shown) (made : S → S → Making → Type 0)
       (counted : S → S → ℕ → Type 0) where
     -- one run of the machine
     pub each_goes : (since : List ℕ) (waiting rest : Option (List (Caller P O))) (s t : S) (n : ℕ)
-        → ReadsEach heeded told heard written shown copied counted is_new waiting rest s t since n
+        → ReadsEach heeded told heard written shown made counted is_new waiting rest s t since n
         → GoesOn (shown s) (shown t) n
     each_goes since waiting rest s t n all = record {
       turns = turns_in (steps_with all.each.calls);
@@ -217,8 +216,8 @@ module _ {P O : Type 0} where
 
     -- one run with the copies and the pings that were answered in it
     pub each_read : (since : List ℕ) (waiting rest : Option (List (Caller P O))) (s t : S) (n : ℕ)
-        → ReadsEach heeded told heard written shown copied counted is_new waiting rest s t since n
-        → GoesOnRead shown copied counted s t since n
+        → ReadsEach heeded told heard written shown made counted is_new waiting rest s t since n
+        → GoesOnRead shown made counted s t since n
     each_read since waiting rest s t n all = record {
       steps = steps_with all.each.calls;
       few = omega (arith, one_each all.each.calls, all.each.few);

@@ -15,11 +15,11 @@ use Rattle.meanwhile.specs.Meanwhile.{IsAsItWas}
 use Rattle.meanwhile.specs.declared.between.HowFar.{HowFar}
 use Rattle.engine.specs.declared.fault.Io.{Io}
 use Rattle.socket.specs.Connections.{Come, exchanges_of}
-use Rattle.control.specs.Copying.{turns_in, has_read, AllRead, GoesThroughSteps, IsOnlyRead}
+use Rattle.control.specs.Copying.{Making, ToPath, turns_in, has_read, AllRead, GoesThroughSteps, IsOnlyRead}
 use Rattle.control.specs.Health.{IsPinged, tally_of}
 use Rattle.control.specs.Hearing.{Heard, Carried, Pinged, Listed, Named, Stop, NoOrder, NoMemory}
+use Rattle.control.specs.Hearing.{told_of_making}
 use Rattle.control.specs.Hearing as hearing
-use Rattle.control.specs.Outcome.{outcome_of_copy}
 use Rattle.control.specs.Progress.{IsOver}
 use Rattle.control.specs.Serving.{AllTold, EndsBy, Instant, ObeysMeanwhile}
 use Rattle.control.specs.Serving.{Serves, ServesMeanwhile, ServesPeer, TakesTurn}
@@ -50,17 +50,17 @@ use Rattle.control.proofs.CallsLemmas.{steps_append, tally_append, through_appen
 
 -- ---- what an operator's line ordered
 
--- an order was carried out that is none to copy, or one to copy was, with this result
+-- an order was carried out that has nothing made, or one that has this made
 pub data Ordered (idle meanwhile : Type 0) (old new : Shown) (heard : Option Heard) : Type 0 where
   Other : idle → GoesThroughSteps old new (steps_if heard) → Ordered idle meanwhile old new heard
-  ToCopy : (path : List ℕ) (told : Result (Unit {0}) CopyRefusal) → heard ≡ Some (hearing.Copied path told) → meanwhile
+  ToMake : (making : Making) → heard ≡ Some (hearing.Made making) → meanwhile
       → Ordered idle meanwhile old new heard
 
 pub ordered_if : (idle meanwhile : Type 0) (old new : Shown) (heard : Option Heard)
     → GoesIf idle meanwhile old new heard → Ordered idle meanwhile old new heard
 ordered_if idle meanwhile old new None goes = Other goes.0 goes.1
 ordered_if idle meanwhile old new (Some (Carried order told)) goes = Other goes.0 goes.1
-ordered_if idle meanwhile old new (Some (hearing.Copied path told)) goes = ToCopy path told refl goes
+ordered_if idle meanwhile old new (Some (hearing.Made making)) goes = ToMake making refl goes
 ordered_if idle meanwhile old new (Some (Pinged told)) goes = Other goes.0 goes.1
 ordered_if idle meanwhile old new (Some (Listed listing told)) goes = Other goes.0 goes.1
 ordered_if idle meanwhile old new (Some (Named f naming)) goes = Other goes.0 goes.1
@@ -72,7 +72,7 @@ ordered_if idle meanwhile old new (Some NoMemory) goes = Other goes.0 goes.1
 through_told : (idle : Type 0) (old new : Shown) (heard : Option Heard)
     → Ordered idle (IsOnlyRead old new) old new heard → GoesThroughSteps old new (steps_if heard)
 through_told idle old new heard (Other still through) = through
-through_told idle old new heard (ToCopy path told is read) =
+through_told idle old new heard (ToMake making is read) =
     subst (λ h. GoesThroughSteps old new (steps_if h)) (sym is) (turns_read old new read)
 
 -- nothing else was done
@@ -84,22 +84,14 @@ only_read old new read = record {
   no_fewer = omega (arith, read.failures);
 }
 
--- what is told of a copy is not that the server ends
-no_stopping : (told : Result (Unit {0}) CopyRefusal) → outcome_of_copy told ≡ Stopping → ⊥
-no_stopping (Ok done) e = cc
-no_stopping (Err refusal.NotEmpty) e = cc
-no_stopping (Err refusal.Device) e = cc
-no_stopping (Err refusal.Memory) e = cc
-no_stopping (Err refusal.Busy) e = cc
-no_stopping (Err refusal.Ended) e = cc
-
-abbrev outcome_in : Told → Outcome → Outcome
-outcome_in (spoken.Outcome outcome) other = outcome
-outcome_in (spoken.Health line) other = other
-outcome_in (spoken.List lines) other = other
-
-outcome_same : {one two : Outcome} → spoken.Outcome one ≡ spoken.Outcome two → one ≡ two
-outcome_same {one} same = ap (λ t. outcome_in t one) same
+-- what is told of what was made is not that the server ends
+no_stopping : (making : Making) → told_of_making making ≡ spoken.Outcome Stopping → ⊥
+no_stopping (ToPath path (Ok done)) e = cc
+no_stopping (ToPath path (Err refusal.NotEmpty)) e = cc
+no_stopping (ToPath path (Err refusal.Device)) e = cc
+no_stopping (ToPath path (Err refusal.Memory)) e = cc
+no_stopping (ToPath path (Err refusal.Busy)) e = cc
+no_stopping (ToPath path (Err refusal.Ended)) e = cc
 
 abbrev ok_in : Result Told Io → Told → Told
 ok_in (Ok told) other = told
@@ -114,14 +106,14 @@ or_not false false off = refl
 pub either_way : (R idle meanwhile : Type 0) (old new : Shown) (heard : Option Heard) → (idle → R) → (meanwhile → R)
     → Ordered idle meanwhile old new heard → R
 either_way R idle meanwhile old new heard one two (Other rests through) = one rests
-either_way R idle meanwhile old new heard one two (ToCopy path told is made) = two made
+either_way R idle meanwhile old new heard one two (ToMake making is done) = two done
 
 -- what is unsaid of those who make copies
 goes_unsaid : (idle meanwhile : Type 0) (old new : Shown) (heard : Option Heard) → GoesIf idle meanwhile old new heard
     → GoesIf (Unit {0}) meanwhile old new heard
 goes_unsaid idle meanwhile old new None goes = (tt, goes.1)
 goes_unsaid idle meanwhile old new (Some (Carried order told)) goes = (tt, goes.1)
-goes_unsaid idle meanwhile old new (Some (hearing.Copied path told)) goes = goes
+goes_unsaid idle meanwhile old new (Some (hearing.Made making)) goes = goes
 goes_unsaid idle meanwhile old new (Some (Pinged told)) goes = (tt, goes.1)
 goes_unsaid idle meanwhile old new (Some (Listed listing told)) goes = (tt, goes.1)
 goes_unsaid idle meanwhile old new (Some (Named f naming)) goes = (tt, goes.1)
@@ -130,11 +122,11 @@ goes_unsaid idle meanwhile old new (Some NoOrder) goes = (tt, goes.1)
 goes_unsaid idle meanwhile old new (Some NoMemory) goes = (tt, goes.1)
 
 pub obeys_unsaid : {O : Type 0} (heeded : O → Account × Reads) (told : O → Option (List ℕ) × Writes)
-    (copied : List ℕ → Result (Unit {0}) CopyRefusal → Type 0) (pinged : Result Health StoreFault → Type 0)
+    (made : Making → Type 0) (pinged : Result Health StoreFault → Type 0)
     (idle meanwhile : Type 0) (old new : Shown) (operator : O) (stops : Bool)
-    → ObeysOne heeded told copied pinged idle meanwhile operator stops old new
-    → ObeysOne heeded told copied pinged (Unit {0}) meanwhile operator stops old new
-obeys_unsaid heeded told copied pinged idle meanwhile old new operator stops next = record {
+    → ObeysOne heeded told made pinged idle meanwhile operator stops old new
+    → ObeysOne heeded told made pinged (Unit {0}) meanwhile operator stops old new
+obeys_unsaid heeded told made pinged idle meanwhile old new operator stops next = record {
   audience = next.audience;
   begins = next.begins;
   there = next.there;
@@ -146,13 +138,13 @@ obeys_unsaid heeded told copied pinged idle meanwhile old new operator stops nex
 
 -- that changes nothing of what was told
 pub unsaid_told : {O : Type 0} (heeded : O → Account × Reads) (told : O → Option (List ℕ) × Writes)
-    (copied : List ℕ → Result (Unit {0}) CopyRefusal → Type 0) (pinged : Result Health StoreFault → Type 0)
+    (made : Making → Type 0) (pinged : Result Health StoreFault → Type 0)
     (idle meanwhile : Type 0) (old new : Shown) (operator : O) (stops : Bool)
-    → (next : ObeysOne heeded told copied pinged idle meanwhile operator stops old new)
-    → (obeys_unsaid heeded told copied pinged idle meanwhile old new operator stops next).audience.told
+    → (next : ObeysOne heeded told made pinged idle meanwhile operator stops old new)
+    → (obeys_unsaid heeded told made pinged idle meanwhile old new operator stops next).audience.told
     ≡ next.audience.told
 unfolding obeys_unsaid
-unsaid_told heeded told copied pinged idle meanwhile old new operator stops next = refl
+unsaid_told heeded told made pinged idle meanwhile old new operator stops next = refl
 
 -- ---- from one moment to another
 
@@ -161,10 +153,10 @@ module _ {P O : Type 0} (heeded : O → Account × Reads) (told : O → Option (
   IsThere : Call P O → Type 0
   IsThere = IsCallThere heeded told heard written
 
-  module _ {S : Type 0} (shown : S → Shown) (copied : S → S → List ℕ → Result (Unit {0}) CopyRefusal → Type 0)
+  module _ {S : Type 0} (shown : S → Shown) (made : S → S → Making → Type 0)
       (counted : S → S → ℕ → Type 0) where
     abbrev From : Bool → Option (List (Caller P O)) → Option (List (Caller P O)) → Progress → Progress → S → S → Type 0
-    From = Serves heeded told heard written is_new shown copied counted
+    From = Serves heeded told heard written is_new shown made counted
 
     -- nobody
     pub serves_none : (read : Bool) (waiting : Option (List (Caller P O))) (p : Progress) (s : S)
@@ -219,8 +211,8 @@ module _ {P O : Type 0} (heeded : O → Account × Reads) (told : O → Option (
               two.through);
           reads = λ h w stands.
               let honest = two.through.runs.honest h in
-              subst (AllRead shown copied counted w) (sym (steps_append xs ys))
-              (read_then shown copied counted w (steps_with xs) (steps_with ys) (one.reads honest w stands)
+              subst (AllRead shown made counted w) (sym (steps_append xs ys))
+              (read_then shown made counted w (steps_with xs) (steps_with ys) (one.reads honest w stands)
               (two.reads h _ (one.through.runs.at honest w stands).ends));
           tally = two.tally ∙ ap (λ t. tally_after t (answered_with ys)) one.tally
               ∙ sym (tally_append p.tally (answered_with xs) (answered_with ys))
@@ -236,7 +228,7 @@ module _ {P O : Type 0} (heeded : O → Account × Reads) (told : O → Option (
       serves_one : (call : Call P O) → Come waiting rest (callers_of (call ∷ []))
           → All is_new (callers_of (call ∷ [])) → IsCallThere heeded told heard written call
           → GoesThroughSteps (shown s) (shown t) (steps_of call)
-          → ((shown t).is_honest → (w : World) → (shown s).stands w → AllRead shown copied counted w (steps_of call))
+          → ((shown t).is_honest → (w : World) → (shown s).stands w → AllRead shown made counted w (steps_of call))
           → q.tally ≡ tally_after p.tally (answered_with (call ∷ [])) → AllTold p.tally (call ∷ [])
           → p.left ≡ q.left + connections_of (call ∷ []) → q.taken ≡ p.taken + 1 → EndsBy p.stops q.stops (call ∷ [])
           → From read waiting rest p q s t
@@ -250,7 +242,7 @@ module _ {P O : Type 0} (heeded : O → Account × Reads) (told : O → Option (
             (sym (append-nil (steps_of call)))
             (read_or read (has_read (steps_of call)) (shown s) (shown t) (turns_in (steps_of call)) through);
         reads = λ h w stands.
-            subst (AllRead shown copied counted w) (sym (append-nil (steps_of call))) (reads h w stands);
+            subst (AllRead shown made counted w) (sym (append-nil (steps_of call))) (reads h w stands);
         tally = tally;
         tallies = tallies;
         left = left;
@@ -272,7 +264,7 @@ module _ {P O : Type 0} (heeded : O → Account × Reads) (told : O → Option (
           (one_new (Peer visit.before) (subst (λ x. is_new (Peer x)) (sym next.answers.answers.begins) fresh))
           (next.answers.answers.there, next.answers.counts)
           (steps_first (shown s) (shown t) visit.first next.answers.answers.through)
-          (λ h w stands. no_reads shown copied counted w (exchanges_of visit.first))
+          (λ h w stands. no_reads shown made counted w (exchanges_of visit.first))
           next.tally tt next.left next.taken
           (goes_on p.stops q.stops going next.stops (OfPeer visit next.answered) (λ never. never))
 
@@ -290,7 +282,7 @@ module _ {P O : Type 0} (heeded : O → Account × Reads) (told : O → Option (
       pub serves_operator : (idle meanwhile : Type 0) (tally_now : Tally) (operator : O) (stops : Bool)
           → Come waiting rest (Operator operator ∷ []) → is_new (Operator operator) → p.stops ≡ false
           → tally_now ≡ p.tally
-          → (next : ObeysOne heeded told (copied s t)
+          → (next : ObeysOne heeded told (made s t)
           (IsPinged tally_now (shown s).failures (shown t).failures (counted s t)) idle meanwhile operator stops
           (shown s) (shown t))
           → GoesThroughSteps (shown s) (shown t) (steps_if next.audience.heard)
@@ -303,10 +295,10 @@ module _ {P O : Type 0} (heeded : O → Account × Reads) (told : O → Option (
           (subst (λ o. Come waiting rest (Operator o ∷ [])) (sym next.begins) comes)
           (one_new (Operator x.before) (subst (λ o. is_new (Operator o)) (sym next.begins) fresh))
           next.there through
-          (λ h w stands. read_heard shown copied counted tally_now s t h w stands x.heard next.came next.lists)
+          (λ h w stands. read_heard shown made counted tally_now s t h w stands x.heard next.came next.lists)
           tally (
             subst (λ u. TellsTally u x.heard) now
-                (tells_tally (copied s t) tally_now (shown s).failures (shown t).failures (counted s t) x.heard
+                (tells_tally (made s t) tally_now (shown s).failures (shown t).failures (counted s t) x.heard
                 next.came),
             tt,
           )
@@ -314,29 +306,27 @@ module _ {P O : Type 0} (heeded : O → Account × Reads) (told : O → Option (
           (may_end p.stops stops q.stops (OfOperator x) going is next.stopped.0
           (λ on stop. false≢true (sym on ∙ next.stopped.1 stop)))
 
-    no_stop_told : (before after : O) (path : List ℕ) (result : Result (Unit {0}) CopyRefusal) (said : Result Told Io)
-        → IsToldThere heeded told before after (Some (hearing.Copied path result)) said
+    no_stop_told : (before after : O) (making : Making) (said : Result Told Io)
+        → IsToldThere heeded told before after (Some (hearing.Made making)) said
         → said ≡ Ok (spoken.Outcome Stopping) → ⊥
-    no_stop_told before after path result (Ok outcome) there is =
-        let same : spoken.Outcome (outcome_of_copy result) ≡ spoken.Outcome Stopping = sym there.0
-        ∙ ap (λ r. ok_in r outcome) is in
-        no_stopping result (outcome_same same)
-    no_stop_told before after path result (Err e) there is = cc
+    no_stop_told before after making (Ok outcome) there is =
+        no_stopping making (sym there.0 ∙ ap (λ r. ok_in r outcome) is)
+    no_stop_told before after making (Err e) there is = cc
 
-    -- an operator who ordered a copy, with the callers who were served meanwhile
-    pub serves_copy : (waiting left rest : Option (List (Caller P O))) (p q r o : Progress) (s mid t : S)
-        (before after : O) (path : List ℕ) (result : Result (Unit {0}) CopyRefusal) (said : Result Told Io)
+    -- an operator who had something made, with the callers who were served meanwhile
+    pub serves_made : (waiting left rest : Option (List (Caller P O))) (p q r o : Progress) (s mid t : S)
+        (before after : O) (making : Making) (said : Result Told Io)
         → Come waiting left (Operator before ∷ []) → is_new (Operator before) → p.stops ≡ false
-        → IsToldThere heeded told before after (Some (hearing.Copied path result)) said
+        → IsToldThere heeded told before after (Some (hearing.Made making)) said
         → (said ≡ Ok (spoken.Outcome Stopping) → ⊥)
-        → copied s t path result → From true left rest q r s mid → IsOnlyRead (shown mid) (shown t)
+        → made s t making → From true left rest q r s mid → IsOnlyRead (shown mid) (shown t)
         → q.tally ≡ p.tally → q.left ≡ p.left → q.taken ≡ p.taken + 1 → q.stops ≡ p.stops
         → o.tally ≡ r.tally → o.left ≡ r.left → o.taken ≡ r.taken → o.stops ≡ r.stops
         → From false waiting rest p o s t
-    serves_copy waiting left rest p q r o s mid t before after path result said comes fresh going there never came next
+    serves_made waiting left rest p q r o s mid t before after making said comes fresh going there never came next
         read tally left_is taken stops tally_o left_o taken_o stops_o =
         let x : Audience O =
-        record { before = before; after = after; heard = Some (hearing.Copied path result); told = said } in
+        record { before = before; after = after; heard = Some (hearing.Made making); told = said } in
         let call : Call P O = OfOperator x in
         let ys = next.calls in
         record {
@@ -363,7 +353,7 @@ module _ {P O : Type 0} (heeded : O → Account × Reads) (told : O → Option (
     module _ (since : List ℕ) (connections : ℕ) (waiting rest : Option (List (Caller P O))) (p q : Progress) (s t : S)
         (all : From false waiting rest p q s t) (tally : p.tally ≡ tally_of since []) (left : p.left ≡ connections)
         (taken : p.taken ≡ 0) (stops : p.stops ≡ false) where
-      pub serves_each : ReadsEach heeded told heard written shown copied counted is_new waiting rest s t since
+      pub serves_each : ReadsEach heeded told heard written shown made counted is_new waiting rest s t since
           connections
       serves_each = record {
         each = record {
@@ -380,7 +370,7 @@ module _ {P O : Type 0} (heeded : O → Account × Reads) (told : O → Option (
 
       -- no caller was taken any more
       pub ends_each : IsOver q.stops q.left q.taken
-          → EndsEach heeded told heard written shown copied counted is_new waiting rest s t since connections
+          → EndsEach heeded told heard written shown made counted is_new waiting rest s t since connections
       unfolding serves_each
       ends_each over = record {
         reads = serves_each;
@@ -391,10 +381,10 @@ module _ {P O : Type 0} (heeded : O → Account × Reads) (told : O → Option (
 
     -- ---- while a copy is made
 
-    one_turn : (a b : Instant P O S) → TakesTurn heeded told heard written is_new shown copied counted a b
-        → ServesMeanwhile heeded told heard written is_new shown copied counted a b
+    one_turn : (a b : Instant P O S) → TakesTurn heeded told heard written is_new shown made counted a b
+        → ServesMeanwhile heeded told heard written is_new shown made counted a b
     unfolding serves_read
-    one_turn a b (inl (read, same)) = subst (ServesMeanwhile heeded told heard written is_new shown copied counted a)
+    one_turn a b (inl (read, same)) = subst (ServesMeanwhile heeded told heard written is_new shown made counted a)
         (sym same) (record {
           serves = serves_read a.waiting a.progress a.store b.store (only_read (shown a.store) (shown b.store) read);
           notes = notices_none a.errors;
@@ -403,8 +393,8 @@ module _ {P O : Type 0} (heeded : O → Account × Reads) (told : O → Option (
     one_turn a b (inr serves) = serves
 
     turns_all : (a b : Instant P O S) (by : List (Instant P O S))
-        → TakesTurnsBy heeded told heard written is_new shown copied counted a by b
-        → ServesMeanwhile heeded told heard written is_new shown copied counted a b
+        → TakesTurnsBy heeded told heard written is_new shown made counted a by b
+        → ServesMeanwhile heeded told heard written is_new shown made counted a b
     unfolding one_turn serves_more
     turns_all a b [] turn = one_turn a b turn
     turns_all a b (mid ∷ more) turns =
@@ -418,8 +408,8 @@ module _ {P O : Type 0} (heeded : O → Account × Reads) (told : O → Option (
         }
 
     -- all turns together
-    pub all_turns : (a b : Instant P O S) → TakesTurns heeded told heard written is_new shown copied counted a b
-        → ServesMeanwhile heeded told heard written is_new shown copied counted a b
+    pub all_turns : (a b : Instant P O S) → TakesTurns heeded told heard written is_new shown made counted a b
+        → ServesMeanwhile heeded told heard written is_new shown made counted a b
     unfolding turns_all
     all_turns a b turns = turns_all a b turns.0 turns.1
 
@@ -427,7 +417,7 @@ module _ {P O : Type 0} (heeded : O → Account × Reads) (told : O → Option (
     pub serves_told : (waiting rest : Option (List (Caller P O))) (p q : Progress) (s t : S) (operator : O)
         (far : HowFar)
         → Come waiting rest (Operator operator ∷ []) → is_new (Operator operator) → p.stops ≡ false
-        → ObeysMeanwhile heeded told shown copied counted operator far p q s t → From true waiting rest p q s t
+        → ObeysMeanwhile heeded told shown made counted operator far p q s t → From true waiting rest p q s t
     unfolding serves_operator
     serves_told waiting rest p q s t operator far comes fresh going next =
         serves_operator true waiting rest p q s t (Unit {0}) (IsOnlyRead (shown s) (shown t)) p.tally operator
@@ -441,7 +431,7 @@ module _ {P O : Type 0} (heeded : O → Account × Reads) (told : O → Option (
         (turns : meanwhile → (mid : S) × From true w v a b s mid × IsOnlyRead (shown mid) (shown t))
         (operator : O) (stops : Bool) (comes : Come waiting w (Operator operator ∷ []))
         (fresh : is_new (Operator operator)) (going : p.stops ≡ false)
-        (next : ObeysOne heeded told (copied s t)
+        (next : ObeysOne heeded told (made s t)
         (IsPinged a.tally (shown s).failures (shown t).failures (counted s t)) idle meanwhile operator stops
         (shown s) (shown t))
         (tally : a.tally ≡ p.tally) (left : a.left ≡ p.left) (taken : a.taken ≡ p.taken + 1) (same : a.stops ≡ p.stops)
@@ -458,27 +448,27 @@ module _ {P O : Type 0} (heeded : O → Account × Reads) (told : O → Option (
           (taken_q ∙ ap (λ x. x.taken) both.1 ∙ taken)
           (stops_q ∙ ap (λ x. x.stops || stops) both.1 ∙ ap (λ x. x || stops) same))
 
-      copy_served : (path : List ℕ) (result : Result (Unit {0}) CopyRefusal)
-          → next.audience.heard ≡ Some (hearing.Copied path result) → meanwhile → From false waiting v p q s t
-      unfolding serves_copy
-      copy_served path result is made =
+      made_served : (making : Making)
+          → next.audience.heard ≡ Some (hearing.Made making) → meanwhile → From false waiting v p q s t
+      unfolding serves_made
+      made_served making is done =
           let x = next.audience in
-          let went = turns made in
-          let there : IsToldThere heeded told x.before x.after (Some (hearing.Copied path result)) x.told =
+          let went = turns done in
+          let there : IsToldThere heeded told x.before x.after (Some (hearing.Made making)) x.told =
           subst (λ h. IsToldThere heeded told x.before x.after h x.told) is next.there in
-          let never = no_stop_told x.before x.after path result x.told there in
-          serves_copy waiting w v p a b q s went.0 t x.before x.after path result x.told
+          let never = no_stop_told x.before x.after making x.told there in
+          serves_made waiting w v p a b q s went.0 t x.before x.after making x.told
           (subst (λ o. Come waiting w (Operator o ∷ [])) (sym next.begins) comes)
           (subst (λ o. is_new (Operator o)) (sym next.begins) fresh) going there never
-          (subst (λ h. CameIf (copied s t)
+          (subst (λ h. CameIf (made s t)
           (IsPinged a.tally (shown s).failures (shown t).failures (counted s t)) h) is next.came)
           went.1 went.2 tally left taken same tally_q left_q taken_q
           (stops_q ∙ or_not b.stops stops (λ on. never (next.stopped.0 on)))
 
       -- an operator, and those who were served while a copy was made for it, if one was
       pub obey_serves : From false waiting v p q s t
-      unfolding other_served copy_served
+      unfolding other_served made_served
       obey_serves = elim (ordered_if idle meanwhile (shown s) (shown t) next.audience.heard next.through) [
         | Other rests through ↦ other_served rests through
-        | ToCopy path result is made ↦ copy_served path result is made
+        | ToMake making is done ↦ made_served making is done
       ]

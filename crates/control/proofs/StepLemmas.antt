@@ -5,7 +5,7 @@ use Rattle.std.proofs.Common.{Result, Ok, Err, append_assoc, append-nil}
 use Rattle.world.specs.World.{World}
 use Rattle.world.specs.Store.{Shown}
 use Rattle.engine.specs.Exchange.{Exchange}
-use Rattle.control.specs.Copying.{Step, Turned, Copied, Counted, Listed, LookedUp, turns_in, has_read, AllRead}
+use Rattle.control.specs.Copying.{Making, Step, Turned, Made, Counted, Listed, LookedUp, turns_in, has_read, AllRead}
 use Rattle.control.specs.Copying.{GoesThroughSteps}
 use Rattle.control.specs.Health.{IsPinged}
 use Rattle.control.specs.Hearing.{Heard, Carried, Pinged, Named, Stop, NoOrder, NoMemory}
@@ -13,7 +13,6 @@ use Rattle.control.specs.Hearing as hearing
 use Rattle.control.specs.Naming.{NamesOne, NamesNone, Unread}
 use Rattle.control.specs.Turns.{Asked, messages, world_at}
 use Rattle.control.specs.Visits.{Call, CameIf, ListsIf, steps_if, steps_of, steps_with}
-use Rattle.control.specs.declared.copies.CopyRefusal.{CopyRefusal}
 use Rattle.control.specs.declared.tally.Tally.{Tally}
 use Rattle.control.proofs.CrashLemmas.{world_step}
 use Rattle.control.proofs.ListingLemmas.{list_is}
@@ -24,7 +23,7 @@ use Rattle.control.proofs.TurnLemmas.{messages_append, turns_more}
 pub turns_append : (xs ys : List Step) → turns_in (xs ++ ys) ≡ turns_in xs ++ turns_in ys
 turns_append [] ys = refl
 turns_append (Turned t ∷ xs) ys = ap (λ ts. t ∷ ts) (turns_append xs ys)
-turns_append (Copied path told ∷ xs) ys = turns_append xs ys
+turns_append (Made making ∷ xs) ys = turns_append xs ys
 turns_append (Counted told ∷ xs) ys = turns_append xs ys
 turns_append (Listed listing told ∷ xs) ys = turns_append xs ys
 turns_append (LookedUp f found ∷ xs) ys = turns_append xs ys
@@ -32,7 +31,7 @@ turns_append (LookedUp f found ∷ xs) ys = turns_append xs ys
 pub read_append : (xs ys : List Step) → has_read (xs ++ ys) ≡ (has_read xs || has_read ys)
 read_append [] ys = refl
 read_append (Turned t ∷ xs) ys = read_append xs ys
-read_append (Copied path told ∷ xs) ys = refl
+read_append (Made making ∷ xs) ys = refl
 read_append (Counted told ∷ xs) ys = refl
 read_append (Listed listing told ∷ xs) ys = refl
 read_append (LookedUp f found ∷ xs) ys = refl
@@ -60,16 +59,16 @@ module _ {P O : Type 0} where
 
 -- ---- what came of the copies and the pings
 
-module _ {S : Type 0} (shown : S → Shown) (copied : S → S → List ℕ → Result (Unit {0}) CopyRefusal → Type 0)
+module _ {S : Type 0} (shown : S → Shown) (made : S → S → Making → Type 0)
     (counted : S → S → ℕ → Type 0) where
-  pub read_then : (w : World) (xs ys : List Step) → AllRead shown copied counted w xs
-      → AllRead shown copied counted (world_at w (turns_in xs)) ys
-      → AllRead shown copied counted w (xs ++ ys)
+  pub read_then : (w : World) (xs ys : List Step) → AllRead shown made counted w xs
+      → AllRead shown made counted (world_at w (turns_in xs)) ys
+      → AllRead shown made counted w (xs ++ ys)
   read_then w [] ys all more = more
   read_then w (Turned t ∷ xs) ys all more =
       read_then (world_at w (t ∷ [])) xs ys all
-      (subst (λ v. AllRead shown copied counted v ys) (sym (world_step w t (turns_in xs))) more)
-  read_then w (Copied path told ∷ xs) ys all more = (all.0, read_then w xs ys all.1 more)
+      (subst (λ v. AllRead shown made counted v ys) (sym (world_step w t (turns_in xs))) more)
+  read_then w (Made making ∷ xs) ys all more = (all.0, read_then w xs ys all.1 more)
   read_then w (Counted (Ok health) ∷ xs) ys all more = (all.0, read_then w xs ys all.1 more)
   read_then w (Counted (Err fault) ∷ xs) ys all more = read_then w xs ys all more
   read_then w (Listed listing (Ok text) ∷ xs) ys all more = (all.0, read_then w xs ys all.1 more)
@@ -78,19 +77,19 @@ module _ {S : Type 0} (shown : S → Shown) (copied : S → S → List ℕ → R
   read_then w (LookedUp f (Err fault) ∷ xs) ys all more = read_then w xs ys all more
 
   -- messages are none
-  pub no_reads : (w : World) (xs : List Exchange) → AllRead shown copied counted w (map (λ x. Turned (Asked x)) xs)
+  pub no_reads : (w : World) (xs : List Exchange) → AllRead shown made counted w (map (λ x. Turned (Asked x)) xs)
   no_reads w [] = tt
   no_reads w (x ∷ xs) = no_reads (world_at w (Asked x ∷ [])) xs
 
   -- an operator's line may be one
   pub read_heard : (tally : Tally) (old new : S) → (shown new).is_honest → (w : World) → (shown old).stands w
       → (heard : Option Heard)
-      → CameIf (copied old new) (IsPinged tally (shown old).failures (shown new).failures (counted old new)) heard
+      → CameIf (made old new) (IsPinged tally (shown old).failures (shown new).failures (counted old new)) heard
       → ListsIf (shown old) (shown new) heard
-      → AllRead shown copied counted w (steps_if heard)
+      → AllRead shown made counted w (steps_if heard)
   read_heard tally old new h w stands None came lists = tt
   read_heard tally old new h w stands (Some (Carried order told)) came lists = tt
-  read_heard tally old new h w stands (Some (hearing.Copied path told)) came lists =
+  read_heard tally old new h w stands (Some (hearing.Made making)) came lists =
       (record { source = old; source_new = new; honest = h; stands = stands; came = came }, tt)
   read_heard tally old new h w stands (Some (Pinged (Ok health))) came lists =
       (record { source = old; source_new = new; honest = h; stands = stands; failures_now = came.1; came = came.2 }, tt)

@@ -7,14 +7,13 @@ use Rattle.std.proofs.lemmas.List.Elements.{All-append, All-cons, All-nil}
 use Rattle.std.proofs.lemmas.List.Sums.{sum_by_push, count_by-le-length}
 use Rattle.engine.specs.Exchange.{Exchange}
 use Rattle.socket.specs.Connections.{exchanges_of}
-use Rattle.control.specs.Copying.{Step, Turned, Counted, LookedUp, TellsSince}
+use Rattle.control.specs.Copying.{Making, Step, Turned, Counted, LookedUp, TellsSince}
 use Rattle.control.specs.Health.{Answered, AreBelow, IsPinged, is_of_class, is_unanswered, one_if, tally_of, with_one}
-use Rattle.control.specs.Hearing.{Heard, Carried, Copied, Listed, Pinged, Named, Stop, NoOrder, NoMemory}
+use Rattle.control.specs.Hearing.{Heard, Carried, Made, Listed, Pinged, Named, Stop, NoOrder, NoMemory}
 use Rattle.control.specs.Visits.{Call, OfPeer, OfOperator, Untaken, AllTallied, CameIf, IsTallied, TellsTally}
 use Rattle.control.specs.Naming.{NamesOne, NamesNone, Unread}
 use Rattle.control.specs.Turns.{Asked, Ordered}
 use Rattle.control.specs.Visits.{answered_with, peers, steps_if, steps_with}
-use Rattle.control.specs.declared.copies.CopyRefusal.{CopyRefusal}
 use Rattle.control.specs.declared.order.Order.TheVariants.{KeyRevoke}
 use Rattle.control.specs.declared.tally.Tally.{Tally}
 
@@ -80,19 +79,19 @@ module _ {P O : Type 0} where
   )
 
 -- a ping was told the tally of the moment
-pub tells_tally : (copied : List ℕ → Result (Unit {0}) CopyRefusal → Type 0) (tally : Tally) (before now : ℕ)
+pub tells_tally : (made : Making → Type 0) (tally : Tally) (before now : ℕ)
     (counted : ℕ → Type 0)
-    (heard : Option Heard) → CameIf copied (IsPinged tally before now counted) heard → TellsTally tally heard
-tells_tally copied tally before now counted None came = tt
-tells_tally copied tally before now counted (Some (Carried order told)) came = tt
-tells_tally copied tally before now counted (Some (Copied path told)) came = tt
-tells_tally copied tally before now counted (Some (Pinged (Ok health))) came = came.0
-tells_tally copied tally before now counted (Some (Pinged (Err fault))) came = tt
-tells_tally copied tally before now counted (Some (Listed listing told)) came = tt
-tells_tally copied tally before now counted (Some (Named f naming)) came = tt
-tells_tally copied tally before now counted (Some Stop) came = tt
-tells_tally copied tally before now counted (Some NoOrder) came = tt
-tells_tally copied tally before now counted (Some NoMemory) came = tt
+    (heard : Option Heard) → CameIf made (IsPinged tally before now counted) heard → TellsTally tally heard
+tells_tally made tally before now counted None came = tt
+tells_tally made tally before now counted (Some (Carried order told)) came = tt
+tells_tally made tally before now counted (Some (Made making)) came = tt
+tells_tally made tally before now counted (Some (Pinged (Ok health))) came = came.0
+tells_tally made tally before now counted (Some (Pinged (Err fault))) came = tt
+tells_tally made tally before now counted (Some (Listed listing told)) came = tt
+tells_tally made tally before now counted (Some (Named f naming)) came = tt
+tells_tally made tally before now counted (Some Stop) came = tt
+tells_tally made tally before now counted (Some NoOrder) came = tt
+tells_tally made tally before now counted (Some NoMemory) came = tt
 
 -- ---- when the server began
 
@@ -104,7 +103,7 @@ since_if : (since : List ℕ) (tally : Tally) (heard : Option Heard) → tally.s
     → All (TellsSince since) (steps_if heard)
 since_if since tally None is told = All-nil (TellsSince since)
 since_if since tally (Some (Carried order done)) is told = one_step since _ tt
-since_if since tally (Some (Copied path done)) is told = one_step since _ tt
+since_if since tally (Some (Made making)) is told = one_step since _ tt
 since_if since tally (Some (Pinged (Ok health))) is told =
     one_step since (Counted (Ok health)) (ap (λ t. t.since) told ∙ is)
 since_if since tally (Some (Pinged (Err fault))) is told = one_step since _ tt

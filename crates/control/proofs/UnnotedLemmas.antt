@@ -9,12 +9,11 @@ use Rattle.world.specs.Store.{Shown}
 use Rattle.world.specs.World.{World, place_cmp}
 use Rattle.meanwhile.specs.Meanwhile.{IsSince, Notes}
 use Rattle.meanwhile.specs.Noted.{IsNoted, with_said}
-use Rattle.control.specs.Copying.{Step, Turned, Copied, Counted, Listed, LookedUp, AllRead}
+use Rattle.control.specs.Copying.{Making, Step, Turned, Made, Counted, Listed, LookedUp, AllRead}
 use Rattle.control.specs.Serving.{Serves}
 use Rattle.control.specs.Turns.{Turn, GoesThroughTurns, StandsIf, world_at}
 use Rattle.control.specs.Visits.{steps_with}
 use Rattle.control.specs.declared.callers.Caller.{Caller}
-use Rattle.control.specs.declared.copies.CopyRefusal.{CopyRefusal}
 use Rattle.control.specs.declared.progress.Progress.{Progress}
 use Rattle.control.proofs.CrashLemmas.{leaves_still}
 
@@ -49,22 +48,22 @@ goes_unnoted old new said said_new ts read all through = record {
   device = through.device;
 }
 
-module _ {S T : Type 0} (shown : S → Shown) (copied : S → S → List ℕ → Result (Unit {0}) CopyRefusal → Type 0)
+module _ {S T : Type 0} (shown : S → Shown) (made : S → S → Making → Type 0)
     (counted : S → S → ℕ → Type 0) (inside : T → S) (said : T → World → Type 0) where
   abbrev Shown_too : T → Shown
   Shown_too t = with_said (shown (inside t)) (said t)
 
-  abbrev Copied_too : T → T → List ℕ → Result (Unit {0}) CopyRefusal → Type 0
-  Copied_too s t path told = copied (inside s) (inside t) path told
+  abbrev Made_too : T → T → Making → Type 0
+  Made_too s t making = made (inside s) (inside t) making
 
   abbrev Counted_too : T → T → ℕ → Type 0
   Counted_too s t n = counted (inside s) (inside t) n
 
-  read_unnoted : (w : World) (steps : List Step) → AllRead Shown_too Copied_too Counted_too w steps
-      → AllRead shown copied counted w steps
+  read_unnoted : (w : World) (steps : List Step) → AllRead Shown_too Made_too Counted_too w steps
+      → AllRead shown made counted w steps
   read_unnoted w [] all = tt
   read_unnoted w (Turned t ∷ steps) all = read_unnoted (world_at w (t ∷ [])) steps all
-  read_unnoted w (Copied path told ∷ steps) all = (
+  read_unnoted w (Made making ∷ steps) all = (
     record {
       source = inside all.0.source;
       source_new = inside all.0.source_new;
@@ -95,9 +94,9 @@ module _ {S T : Type 0} (shown : S → Shown) (copied : S → S → List ℕ →
       (heard : P → Account × Reads) (written : P → Option (List ℕ) × Writes) (is_new : Caller P O → Type 0)
       (waiting rest : Option (List (Caller P O))) (p q : Progress) (s t : T)
       (all : (w : World) → (shown (inside s)).stands w → said s w)
-      (next : Serves heeded told heard written is_new Shown_too Copied_too Counted_too true waiting rest p q s t) where
+      (next : Serves heeded told heard written is_new Shown_too Made_too Counted_too true waiting rest p q s t) where
     -- the callers were served so
-    pub serves_unnoted : Serves heeded told heard written is_new shown copied counted true waiting rest p q
+    pub serves_unnoted : Serves heeded told heard written is_new shown made counted true waiting rest p q
         (inside s) (inside t)
     unfolding goes_unnoted read_unnoted
     serves_unnoted = record {

@@ -19,11 +19,15 @@ pub record IsOnlyRead (old new : Shown) : Type 0 where
   pub left : new.is_honest → (w x y : World) → old.stands w → old.leaves x y → new.leaves x y
   pub no_fewer : old.failures ≤ new.failures
 
--- what happened to a store that is served: a turn of the machine; or a copy to a path, a ping, a list, or a look for
--- the key with a fingerprint, which is none
+-- what was made of a store while others were served, or why it was not: a copy to a path
+pub data Making : Type 0 where
+  ToPath : List ℕ → Result (Unit {0}) CopyRefusal → Making
+
+-- what happened to a store that is served: a turn of the machine; or something that was made of it, a ping, a list, or
+-- a look for the key with a fingerprint, which is none
 pub data Step : Type 0 where
   Turned : Turn → Step
-  Copied : List ℕ → Result (Unit {0}) CopyRefusal → Step
+  Made : Making → Step
   Counted : Result Health StoreFault → Step
   Listed : Listing → Result (List ℕ) StoreFault → Step
   LookedUp : List ℕ → Result (Option (List ℕ)) StoreFault → Step
@@ -32,7 +36,7 @@ pub data Step : Type 0 where
 abbrev pub turns_in : List Step → List Turn
 turns_in [] = []
 turns_in (Turned t ∷ steps) = t ∷ turns_in steps
-turns_in (Copied path told ∷ steps) = turns_in steps
+turns_in (Made making ∷ steps) = turns_in steps
 turns_in (Counted told ∷ steps) = turns_in steps
 turns_in (Listed listing told ∷ steps) = turns_in steps
 turns_in (LookedUp f found ∷ steps) = turns_in steps
@@ -41,7 +45,7 @@ turns_in (LookedUp f found ∷ steps) = turns_in steps
 abbrev pub has_read : List Step → Bool
 has_read [] = false
 has_read (Turned t ∷ steps) = has_read steps
-has_read (Copied path told ∷ steps) = true
+has_read (Made making ∷ steps) = true
 has_read (Counted told ∷ steps) = true
 has_read (Listed listing told ∷ steps) = true
 has_read (LookedUp f found ∷ steps) = true
@@ -55,15 +59,15 @@ TellsSince since other = Unit {0}
 abbrev pub GoesThroughSteps : Shown → Shown → List Step → Type 0
 GoesThroughSteps old new steps = GoesThroughTurns old new (turns_in steps) (has_read steps)
 
-module _ {S : Type 0} (shown : S → Shown) (copied : S → S → List ℕ → Result (Unit {0}) CopyRefusal → Type 0)
+module _ {S : Type 0} (shown : S → Shown) (made : S → S → Making → Type 0)
     (counted : S → S → ℕ → Type 0) where
-  -- the copy was made of a store that stood for this world, and this came of it
-  pub record IsCopied (w : World) (path : List ℕ) (told : Result (Unit {0}) CopyRefusal) : Type 0 where
+  -- it was made of a store that stood for this world, and this came of it
+  pub record IsMade (w : World) (making : Making) : Type 0 where
     pub source : S
     pub source_new : S
     pub honest : (shown source_new).is_honest
     pub stands : (shown source).stands w
-    pub came : copied source source_new path told
+    pub came : made source source_new making
 
   -- a ping was told the failures of a store that stood for this world, and versions that were counted in it
   pub record IsCounted (w : World) (health : Health) : Type 0 where
@@ -74,11 +78,11 @@ module _ {S : Type 0} (shown : S → Shown) (copied : S → S → List ℕ → R
     pub failures_now : health.store_failures ≡ (shown source_new).failures
     pub came : counted source source_new health.versions
 
-  -- so it is of each copy, each ping, each list and each look for a key, with the machine's world at its moment
+  -- so it is of all that was made, each ping, each list and each look for a key, with the machine's world at its moment
   abbrev pub AllRead : World → List Step → Type 0
   AllRead w [] = Unit {0}
   AllRead w (Turned t ∷ steps) = AllRead (world_at w (t ∷ [])) steps
-  AllRead w (Copied path told ∷ steps) = IsCopied w path told × AllRead w steps
+  AllRead w (Made making ∷ steps) = IsMade w making × AllRead w steps
   AllRead w (Counted (Ok health) ∷ steps) = IsCounted w health × AllRead w steps
   AllRead w (Counted (Err fault) ∷ steps) = AllRead w steps
   AllRead w (Listed listing (Ok text) ∷ steps) = IsList listing w text × AllRead w steps

@@ -9,7 +9,7 @@ use Rattle.world.specs.declared.registry.StoreFault.TheVariants.{Memory}
 use Rattle.engine.specs.Written.{WritesBeginning}
 use Rattle.engine.specs.declared.fault.Io.{Io}
 use Rattle.engine.specs.declared.fault.Io.TheVariants as io
-use Rattle.control.specs.Copying.{Step, Turned, Counted, GoesThroughSteps}
+use Rattle.control.specs.Copying.{Making, ToPath, Step, Turned, Counted, GoesThroughSteps}
 use Rattle.control.specs.Copying as copying
 use Rattle.control.specs.Health.{IsPinged, line_of}
 use Rattle.control.specs.Line.{ReadsLine, IsNaming, IsSent, IsCopyTo, ping_line, stop_line}
@@ -19,7 +19,6 @@ use Rattle.control.specs.OperatorLine.{AreNoLine}
 use Rattle.control.specs.Outcome.{outcome_of, outcome_of_copy}
 use Rattle.control.specs.Told.{bytes_told}
 use Rattle.control.specs.Turns.{Ordered}
-use Rattle.control.specs.declared.copies.CopyRefusal.{CopyRefusal}
 use Rattle.control.specs.declared.health.Health.{Health}
 use Rattle.control.specs.declared.listing.Listing.{Listing}
 use Rattle.control.specs.declared.order.Order.{Order}
@@ -32,8 +31,8 @@ use Rattle.control.specs.declared.told.Told.TheVariants as spoken
 pub data Heard : Type 0 where
   -- it was an order, which was carried out
   Carried : Order → Result RegistryReply StoreFault → Heard
-  -- a copy to a path was ordered, with this result
-  Copied : List ℕ → Result (Unit {0}) CopyRefusal → Heard
+  -- this was to be made of the store
+  Made : Making → Heard
   -- the health of the server was asked for, and this was told
   Pinged : Result Health StoreFault → Heard
   -- a list was asked for, and this was told
@@ -52,9 +51,13 @@ abbrev pub told_of_ping : Result Health StoreFault → Told
 told_of_ping (Ok health) = spoken.Health (line_of health)
 told_of_ping (Err fault) = spoken.Outcome (Failed fault)
 
+-- what is told of what was to be made
+abbrev pub told_of_making : Making → Told
+told_of_making (ToPath path told) = spoken.Outcome (outcome_of_copy told)
+
 abbrev pub told_heard : Heard → Told
 told_heard (Carried order told) = spoken.Outcome (outcome_of told)
-told_heard (Copied path told) = spoken.Outcome (outcome_of_copy told)
+told_heard (Made making) = told_of_making making
 told_heard (Pinged told) = told_of_ping told
 told_heard (Listed listing told) = told_of_list told
 told_heard (Named f naming) = spoken.Outcome (outcome_of (named_result naming))
@@ -65,7 +68,7 @@ told_heard NoMemory = spoken.Outcome (Failed Memory)
 -- the steps of it: one for an order, a copy, a ping or a list, one or two for a fingerprint, and otherwise none
 abbrev pub steps_heard : Heard → List Step
 steps_heard (Carried order told) = Turned (Ordered order told) ∷ []
-steps_heard (Copied path told) = copying.Copied path told ∷ []
+steps_heard (Made making) = copying.Made making ∷ []
 steps_heard (Pinged told) = Counted told ∷ []
 steps_heard (Listed listing told) = copying.Listed listing told ∷ []
 steps_heard (Named f naming) = named_steps f naming
@@ -73,10 +76,14 @@ steps_heard Stop = []
 steps_heard NoOrder = []
 steps_heard NoMemory = []
 
+-- these bytes ordered this to be made
+abbrev pub IsMakingIn : List ℕ → Making → Type 0
+IsMakingIn got (ToPath path told) = IsCopyTo got path
+
 -- these bytes ordered it
 abbrev pub IsHeardIn : List ℕ → Heard → Type 0
 IsHeardIn got (Carried order told) = IsSent got order
-IsHeardIn got (Copied path told) = IsCopyTo got path
+IsHeardIn got (Made making) = IsMakingIn got making
 IsHeardIn got (Pinged told) = got ≡ ping_line
 IsHeardIn got (Listed listing told) = got ≡ line_for listing
 IsHeardIn got (Named f naming) = IsNaming got f
@@ -104,17 +111,17 @@ ListsBy old new (Listed listing told) = ReadsList old new listing told
 ListsBy old new (Named f naming) = Finds old new f naming
 ListsBy old new other = Unit {0}
 
--- The store went through the steps of what was ordered, and the copies were idle; where that was a copy, this happened
--- meanwhile.
+-- The store went through the steps of what was ordered, and the copies were idle; where something was to be made, this
+-- happened meanwhile.
 abbrev pub GoesAs : (idle meanwhile : Type 0) → Shown → Shown → Heard → Type 0
-GoesAs idle meanwhile old new (Copied path told) = meanwhile
+GoesAs idle meanwhile old new (Made making) = meanwhile
 GoesAs idle meanwhile old new heard = idle × GoesThroughSteps old new (steps_heard heard)
 
-module _ (copied : List ℕ → Result (Unit {0}) CopyRefusal → Type 0) (pinged : Result Health StoreFault → Type 0) where
-  -- where an operator ordered a copy or asked for the health, this came of it
+module _ (made : Making → Type 0) (pinged : Result Health StoreFault → Type 0) where
+  -- where an operator ordered something to be made or asked for the health, this came of it
   abbrev pub CameOf : Heard → Type 0
   CameOf (Carried order told) = Unit {0}
-  CameOf (Copied path told) = copied path told
+  CameOf (Made making) = made making
   CameOf (Pinged told) = pinged told
   CameOf (Listed listing told) = Unit {0}
   CameOf (Named f naming) = Unit {0}
@@ -157,18 +164,18 @@ module _ (copied : List ℕ → Result (Unit {0}) CopyRefusal → Type 0) (pinge
         (told : Told) × Hears old new came came_new told × WritesSome written written_new (bytes_told told)
 
 -- So it was between two stores, by what is known of copies and counts, with the tally of the moment.
-module _ {S K : Type 0} (shown : S → Shown) (copied : S → S → List ℕ → Result (Unit {0}) CopyRefusal → Type 0)
+module _ {S K : Type 0} (shown : S → Shown) (made : S → S → Making → Type 0)
     (counted : S → S → ℕ → Type 0) (meanwhile : K → K → S → S → Type 0) (tally : Tally) (copies copies_new : K)
     (old new : S) where
   abbrev pub HeedsBy : List ℕ → Told → Type 0
-  HeedsBy = Heeds (copied old new) (IsPinged tally (shown old).failures (shown new).failures (counted old new))
+  HeedsBy = Heeds (made old new) (IsPinged tally (shown old).failures (shown new).failures (counted old new))
       (copies_new ≡ copies) (meanwhile copies copies_new old new) (shown old) (shown new)
 
   abbrev pub HearsBy : Account → Account → Result Told Io → Type 0
   HearsBy =
-      HearsOrFails (copied old new) (IsPinged tally (shown old).failures (shown new).failures (counted old new))
+      HearsOrFails (made old new) (IsPinged tally (shown old).failures (shown new).failures (counted old new))
       (copies_new ≡ copies) (meanwhile copies copies_new old new) (shown old) (shown new)
 
   abbrev pub ObeysBy : Account → Account → Option (List ℕ) → Option (List ℕ) → Result Told Io → Type 0
-  ObeysBy = Obeys (copied old new) (IsPinged tally (shown old).failures (shown new).failures (counted old new))
+  ObeysBy = Obeys (made old new) (IsPinged tally (shown old).failures (shown new).failures (counted old new))
       (copies_new ≡ copies) (meanwhile copies copies_new old new) (shown old) (shown new)

@@ -9,7 +9,7 @@ use Rattle.world.specs.World.{World}
 use Rattle.socket.specs.Connections.{Come}
 use Rattle.meanwhile.specs.Meanwhile.{IsAsItWas}
 use Rattle.meanwhile.specs.declared.between.HowFar.{HowFar}
-use Rattle.control.specs.Copying.{AllRead, IsOnlyRead, turns_in, has_read}
+use Rattle.control.specs.Copying.{Making, AllRead, IsOnlyRead, turns_in, has_read}
 use Rattle.control.specs.Health.{Answered, IsPinged, with_one}
 use Rattle.control.specs.Notices.{WritesNotices}
 use Rattle.control.specs.Pinging.{TellsHowFar}
@@ -18,7 +18,6 @@ use Rattle.control.specs.Visits.{Call, OfPeer, OfOperator, Untaken, AnswersOne, 
 use Rattle.control.specs.Visits.{TellsTally}
 use Rattle.control.specs.Visits.{answered_with, callers_of, connections_of, steps_with}
 use Rattle.control.specs.declared.callers.Caller.{Caller}
-use Rattle.control.specs.declared.copies.CopyRefusal.{CopyRefusal}
 use Rattle.control.specs.declared.progress.Progress.{Progress}
 use Rattle.control.specs.declared.tally.Tally.{Tally}
 
@@ -45,11 +44,11 @@ EndsBy false false calls = All IsNoStop calls
 -- An operator was obeyed while a copy is made, with the tally of the moment. No copy was made for it, and a ping was
 -- told how far the one is.
 pub record ObeysMeanwhile {O : Type 0} (heeded : O → Account × Reads) (told : O → Option (List ℕ) × Writes)
-    {S : Type 0} (shown : S → Shown) (copied : S → S → List ℕ → Result (Unit {0}) CopyRefusal → Type 0)
+    {S : Type 0} (shown : S → Shown) (made : S → S → Making → Type 0)
     (counted : S → S → ℕ → Type 0) (operator : O) (far : HowFar) (before after : Progress) (old new : S) : Type 0
   where
     pub stops : Bool
-    pub obeys : ObeysOne heeded told (copied old new)
+    pub obeys : ObeysOne heeded told (made old new)
         (IsPinged before.tally (shown old).failures (shown new).failures (counted old new)) (Unit {0})
         (IsOnlyRead (shown old) (shown new)) operator stops (shown old) (shown new)
     pub tally : after.tally ≡ before.tally
@@ -78,7 +77,7 @@ pub record Instant (P O S : Type 0) : Type 0 where
 
 module _ {P O : Type 0} (heeded : O → Account × Reads) (told : O → Option (List ℕ) × Writes)
     (heard : P → Account × Reads) (written : P → Option (List ℕ) × Writes) (is_new : Caller P O → Type 0)
-    {S : Type 0} (shown : S → Shown) (copied : S → S → List ℕ → Result (Unit {0}) CopyRefusal → Type 0)
+    {S : Type 0} (shown : S → Shown) (made : S → S → Making → Type 0)
     (counted : S → S → ℕ → Type 0) where
   -- From one moment to another, callers were served one after another, each once; if the flag is true, the store was
   -- also read between them. What was said of them holds as `ServesEach`, `ReadsEach` and `EndsEach` say, and the
@@ -92,7 +91,7 @@ module _ {P O : Type 0} (heeded : O → Account × Reads) (told : O → Option (
     pub through : GoesThroughTurns (shown old) (shown new) (turns_in (steps_with calls))
         (read || has_read (steps_with calls))
     pub reads : (shown new).is_honest → (w : World) → (shown old).stands w
-        → AllRead shown copied counted w (steps_with calls)
+        → AllRead shown made counted w (steps_with calls)
     pub tally : after.tally ≡ tally_after before.tally (answered_with calls)
     pub tallies : AllTold before.tally calls
     pub left : before.left ≡ after.left + connections_of calls

@@ -13,14 +13,13 @@ use Rattle.engine.specs.declared.fault.Io.{Io}
 use Rattle.engine.specs.declared.fault.Io.TheVariants as io
 use Rattle.socket.specs.Connections.{Visit, Come, exchanges_of}
 use Rattle.socket.specs.Connections as socket
-use Rattle.control.specs.Copying.{Step, Turned, AllRead, GoesThroughSteps}
+use Rattle.control.specs.Copying.{Making, Step, Turned, AllRead, GoesThroughSteps}
 use Rattle.control.specs.Health.{Answered, IsPinged, tally_of}
 use Rattle.control.specs.Hearing.{Heard, Pinged, CameOf, GoesAs, IsHeard, ListsBy, WritesSome, steps_heard, told_heard}
 use Rattle.control.specs.Line.{most_tries}
 use Rattle.control.specs.Told.{bytes_told}
 use Rattle.control.specs.Turns.{Asked}
 use Rattle.control.specs.declared.callers.Caller.{Caller}
-use Rattle.control.specs.declared.copies.CopyRefusal.{CopyRefusal}
 use Rattle.control.specs.declared.callers.Caller.TheVariants.{Peer, Operator}
 use Rattle.control.specs.declared.health.Health.{Health}
 use Rattle.control.specs.declared.outcome.Outcome.TheVariants.{Stopping}
@@ -116,10 +115,10 @@ answered_with (OfOperator audience ∷ calls) = answered_with calls
 answered_with (Untaken ∷ calls) = answered_with calls
 
 -- what came of a copy that was ordered, or of a ping
-abbrev pub CameIf : (List ℕ → Result (Unit {0}) CopyRefusal → Type 0) → (Result Health StoreFault → Type 0)
+abbrev pub CameIf : (Making → Type 0) → (Result Health StoreFault → Type 0)
     → Option Heard → Type 0
-CameIf copied pinged None = Unit {0}
-CameIf copied pinged (Some heard) = CameOf copied pinged heard
+CameIf made pinged None = Unit {0}
+CameIf made pinged (Some heard) = CameOf made pinged heard
 
 -- where an operator asked for a list, it was read; where one named a key by its fingerprint, the key was looked up
 abbrev pub ListsIf : Shown → Shown → Option Heard → Type 0
@@ -173,7 +172,7 @@ module _ {O : Type 0} (heeded : O → Account × Reads) (told : O → Option (Li
 
   -- This operator was obeyed, and the store went through its order. The flag says whether it was told that the server
   -- ends.
-  pub record ObeysOne (copied : List ℕ → Result (Unit {0}) CopyRefusal → Type 0)
+  pub record ObeysOne (made : Making → Type 0)
       (pinged : Result Health StoreFault → Type 0) (idle meanwhile : Type 0)
       (operator : O) (stops : Bool) (old new : Shown) : Type 0 where
     pub audience : Audience O
@@ -181,16 +180,16 @@ module _ {O : Type 0} (heeded : O → Account × Reads) (told : O → Option (Li
     pub there : IsToldThere audience.before audience.after audience.heard audience.told
     pub stopped : IsTrue stops ↔ (audience.told ≡ Ok (spoken.Outcome Stopping))
     pub through : GoesIf idle meanwhile old new audience.heard
-    pub came : CameIf copied pinged audience.heard
+    pub came : CameIf made pinged audience.heard
     pub lists : ListsIf old new audience.heard
 
   -- so it was between two stores, by what is known of copies and counts, with the tally of the moment
   abbrev pub ObeysOneBy : {S K : Type 0} (shown : S → Shown)
-      (copied : S → S → List ℕ → Result (Unit {0}) CopyRefusal → Type 0) (counted : S → S → ℕ → Type 0)
+      (made : S → S → Making → Type 0) (counted : S → S → ℕ → Type 0)
       (meanwhile : K → K → S → S → Type 0) (tally : Tally) (operator : O) (stops : Bool) (copies copies_new : K)
       (old new : S) → Type 0
-  ObeysOneBy shown copied counted meanwhile tally operator stops copies copies_new old new =
-      ObeysOne (copied old new)
+  ObeysOneBy shown made counted meanwhile tally operator stops copies copies_new old new =
+      ObeysOne (made old new)
       (IsPinged tally (shown old).failures (shown new).failures (counted old new)) (copies_new ≡ copies)
       (meanwhile copies copies_new old new) operator stops (shown old) (shown new)
 
@@ -215,18 +214,18 @@ module _ {O : Type 0} (heeded : O → Account × Reads) (told : O → Option (Li
     -- So it was. Each copy that was ordered was made of the machine's world at its moment, each list is one of that
     -- world, and each ping was told what was counted in it, and how the connections before it were answered.
     pub record ReadsEach
-        {S : Type 0} (shown : S → Shown) (copied : S → S → List ℕ → Result (Unit {0}) CopyRefusal → Type 0)
+        {S : Type 0} (shown : S → Shown) (made : S → S → Making → Type 0)
         (counted : S → S → ℕ → Type 0) (is_new : Caller P O → Type 0)
         (waiting left : Option (List (Caller P O))) (old new : S) (since : List ℕ) (connections : ℕ) : Type 0 where
       pub each : ServesEach is_new waiting left (shown old) (shown new) connections
       pub reads : (shown new).is_honest → (w : World) → (shown old).stands w
-          → AllRead shown copied counted w (steps_with each.calls)
+          → AllRead shown made counted w (steps_with each.calls)
       pub tallies : AllTallied since [] each.calls
 
     -- So it was, and it ended as `IsEnd` says.
     pub record EndsEach
-        {S : Type 0} (shown : S → Shown) (copied : S → S → List ℕ → Result (Unit {0}) CopyRefusal → Type 0)
+        {S : Type 0} (shown : S → Shown) (made : S → S → Making → Type 0)
         (counted : S → S → ℕ → Type 0) (is_new : Caller P O → Type 0)
         (waiting left : Option (List (Caller P O))) (old new : S) (since : List ℕ) (connections : ℕ) : Type 0 where
-      pub reads : ReadsEach shown copied counted is_new waiting left old new since connections
+      pub reads : ReadsEach shown made counted is_new waiting left old new since connections
       pub ends : IsEnd connections reads.each.calls

@@ -91,7 +91,7 @@ pub trait Operator {
     ) -> Obeyed<Self>
     where
         Self: Sized,
-        ensures obeys { ObeysBy S.shown K.copied K.counted K.meanwhile tally.now copies.old copies.new
+        ensures obeys { ObeysBy S.shown K.made K.counted K.meanwhile tally.now copies.old copies.new
             shelves.old shelves.new (came self) (came result.operator) (written self) (written result.operator)
             result.told }
         // A ping is told what `copies` knows of the store, and nothing else.
@@ -153,7 +153,7 @@ fn obey_since<
 ) -> Obeyed<Connection<R, W>>
     requires reads { ⟦<Hearing<R> as HasCalls>⟧.calls operator.reader ≡ I.calls }
     requires writes { ⟦<Telling<W> as HasCalls>⟧.calls operator.writer ≡ J.calls }
-    ensures obeys { ObeysBy S.shown K.copied K.counted K.meanwhile tally.now copies.old copies.new
+    ensures obeys { ObeysBy S.shown K.made K.counted K.meanwhile tally.now copies.old copies.new
         shelves.old shelves.new
         (⟦<Hearing<R> as Hear>⟧.account operator.reader) (⟦<Hearing<R> as Hear>⟧.account result.operator.reader)
         (⟦<Telling<W> as Write>⟧.contents operator.writer) (⟦<Telling<W> as Write>⟧.contents result.operator.writer)

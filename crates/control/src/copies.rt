@@ -21,15 +21,14 @@ pub enum CopyRefusal {
 
 /// What copies a store while it is served, and counts what it keeps.
 pub trait Copies<S: Shelves> {
-    ghost use Rattle.std.specs.Prelude.{ℕ, ◌≢◌, List, Result, Err, IfErr, IfOk};
-    ghost use Rattle.control.specs.Copying.{IsOnlyRead};
-    ghost use Rattle.control.specs.declared.copies.CopyRefusal.{CopyRefusal};
+    ghost use Rattle.std.specs.Prelude.{ℕ, ◌≢◌, List, Err, IfErr, IfOk};
+    ghost use Rattle.control.specs.Copying.{IsOnlyRead, Making, ToPath};
     ghost use Rattle.control.specs.declared.copies.CopyRefusal.TheVariants.{Busy};
     ghost use Rattle.control.specs.declared.health.Figures.{Figures};
     ghost use Rattle.world.specs.Store.{HasCause};
 
-    /// What a copy does: relates the served store before and after it, the path, and the result.
-    ghost copied: { S → S → List ℕ → Result (Unit {0}) CopyRefusal → Type 0 };
+    /// What is made of the served store: relates it before and after that, and what was made.
+    ghost made: { S → S → Making → Type 0 };
 
     /// What a count says, by the served store before and after it, and the number.
     ghost counted: { S → S → ℕ → Type 0 };
@@ -54,7 +53,7 @@ pub trait Copies<S: Shelves> {
     ) -> Result<(), CopyRefusal>
         ensures turns { (mid : S) × B.went between.old between.new shelves.old mid
             × IsOnlyRead (S.shown mid) (S.shown shelves.new) }
-        ensures came { copied shelves.old shelves.new path.now result }
+        ensures came { made shelves.old shelves.new (ToPath path.now result) }
         // It is begun, so none that is being made is why it fails.
         ensures begun { IfErr result (λ why. why ≢ Busy) };
 
@@ -70,19 +69,18 @@ pub trait Copies<S: Shelves> {
         ensures { figured shelves.now result };
 
     // An order to copy that comes while a copy is made does nothing.
-    ghost busy: { (s : S) (path : List ℕ) → copied s s path (Err Busy) };
+    ghost busy: { (s : S) (path : List ℕ) → made s s (ToPath path (Err Busy)) };
 }
 
 /// What carries out the orders to copy a store, and counts what it keeps.
 pub trait CopyOrders<S: Shelves> {
-    ghost use Rattle.std.specs.Prelude.{ℕ, List, Result, IfOk};
-    ghost use Rattle.control.specs.Copying.{IsOnlyRead};
-    ghost use Rattle.control.specs.declared.copies.CopyRefusal.{CopyRefusal};
+    ghost use Rattle.std.specs.Prelude.{ℕ, IfOk};
+    ghost use Rattle.control.specs.Copying.{IsOnlyRead, Making, ToPath};
     ghost use Rattle.control.specs.declared.health.Figures.{Figures};
     ghost use Rattle.world.specs.Store.{HasCause};
 
-    /// What a copy does: relates the store before and after it, the path, and the result.
-    ghost copied: { S → S → List ℕ → Result (Unit {0}) CopyRefusal → Type 0 };
+    /// What is made of the store: relates it before and after that, and what was made.
+    ghost made: { S → S → Making → Type 0 };
 
     /// What a count says, by the store before and after it, and the number.
     ghost counted: { S → S → ℕ → Type 0 };
@@ -98,7 +96,7 @@ pub trait CopyOrders<S: Shelves> {
     /// does, and with `Busy` if another copy is being made.
     fn copy_to(&mut self, shelves: &mut S, path: &str) -> Result<(), CopyRefusal>
         ensures meanwhile { meanwhile self.old self.new shelves.old shelves.new }
-        ensures came { copied shelves.old shelves.new path.now result };
+        ensures came { made shelves.old shelves.new (ToPath path.now result) };
 
     /// Returns how many versions the store keeps at this moment. The store is only read. Fails with `Device` if a disk
     /// failed, and with `Memory` if memory ran out.

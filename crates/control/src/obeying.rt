@@ -40,7 +40,7 @@ pub fn obey<R: Hear, W: Tell, S: Keyring, K: CopyOrders<S>>(
     shelves: &mut S,
     copies: &mut K,
 ) -> Result<Told, Io>
-    ensures obeys { ObeysBy S.shown K.copied K.counted K.meanwhile tally.now copies.old copies.new
+    ensures obeys { ObeysBy S.shown K.made K.counted K.meanwhile tally.now copies.old copies.new
         shelves.old shelves.new (R.account reader.old) (R.account reader.new)
         (W.contents writer.old) (W.contents writer.new) result }
     // A ping is told what `copies` knows of the store, and nothing else.
@@ -84,7 +84,7 @@ fn hear<R: Hear, S: Keyring, K: CopyOrders<S>>(
     shelves: &mut S,
     copies: &mut K,
 ) -> Result<Told, Io>
-    ensures hears { HearsBy S.shown K.copied K.counted K.meanwhile tally.now copies.old copies.new
+    ensures hears { HearsBy S.shown K.made K.counted K.meanwhile tally.now copies.old copies.new
         shelves.old shelves.new (R.account reader.old) (R.account reader.new) result }
     ensures figures { IfOk result (TellsPing (K.figured copies.old shelves.new) (IsPinged tally.now
         (S.shown shelves.old).failures (S.shown shelves.new).failures (K.counted shelves.old shelves.new))) }
@@ -105,7 +105,7 @@ fn heed<S: Keyring, K: CopyOrders<S>>(
     shelves: &mut S,
     copies: &mut K,
 ) -> Told
-    ensures heeds { HeedsBy S.shown K.copied K.counted K.meanwhile tally.now copies.old copies.new
+    ensures heeds { HeedsBy S.shown K.made K.counted K.meanwhile tally.now copies.old copies.new
         shelves.old shelves.new got.now result }
     ensures figures { TellsPing (K.figured copies.old shelves.new) (IsPinged tally.now (S.shown shelves.old).failures
         (S.shown shelves.new).failures (K.counted shelves.old shelves.new)) result }

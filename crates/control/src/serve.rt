@@ -64,11 +64,11 @@ pub fn serve_both<
     // Each copy is made of the machine's world at its moment, between two of its events. Each ping is told the versions
     // that were counted so, and the counts of the connections that were taken before it.
     ensures reads { ReadsEach (both O.came O.reads) (both O.written O.writes)
-        (both P.came P.reads) (both P.written P.writes) S.shown K.copied K.counted L.is_new (L.waiting callers.old)
+        (both P.came P.reads) (both P.written P.writes) S.shown K.made K.counted L.is_new (L.waiting callers.old)
         (L.waiting callers.new) shelves.old shelves.new since connections }
     // It ends once an operator was told so, and not before, unless its connections are used up.
     ensures ends { EndsEach (both O.came O.reads) (both O.written O.writes)
-        (both P.came P.reads) (both P.written P.writes) S.shown K.copied K.counted L.is_new (L.waiting callers.old)
+        (both P.came P.reads) (both P.written P.writes) S.shown K.made K.counted L.is_new (L.waiting callers.old)
         (L.waiting callers.new) shelves.old shelves.new since connections }
     // Only notices are written to `errors`.
     ensures notes { WritesNotices (E.contents errors.old) (E.contents errors.new) }
@@ -126,10 +126,10 @@ fn serve_lent<
         (both P.came P.reads) (both P.written P.writes) L.is_new (L.waiting callers.old) (L.waiting result.callers.now)
         (S.shown shelves.old) (S.shown result.shelves.now) connections }
     ensures reads { ReadsEach (both O.came O.reads) (both O.written O.writes)
-        (both P.came P.reads) (both P.written P.writes) S.shown K.copied K.counted L.is_new (L.waiting callers.old)
+        (both P.came P.reads) (both P.written P.writes) S.shown K.made K.counted L.is_new (L.waiting callers.old)
         (L.waiting result.callers.now) shelves.old result.shelves.now since connections }
     ensures ends { EndsEach (both O.came O.reads) (both O.written O.writes)
-        (both P.came P.reads) (both P.written P.writes) S.shown K.copied K.counted L.is_new (L.waiting callers.old)
+        (both P.came P.reads) (both P.written P.writes) S.shown K.made K.counted L.is_new (L.waiting callers.old)
         (L.waiting result.callers.now) shelves.old result.shelves.now since connections }
     ensures notes { WritesNotices (E.contents errors.old) (E.contents result.errors.now) }
 {
@@ -167,7 +167,7 @@ fn serve_each<
 >(server: &mut Server<'_, C, P, O, L, K, D, E>, watched: &mut Watched<'_, N, S>)
     requires { server.old.progress.taken ≡ 0 }
     ensures serves { Serves (both O.came O.reads) (both O.written O.writes)
-        (both P.came P.reads) (both P.written P.writes) L.is_new S.shown K.copied K.counted false
+        (both P.came P.reads) (both P.written P.writes) L.is_new S.shown K.made K.counted false
         (L.waiting server.old.callers.now) (L.waiting server.new.callers.now)
         server.old.progress server.new.progress watched.old.inner.now watched.new.inner.now }
     ensures over { IsOver server.new.progress.stops server.new.progress.left server.new.progress.taken }
@@ -205,7 +205,7 @@ fn obey_on<
         → Come waiting (L.waiting server.old.callers.now) (Operator operator ∷ [])
         → L.is_new (Operator operator)
         → Serves (both O.came O.reads) (both O.written O.writes)
-        (both P.came P.reads) (both P.written P.writes) L.is_new S.shown K.copied K.counted false
+        (both P.came P.reads) (both P.written P.writes) L.is_new S.shown K.made K.counted false
         waiting (L.waiting server.new.callers.now)
         server.old.progress server.new.progress watched.old.inner.now watched.new.inner.now }
     ensures taken { server.old.progress.taken + 1 ≤ server.new.progress.taken }

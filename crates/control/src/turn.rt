@@ -49,7 +49,7 @@ impl<'a, 'b, 'c, N: Loan, M: Moment, S: Shelves, K: Copies<S>> CopyOrders<
     ghost use Rattle.control.specs.Copying.{IsOnlyRead};
     ghost use Rattle.control.specs.Figures.{TellsKept};
 
-    ghost copied = { λ old new path told. K.copied old.inner.now.inner.now new.inner.now.inner.now path told };
+    ghost made = { λ old new making. K.made old.inner.now.inner.now new.inner.now.inner.now making };
 
     ghost counted = { λ old new n. K.counted old.inner.now.inner.now new.inner.now.inner.now n };
 
@@ -130,7 +130,7 @@ fn obey_meanwhile<
     requires { IsGoing server.old.progress.stops server.old.progress.left server.old.progress.taken }
     ensures obeys { ObeysMeanwhile (both O.came O.reads) (both O.written O.writes)
         ⟦<Noting<'b, M, S> as Shelves>⟧.shown
-        (λ old new path told. K.copied old.inner.now new.inner.now path told)
+        (λ old new making. K.made old.inner.now new.inner.now making)
         (λ old new n. K.counted old.inner.now new.inner.now n)
         operator server.old.how_far server.old.progress server.new.progress
         watched.old.inner.now watched.new.inner.now }
@@ -173,7 +173,7 @@ fn serve_next<
         → IfOk next (λ caller. L.is_new caller)
         → Serves (both O.came O.reads) (both O.written O.writes)
         (both P.came P.reads) (both P.written P.writes) L.is_new ⟦<Noting<'b, M, S> as Shelves>⟧.shown
-        (λ old new path told. K.copied old.inner.now new.inner.now path told)
+        (λ old new making. K.made old.inner.now new.inner.now making)
         (λ old new n. K.counted old.inner.now new.inner.now n) true waiting (L.waiting server.new.callers.now)
         server.old.progress server.new.progress watched.old.inner.now watched.new.inner.now }
     ensures same { server.new.callers.ghost_name ≡ server.old.callers.ghost_name }
@@ -203,7 +203,7 @@ fn serve_waiting<
 >(server: &mut Server<'_, C, P, O, L, K, D, E>, watched: &mut Watched<'_, N, Noting<'b, M, S>>)
     ensures serves { Serves (both O.came O.reads) (both O.written O.writes)
         (both P.came P.reads) (both P.written P.writes) L.is_new ⟦<Noting<'b, M, S> as Shelves>⟧.shown
-        (λ old new path told. K.copied old.inner.now new.inner.now path told)
+        (λ old new making. K.made old.inner.now new.inner.now making)
         (λ old new n. K.counted old.inner.now new.inner.now n) true
         (L.waiting server.old.callers.now) (L.waiting server.new.callers.now)
         server.old.progress server.new.progress watched.old.inner.now watched.new.inner.now }
@@ -244,7 +244,7 @@ fn serve_noting<
     ensures same_store { result.ghost_name ≡ noting.entry.ghost_name }
     ensures serves { Serves (both O.came O.reads) (both O.written O.writes)
         (both P.came P.reads) (both P.written P.writes) L.is_new ⟦<Noting<'b, M, S> as Shelves>⟧.shown
-        (λ old new path told. K.copied old.inner.now new.inner.now path told)
+        (λ old new making. K.made old.inner.now new.inner.now making)
         (λ old new n. K.counted old.inner.now new.inner.now n) true
         (L.waiting server.old.callers.now) (L.waiting server.new.callers.now)
         server.old.progress server.new.progress noting.old result.now }
@@ -290,7 +290,7 @@ fn take_turn<
     requires before { M.before ≡ news.old }
     ensures same_store { result.shelves.ghost_name ≡ shelves.entry.ghost_name }
     ensures serves { Serves (both O.came O.reads) (both O.written O.writes)
-        (both P.came P.reads) (both P.written P.writes) L.is_new S.shown K.copied K.counted true
+        (both P.came P.reads) (both P.written P.writes) L.is_new S.shown K.made K.counted true
         (L.waiting server.old.callers.now) (L.waiting server.new.callers.now)
         server.old.progress server.new.progress shelves.old result.shelves.now }
     ensures newcomers { result.lost ≡ false
@@ -331,7 +331,7 @@ impl<
     ghost use Rattle.control.specs.Serving.{TakesTurns, no_fewer_turns, then_turns, turns_rest};
 
     ghost went = { λ old new s t. TakesTurns (both O.came O.reads) (both O.written O.writes)
-        (both P.came P.reads) (both P.written P.writes) L.is_new S.shown K.copied K.counted
+        (both P.came P.reads) (both P.written P.writes) L.is_new S.shown K.made K.counted
         (record {
           waiting = L.waiting old.callers.now;
           progress = old.progress;
@@ -391,11 +391,11 @@ impl<
 > CopyOrders<Watched<'a, N, S>> for Server<'x, C, P, O, L, K, D, E> {
     ghost use Rattle.std.specs.Prelude.{None};
     ghost use Rattle.socket.specs.Connections.{both};
-    ghost use Rattle.control.specs.Copying.{IsOnlyRead};
+    ghost use Rattle.control.specs.Copying.{IsOnlyRead, ToPath};
     ghost use Rattle.control.specs.Figures.{TellsKept};
     ghost use Rattle.control.specs.Serving.{TakesTurns};
 
-    ghost copied = { λ old new path told. K.copied old.inner.now new.inner.now path told };
+    ghost made = { λ old new making. K.made old.inner.now new.inner.now making };
 
     ghost counted = { λ old new n. K.counted old.inner.now new.inner.now n };
 
@@ -411,7 +411,7 @@ impl<
         ensures meanwhile { (mid : S)
             × ⟦<Server<'x, C, P, O, L, K, D, E> as Between<S>>⟧.went self.old self.new shelves.old.inner.now mid
             × IsOnlyRead (S.shown mid) (S.shown shelves.new.inner.now) }
-        ensures came { K.copied shelves.old.inner.now shelves.new.inner.now path.now result }
+        ensures came { K.made shelves.old.inner.now shelves.new.inner.now (ToPath path.now result) }
         ensures time { NotesTime (D.shown self.new.calendar) shelves.old.copied shelves.new.copied result }
     {
         let copies = self.copies;

@@ -11,6 +11,7 @@ use Rattle.store.specs.declared.between.CopyEnd.{CopyEnd}
 use Rattle.store.specs.declared.between.CopyEnd.TheVariants.{Refused, Ended}
 use Rattle.store.specs.declared.refusal.StoreRefusal.{StoreRefusal}
 use Rattle.store.specs.declared.refusal.StoreRefusal.TheVariants as store
+use Rattle.control.specs.Copying.{Making, ToPath}
 use Rattle.control.specs.declared.copies.CopyRefusal.{CopyRefusal}
 use Rattle.control.specs.declared.copies.CopyRefusal.TheVariants as copy
 use Rattle.runner.specs.Opened.{OnOpened}
@@ -71,6 +72,10 @@ module _ {S F : Type 0} (shown : S → Shown) (shown_too : F → Shown) where
       OnOpened Begins (λ fresh fresh_new. CopiesInto source source_new fresh fresh_new result)
       ⊎ CopiesNone source source_new result
       ⊎ IsBusy source source_new result
+
+  -- what was made of the served store
+  abbrev pub Makes : (F → Type 0) → S → S → Making → Type 0
+  Makes Begins source source_new (ToPath path result) = CopiesFile Begins source source_new path result
 
   module _ {D : Type 0} (targets : Span F D) (source source_new : S) (to : List ℕ) where
     -- nothing was done with the served store, and no other was opened

@@ -65,11 +65,11 @@ impl<'a, S: Alter> Copies<SqlShelves<S>> for FileCopies<'a> {
     ghost use Rattle.std.specs.Prelude.{◌≡◌, None};
     ghost use Rattle.std.proofs.Common.{inr, refl};
     ghost use Rattle.sqlite_wal.specs.Files.{image_at};
-    ghost use Rattle.runner.specs.Copies.{CopiesFile, CountsIn};
+    ghost use Rattle.runner.specs.Copies.{CountsIn, Makes};
     ghost use Rattle.runner.specs.Opened.{HasBegun};
     ghost use Rattle.runner.specs.declared.found.OpenedStore.{OpenedStore};
 
-    ghost copied = { CopiesFile ⟦<SqlShelves<S> as Shelves>⟧.shown
+    ghost made = { Makes ⟦<SqlShelves<S> as Shelves>⟧.shown
         (λ (s : OpenedStore). ⟦<Found as Shelves>⟧.shown s.shelves)
         (λ s. HasBegun ⟦<Found as Shelves>⟧.shown (image_at ⟦<AsFound as Start>⟧) s.shelves) };
 

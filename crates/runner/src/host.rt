@@ -1,7 +1,7 @@
 //! What a command asks of the system, beside opening and closing the stores of files.
 ghost use Rattle.sqlite_wal.specs.Files.{image_at};
 ghost use Rattle.commands.specs.Action.{Acts};
-ghost use Rattle.runner.specs.Copies.{CopiesFile, CountsIn};
+ghost use Rattle.runner.specs.Copies.{CountsIn, Makes};
 ghost use Rattle.runner.specs.Opened.{HasBegun};
 
 use crate::beside::{check_name, sync_log};
@@ -160,12 +160,12 @@ impl<'a> ActionHost<OpenedStore> for SystemHost<'a> {
     ghost use Rattle.sqlite_wal.specs.Files.{image_at};
     ghost use Rattle.commands.specs.Action.{Acts};
     ghost use Rattle.file_action.specs.OnFile.{within};
-    ghost use Rattle.runner.specs.Copies.{CopiesFile, CountsIn};
+    ghost use Rattle.runner.specs.Copies.{CountsIn, Makes};
     ghost use Rattle.runner.specs.Opened.{HasBegun};
     ghost use Rattle.runner.specs.declared.found.OpenedStore.{OpenedStore};
 
     ghost acts = { within (λ s. s.shelves) (Acts ⟦<Found as Shelves>⟧.shown
-        (CopiesFile ⟦<Found as Shelves>⟧.shown (λ (s : OpenedStore). ⟦<Found as Shelves>⟧.shown s.shelves)
+        (Makes ⟦<Found as Shelves>⟧.shown (λ (s : OpenedStore). ⟦<Found as Shelves>⟧.shown s.shelves)
         (λ s. HasBegun ⟦<Found as Shelves>⟧.shown (image_at ⟦<AsFound as Start>⟧) s.shelves))
         (CountsIn ⟦<Found as Shelves>⟧.shown)) };
 
@@ -276,7 +276,7 @@ fn act_in<T: Start, I: Hear, O: Tell>(
     output: &mut O,
 ) -> Result<bool, CommandRefusal>
     ensures { Acts ⟦<FileShelves<T> as Shelves>⟧.shown
-        (CopiesFile ⟦<FileShelves<T> as Shelves>⟧.shown (λ (s : OpenedStore). ⟦<Found as Shelves>⟧.shown s.shelves)
+        (Makes ⟦<FileShelves<T> as Shelves>⟧.shown (λ (s : OpenedStore). ⟦<Found as Shelves>⟧.shown s.shelves)
         (λ s. HasBegun ⟦<Found as Shelves>⟧.shown (image_at ⟦<AsFound as Start>⟧) s.shelves))
         (CountsIn ⟦<FileShelves<T> as Shelves>⟧.shown)
         (record { store = shelves.old; came = I.account input.old; written = O.contents output.old })

@@ -48,7 +48,7 @@ fn figures_of<'s>() -> Figures<'s> {
 }
 
 impl<S: Shelves> Copies<S> for Copier {
-    ghost copied = { λ _ _ _ _. Unit {0} };
+    ghost made = { λ _ _ _. Unit {0} };
 
     ghost counted = { λ _ _ _. Unit {0} };
 
@@ -88,7 +88,7 @@ impl<S: Shelves> Copies<S> for Copier {
 
 /// Nobody is served while a copy is made.
 impl<S: Shelves> CopyOrders<S> for Copier {
-    ghost copied = { λ _ _ _ _. Unit {0} };
+    ghost made = { λ _ _ _. Unit {0} };
 
     ghost counted = { λ _ _ _. Unit {0} };
 

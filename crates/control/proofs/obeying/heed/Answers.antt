@@ -1,6 +1,7 @@
 use Rattle.std.proofs.Common.{refl, ap}
 use Rattle.control.specs.Health.{IsPinged}
-use Rattle.control.specs.Hearing.{Carried, Copied, Listed, Pinged, Named, Stop, NoOrder}
+use Rattle.control.specs.Copying.{ToPath}
+use Rattle.control.specs.Hearing.{Carried, Made, Listed, Pinged, Named, Stop, NoOrder}
 use Rattle.control.specs.declared.told.Told.TheVariants as spoken
 use Rattle.control.proofs.ListingLemmas.{list_only_reads}
 use Rattle.control.proofs.PingLemmas.{tells_no_ping}
@@ -29,7 +30,7 @@ returns-in-Some-Ping-clause-heeds g c = record {
 
 pub returns-in-Some-Copy-clause-heeds : goal.returns-in-Some-Copy-clause-heeds
 returns-in-Some-Copy-clause-heeds g c = record {
-  heard = Copied c.in-Some-Copy.path.now c.copy_to.result;
+  heard = Made (ToPath c.in-Some-Copy.path.now c.copy_to.result);
   from = rw c.in-Some-Copy.field-0-is at c.in-Some-Copy.ensures;
   tells = ap spoken.Outcome c.outcome_of_copy.ensures;
   through = c.copy_to.ensures.meanwhile;

@@ -14,7 +14,7 @@ invariant-loop g l =
     record {
       some : l.counter ≤ l.server.progress.taken;
       all : Serves (both o.came o.reads) (both o.written o.writes) (both p.came p.reads) (both p.written p.writes)
-          g.L.Callers.is_new s.shown g.K.Copies.copied g.K.Copies.counted false
+          g.L.Callers.is_new s.shown g.K.Copies.made g.K.Copies.counted false
           (waiting l.fn.server.callers.now) (waiting l.server.callers.now) l.fn.server.progress l.server.progress
           l.fn.watched.inner.now l.watched.inner.now;
       same : l.server.callers.ghost_name ≡ l.fn.server.callers.ghost_name;

@@ -15,7 +15,7 @@ invariant-loop g l =
       all : Serves (both o.came o.reads) (both o.written o.writes) (both p.came p.reads) (both p.written p.writes)
           g.L.Callers.is_new
           (λ n. with_said (g.S.Shelves.shown n.inner.now) (IsNoted n.lost g.M.Moment.was g.M.Moment.before n.news))
-          (λ old new path told. g.K.Copies.copied old.inner.now new.inner.now path told)
+          (λ old new making. g.K.Copies.made old.inner.now new.inner.now making)
           (λ old new n. g.K.Copies.counted old.inner.now new.inner.now n) true
           (waiting l.fn.server.callers.now) (waiting l.server.callers.now) l.fn.server.progress l.server.progress
           l.fn.watched.inner.now l.watched.inner.now;

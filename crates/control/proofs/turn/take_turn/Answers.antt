@@ -17,7 +17,7 @@ returns-clause-serves g c =
     (c.requires.before ∙ sym (c.new-noting.ensures.news ∙ c.replace-before.ensures.value)) w
     (c.requires.was w (subst (λ s. (shown s).stands w) begun stands)) in
     rw begun at (rw ends at
-    (serves_unnoted shown g.K.Copies.copied g.K.Copies.counted (λ n. n.inner.now)
+    (serves_unnoted shown g.K.Copies.made g.K.Copies.counted (λ n. n.inner.now)
     (λ n. IsNoted n.lost m.was m.before n.news) _ _ _ _ _ _ _ _ _ first c.serve_noting-lent.result.now all
     c.serve_noting-lent.ensures.serves))
 

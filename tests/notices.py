@@ -36,6 +36,8 @@ TOLD = [
     ("copy copy.db", "order: copy copy.db: done"),
     ("copy served.db", "order: copy served.db: not-empty"),
     ("copy nosuch/copy.db", "order: copy nosuch/copy.db: device"),
+    ("catalog B", "order: catalog #B: done"),
+    ("catalog N", "order: catalog #N: no-key"),
     ("team-add be\x1b[2Jta", "order: ?: name"),
     ("key-ad beta B", "order: bad"),
     ("key-add beta", "order: bad"),

@@ -97,40 +97,6 @@ module _ (a b c : Shown) (before after : set.FinSet place_cmp) (s : List ℕ) (r
     device = λ failed. absurd (let e = failed in cc);
   }
 
--- where nothing was done the store stays
-pub stays_none : (a : Shown) → StaysOn {T = Unit {0}} a a (Ok tt)
-stays_none a = record {
-  honest = λ h. h;
-  at = λ h w stands. stands;
-  no_fewer = omega arith;
-  device = λ failed. absurd (let e = failed in cc);
-}
-
-module _ (a b c : Shown) (first : StaysOn {T = Unit {0}} a b (Ok tt)) where
-  -- turns after turns
-  pub stays_then : (result : Result (Unit {0}) CatalogEnd) → StaysOn b c result → StaysOn a c result
-  stays_then result next = record {
-    honest = λ h. first.honest (next.honest h);
-    at = λ h w stands. next.at h w (first.at (next.honest h) w stands);
-    no_fewer = let one = first.no_fewer in let two = next.no_fewer in omega (arith, one, two);
-    device = λ failed. grown_before _ _ _ first.no_fewer (next.device failed);
-  }
-
--- a failure after turns
-pub stays_failed : (a b c : Shown) → StaysOn {T = Unit {0}} a b (Ok tt) → (e : CatalogEnd) (result : Result (Unit {0}) CatalogEnd)
-    → IsErrAnd result (λ it. it ≡ e) → StaysOn {T = Unit {0}} b c (Err e) → StaysOn a c result
-stays_failed a b c first e (Ok u) is next = absurd is
-stays_failed a b c first e (Err other) is next =
-    subst (λ k. StaysOn {T = Unit {0}} a c (Err k)) (sym is) (stays_then a b c first (Err e) next)
-
-pub stays_ended : (a b : Shown) → StaysOn {T = Unit {0}} a b (Ok tt) → StaysOn {T = Unit {0}} a b (Err end.Ended)
-stays_ended a b first = record {
-  honest = first.honest;
-  at = λ h w stands. tt;
-  no_fewer = first.no_fewer;
-  device = λ failed. absurd (let e = failed in cc);
-}
-
 -- ---- a line
 
 -- a line was printed, and then there were turns
@@ -349,12 +315,6 @@ module _ (writes writes_new : Writes) where
     where
       same_why : {V : Type 0} → IsErrOf {T = V} (Err (end.Unprinted e)) (end.Unprinted why.Output) → e ≡ why.Output
       same_why failed = cc
-
--- what is handed on is none of the output if it was none
-pub still_never : (e : CatalogEnd) (result : Result (Unit {0}) CatalogEnd) → IsErrAnd result (λ it. it ≡ e)
-    → IsNotOutput {T = Unit {0}} (Err e) → IsNotOutput result
-still_never e (Ok u) is never = absurd is
-still_never e (Err other) is never = subst (λ k. IsNotOutput {T = Unit {0}} (Err k)) (sym is) never
 
 -- a fault of the store is not told as one of the output
 pub fails_fault : (writes : Writes) (f : StoreFault) → FailsOn {T = Unit {0}} writes writes (Err (unread_on f))

@@ -14,7 +14,7 @@ use crate::line::Marks;
 use crate::path::{Account, account_of, add_version, marks};
 use crate::print::{Unprinted, finish, put, unread};
 use crate::sight::Then;
-use histories::Tell;
+use histories::{Restart, Tell};
 use keyring::Keyring;
 use meanwhile::between::Between;
 use meanwhile::definite::Definite;
@@ -36,17 +36,11 @@ pub enum CatalogEnd {
     Ended,
 }
 
-/// An output that says whether it has room. No clause depends on it.
-pub trait Room {
-    /// Whether it is to be given no more before the next turn.
-    fn is_full(&self) -> bool;
-}
-
 /// Prints the catalog of a key as the store is at the call, and returns true: exactly one line for each version that
-/// the shelf of the key sees then, as `print_catalog` does. `between` takes a turn after each line, and more turns as
-/// long as the output has no room. What a turn publishes, adds or takes away changes no line. Returns false if there
-/// is no such key. If it fails or is ended, a beginning of the lines is printed.
-pub fn print_between<S: Outlines + Keyring + Definite, O: Tell + Room, B: Between<S>>(
+/// the shelf of the key sees then, as `print_catalog` does. After each line `between` takes a turn, and the time of the
+/// output begins anew. What a turn publishes, adds or takes away changes no line. Returns false if there is no such
+/// key. If it fails or is ended, a beginning of the lines is printed.
+pub fn print_between<S: Outlines + Keyring + Definite, O: Restart, B: Between<S>>(
     alloc: Global,
     shelves: &mut S,
     key: &str,
@@ -74,7 +68,7 @@ pub fn print_between<S: Outlines + Keyring + Definite, O: Tell + Room, B: Betwee
 }
 
 /// Prints the lines of all versions that a shelf sees at the call.
-fn print_all<S: Outlines + Keyring + Definite, O: Tell + Room, B: Between<S>>(
+fn print_all<S: Outlines + Keyring + Definite, O: Restart, B: Between<S>>(
     alloc: Global,
     shelves: &mut S,
     shelf: &str,
@@ -107,7 +101,7 @@ fn print_all<S: Outlines + Keyring + Definite, O: Tell + Room, B: Between<S>>(
 }
 
 /// Prints the lines of the path that a text is, or none if it is no path.
-fn print_text<S: Outlines + Keyring + Definite, O: Tell + Room, B: Between<S>>(
+fn print_text<S: Outlines + Keyring + Definite, O: Restart, B: Between<S>>(
     alloc: Global,
     shelves: &mut S,
     shelf: &str,
@@ -130,7 +124,7 @@ fn print_text<S: Outlines + Keyring + Definite, O: Tell + Room, B: Between<S>>(
 }
 
 /// Prints the lines of a path.
-fn print_path<S: Outlines + Keyring + Definite, O: Tell + Room, B: Between<S>>(
+fn print_path<S: Outlines + Keyring + Definite, O: Restart, B: Between<S>>(
     alloc: Global,
     shelves: &mut S,
     shelf: &str,
@@ -156,8 +150,8 @@ fn print_path<S: Outlines + Keyring + Definite, O: Tell + Room, B: Between<S>>(
     }
 }
 
-/// Has turns taken, and then prints the lines of the versions of a path.
-fn print_account<S: Outlines + Keyring + Definite, O: Tell + Room, B: Between<S>>(
+/// Has a turn taken, and then prints the lines of the versions of a path.
+fn print_account<S: Outlines + Keyring + Definite, O: Restart, B: Between<S>>(
     alloc: Global,
     shelves: &mut S,
     shelf: &str,
@@ -175,7 +169,7 @@ fn print_account<S: Outlines + Keyring + Definite, O: Tell + Room, B: Between<S>
     ensures went { B.went between.old between.new shelves.old shelves.new }
     ensures fails { spec.FailsOn (O.writes output.old) (O.writes output.new) result }
 {
-    match take_turns(shelves, output, news, between) {
+    match take_turn(shelves, news, between) {
         Ok(()) => print_versions(
             alloc, shelves, shelf, path, versions, account, output, news, between,
         ),
@@ -184,7 +178,7 @@ fn print_account<S: Outlines + Keyring + Definite, O: Tell + Room, B: Between<S>
 }
 
 /// Prints the lines of the versions of a path.
-fn print_versions<S: Outlines + Keyring + Definite, O: Tell + Room, B: Between<S>>(
+fn print_versions<S: Outlines + Keyring + Definite, O: Restart, B: Between<S>>(
     alloc: Global,
     shelves: &mut S,
     shelf: &str,
@@ -213,8 +207,8 @@ fn print_versions<S: Outlines + Keyring + Definite, O: Tell + Room, B: Between<S
     Ok(())
 }
 
-/// Prints the line of a version, if the shelf saw it, and has turns taken.
-fn print_version<S: Outlines + Keyring + Definite, O: Tell + Room, B: Between<S>>(
+/// Prints the line of a version, if the shelf saw it, and has a turn taken.
+fn print_version<S: Outlines + Keyring + Definite, O: Restart, B: Between<S>>(
     alloc: Global,
     shelves: &mut S,
     shelf: &str,
@@ -237,8 +231,8 @@ fn print_version<S: Outlines + Keyring + Definite, O: Tell + Room, B: Between<S>
     }
 }
 
-/// Prints a text, and has turns taken.
-fn print_line<S: Definite, O: Tell + Room, B: Between<S>>(
+/// Prints a text, begins the time of the next one, and has a turn taken.
+fn print_line<S: Definite, O: Restart, B: Between<S>>(
     shelves: &mut S,
     line: &[u8],
     output: &mut O,
@@ -252,30 +246,12 @@ fn print_line<S: Definite, O: Tell + Room, B: Between<S>>(
     ensures fails { spec.FailsOn (O.writes output.old) (O.writes output.new) result }
 {
     match put(output, line) {
-        Ok(()) => take_turns(shelves, output, news, between),
+        Ok(()) => {
+            output.restart();
+            take_turn(shelves, news, between)
+        }
         Err(why) => Err(CatalogEnd::Unprinted(why)),
     }
-}
-
-/// Has a turn taken, and more as long as the output has no room.
-fn take_turns<S: Definite, O: Tell + Room, B: Between<S>>(
-    shelves: &mut S,
-    output: &O,
-    news: &mut Newcomers,
-    between: &mut B,
-) -> Result<(), CatalogEnd>
-    ensures stays { (s : List ℕ) → spec.StaysOn (spec.past (S.shown shelves.old) news.old s)
-        (spec.past (S.shown shelves.new) news.new s) result }
-    ensures went { B.went between.old between.new shelves.old shelves.new }
-    ensures output { spec.IsNotOutput result }
-{
-    for _ in 0..u64::MAX {
-        take_turn(shelves, news, between)?;
-        if !output.is_full() {
-            return Ok(());
-        }
-    }
-    Err(CatalogEnd::Ended)
 }
 
 /// Has a turn taken.

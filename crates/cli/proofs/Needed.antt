@@ -104,7 +104,7 @@ no_serve rows none (action.RevokeNamed fingerprint) asks = cc
 no_serve rows none (action.Publish words files) asks = cc
 no_serve rows none (action.Import key list) asks = cc
 no_serve rows none (action.Inventory key) asks = cc
-no_serve rows none (action.Catalog key) asks = cc
+no_serve rows none (action.Catalog key) asks = asks
 no_serve rows none (action.Requires version) asks = cc
 no_serve rows none action.KeyList asks = asks
 no_serve rows none action.ShelfList asks = asks
@@ -126,6 +126,7 @@ no_unordered rows word db is acts (command.Order control o) asks = asks
 no_unordered rows word db is acts (command.Copy control to) asks = asks
 no_unordered rows word db is acts (command.Ping control) asks = asks
 no_unordered rows word db is acts (command.List control listing) asks = asks
+no_unordered rows word db is acts (command.Catalog control key) asks = asks
 no_unordered rows word db is acts (command.Stop control) asks = asks
 
 -- where no file is named, these two words alone ask for a command that names no order
@@ -142,16 +143,18 @@ no_sent rows word lacks add revoke (command.Order control o) asks = asks
 no_sent rows word lacks add revoke (command.Copy control to) asks = asks
 no_sent rows word lacks add revoke (command.Ping control) asks = asks
 no_sent rows word lacks add revoke (command.List control listing) asks = asks
+no_sent rows word lacks add revoke (command.Catalog control key) asks = asks
 no_sent rows word lacks add revoke (command.Stop control) asks = asks
 
 -- a word asks for no command that is none of these, and asks for no order, and for nothing that is none
 pub no_command : (rows : List Row) (word : Text) → (word ≡ codes "init" → ⊥) → (word ≡ codes "answer" → ⊥)
     → (word ≡ codes "extract" → ⊥)
     → (word ≡ codes "migrate" → ⊥) → (word ≡ codes "copy" → ⊥) → (word ≡ codes "ping" → ⊥)
-    → (word ≡ codes "key-list" → ⊥) → (word ≡ codes "shelf-list" → ⊥) → (word ≡ codes "stop" → ⊥)
+    → (word ≡ codes "key-list" → ⊥) → (word ≡ codes "shelf-list" → ⊥) → (word ≡ codes "catalog" → ⊥)
+    → (word ≡ codes "stop" → ⊥)
     → ((o : Order) → AsksOrder rows word o → ⊥) → ((c : Command) → AsksUnordered rows word c → ⊥)
     → (asked : Command) → AsksCommand rows word asked → ⊥
-no_command rows word init answer extract migrate copy ping keys shelves stop order acts = go
+no_command rows word init answer extract migrate copy ping keys shelves catalog stop order acts = go
   where
     on_store : (db : _) (a : Action) → AsksCommand rows word (command.OnStore db a) → ⊥
     on_store db action.Open asks = asks.1
@@ -162,7 +165,7 @@ no_command rows word init answer extract migrate copy ping keys shelves stop ord
     on_store db (action.Publish words files) asks = acts (command.OnStore db (action.Publish words files)) asks
     on_store db (action.Import key list) asks = acts (command.OnStore db (action.Import key list)) asks
     on_store db (action.Inventory key) asks = acts (command.OnStore db (action.Inventory key)) asks
-    on_store db (action.Catalog key) asks = acts (command.OnStore db (action.Catalog key)) asks
+    on_store db (action.Catalog key) asks = catalog asks.0
     on_store db (action.Requires version) asks = acts (command.OnStore db (action.Requires version)) asks
     on_store db action.KeyList asks = keys asks.0
     on_store db action.ShelfList asks = shelves asks.0
@@ -182,6 +185,7 @@ no_command rows word init answer extract migrate copy ping keys shelves stop ord
     go (command.Ping control) asks = ping asks.0
     go (command.List control Keys) asks = keys asks.0
     go (command.List control Shelves) asks = shelves asks.0
+    go (command.Catalog control key) asks = catalog asks.0
     go (command.Stop control) asks = stop asks.0
 
 -- a command that names no order is a command
@@ -191,12 +195,12 @@ is_command rows word (command.OnStore db (action.Register o)) asks = absurd asks
 is_command rows word (command.OnStore db action.Answer) asks = absurd asks.1
 is_command rows word (command.OnStore db action.KeyList) asks = absurd asks.1
 is_command rows word (command.OnStore db action.ShelfList) asks = absurd asks.1
+is_command rows word (command.OnStore db (action.Catalog key)) asks = absurd asks.1
 is_command rows word (command.OnStore db (action.AddNew shelf right)) asks = asks
 is_command rows word (command.OnStore db (action.RevokeNamed fingerprint)) asks = asks
 is_command rows word (command.OnStore db (action.Publish words files)) asks = asks
 is_command rows word (command.OnStore db (action.Import key list)) asks = asks
 is_command rows word (command.OnStore db (action.Inventory key)) asks = asks
-is_command rows word (command.OnStore db (action.Catalog key)) asks = asks
 is_command rows word (command.OnStore db (action.Requires version)) asks = asks
 is_command rows word (command.OnStore db (action.Serve entrance connections control)) asks = asks
 is_command rows word (command.OrderNew control shelf right) asks = asks
@@ -209,6 +213,7 @@ is_command rows word (command.Order control o) asks = absurd asks
 is_command rows word (command.Copy control to) asks = absurd asks
 is_command rows word (command.Ping control) asks = absurd asks
 is_command rows word (command.List control listing) asks = absurd asks
+is_command rows word (command.Catalog control key) asks = absurd asks
 is_command rows word (command.Stop control) asks = absurd asks
 
 -- where a word asks for nothing else, what is found among the commands that name no order is asked for

@@ -99,6 +99,7 @@ module _ (rows : List Row) where
   abbrev pub AsksAction : Text → Action → Type 0
   AsksAction word action.Open = ⊥
   AsksAction word (action.Register order) = ⊥
+  AsksAction word (action.Catalog key) = ⊥
   AsksAction word action.KeyList = ⊥
   AsksAction word action.ShelfList = ⊥
   AsksAction word action.Answer = ⊥
@@ -114,7 +115,6 @@ module _ (rows : List Row) where
   AsksAction word (action.Import key list) = (word ≡ codes "import") × Is (codes "key") key.now
       × Is (codes "list") list.now
   AsksAction word (action.Inventory key) = (word ≡ codes "inventory") × Is (codes "key") key.now
-  AsksAction word (action.Catalog key) = (word ≡ codes "catalog") × Is (codes "key") key.now
   AsksAction word (action.Requires version) = (word ≡ codes "requires")
       × Is (codes "key") version.key.now × Is (codes "module") version.path.now
       × Is (codes "version") version.version.now
@@ -149,6 +149,8 @@ module _ (rows : List Row) where
       × Is (codes "db") db.now × Lacks (codes "control")
   AsksCommand word (command.OnStore db action.ShelfList) = AsksListing word Shelves
       × Is (codes "db") db.now × Lacks (codes "control")
+  AsksCommand word (command.OnStore db (action.Catalog key)) = (word ≡ codes "catalog") × Is (codes "key") key.now
+      × Is (codes "db") db.now × Lacks (codes "control")
   AsksCommand word (command.OnStore db action) = AsksUnordered word (command.OnStore db action)
   AsksCommand word (command.OrderNew control shelf right) = AsksUnordered word (command.OrderNew control shelf right)
   AsksCommand word (command.OrderNamed control fingerprint) =
@@ -163,6 +165,8 @@ module _ (rows : List Row) where
       × Is (codes "to") to.now
   AsksCommand word (command.Ping control) = (word ≡ codes "ping") × Is (codes "control") control.now
   AsksCommand word (command.List control listing) = AsksListing word listing
+      × Is (codes "control") control.now × Lacks (codes "db")
+  AsksCommand word (command.Catalog control key) = (word ≡ codes "catalog") × Is (codes "key") key.now
       × Is (codes "control") control.now × Lacks (codes "db")
   AsksCommand word (command.Stop control) = (word ≡ codes "stop") × Is (codes "control") control.now
 

@@ -52,6 +52,7 @@ fn command_of_word<'m, 'a>(word: &str, options: &'m ArgMatches<'a>) -> Option<Co
         }),
         "key-list" => key_list_of(options),
         "shelf-list" => shelf_list_of(options),
+        "catalog" => catalog_of(options),
         "stop" => Some(Command::Stop {
             control: text(options, "control")?,
         }),
@@ -179,6 +180,25 @@ fn shelf_list_of<'a>(options: &ArgMatches<'a>) -> Option<Command<'a>>
     }
 }
 
+/// Returns the command `catalog`: of the running server whose socket the words name, or of the store of a file. None if
+/// they name both or neither.
+fn catalog_of<'a>(options: &ArgMatches<'a>) -> Option<Command<'a>>
+    ensures { Finds result (AsksCommand (rows_of (found_of options.now)) (codes "catalog")) }
+{
+    match (
+        text(options, "db"),
+        text(options, "control"),
+        text(options, "key"),
+    ) {
+        (Some(db), None, Some(key)) => Some(Command::OnStore {
+            db,
+            action: Action::Catalog { key },
+        }),
+        (None, Some(control), Some(key)) => Some(Command::Catalog { control, key }),
+        _ => None,
+    }
+}
+
 /// Returns a registry command: on the running server whose socket the words name, or on the store of a file. None if
 /// they name both or neither.
 fn registry_command<'a>(order: Order<'a>, options: &ArgMatches<'a>) -> Option<Command<'a>>
@@ -272,9 +292,6 @@ fn action_of<'a>(word: &str, options: &ArgMatches<'a>) -> Option<Action<'a>>
             list: text(options, "list")?,
         }),
         "inventory" => Some(Action::Inventory {
-            key: text(options, "key")?,
-        }),
-        "catalog" => Some(Action::Catalog {
             key: text(options, "key")?,
         }),
         "requires" => requires_of(options),

@@ -13,11 +13,11 @@ use Rattle.machine.specs.Machine.{after, reply_to}
 use Rattle.machine.specs.declared.reply.Reply.{Reply}
 use Rattle.machine.specs.declared.reply.Reply.TheVariants.{Registry}
 use Rattle.control.specs.Asking.{Asks}
-use Rattle.control.specs.Copying.{Making, ToPath, GoesThroughSteps}
+use Rattle.control.specs.Copying.{Making, OfKey, ToPath, GoesThroughSteps}
 use Rattle.control.specs.Hearing.{Heard, Carried, Made, Listed, Pinged, Named, Stop, NoOrder, NoMemory}
 use Rattle.control.specs.Hearing.{GoesAs, IsHeardIn, steps_heard}
 use Rattle.control.specs.Hearing.{told_heard}
-use Rattle.control.specs.Line.{IsSaid, IsSent, IsCopyTo, copy_words, named_words}
+use Rattle.control.specs.Line.{IsSaid, IsSent, IsCopyTo, catalog_words, copy_words, named_words}
 use Rattle.control.specs.Order.{Orders, said_in, event_of, outcome_in}
 use Rattle.control.specs.Outcome.{outcome_of}
 use Rattle.control.specs.Words.{Said, IsTextOf, space, is_word, is_word_byte, behind, line_end}
@@ -69,6 +69,19 @@ no_copy_words path (KeysRevoke shelf) e = true≢false (ap says_copy e)
 no_copy : (sent path : List ℕ) (order : Order) → IsSent sent order → ¬ IsCopyTo sent path
 no_copy sent path order orders copies =
     no_copy_words path order (same_said sent (copy_words path) (said_in order) copies orders)
+
+-- nor one that asks for a catalog
+
+abbrev says_catalog : Said → Bool
+says_catalog s = bytes_eq s.verb (codes "catalog")
+
+no_catalog_words : (key : List ℕ) (order : Order) → ¬ (catalog_words key ≡ said_in order)
+no_catalog_words key (TeamAdd name group) e = true≢false (ap says_catalog e)
+no_catalog_words key (GroupAdd name) e = true≢false (ap says_catalog e)
+no_catalog_words key (KeyAdd shelf name Publishes) e = true≢false (ap says_catalog e)
+no_catalog_words key (KeyAdd shelf name Reads) e = true≢false (ap says_catalog e)
+no_catalog_words key (KeyRevoke name) e = true≢false (ap says_catalog e)
+no_catalog_words key (KeysRevoke shelf) e = true≢false (ap says_catalog e)
 
 -- nor one that names a key
 
@@ -135,6 +148,8 @@ module _ (idle meanwhile : Type 0) (old new : Shown) (sent : List ℕ) (order as
       (ends ∙ ap (λ o. told_ending (unsayable asked) (Ok o)) (ap outcome_in_told tells)) through.1
   heard_so honest stands is same asks (Made (ToPath path told)) from outcome tells ends through =
       absurd (no_copy sent path asked asks from)
+  heard_so honest stands is same asks (Made (OfKey key printed told)) from outcome tells ends through =
+      absurd (no_catalog_words key asked (same_said sent (catalog_words key) (said_in asked) from asks))
   heard_so honest stands is same asks (Pinged told) from outcome tells ends through =
       absurd (no_word (codes "ping") refl (said_in asked) (subst (λ got. IsSent got asked) from asks))
   heard_so honest stands is same asks (Listed Keys told) from outcome tells ends through =
@@ -145,7 +160,7 @@ module _ (idle meanwhile : Type 0) (old new : Shown) (sent : List ℕ) (order as
       absurd (no_named_words f asked (same_said sent (named_words f) (said_in asked) from asks))
   heard_so honest stands is same asks Stop from outcome tells ends through =
       absurd (no_word (codes "stop") refl (said_in asked) (subst (λ got. IsSent got asked) from asks))
-  heard_so honest stands is same asks NoOrder from outcome tells ends through = absurd (from.0 asked asks)
+  heard_so honest stands is same asks NoOrder from outcome tells ends through = absurd (from.0.0 asked asks)
   heard_so honest stands is same asks NoMemory from outcome tells ends through = absurd from
 
 pub ends_as_on_the_store : (made : Making → Type 0)

@@ -8,10 +8,10 @@ use Rattle.world.specs.World.{World}
 use Rattle.world.specs.declared.registry.RegistryReply.{RegistryReply}
 use Rattle.world.specs.declared.registry.StoreFault.{StoreFault}
 use Rattle.control.specs.Asking.{AsksToRevoke}
-use Rattle.control.specs.Copying.{Making, ToPath, GoesThroughSteps}
+use Rattle.control.specs.Copying.{Making, OfKey, ToPath, GoesThroughSteps}
 use Rattle.control.specs.Hearing.{Heard, Carried, Made, Listed, Pinged, Named, Stop, NoOrder, NoMemory}
 use Rattle.control.specs.Hearing.{GoesAs, IsHeardIn, ListsBy, told_heard}
-use Rattle.control.specs.Line.{IsNaming, copy_words, named_words}
+use Rattle.control.specs.Line.{IsNaming, catalog_words, copy_words, named_words}
 use Rattle.control.specs.Naming.{Finds, Naming, NamesOne, NamesNone, Unread, named_result, named_steps}
 use Rattle.control.specs.Order.{said_in}
 use Rattle.control.specs.Outcome.{outcome_of}
@@ -32,6 +32,9 @@ use Rattle.commands.proofs.Controlled.{no_named_words, no_word, outcome_in_told,
 
 no_copy_words : (f path : List ℕ) → ¬ (named_words f ≡ copy_words path)
 no_copy_words f path e = true≢false (ap (λ (s : Said). bytes_eq s.verb (codes "copy")) (sym e))
+
+no_catalog_words : (f key : List ℕ) → ¬ (named_words f ≡ catalog_words key)
+no_catalog_words f key e = true≢false (ap (λ (s : Said). bytes_eq s.verb (codes "catalog")) (sym e))
 
 -- ---- how the command ends
 
@@ -75,6 +78,8 @@ module _ (idle meanwhile : Type 0) (old new : Shown) (f : List ℕ) (result : Re
       absurd (no_named_words f order (same_said sent (named_words f) (said_in order) asks from))
   heard_so sent honest stands asks (Made (ToPath path told)) from outcome tells ends through lists =
       absurd (no_copy_words f path (same_said sent (named_words f) (copy_words path) asks from))
+  heard_so sent honest stands asks (Made (OfKey key printed told)) from outcome tells ends through lists =
+      absurd (no_catalog_words f key (same_said sent (named_words f) (catalog_words key) asks from))
   heard_so sent honest stands asks (Pinged told) from outcome tells ends through lists =
       absurd (no_word (codes "ping") refl (named_words f) (subst (λ got. IsNaming got f) from asks))
   heard_so sent honest stands asks (Listed Keys told) from outcome tells ends through lists =
@@ -83,7 +88,7 @@ module _ (idle meanwhile : Type 0) (old new : Shown) (f : List ℕ) (result : Re
       absurd (no_word (codes "shelf-list") refl (named_words f) (subst (λ got. IsNaming got f) from asks))
   heard_so sent honest stands asks Stop from outcome tells ends through lists =
       absurd (no_word (codes "stop") refl (named_words f) (subst (λ got. IsNaming got f) from asks))
-  heard_so sent honest stands asks NoOrder from outcome tells ends through lists = absurd (from.5 f asks)
+  heard_so sent honest stands asks NoOrder from outcome tells ends through lists = absurd (from.0.5 f asks)
   heard_so sent honest stands asks NoMemory from outcome tells ends through lists = absurd from
 
 pub revokes_as_on_the_store : (made : Making → Type 0)

@@ -1,4 +1,6 @@
 mod InventoryLines
+mod LastLines
+mod CatalogEndings
 mod OutlineLines
 mod ImportLists
 mod Imports

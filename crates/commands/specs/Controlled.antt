@@ -26,7 +26,7 @@ pub record AreConnected (made : Making → Type 0)
   pub told : Outcome
   pub command : OrdersOver unread unread_new (Some []) (Some sent) order result
   pub heard : command.told ≡ Ok told
-  pub server : Heeds made pinged idle meanwhile old new sent (spoken.Outcome told)
+  pub server : Heeds made pinged idle meanwhile old new sent [] (spoken.Outcome told)
 
 -- The command ends by the machine's reply to the order in this world, and the store stands for the world after it. Or
 -- it ends by a fault of the store, which still stands for this world.
@@ -56,7 +56,7 @@ pub record AreConnectedToRevoke
   pub told : Outcome
   pub command : RevokesOver unread unread_new (Some []) (Some sent) f result
   pub heard : command.told ≡ Ok told
-  pub server : Heeds made pinged idle meanwhile old new sent (spoken.Outcome told)
+  pub server : Heeds made pinged idle meanwhile old new sent [] (spoken.Outcome told)
 
 -- The command ends by the outcome of revoking the key that has this fingerprint in this world, and the store stands for
 -- the world after that. Or it ends by a fault of the store, which still stands for this world.

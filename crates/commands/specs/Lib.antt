@@ -8,6 +8,7 @@ pub mod ImportLine
 pub mod ImportList
 pub mod Inventory
 pub mod Rows
+pub mod LastLine
 pub mod Lines
 pub mod Listing
 pub mod NewKey
@@ -21,5 +22,6 @@ pub mod Repetition
 pub mod Report
 pub mod Requirements
 pub mod Serve
+pub mod ServedCatalog
 pub mod Sources
 pub mod Action

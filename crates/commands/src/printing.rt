@@ -33,7 +33,7 @@ pub(crate) fn print_both<O: Tell>(first: &[u8], second: &[u8], output: &mut O) -
 }
 
 /// Flushes what was printed. `Io::Write` if the flush fails.
-fn flush<O: Tell>(output: &mut O) -> Result<(), Io>
+pub(crate) fn flush<O: Tell>(output: &mut O) -> Result<(), Io>
     ensures bytes { Keeps (O.contents output.old) (O.contents output.new) }
     ensures which { IfErr result (λ e. e ≡ Io.Write) }
     ensures fails { FailsWith (O.writes output.old).failed (O.writes output.new).failed result }

@@ -31,10 +31,10 @@ pub enum CommandRefusal {
     /// For `init`, the file has bytes already; for `extract`, `migrate` and `copy`, the new store has more than
     /// `common`, or its file is that of the other store.
     NotEmpty,
-    /// For `copy`, the server is making another copy.
+    /// For `copy` and `catalog`, the server makes another copy or prints another catalog.
     Busy,
-    /// For `copy`, the server ended it, because the server ends or memory ran out there for what was published
-    /// meanwhile.
+    /// For `copy` and `catalog`, the server ended it, because the server ends or memory ran out there for what was
+    /// published meanwhile.
     Ended,
     /// The path or the version is invalid, there is no such key, or its shelf does not see the version.
     NotFound,

@@ -1,22 +1,29 @@
 -- Hearing an operator's line.
-use Rattle.std.proofs.Common.{◌≡◌, ℕ, List, [], Option, Result, Ok, Err, sym, subst}
-use Rattle.std.specs.Io.KnownBytes.{Keeps}
+use Rattle.std.proofs.Common.{◌≡◌, ◌≢◌, ◌∙◌, ◌++◌, ◌∷◌, ℕ, List, [], Option, Result, Ok, Err, IfOk, MatchResult}
+use Rattle.std.proofs.Common.{ap, append_assoc, inl, inr, refl, subst, sym}
+use Rattle.std.proofs.KnownBytes.{Appends-trans}
+use Rattle.std.specs.Io.KnownBytes.{Appends, Keeps}
 use Rattle.histories.specs.Account.{Account}
 use Rattle.world.specs.Store.{Shown}
 use Rattle.world.specs.declared.registry.StoreFault.{StoreFault}
 use Rattle.engine.specs.declared.fault.Io.{Io}
 use Rattle.engine.specs.declared.fault.Io.TheVariants as io
-use Rattle.control.specs.Copying.{Making, GoesThroughSteps}
-use Rattle.control.specs.Hearing.{Heard, NoMemory, IsHeard, IsHeardIn, Heeds, Hears, Obeys, TellsLine}
-use Rattle.control.specs.Line.{ReadsLine}
+use Rattle.control.specs.Copying.{Making, OfKey, GoesThroughSteps}
+use Rattle.control.specs.Hearing.{Heard, Made, NoMemory, IsHeard, IsHeardIn, Heeds, Hears, Obeys, WritesSome, told_heard}
+use Rattle.control.specs.Line.{IsCatalogOf, ReadsLine}
+use Rattle.control.specs.Outcome.{line_of, outcome_of_catalog, word_of}
 use Rattle.control.specs.Told.{bytes_told}
+use Rattle.control.specs.Words.{line_end}
+use Rattle.control.specs.declared.copies.CatalogRefusal.{CatalogRefusal}
 use Rattle.control.specs.declared.health.Health.{Health}
+use Rattle.control.specs.declared.outcome.Outcome.{Outcome}
 use Rattle.control.specs.declared.told.Told.{Told}
+use Rattle.control.specs.declared.told.Told.TheVariants as spoken
 
--- what is returned
-abbrev told_unless : Told → Result (Unit {0}) Io → Result Told Io
-told_unless told (Ok done) = Ok told
-told_unless told (Err e) = Err e
+-- a line with its end has bytes
+has_end : (word : List ℕ) → word ++ line_end ∷ [] ≢ []
+has_end [] is = cc
+has_end (b ∷ bs) is = cc
 
 module _ (made : Making → Type 0) (pinged : Result Health StoreFault → Type 0)
     (idle meanwhile : Type 0) (old new : Shown) (u u' : Account) where
@@ -25,27 +32,84 @@ module _ (made : Making → Type 0) (pinged : Result Health StoreFault → Type 
   was_heard got reads heard from = (got, reads, from)
 
   -- the line that was read
-  pub hears_line : (got : List ℕ) (told : Told) → ReadsLine u u' got
-      → Heeds made pinged idle meanwhile old new got told
-      → Hears made pinged idle meanwhile old new u u' told
-  hears_line got told reads heeds = record {
+  pub hears_line : (got printed : List ℕ) (told : Told) → ReadsLine u u' got
+      → Heeds made pinged idle meanwhile old new got printed told
+      → Hears made pinged idle meanwhile old new u u' printed told
+  hears_line got printed told reads heeds = record {
     heard = heeds.heard;
     from = was_heard got reads heeds.heard heeds.from;
+    prints = heeds.prints;
     tells = heeds.tells;
     through = heeds.through;
     came = heeds.came;
     lists = heeds.lists;
   }
 
-  module _ (w w' : Option (List ℕ)) where
-    pub obeys_told : (told : Told) (result : Result (Unit {0}) Io)
-        → Hears made pinged idle meanwhile old new u u' told
-        → TellsLine w w' (bytes_told told) result
-        → Obeys made pinged idle meanwhile old new u u' w w' (told_unless told result)
-    obeys_told told (Ok done) hears writes = (hears, writes)
-    obeys_told told (Err io.Write) hears writes = (told, hears, writes.1)
-    obeys_told told (Err io.Read) hears (wrong, begun) = cc
+  -- the catalog that it asks for
+  pub hears_catalog : (got key printed : List ℕ) (told : Result (Unit {0}) CatalogRefusal) (outcome : Outcome)
+      → outcome ≡ outcome_of_catalog told → ReadsLine u u' got → IsCatalogOf got key → meanwhile
+      → made (OfKey key printed told)
+      → Hears made pinged idle meanwhile old new u u' printed (spoken.Outcome outcome)
+  hears_catalog got key printed told outcome is reads asks through came = record {
+    heard = Made (OfKey key printed told);
+    from = (got, reads, asks);
+    prints = refl;
+    tells = ap spoken.Outcome is;
+    through = through;
+    came = came;
+    lists = tt;
+  }
 
+  -- where memory ran out for the line, nothing was done
+  pub hears_no_memory : idle → GoesThroughSteps old new []
+      → Hears made pinged idle meanwhile old new u u' [] (told_heard NoMemory)
+  hears_no_memory still through = record {
+    heard = NoMemory;
+    from = tt;
+    prints = refl;
+    tells = refl;
+    through = (still, through);
+    came = tt;
+    lists = tt;
+  }
+
+  -- a beginning behind what was printed is one of both
+  behind : (w v w' : Option (List ℕ)) (printed text : List ℕ) → Appends w v printed → WritesSome v w' text
+      → WritesSome w w' (printed ++ text)
+  behind w v w' printed text first (inl (front, (rest, more, is), appends)) = inl (
+    printed ++ front,
+    (rest, more, ap (λ l. printed ++ l) is ∙ sym (append_assoc printed front rest)),
+    Appends-trans w v w' printed front first appends,
+  )
+  behind w v w' printed text first (inr appends) = inr (Appends-trans w v w' printed text first appends)
+
+  -- nothing was told behind what was printed, since the output failed
+  pub obeys_cut : (w v : Option (List ℕ)) (printed : List ℕ) (outcome : Outcome) → Appends w v printed
+      → Hears made pinged idle meanwhile old new u u' printed (spoken.Outcome outcome)
+      → Obeys made pinged idle meanwhile old new u u' w v (Err io.Write)
+  obeys_cut w v printed outcome appends hears = (
+    printed,
+    spoken.Outcome outcome,
+    hears,
+    inl (printed, (line_of outcome, has_end (word_of outcome), refl), appends),
+  )
+
+  module _ (w v w' : Option (List ℕ)) (printed : List ℕ) (first : Appends w v printed) where
+    -- behind what was printed it was told, or a write or the flush failed
+    pub obeys_told : (told : Told) (result : Result Told Io)
+        → Hears made pinged idle meanwhile old new u u' printed told
+        → IfOk result (λ said. said ≡ told)
+        → MatchResult result (λ _. Appends v w' (bytes_told told))
+        (λ e. (e ≡ io.Write) × WritesSome v w' (bytes_told told))
+        → Obeys made pinged idle meanwhile old new u u' w w' result
+    obeys_told told (Ok said) hears same appends =
+        subst (λ t. Obeys made pinged idle meanwhile old new u u' w w' (Ok t)) (sym same)
+        (printed, hears, Appends-trans w v w' printed (bytes_told told) first appends)
+    obeys_told told (Err io.Write) hears same (is, some) =
+        (printed, told, hears, behind w v w' printed (bytes_told told) first some)
+    obeys_told told (Err io.Read) hears same (wrong, some) = cc
+
+  module _ (w w' : Option (List ℕ)) where
     pub obeys_unread : (e : Io) → e ≡ io.Read → idle → GoesThroughSteps old new [] → Keeps w w'
         → Obeys made pinged idle meanwhile old new u u' w w' (Err e)
     obeys_unread e is still through keeps =

@@ -8,6 +8,7 @@ pub mod CrashLemmas
 pub mod TurnLemmas
 pub mod HearingLemmas
 pub mod AskingLemmas
+pub mod PaceLemmas
 pub mod PingLemmas
 pub mod ListingLemmas
 pub mod NamingLemmas

@@ -12,7 +12,8 @@ use mathlib.Core.HLevel.{⊥_prop}
 use mathlib.Core.Logic.{∥∥₁_elim}
 use Rattle.engine.specs.Written.{Writes}
 use Rattle.engine.specs.declared.fault.Io.{Io}
-use Rattle.control.specs.Notices.{Occasion, Opened, Uncounted, Ordered, Copied, Answered, Met, Ended}
+use Rattle.keyring.specs.KeyList.{fingerprint}
+use Rattle.control.specs.Notices.{Occasion, Opened, Uncounted, Ordered, Copied, Catalogued, Answered, Met, Ended}
 use Rattle.control.specs.Notices.{EndsLine, IsNotice, IsPiece, NoneIsRefusal, WritesNotices, is_plain_byte}
 use Rattle.control.specs.Notices.{errand_words, joined, line_of, plain, shown_words}
 use Rattle.control.specs.Outcome as outcome
@@ -182,6 +183,9 @@ calm_about (Ordered order told) =
     calm_line 111 (codes "rder: ") _ refl refl refl (calm_told (shown_words order) (outcome.outcome_of told))
 calm_about (Copied path told) =
     calm_line 111 (codes "rder: ") _ refl refl refl (calm_told (codes "copy " ++ path) (outcome.outcome_of_copy told))
+calm_about (Catalogued key told) =
+    calm_line 111 (codes "rder: ") _ refl refl refl
+    (calm_told (codes "catalog " ++ fingerprint key) (outcome.outcome_of_catalog told))
 calm_about (Answered told) = calm_line 111 (codes "rder: ") _ refl refl refl (calm_outcome told)
 calm_about (Met asked met) =
     calm_line 102 (codes "ault: ") _ refl refl refl (calm_told (errand_words asked) (case.Failed met))

@@ -1,15 +1,16 @@
 -- Which line of an operator some bytes are.
 use Rattle.std.proofs.Common.{◌≡◌, ◌≢◌, ◌≤◌, ℕ, List, [], ◌∷◌, ◌++◌, length, true, Option, Some, None, MatchOption}
-use Rattle.std.proofs.Common.{arith, codes, leb-true, ltb-true, refl, subst}
+use Rattle.std.proofs.Common.{Bor, arith, codes, leb-true, ltb-true, refl, subst}
 use Rattle.std.specs.Prelude.{nat_le, nat_lt}
 use Rattle.std.specs.List.{list_all}
 use Rattle.std.specs.Str.{IsAscii}
 use Rattle.std.proofs.lemmas.Bool.{and_parts}
 use Rattle.std.proofs.lemmas.Str.{IsUtf8-from_ascii}
 use Rattle.std.proofs.lemmas.Str.Ascii.{IsAscii-nil, IsAscii-cons}
-use Rattle.control.specs.Line.{IsLine, IsSaid, HoldsNoLine, copy_words, longest, longest_copy, named_words}
+use Rattle.control.specs.Line.{IsCatalogOf, IsLine, IsNoCatalog, IsSaid, HoldsNoLine, catalog_words, copy_words}
+use Rattle.control.specs.Line.{longest, longest_copy, named_words}
 use Rattle.control.specs.Listing.{AsksForNone}
-use Rattle.control.specs.Order.{SaysNoOrder, SaysNone, said_in}
+use Rattle.control.specs.Order.{SaysNoOrder, SaysNone, said_in, two}
 use Rattle.control.specs.OperatorLine.{AreLine, AreNoLine, Says, SaysNothing}
 use Rattle.control.specs.Words.{Said, IsTextOf, HasNoWords, line_end}
 use Rattle.control.specs.declared.listing.Listing.TheVariants.{Keys, Shelves}
@@ -109,3 +110,26 @@ module _ (got text : List ℕ) (holds : IsLine longest_copy got text) where
   words_line stop ping keys shelves (Some line.Stop) never = absurd never
   words_line stop ping keys shelves (Some line.Ping) never = absurd never
   words_line stop ping keys shelves (Some (line.List listing)) never = absurd never
+
+-- ---- catalogs
+
+-- bytes that are no line ask for none
+pub no_catalog_line : (got : List ℕ) → HoldsNoLine longest got → IsNoCatalog got
+no_catalog_line got none key sent = none sent.line sent.ends
+
+module _ (got text : List ℕ) (holds : IsLine longest got text) where
+  text_of : (s : Said) → IsSaid longest got s → IsTextOf text s
+  text_of s sent = subst (λ t. IsTextOf t s) (one_line got text sent.line holds.is sent.ends) sent.says
+
+  -- nor does a line of no words
+  pub no_catalog_text : HasNoWords text → IsNoCatalog got
+  no_catalog_text none key sent = none (catalog_words key) (text_of (catalog_words key) sent)
+
+  -- a line of words asks for the catalog of the word behind the verb, if there is one
+  pub catalog_line : (s : Said) → IsTextOf text s → (r : Option (Bor (List ℕ)))
+      → MatchOption r (SaysNone (codes "catalog") s) (λ key. s ≡ two (codes "catalog") key.now)
+      → MatchOption r (IsNoCatalog got) (λ key. IsCatalogOf got key.now)
+  catalog_line s given None none =
+      λ key sent. none key (one_saying text s (catalog_words key) given (text_of (catalog_words key) sent))
+  catalog_line s given (Some key) is =
+      record { line = text; ends = holds; says = subst (λ v. IsTextOf text v) is given }

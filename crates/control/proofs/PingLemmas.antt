@@ -1,5 +1,6 @@
 -- What a ping is told.
-use Rattle.std.proofs.Common.{ℕ, ◌≡◌, List, Result, Ok, Err, inl, inr, refl, subst, sym}
+use Rattle.std.proofs.Common.{ℕ, ◌≡◌, List, Result, Ok, Err, IfOk, inl, inr, refl, subst, sym}
+use Rattle.engine.specs.declared.fault.Io.{Io}
 use Rattle.world.specs.Store.{Shown}
 use Rattle.world.specs.declared.registry.StoreFault.{StoreFault}
 use Rattle.world.specs.declared.registry.StoreFault.TheVariants.{Memory}
@@ -7,10 +8,13 @@ use Rattle.control.specs.Copying.{IsOnlyRead}
 use Rattle.control.specs.Health.{IsPinged}
 use Rattle.control.specs.Listing.{told_of_list}
 use Rattle.control.specs.Pinging.{IsLineFor, Pings, TellsPing}
+use Rattle.control.specs.Told.{IsOutcome}
 use Rattle.control.specs.declared.health.Figures.{Figures}
 use Rattle.control.specs.declared.health.Health.{Health}
+use Rattle.control.specs.declared.outcome.Outcome.{Outcome}
 use Rattle.control.specs.declared.tally.Tally.{Tally}
 use Rattle.control.specs.declared.told.Told.{Told}
+use Rattle.control.specs.declared.told.Told.TheVariants as spoken
 
 -- versions were counted
 pub pings_counted : {S : Type 0} (shown : S → Shown) (counted : S → S → ℕ → Type 0) (tally : Tally) (old new : S)
@@ -39,6 +43,21 @@ module _ (known : Figures → Type 0) (pinged : Result Health StoreFault → Typ
   pub tells_no_ping : (heard : Result (List ℕ) StoreFault) (told : Told) → told ≡ told_of_list heard
       → TellsPing known pinged told
   tells_no_ping heard told is = subst (TellsPing known pinged) (sym is) (told_of_none heard)
+
+  -- nor is an outcome
+  pub outcome_no_ping : (told : Told) → IsOutcome told → TellsPing known pinged told
+  outcome_no_ping (spoken.Outcome outcome) is = tt
+  outcome_no_ping (spoken.Health line) is = absurd is
+  outcome_no_ping (spoken.List lines) is = absurd is
+
+  pub tells_outcome : (result : Result Told Io) → IfOk result IsOutcome → IfOk result (TellsPing known pinged)
+  tells_outcome (Ok told) is = outcome_no_ping told is
+  tells_outcome (Err e) is = tt
+
+  pub tells_same : (outcome : Outcome) (result : Result Told Io) → IfOk result (λ said. said ≡ spoken.Outcome outcome)
+      → IfOk result (TellsPing known pinged)
+  tells_same outcome (Ok told) same = subst (TellsPing known pinged) (sym same) tt
+  tells_same outcome (Err e) same = tt
 
 -- what is told of versions that were counted
 pub tells_counted : (known : Figures → Type 0) (tally : Tally) (before now : ℕ) (counted : ℕ → Type 0)

@@ -17,7 +17,7 @@ use Rattle.socket.specs.Connections.{Come, exchanges_of}
 use Rattle.control.specs.Copying.{Making, Turned, turns_in, has_read, GoesOnRead, GoesThroughSteps}
 use Rattle.control.specs.Health.{Answered}
 use Rattle.control.specs.Hearing.{Heard, Carried, Made, Listed, Pinged, Named, Stop, NoOrder, NoMemory}
-use Rattle.control.specs.Hearing.{Obeys, WritesSome}
+use Rattle.control.specs.Hearing.{Obeys, WritesSome, bytes_heard, printed_heard, told_heard}
 use Rattle.control.specs.Line.{most_tries}
 use Rattle.control.specs.Naming.{NamesOne, NamesNone, Unread}
 use Rattle.control.specs.Told.{bytes_told}
@@ -61,6 +61,13 @@ no_message (Some Stop) = refl
 no_message (Some NoOrder) = refl
 no_message (Some NoMemory) = refl
 
+-- the lines that were printed and what was told are all that was written
+written_so : (writes : List ℕ → Type 0) (printed : List ℕ) (told : Told) (heard : Heard) → printed ≡ printed_heard heard
+    → told ≡ told_heard heard → writes (printed ++ bytes_told told) → writes (bytes_heard heard)
+written_so writes printed told heard prints tells so =
+    subst (λ (p : List ℕ). writes (p ++ bytes_told (told_heard heard))) prints
+    (subst (λ (o : Told). writes (printed ++ bytes_told o)) tells so)
+
 module _ {O : Type 0} (heeded : O → Account × Reads) (told : O → Option (List ℕ) × Writes)
     (made : Making → Type 0)
     (pinged : Result Health StoreFault → Type 0) (idle meanwhile : Type 0) (old new : Shown) where
@@ -72,17 +79,18 @@ module _ {O : Type 0} (heeded : O → Account × Reads) (told : O → Option (Li
       → (IsTrue stops ↔ (result ≡ Ok (spoken.Outcome Stopping)))
       → ObeysOne heeded told made pinged idle meanwhile operator stops old new
   obeyed_one operator after stops (Ok outcome) obeys cause stopped = record {
-    audience = record { before = operator; after = after; heard = Some obeys.0.heard; told = Ok outcome };
+    audience = record { before = operator; after = after; heard = Some obeys.1.heard; told = Ok outcome };
     begins = refl;
     there = (
-      obeys.0.tells,
-      obeys.0.from,
-      subst (λ (o : Told). Appends (told operator).0 (told after).0 (bytes_told o)) obeys.0.tells obeys.1,
+      obeys.1.tells,
+      obeys.1.from,
+      written_so (Appends (told operator).0 (told after).0) obeys.0 outcome obeys.1.heard obeys.1.prints obeys.1.tells
+          obeys.2,
     );
     stopped = stopped;
-    through = obeys.0.through;
-    came = obeys.0.came;
-    lists = obeys.0.lists;
+    through = obeys.1.through;
+    came = obeys.1.came;
+    lists = obeys.1.lists;
   }
   obeyed_one operator after stops (Err io.Read) obeys cause stopped = record {
     audience = record { before = operator; after = after; heard = None; told = Err io.Read };
@@ -94,18 +102,19 @@ module _ {O : Type 0} (heeded : O → Account × Reads) (told : O → Option (Li
     lists = tt;
   }
   obeyed_one operator after stops (Err io.Write) obeys cause stopped = record {
-    audience = record { before = operator; after = after; heard = Some obeys.1.heard; told = Err io.Write };
+    audience = record { before = operator; after = after; heard = Some obeys.2.heard; told = Err io.Write };
     begins = refl;
     there = (
       refl,
-      obeys.1.from,
-      subst (λ (o : Told). WritesSome (told operator).0 (told after).0 (bytes_told o)) obeys.1.tells obeys.2,
+      obeys.2.from,
+      written_so (WritesSome (told operator).0 (told after).0) obeys.0 obeys.1 obeys.2.heard obeys.2.prints
+          obeys.2.tells obeys.3,
       cause,
     );
     stopped = stopped;
-    through = obeys.1.through;
-    came = obeys.1.came;
-    lists = obeys.1.lists;
+    through = obeys.2.through;
+    came = obeys.2.came;
+    lists = obeys.2.lists;
   }
 
   -- this was told

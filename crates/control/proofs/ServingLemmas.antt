@@ -15,7 +15,7 @@ use Rattle.meanwhile.specs.Meanwhile.{IsAsItWas}
 use Rattle.meanwhile.specs.declared.between.HowFar.{HowFar}
 use Rattle.engine.specs.declared.fault.Io.{Io}
 use Rattle.socket.specs.Connections.{Come, exchanges_of}
-use Rattle.control.specs.Copying.{Making, ToPath, turns_in, has_read, AllRead, GoesThroughSteps, IsOnlyRead}
+use Rattle.control.specs.Copying.{Making, OfKey, ToPath, turns_in, has_read, AllRead, GoesThroughSteps, IsOnlyRead}
 use Rattle.control.specs.Health.{IsPinged, tally_of}
 use Rattle.control.specs.Hearing.{Heard, Carried, Pinged, Listed, Named, Stop, NoOrder, NoMemory}
 use Rattle.control.specs.Hearing.{told_of_making}
@@ -30,10 +30,9 @@ use Rattle.control.specs.Visits.{IsCallThere, IsToldThere, ObeysOne, ReadsEach, 
 use Rattle.control.specs.Visits.{answered_with, callers_of, connections_of, steps_if, steps_of, steps_with}
 use Rattle.control.specs.declared.callers.Caller.{Caller}
 use Rattle.control.specs.declared.callers.Caller.TheVariants.{Peer, Operator}
-use Rattle.control.specs.declared.copies.CopyRefusal.{CopyRefusal}
+use Rattle.control.specs.declared.copies.CatalogRefusal.TheVariants as unprinted
 use Rattle.control.specs.declared.copies.CopyRefusal.TheVariants as refusal
 use Rattle.control.specs.declared.health.Health.{Health}
-use Rattle.control.specs.declared.outcome.Outcome.{Outcome}
 use Rattle.control.specs.declared.outcome.Outcome.TheVariants.{Stopping}
 use Rattle.control.specs.declared.progress.Progress.{Progress}
 use Rattle.control.specs.declared.tally.Tally.{Tally}
@@ -92,6 +91,13 @@ no_stopping (ToPath path (Err refusal.Device)) e = cc
 no_stopping (ToPath path (Err refusal.Memory)) e = cc
 no_stopping (ToPath path (Err refusal.Busy)) e = cc
 no_stopping (ToPath path (Err refusal.Ended)) e = cc
+no_stopping (OfKey key printed (Ok done)) e = cc
+no_stopping (OfKey key printed (Err unprinted.NoKey)) e = cc
+no_stopping (OfKey key printed (Err unprinted.Device)) e = cc
+no_stopping (OfKey key printed (Err unprinted.Memory)) e = cc
+no_stopping (OfKey key printed (Err unprinted.Busy)) e = cc
+no_stopping (OfKey key printed (Err unprinted.Ended)) e = cc
+no_stopping (OfKey key printed (Err unprinted.Output)) e = cc
 
 abbrev ok_in : Result Told Io → Told → Told
 ok_in (Ok told) other = told

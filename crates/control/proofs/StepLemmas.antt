@@ -1,7 +1,7 @@
 -- The steps of the callers: their turns, and the copies between them.
 use Rattle.std.specs.Prelude.{◌||◌}
 use Rattle.std.proofs.Common.{◌≡◌, ◌+◌, ℕ, List, [], ◌∷◌, ◌++◌, map, refl, sym, ap, ◌∙◌, subst, Option, Some, None}
-use Rattle.std.proofs.Common.{Result, Ok, Err, append_assoc, append-nil}
+use Rattle.std.proofs.Common.{Ok, Err, append_assoc, append-nil}
 use Rattle.world.specs.World.{World}
 use Rattle.world.specs.Store.{Shown}
 use Rattle.engine.specs.Exchange.{Exchange}

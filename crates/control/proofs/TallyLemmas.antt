@@ -1,6 +1,6 @@
 -- The counts of those who came.
 use Rattle.std.proofs.Common.{◌≡◌, ℕ, ◌+◌, ◌<◌, List, [], ◌∷◌, ◌++◌, length, refl, sym, ap, subst, Option, Some, None}
-use Rattle.std.proofs.Common.{Result, Ok, Err, All, arith, append_assoc, append-nil, map, ◌∙◌}
+use Rattle.std.proofs.Common.{Ok, Err, All, arith, append_assoc, append-nil, map, ◌∙◌}
 use Rattle.std.specs.Prelude.{Bool, cond, count_by}
 use Rattle.std.proofs.lemmas.List.{length-append}
 use Rattle.std.proofs.lemmas.List.Elements.{All-append, All-cons, All-nil}

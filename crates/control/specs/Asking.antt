@@ -4,7 +4,7 @@ use Rattle.std.specs.Io.KnownBytes.{Consumes, Appends, Keeps}
 use Rattle.engine.specs.Written.{WritesBeginning}
 use Rattle.control.specs.Health.{IsHealthLine}
 use Rattle.control.specs.Listing.{IsReplyOf, line_for}
-use Rattle.control.specs.Line.{IsNaming, IsSaid, IsSent, IsCopyTo, longest, ping_line, stop_line}
+use Rattle.control.specs.Line.{IsCatalogOf, IsNaming, IsSaid, IsSent, IsCopyTo, longest, ping_line, stop_line}
 use Rattle.control.specs.Order.{said_in}
 use Rattle.control.specs.Outcome.{line_of}
 use Rattle.control.specs.Told.{bytes_told}
@@ -119,3 +119,14 @@ AsksForList unread unread_new written written_new listing (Ok told) =
 AsksForList unread unread_new written written_new listing (Err why) =
     (why ≡ Io)
     × (WritesBeginning written written_new (line_for listing) ⊎ Appends written written_new (line_for listing))
+
+-- The line that asks for the catalog of this key was sent. Or nothing was sent, because no bytes are such a line or
+-- memory ran out. Or a beginning of the line was sent.
+abbrev pub AsksForCatalog : Option (List ℕ) → Option (List ℕ) → List ℕ → Result (Unit {0}) Untold → Type 0
+AsksForCatalog written written_new key (Ok u) =
+    (sent : List ℕ) × IsCatalogOf sent key × Appends written written_new sent
+AsksForCatalog written written_new key (Err Words) =
+    ((sent : List ℕ) → ¬ IsCatalogOf sent key) × Keeps written written_new
+AsksForCatalog written written_new key (Err Memory) = Keeps written written_new
+AsksForCatalog written written_new key (Err Io) =
+    (sent : List ℕ) × IsCatalogOf sent key × WritesBeginning written written_new sent

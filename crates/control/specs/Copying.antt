@@ -7,6 +7,7 @@ use Rattle.world.specs.Store.{Shown}
 use Rattle.world.specs.declared.registry.StoreFault.{StoreFault}
 use Rattle.control.specs.Listing.{IsList}
 use Rattle.control.specs.Turns.{Turn, GoesThroughTurns, messages, world_at}
+use Rattle.control.specs.declared.copies.CatalogRefusal.{CatalogRefusal}
 use Rattle.control.specs.declared.copies.CopyRefusal.{CopyRefusal}
 use Rattle.control.specs.declared.health.Health.{Health}
 use Rattle.control.specs.declared.listing.Listing.{Listing}
@@ -19,9 +20,11 @@ pub record IsOnlyRead (old new : Shown) : Type 0 where
   pub left : new.is_honest → (w x y : World) → old.stands w → old.leaves x y → new.leaves x y
   pub no_fewer : old.failures ≤ new.failures
 
--- what was made of a store while others were served, or why it was not: a copy to a path
+-- what was made of a store while others were served, or why it was not: a copy to a path, or the catalog of a key, of
+-- which these lines were printed
 pub data Making : Type 0 where
   ToPath : List ℕ → Result (Unit {0}) CopyRefusal → Making
+  OfKey : List ℕ → List ℕ → Result (Unit {0}) CatalogRefusal → Making
 
 -- what happened to a store that is served: a turn of the machine; or something that was made of it, a ping, a list, or
 -- a look for the key with a fingerprint, which is none

@@ -1,5 +1,5 @@
 -- What an operator's line orders, and the outcome that the operator gets.
-use Rattle.std.specs.Prelude.{ℕ, ◌≡◌, ◌⊎◌, List, [], ◌∷◌, Option, Result, Ok, Err}
+use Rattle.std.specs.Prelude.{ℕ, ◌≡◌, ◌⊎◌, ◌++◌, List, [], ◌∷◌, Option, Result, Ok, Err}
 use Rattle.std.specs.Io.KnownBytes.{Appends, Keeps}
 use Rattle.histories.specs.Account.{Account}
 use Rattle.world.specs.Store.{Shown}
@@ -9,14 +9,14 @@ use Rattle.world.specs.declared.registry.StoreFault.TheVariants.{Memory}
 use Rattle.engine.specs.Written.{WritesBeginning}
 use Rattle.engine.specs.declared.fault.Io.{Io}
 use Rattle.engine.specs.declared.fault.Io.TheVariants as io
-use Rattle.control.specs.Copying.{Making, ToPath, Step, Turned, Counted, GoesThroughSteps}
+use Rattle.control.specs.Copying.{Making, OfKey, ToPath, Step, Turned, Counted, GoesThroughSteps}
 use Rattle.control.specs.Copying as copying
 use Rattle.control.specs.Health.{IsPinged, line_of}
-use Rattle.control.specs.Line.{ReadsLine, IsNaming, IsSent, IsCopyTo, ping_line, stop_line}
+use Rattle.control.specs.Line.{ReadsLine, IsCatalogOf, IsNoCatalog, IsNaming, IsSent, IsCopyTo, ping_line, stop_line}
 use Rattle.control.specs.Listing.{ReadsList, line_for, told_of_list}
 use Rattle.control.specs.Naming.{Finds, Naming, named_result, named_steps}
 use Rattle.control.specs.OperatorLine.{AreNoLine}
-use Rattle.control.specs.Outcome.{outcome_of, outcome_of_copy}
+use Rattle.control.specs.Outcome.{outcome_of, outcome_of_catalog, outcome_of_copy}
 use Rattle.control.specs.Told.{bytes_told}
 use Rattle.control.specs.Turns.{Ordered}
 use Rattle.control.specs.declared.health.Health.{Health}
@@ -54,6 +54,7 @@ told_of_ping (Err fault) = spoken.Outcome (Failed fault)
 -- what is told of what was to be made
 abbrev pub told_of_making : Making → Told
 told_of_making (ToPath path told) = spoken.Outcome (outcome_of_copy told)
+told_of_making (OfKey key printed told) = spoken.Outcome (outcome_of_catalog told)
 
 abbrev pub told_heard : Heard → Told
 told_heard (Carried order told) = spoken.Outcome (outcome_of told)
@@ -64,6 +65,25 @@ told_heard (Named f naming) = spoken.Outcome (outcome_of (named_result naming))
 told_heard Stop = spoken.Outcome Stopping
 told_heard NoOrder = spoken.Outcome Bad
 told_heard NoMemory = spoken.Outcome (Failed Memory)
+
+-- the lines of a catalog, which were printed before that
+abbrev pub printed_of_making : Making → List ℕ
+printed_of_making (ToPath path told) = []
+printed_of_making (OfKey key printed told) = printed
+
+abbrev pub printed_heard : Heard → List ℕ
+printed_heard (Made making) = printed_of_making making
+printed_heard (Carried order told) = []
+printed_heard (Pinged told) = []
+printed_heard (Listed listing told) = []
+printed_heard (Named f naming) = []
+printed_heard Stop = []
+printed_heard NoOrder = []
+printed_heard NoMemory = []
+
+-- all that is written for it
+abbrev pub bytes_heard : Heard → List ℕ
+bytes_heard heard = printed_heard heard ++ bytes_told (told_heard heard)
 
 -- the steps of it: one for an order, a copy, a ping or a list, one or two for a fingerprint, and otherwise none
 abbrev pub steps_heard : Heard → List Step
@@ -79,6 +99,7 @@ steps_heard NoMemory = []
 -- these bytes ordered this to be made
 abbrev pub IsMakingIn : List ℕ → Making → Type 0
 IsMakingIn got (ToPath path told) = IsCopyTo got path
+IsMakingIn got (OfKey key printed told) = IsCatalogOf got key
 
 -- these bytes ordered it
 abbrev pub IsHeardIn : List ℕ → Heard → Type 0
@@ -88,7 +109,7 @@ IsHeardIn got (Pinged told) = got ≡ ping_line
 IsHeardIn got (Listed listing told) = got ≡ line_for listing
 IsHeardIn got (Named f naming) = IsNaming got f
 IsHeardIn got Stop = got ≡ stop_line
-IsHeardIn got NoOrder = AreNoLine got
+IsHeardIn got NoOrder = AreNoLine got × IsNoCatalog got
 IsHeardIn got NoMemory = ⊥
 
 -- the bytes that ordered it were read, unless memory ran out before
@@ -130,26 +151,28 @@ module _ (made : Making → Type 0) (pinged : Result Health StoreFault → Type 
   CameOf NoMemory = Unit {0}
 
   module _ (idle meanwhile : Type 0) where
-    -- What was ordered was done, and this came of it. `is_from` says where the order came from.
-    pub record Follows (is_from : Heard → Type 0) (old new : Shown) (told : Told) : Type 0 where
+    -- What was ordered was done, these lines of a catalog were printed, and this came of it. `is_from` says where the
+    -- order came from.
+    pub record Follows (is_from : Heard → Type 0) (old new : Shown) (printed : List ℕ) (told : Told) : Type 0 where
       pub heard : Heard
       pub from : is_from heard
+      pub prints : printed ≡ printed_heard heard
       pub tells : told ≡ told_heard heard
       pub through : GoesAs idle meanwhile old new heard
       pub came : CameOf heard
       pub lists : ListsBy old new heard
 
     -- what the bytes order was done, and this came of it
-    abbrev pub Heeds : Shown → Shown → List ℕ → Told → Type 0
-    Heeds old new got told = Follows (IsHeardIn got) old new told
+    abbrev pub Heeds : Shown → Shown → List ℕ → List ℕ → Told → Type 0
+    Heeds old new got printed told = Follows (IsHeardIn got) old new printed told
 
     -- A line was read, what it orders was done, and this came of it.
-    abbrev pub Hears : Shown → Shown → Account → Account → Told → Type 0
-    Hears old new came came_new told = Follows (IsHeard came came_new) old new told
+    abbrev pub Hears : Shown → Shown → Account → Account → List ℕ → Told → Type 0
+    Hears old new came came_new printed told = Follows (IsHeard came came_new) old new printed told
 
     -- so it was, or a read failed, and nothing was done
     abbrev pub HearsOrFails : Shown → Shown → Account → Account → Result Told Io → Type 0
-    HearsOrFails old new came came_new (Ok told) = Hears old new came came_new told
+    HearsOrFails old new came came_new (Ok told) = Hears old new came came_new [] told
     HearsOrFails old new came came_new (Err e) = (e ≡ io.Read) × idle × GoesThroughSteps old new []
 
     -- A line was read, what it orders was done, and what came of it was written; where a write or the flush failed, a
@@ -157,17 +180,19 @@ module _ (made : Making → Type 0) (pinged : Result Health StoreFault → Type 
     abbrev pub Obeys :
         Shown → Shown → Account → Account → Option (List ℕ) → Option (List ℕ) → Result Told Io → Type 0
     Obeys old new came came_new written written_new (Ok told) =
-        Hears old new came came_new told × Appends written written_new (bytes_told told)
+        (printed : List ℕ) × Hears old new came came_new printed told
+        × Appends written written_new (printed ++ bytes_told told)
     Obeys old new came came_new written written_new (Err io.Read) =
         idle × GoesThroughSteps old new [] × Keeps written written_new
     Obeys old new came came_new written written_new (Err io.Write) =
-        (told : Told) × Hears old new came came_new told × WritesSome written written_new (bytes_told told)
+        (printed : List ℕ) × (told : Told) × Hears old new came came_new printed told
+        × WritesSome written written_new (printed ++ bytes_told told)
 
 -- So it was between two stores, by what is known of copies and counts, with the tally of the moment.
 module _ {S K : Type 0} (shown : S → Shown) (made : S → S → Making → Type 0)
     (counted : S → S → ℕ → Type 0) (meanwhile : K → K → S → S → Type 0) (tally : Tally) (copies copies_new : K)
     (old new : S) where
-  abbrev pub HeedsBy : List ℕ → Told → Type 0
+  abbrev pub HeedsBy : List ℕ → List ℕ → Told → Type 0
   HeedsBy = Heeds (made old new) (IsPinged tally (shown old).failures (shown new).failures (counted old new))
       (copies_new ≡ copies) (meanwhile copies copies_new old new) (shown old) (shown new)
 

@@ -63,6 +63,18 @@ IsNaming got f = IsSaid longest got (named_words f)
 abbrev pub IsNoNaming : List ℕ → Type 0
 IsNoNaming got = (f : List ℕ) → ¬ IsNaming got f
 
+-- the words that ask for the catalog of a key
+abbrev pub catalog_words : List ℕ → Said
+catalog_words key = two (codes "catalog") key
+
+-- the bytes are the line that asks for the catalog of this key
+abbrev pub IsCatalogOf : List ℕ → List ℕ → Type 0
+IsCatalogOf got key = IsSaid longest got (catalog_words key)
+
+-- the bytes ask for no catalog
+abbrev pub IsNoCatalog : List ℕ → Type 0
+IsNoCatalog got = (key : List ℕ) → ¬ IsCatalogOf got key
+
 -- the line that ends the server
 abbrev pub stop_line : List ℕ
 stop_line = codes "stop" ++ line_end ∷ []

@@ -8,9 +8,10 @@ use Rattle.world.specs.declared.entry.Right.{Right}
 use Rattle.world.specs.declared.entry.Right.TheVariants.{Reads, Publishes}
 use Rattle.world.specs.declared.registry.RegistryReply.{RegistryReply}
 use Rattle.world.specs.declared.registry.StoreFault.{StoreFault}
-use Rattle.control.specs.Outcome.{outcome_of, outcome_of_copy}
+use Rattle.control.specs.Outcome.{outcome_of, outcome_of_catalog, outcome_of_copy}
 use Rattle.control.specs.Outcome as outcome
 use Rattle.control.specs.Words.{line_end}
+use Rattle.control.specs.declared.copies.CatalogRefusal.{CatalogRefusal}
 use Rattle.control.specs.declared.copies.CopyRefusal.{CopyRefusal}
 use Rattle.control.specs.declared.errand.Errand.{Errand}
 use Rattle.control.specs.declared.errand.Errand.TheVariants as errand
@@ -66,6 +67,8 @@ pub data Occasion : Type 0 where
   Ordered : Order → Result RegistryReply StoreFault → Occasion
   -- a copy to this path was ordered
   Copied : List ℕ → Result (Unit {0}) CopyRefusal → Occasion
+  -- the catalog of this key was asked for
+  Catalogued : List ℕ → Result (Unit {0}) CatalogRefusal → Occasion
   -- an operator was told this
   Answered : Outcome → Occasion
   -- the store met a fault
@@ -89,6 +92,8 @@ line_of (Opened file n) = codes "opened: "
 line_of (Uncounted file fault) = outcome_line (codes "opened: ") file (Failed fault)
 line_of (Ordered order told) = outcome_line (codes "order: ") (shown_words order) (outcome_of told)
 line_of (Copied path told) = outcome_line (codes "order: ") (codes "copy " ++ path) (outcome_of_copy told)
+line_of (Catalogued key told) =
+    outcome_line (codes "order: ") (codes "catalog " ++ fingerprint key) (outcome_of_catalog told)
 line_of (Answered told) = codes "order: " ++ outcome.line_of told
 line_of (Met asked fault) = outcome_line (codes "fault: ") (errand_words asked) (Failed fault)
 line_of (Ended file) = codes "ended: " ++ (plain file ++ codes "\n")

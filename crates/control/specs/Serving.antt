@@ -1,6 +1,6 @@
 -- Callers who are served from one moment to another, while a copy is made or not.
 use Rattle.std.specs.Prelude.{ℕ, ◌≡◌, ◌≤◌, ◌+◌, ◌⊎◌, ◌||◌, Bool, true, false, List, [], ◌∷◌, ◌++◌, length, All}
-use Rattle.std.specs.Prelude.{Option, Result, IfOk}
+use Rattle.std.specs.Prelude.{Option, IfOk}
 use Rattle.std.proofs.Common.{inl, inr, refl, arith}
 use Rattle.histories.specs.Account.{Account}
 use Rattle.histories.specs.Calls.{Reads, Writes}

@@ -8,3 +8,9 @@ abbrev pub bytes_told : Told → List ℕ
 bytes_told (told.Outcome outcome) = line_of outcome
 bytes_told (told.Health line) = line
 bytes_told (told.List lines) = lines
+
+-- it is the outcome of an order
+abbrev pub IsOutcome : Told → Type 0
+IsOutcome (told.Outcome outcome) = Unit {0}
+IsOutcome (told.Health line) = ⊥
+IsOutcome (told.List lines) = ⊥

@@ -15,9 +15,9 @@ use Rattle.socket.specs.Connections.{Visit, Come, exchanges_of}
 use Rattle.socket.specs.Connections as socket
 use Rattle.control.specs.Copying.{Making, Step, Turned, AllRead, GoesThroughSteps}
 use Rattle.control.specs.Health.{Answered, IsPinged, tally_of}
-use Rattle.control.specs.Hearing.{Heard, Pinged, CameOf, GoesAs, IsHeard, ListsBy, WritesSome, steps_heard, told_heard}
+use Rattle.control.specs.Hearing.{Heard, Pinged, CameOf, GoesAs, IsHeard, ListsBy, WritesSome}
+use Rattle.control.specs.Hearing.{bytes_heard, steps_heard, told_heard}
 use Rattle.control.specs.Line.{most_tries}
-use Rattle.control.specs.Told.{bytes_told}
 use Rattle.control.specs.Turns.{Asked}
 use Rattle.control.specs.declared.callers.Caller.{Caller}
 use Rattle.control.specs.declared.callers.Caller.TheVariants.{Peer, Operator}
@@ -164,10 +164,10 @@ module _ {O : Type 0} (heeded : O → Account × Reads) (told : O → Option (Li
       × IsUnreadable most_tries (heeded before).1 (heeded after).1
   IsToldThere before after (Some heard) (Ok said) =
       (said ≡ told_heard heard) × IsHeard (heeded before).0 (heeded after).0 heard
-      × Appends (told before).0 (told after).0 (bytes_told (told_heard heard))
+      × Appends (told before).0 (told after).0 (bytes_heard heard)
   IsToldThere before after (Some heard) (Err e) =
       (e ≡ io.Write) × IsHeard (heeded before).0 (heeded after).0 heard
-      × WritesSome (told before).0 (told after).0 (bytes_told (told_heard heard))
+      × WritesSome (told before).0 (told after).0 (bytes_heard heard)
       × ((told before).1.failed < (told after).1.failed)
 
   -- This operator was obeyed, and the store went through its order. The flag says whether it was told that the server

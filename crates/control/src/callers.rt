@@ -1,23 +1,29 @@
 //! Callers: peers, who send requests, and operators, who send orders.
-ghost use Rattle.std.specs.Prelude.{◌≡◌, [], IfOk, IfErr, IfSome};
-ghost use Rattle.engine.specs.Causes.{IsCausedIn};
-ghost use Rattle.histories.specs.Timing.{KeepsTime};
+ghost use Rattle.std.specs.Prelude.{◌≡◌, ◌⊎◌, ℕ, List, [], IfOk, IfErr, IfSome, MatchResult};
+ghost use Rattle.std.specs.Io.KnownBytes.{Appends};
+ghost use Rattle.engine.specs.Causes.{FailsWith, IsCausedIn};
+ghost use Rattle.histories.specs.Account.{Account};
+ghost use Rattle.histories.specs.Timing.{KeepsEach, KeepsTime};
 ghost use Rattle.control.specs.Health.{IsPinged};
-ghost use Rattle.control.specs.Hearing.{ObeysBy};
-ghost use Rattle.control.specs.Line.{most_tries};
-ghost use Rattle.control.specs.Pace.{time_for_order};
+ghost use Rattle.control.specs.Hearing.{ObeysBy, WritesSome};
+ghost use Rattle.control.specs.Line.{IsCatalogOf, ReadsLine, most_tries};
+ghost use Rattle.control.specs.Pace.{WritesInTime, time_for_order};
 ghost use Rattle.control.specs.Pinging.{TellsPing};
+ghost use Rattle.control.specs.Told.{bytes_told};
 ghost use Rattle.control.specs.Visits.{IsUnheard};
 
 use crate::copies::CopyOrders;
-use crate::obeying::obey;
+use crate::line::{Unread, read_line};
+use crate::obeying::{answer, print_for, tell};
+use crate::operator_line::catalog_in;
+use crate::outcome::Outcome;
 use crate::patience::ForOrder;
 use crate::tally::Tally;
 use crate::told::Told;
 use engine::Io;
 use histories::{
     BoundRead, BoundWrite, Connection, HasCalls, Hear, Hearing, HearingInTime, Start, Tell,
-    Telling, TellingInTime, over_tcp, over_unix,
+    Telling, TellingInStretches, TellingInTime, over_tcp, over_unix,
 };
 use keyring::Keyring;
 use mio::unix::SourceFd;
@@ -31,6 +37,7 @@ use std::os::fd::AsRawFd;
 use std::os::unix::net::{UnixListener, UnixStream};
 use std::rt::HostRuntime;
 use std::time::{Clock, Duration};
+use world::registry::StoreFault;
 
 /// A caller who has connected.
 #[derive(Drop)]
@@ -59,7 +66,7 @@ pub trait Operator {
     ghost use Rattle.control.specs.Health.{IsPinged};
     ghost use Rattle.control.specs.Hearing.{ObeysBy};
     ghost use Rattle.control.specs.Line.{most_tries};
-    ghost use Rattle.control.specs.Pace.{time_for_order};
+    ghost use Rattle.control.specs.Pace.{WritesInTime, time_for_order};
     ghost use Rattle.control.specs.Pinging.{TellsPing};
 
     /// The bytes that came from it so far.
@@ -102,9 +109,11 @@ pub trait Operator {
             (reads self) (reads result.operator) (writes self) (writes result.operator)) }
         // What was written is flushed.
         ensures flushed { IfOk result.told (λ _. (writes result.operator).unflushed ≡ []) }
-        // No read, and no write, began after its time or waited longer than what was left of it.
+        // No read, and no write, began after its time or waited longer than what was left of it; each line of a catalog
+        // has its own time.
         ensures reads_in_time { KeepsTime time_for_order (read_calls self) (read_calls result.operator) }
-        ensures writes_in_time { KeepsTime time_for_order (write_calls self) (write_calls result.operator) };
+        ensures writes_in_time { WritesInTime (came self) (came result.operator)
+            (write_calls self) (write_calls result.operator) };
 }
 
 impl<R: BoundRead + Drop, W: BoundWrite + Drop> Operator for Connection<R, W> {
@@ -166,20 +175,90 @@ fn obey_since<
     ensures flushed { IfOk result.told (λ _. (⟦<Telling<W> as Tell>⟧.writes result.operator.writer).unflushed ≡ []) }
     ensures reads_in_time { KeepsTime time_for_order I.calls
         (⟦<Hearing<R> as HasCalls>⟧.calls result.operator.reader) }
-    ensures writes_in_time { KeepsTime time_for_order J.calls
-        (⟦<Telling<W> as HasCalls>⟧.calls result.operator.writer) }
+    ensures writes_in_time { WritesInTime
+        (⟦<Hearing<R> as Hear>⟧.account operator.reader) (⟦<Hearing<R> as Hear>⟧.account result.operator.reader)
+        J.calls (⟦<Telling<W> as HasCalls>⟧.calls result.operator.writer) }
 {
     let Connection { reader, writer } = operator;
     let mut line: HearingInTime<'_, C, ForOrder, I, R> = HearingInTime::new(reader, clock);
-    let mut outcome: TellingInTime<'_, C, ForOrder, J, W> = TellingInTime::new(writer, clock);
-    let told = obey(alloc, &mut line, &mut outcome, tally, shelves, copies);
+    let got = read_line(alloc, &mut line);
+    let reader = line.into_inner();
+    let (writer, told) = match got {
+        Ok(got) => answer_since::<C, J, W, S, K>(
+            alloc, clock, writer, &got, tally, shelves, copies,
+        ),
+        Err(Unread::Io) => (writer, Err(Io::Read)),
+        Err(Unread::Memory) => {
+            let told = Told::Outcome(Outcome::Failed(StoreFault::Memory));
+            tell_since::<C, J, W>(clock, writer, told)
+        }
+    };
     Obeyed {
-        operator: Connection {
-            reader: line.into_inner(),
-            writer: outcome.into_inner(),
-        },
+        operator: Connection { reader, writer },
         told,
     }
+}
+
+/// Does what a line orders, and writes what came of it. All writes together have 2 seconds; where the line asks for a
+/// catalog, each of its lines has.
+fn answer_since<C: Clock, J: Start, W: BoundWrite + Drop, S: Keyring, K: CopyOrders<S>>(
+    alloc: Global,
+    clock: &C,
+    writer: Telling<W>,
+    got: &[u8],
+    tally: &Tally,
+    shelves: &mut S,
+    copies: &mut K,
+) -> (Telling<W>, Result<Told, Io>)
+    requires { ⟦<Telling<W> as HasCalls>⟧.calls writer ≡ J.calls }
+    ensures obeys { (came came_new : Account) → ReadsLine came came_new got.now
+        → ObeysBy S.shown K.made K.counted K.meanwhile tally.now copies.old copies.new
+        shelves.old shelves.new came came_new
+        (⟦<Telling<W> as Write>⟧.contents writer) (⟦<Telling<W> as Write>⟧.contents result.0) result.1 }
+    ensures figures { IfOk result.1 (TellsPing (K.figured copies.old shelves.new) (IsPinged tally.now
+        (S.shown shelves.old).failures (S.shown shelves.new).failures (K.counted shelves.old shelves.new))) }
+    // It fails only if a write or the flush failed.
+    ensures which { IfErr result.1 (λ e. e ≡ Io.Write) }
+    ensures fails { FailsWith (⟦<Telling<W> as Tell>⟧.writes writer).failed
+        (⟦<Telling<W> as Tell>⟧.writes result.0).failed result.1 }
+    ensures flushed { IfOk result.1 (λ _. (⟦<Telling<W> as Tell>⟧.writes result.0).unflushed ≡ []) }
+    ensures in_time { KeepsTime time_for_order J.calls (⟦<Telling<W> as HasCalls>⟧.calls result.0)
+        ⊎ ((key : List ℕ) × IsCatalogOf got.now key
+        × KeepsEach time_for_order J.calls (⟦<Telling<W> as HasCalls>⟧.calls result.0)) }
+{
+    if let Some(key) = catalog_in(got) {
+        let mut output: TellingInStretches<'_, C, ForOrder, J, W> = TellingInStretches::new(
+            writer, clock,
+        );
+        let told = print_for(alloc, key, &mut output, shelves, copies);
+        return (output.into_inner(), told);
+    }
+    let mut outcome: TellingInTime<'_, C, ForOrder, J, W> = TellingInTime::new(writer, clock);
+    let told = answer(alloc, got, &mut outcome, tally, shelves, copies);
+    (outcome.into_inner(), told)
+}
+
+/// Writes what an operator gets, and returns it. All writes together have 2 seconds.
+fn tell_since<C: Clock, J: Start, W: BoundWrite + Drop>(
+    clock: &C,
+    writer: Telling<W>,
+    told: Told,
+) -> (Telling<W>, Result<Told, Io>)
+    requires { ⟦<Telling<W> as HasCalls>⟧.calls writer ≡ J.calls }
+    ensures same { IfOk result.1 (λ said. said ≡ told) }
+    ensures tells { MatchResult result.1
+        (λ _. Appends (⟦<Telling<W> as Write>⟧.contents writer) (⟦<Telling<W> as Write>⟧.contents result.0)
+        (bytes_told told))
+        (λ e. (e ≡ Io.Write) × WritesSome (⟦<Telling<W> as Write>⟧.contents writer)
+        (⟦<Telling<W> as Write>⟧.contents result.0) (bytes_told told)) }
+    ensures fails { FailsWith (⟦<Telling<W> as Tell>⟧.writes writer).failed
+        (⟦<Telling<W> as Tell>⟧.writes result.0).failed result.1 }
+    ensures flushed { IfOk result.1 (λ _. (⟦<Telling<W> as Tell>⟧.writes result.0).unflushed ≡ []) }
+    ensures in_time { KeepsTime time_for_order J.calls (⟦<Telling<W> as HasCalls>⟧.calls result.0) }
+{
+    let mut outcome: TellingInTime<'_, C, ForOrder, J, W> = TellingInTime::new(writer, clock);
+    let told = tell(&mut outcome, told);
+    (outcome.into_inner(), told)
 }
 
 /// A source of peers and operators.

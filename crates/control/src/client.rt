@@ -1,9 +1,10 @@
 //! The operator's side.
 ghost use Rattle.std.specs.Prelude.{◌≡◌, ◌++◌, ◌∷◌, [], IfOk, IfErr, IfSome, OnOk, option_copied};
-ghost use Rattle.control.specs.Asking.{Asks, AsksForHealth, AsksForList, AsksToCopy, AsksToRevoke, AsksToStop};
+ghost use Rattle.control.specs.Asking.{Asks, AsksForCatalog, AsksForHealth, AsksForList};
+ghost use Rattle.control.specs.Asking.{AsksToCopy, AsksToRevoke, AsksToStop};
 ghost use Rattle.control.specs.Asking.{IsUnwritten, Sends, TellsOutcome, TellsHealth, TellsList, IsTold, TellsBytes};
-ghost use Rattle.control.specs.Line.{IsCopyTo, IsNaming, IsSaid, IsSent};
-ghost use Rattle.control.specs.Line.{copy_words, longest, longest_copy, named_words};
+ghost use Rattle.control.specs.Line.{IsCatalogOf, IsCopyTo, IsNaming, IsSaid, IsSent};
+ghost use Rattle.control.specs.Line.{catalog_words, copy_words, longest, longest_copy, named_words};
 ghost use Rattle.control.specs.Order as spec;
 ghost use Rattle.control.specs.Order.{said_in};
 ghost use Rattle.control.specs.Outcome.{line_of};
@@ -145,6 +146,20 @@ pub fn ask_for_list<R: Hear, W: Tell>(
     }
 }
 
+/// Asks for the catalog of a key. What comes then are its lines, and behind them the line of an outcome.
+///
+/// `Untold::Words`: no line can carry the key, and so nobody has it. `Untold::Memory`: memory ran out for the line. In
+/// both cases nothing was sent. `Untold::Io`: the line was not sent whole.
+pub fn ask_for_catalog<W: Tell>(alloc: Global, writer: &mut W, key: &str) -> Result<(), Untold>
+    ensures { AsksForCatalog (W.contents writer.old) (W.contents writer.new) key.now result }
+{
+    let line = catalog_to_send(alloc, key)?;
+    match write_bytes(writer, &line) {
+        Ok(()) => Ok(()),
+        Err(_) => Err(Untold::Io),
+    }
+}
+
 /// Sends a line and returns the outcome. Fails only with `Untold::Io`: the line was not sent whole, or no outcome was
 /// read.
 fn send<R: Hear, W: Tell>(
@@ -186,6 +201,15 @@ fn naming_to_send(alloc: Global, fingerprint: &str) -> Result<Vec<u8>, Untold>
     ensures err { IfErr result (λ why. IsUnwritten longest (named_words fingerprint.now) why) }
 {
     let words = two_words("revoke-fingerprint", fingerprint);
+    line_saying(alloc, &words, LONGEST)
+}
+
+/// The line that asks for the catalog of a key, with its end.
+fn catalog_to_send(alloc: Global, key: &str) -> Result<Vec<u8>, Untold>
+    ensures ok { IfOk result (λ line. IsCatalogOf line.items key.now) }
+    ensures err { IfErr result (λ why. IsUnwritten longest (catalog_words key.now) why) }
+{
+    let words = two_words("catalog", key);
     line_saying(alloc, &words, LONGEST)
 }
 
@@ -337,7 +361,7 @@ fn told_in(alloc: Global, got: &[u8]) -> Option<Told>
 }
 
 /// The outcome that the bytes tell, if they are the line of one.
-fn outcome_in(got: &[u8]) -> Option<Outcome>
+pub fn outcome_in(got: &[u8]) -> Option<Outcome>
     ensures { IfSome result (λ told. got.now ≡ line_of told) }
 {
     let word = line_in(got, LONGEST)?;

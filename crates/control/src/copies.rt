@@ -1,6 +1,8 @@
 //! What reads a store that is served: copies of it, and how much it keeps.
 use crate::health::Figures;
+use histories::Restart;
 use meanwhile::between::Between;
+use std::alloc::Global;
 use world::registry::StoreFault;
 use world::shelves::Shelves;
 
@@ -19,10 +21,29 @@ pub enum CopyRefusal {
     Ended,
 }
 
+/// Why not all of a catalog was printed.
+#[derive(Clone, Copy, Debug, Drop, PartialEq, Eq)]
+pub enum CatalogRefusal {
+    /// There is no such key.
+    NoKey,
+    /// A disk failed, or after a fault of one it is not known what the store holds.
+    Device,
+    /// Memory ran out.
+    Memory,
+    /// A copy is being made, or another catalog is printed.
+    Busy,
+    /// The server ends, the operator has left, or memory ran out for what was published meanwhile.
+    Ended,
+    /// The output failed.
+    Output,
+}
+
 /// What copies a store while it is served, and counts what it keeps.
 pub trait Copies<S: Shelves> {
-    ghost use Rattle.std.specs.Prelude.{ℕ, ◌≢◌, List, Err, IfErr, IfOk};
-    ghost use Rattle.control.specs.Copying.{IsOnlyRead, Making, ToPath};
+    ghost use Rattle.std.specs.Prelude.{ℕ, ◌≡◌, ◌≢◌, ◌<◌, ◌≤◌, List, [], Err, IfErr, IfOk};
+    ghost use Rattle.std.specs.Io.KnownBytes.{Appends};
+    ghost use Rattle.control.specs.Copying.{IsOnlyRead, Making, OfKey, ToPath};
+    ghost use Rattle.control.specs.declared.copies.CatalogRefusal.TheVariants as catalog;
     ghost use Rattle.control.specs.declared.copies.CopyRefusal.TheVariants.{Busy};
     ghost use Rattle.control.specs.declared.health.Figures.{Figures};
     ghost use Rattle.world.specs.Store.{HasCause};
@@ -57,6 +78,29 @@ pub trait Copies<S: Shelves> {
         // It is begun, so none that is being made is why it fails.
         ensures begun { IfErr result (λ why. why ≢ Busy) };
 
+    /// Prints the catalog of a key, as the served store is at this moment, a line at a time, and has `between` take a
+    /// turn after each line. Beside these turns, the served store is only read.
+    ///
+    /// Fails with `NoKey` if there is no such key; with `Device` if a disk failed; with `Memory` if memory ran out;
+    /// with `Ended` if `between` ended it; and with `Output` if the output failed. Then a beginning of the lines is
+    /// printed.
+    fn catalog<O: Restart, B: Between<S>>(
+        &self,
+        alloc: Global,
+        shelves: &mut S,
+        key: &str,
+        output: &mut O,
+        between: &mut B,
+    ) -> Result<(), CatalogRefusal>
+        ensures turns { (mid : S) × B.went between.old between.new shelves.old mid
+            × IsOnlyRead (S.shown mid) (S.shown shelves.new) }
+        ensures came { (printed : List ℕ) × Appends (O.contents output.old) (O.contents output.new) printed
+            × made shelves.old shelves.new (OfKey key.now printed result) }
+        ensures fewer { (O.writes output.old).failed ≤ (O.writes output.new).failed }
+        ensures output { result ≡ Err catalog.Output → (O.writes output.old).failed < (O.writes output.new).failed }
+        // It is begun, so none that is being printed is why it fails.
+        ensures begun { IfErr result (λ why. why ≢ catalog.Busy) };
+
     /// Returns how many versions the served store keeps at this moment. The served store is only read. Fails with
     /// `Device` if a disk failed, and with `Memory` if memory ran out.
     fn versions(&self, shelves: &mut S) -> Result<u64, StoreFault>
@@ -68,14 +112,18 @@ pub trait Copies<S: Shelves> {
     fn figures<'s>(&self, shelves: &'s S) -> Figures<'s>
         ensures { figured shelves.now result };
 
-    // An order to copy that comes while a copy is made does nothing.
+    // An order that comes while a copy is made or a catalog is printed does nothing.
     ghost busy: { (s : S) (path : List ℕ) → made s s (ToPath path (Err Busy)) };
+
+    ghost no_catalog: { (s : S) (key : List ℕ) → made s s (OfKey key [] (Err catalog.Busy)) };
 }
 
 /// What carries out the orders to copy a store, and counts what it keeps.
 pub trait CopyOrders<S: Shelves> {
-    ghost use Rattle.std.specs.Prelude.{ℕ, IfOk};
-    ghost use Rattle.control.specs.Copying.{IsOnlyRead, Making, ToPath};
+    ghost use Rattle.std.specs.Prelude.{ℕ, ◌≡◌, ◌<◌, ◌≤◌, List, Err, IfOk};
+    ghost use Rattle.std.specs.Io.KnownBytes.{Appends};
+    ghost use Rattle.control.specs.Copying.{IsOnlyRead, Making, OfKey, ToPath};
+    ghost use Rattle.control.specs.declared.copies.CatalogRefusal.TheVariants as catalog;
     ghost use Rattle.control.specs.declared.health.Figures.{Figures};
     ghost use Rattle.world.specs.Store.{HasCause};
 
@@ -88,8 +136,8 @@ pub trait CopyOrders<S: Shelves> {
     /// What is known of the figures of a store, by this value and the store.
     ghost figured: { Self → S → Figures → Type 0 };
 
-    /// What happens while an order to copy is carried out: relates this value before and after it to the store before
-    /// and after it.
+    /// What happens while an order to copy or to print a catalog is carried out: relates this value before and after
+    /// it to the store before and after it.
     ghost meanwhile: { Self → Self → S → S → Type 0 };
 
     /// Makes the store of a file, with this path, one of the store as it is at this moment. Fails as `Copies::copy`
@@ -97,6 +145,21 @@ pub trait CopyOrders<S: Shelves> {
     fn copy_to(&mut self, shelves: &mut S, path: &str) -> Result<(), CopyRefusal>
         ensures meanwhile { meanwhile self.old self.new shelves.old shelves.new }
         ensures came { made shelves.old shelves.new (ToPath path.now result) };
+
+    /// Prints the catalog of a key, as the store is at this moment. Fails as `Copies::catalog` does, and with `Busy` if
+    /// a copy is being made or another catalog is printed.
+    fn catalog_to<O: Restart>(
+        &mut self,
+        alloc: Global,
+        shelves: &mut S,
+        key: &str,
+        output: &mut O,
+    ) -> Result<(), CatalogRefusal>
+        ensures meanwhile { meanwhile self.old self.new shelves.old shelves.new }
+        ensures came { (printed : List ℕ) × Appends (O.contents output.old) (O.contents output.new) printed
+            × made shelves.old shelves.new (OfKey key.now printed result) }
+        ensures fewer { (O.writes output.old).failed ≤ (O.writes output.new).failed }
+        ensures output { result ≡ Err catalog.Output → (O.writes output.old).failed < (O.writes output.new).failed };
 
     /// Returns how many versions the store keeps at this moment. The store is only read. Fails with `Device` if a disk
     /// failed, and with `Memory` if memory ran out.

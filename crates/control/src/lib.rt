@@ -14,7 +14,7 @@
 //! | what happened, in lines without a key, for standard error | [`Notice`], [`opened`], [`ended`], [`tell`] |
 //! | the socket | [`operators_at`], [`remove_socket`] |
 //! | the operator's side | [`server_at`], [`ask`], [`ask_to_copy`], [`ask_to_revoke`], [`ask_to_stop`] |
-//! | what it asks to be told | [`ask_for_health`], [`ask_for_list`] |
+//! | what it asks to be told | [`ask_for_health`], [`ask_for_list`], [`ask_for_catalog`] |
 #![tactic(auto)]
 
 mod calendar;
@@ -53,9 +53,10 @@ pub use calendar::Calendar;
 pub use callers::{Caller, Callers, Doors, Obeyed, Operator, SystemCaller};
 pub use carry::carry_out;
 pub use client::{
-    Untold, ask, ask_for_health, ask_for_list, ask_to_copy, ask_to_revoke, ask_to_stop,
+    Untold, ask, ask_for_catalog, ask_for_health, ask_for_list, ask_to_copy, ask_to_revoke,
+    ask_to_stop, outcome_in,
 };
-pub use copies::{Copies, CopyOrders, CopyRefusal};
+pub use copies::{CatalogRefusal, Copies, CopyOrders, CopyRefusal};
 pub use health::{Figures, Health};
 pub use listing::Listing;
 pub use notice::{Notice, ended, opened};

@@ -2,13 +2,13 @@
 ghost use Rattle.std.specs.Prelude.{◌≡◌, ◌++◌, codes, string_bytes, option_copied, IfOk};
 ghost use Rattle.std.specs.List.{list_all};
 ghost use Rattle.control.specs.Notices as spec;
-ghost use Rattle.control.specs.Notices.{Answered, Copied, Ended, Met, Opened, Ordered, Uncounted};
+ghost use Rattle.control.specs.Notices.{Answered, Catalogued, Copied, Ended, Met, Opened, Ordered, Uncounted};
 ghost use Rattle.keyring.specs.KeyList as keys;
 
-use crate::copies::CopyRefusal;
+use crate::copies::{CatalogRefusal, CopyRefusal};
 use crate::errand::{Errand, two};
 use crate::order::Order;
-use crate::outcome::{Outcome, outcome_of, outcome_of_copy};
+use crate::outcome::{Outcome, outcome_of, outcome_of_catalog, outcome_of_copy};
 use keyring::key_list::fingerprint;
 use std::alloc::{AllocError, Global};
 use text::Text;
@@ -117,6 +117,20 @@ pub(crate) fn copied(
 {
     let words = two(alloc, "copy ", path)?;
     let line = outcome_line(alloc, "order: ", words.as_str(), outcome_of_copy(told))?;
+    Ok(Notice::of(line, false))
+}
+
+/// Says what came of the catalog of a key, with its fingerprint in its place. Fails only if memory runs out.
+pub(crate) fn catalogued(
+    alloc: Global,
+    key: &str,
+    told: Result<(), CatalogRefusal>,
+) -> Result<Notice, AllocError>
+    ensures { IfOk result (λ notice. notice.text ≡ spec.line_of (Catalogued key.now told)) }
+{
+    let named = fingerprint(alloc, key)?;
+    let words = two(alloc, "catalog ", named.as_str())?;
+    let line = outcome_line(alloc, "order: ", words.as_str(), outcome_of_catalog(told))?;
     Ok(Notice::of(line, false))
 }
 

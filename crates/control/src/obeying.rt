@@ -1,27 +1,31 @@
 //! One order.
-ghost use Rattle.std.specs.Prelude.{◌≡◌, [], IfOk, IfErr, OnOk};
-ghost use Rattle.engine.specs.Causes.{FailsWith, IsCausedIn, IsUnreadable};
+ghost use Rattle.std.specs.Prelude.{ℕ, ◌≡◌, List, [], IfOk, IfErr, MatchResult, OnOk};
+ghost use Rattle.std.specs.Io.KnownBytes.{Appends};
+ghost use Rattle.histories.specs.Account.{Account};
+ghost use Rattle.engine.specs.Causes.{FailsWith, IsCausedIn};
 ghost use Rattle.control.specs.Health.{IsPinged};
-ghost use Rattle.control.specs.Hearing.{HeedsBy, HearsBy, ObeysBy, TellsLine};
-ghost use Rattle.control.specs.Line.{most_tries};
+ghost use Rattle.control.specs.Hearing.{HeedsBy, ObeysBy, TellsLine, WritesSome};
+ghost use Rattle.control.specs.Line.{IsCatalogOf, IsNoCatalog, ReadsLine, most_tries};
 ghost use Rattle.control.specs.Pinging.{TellsPing};
+ghost use Rattle.control.specs.Told.{IsOutcome, bytes_told};
 
 use crate::carry::carry_out;
-use crate::copies::CopyOrders;
+use crate::copies::{CatalogRefusal, CopyOrders};
 use crate::line::{Unread, read_line};
 use crate::listing::list;
 use crate::naming::revoke_named;
-use crate::operator_line::{Line, line_of_bytes};
-use crate::outcome::{Outcome, outcome_of, outcome_of_copy};
+use crate::operator_line::{Line, catalog_in, line_of_bytes};
+use crate::outcome::{Outcome, outcome_of, outcome_of_catalog, outcome_of_copy};
 use crate::pinging::ping;
 use crate::tally::Tally;
 use crate::told::Told;
 use engine::Io;
 use engine::write::write_bytes;
-use histories::{Hear, Tell};
+use histories::{Hear, Restart, Tell};
 use keyring::Keyring;
 use std::alloc::Global;
 use world::registry::StoreFault;
+use world::shelves::Shelves;
 
 /// Reads an operator's line, does what it orders, writes what came of it, flushes that, and returns it; `copies` makes
 /// copies.
@@ -32,7 +36,7 @@ use world::registry::StoreFault;
 ///
 /// `Io::Read`: nothing was done, and nothing written. `Io::Write`: a write or the flush failed; a beginning of the line
 /// was written or all of it, and the shelves are as after the order.
-pub fn obey<R: Hear, W: Tell, S: Keyring, K: CopyOrders<S>>(
+pub fn obey<R: Hear, W: Restart, S: Keyring, K: CopyOrders<S>>(
     alloc: Global,
     reader: &mut R,
     writer: &mut W,
@@ -52,13 +56,76 @@ pub fn obey<R: Hear, W: Tell, S: Keyring, K: CopyOrders<S>>(
     // What was written is flushed.
     ensures flushed { IfOk result (λ _. (W.writes writer.new).unflushed ≡ []) }
 {
-    match hear(alloc, reader, tally, shelves, copies) {
-        Ok(told) => match tell_line(writer, told.bytes()) {
-            Ok(()) => Ok(told),
-            Err(why) => Err(why),
+    match read_line(alloc, reader) {
+        Ok(got) => match catalog_in(&got) {
+            Some(key) => print_for(alloc, key, writer, shelves, copies),
+            None => answer(alloc, &got, writer, tally, shelves, copies),
         },
-        Err(why) => Err(why),
+        Err(Unread::Io) => Err(Io::Read),
+        Err(Unread::Memory) => tell(writer, Told::Outcome(Outcome::Failed(StoreFault::Memory))),
     }
+}
+
+/// Prints the catalog of a key, writes what came of that, flushes it, and returns it.
+pub(crate) fn print_for<W: Restart, S: Shelves, K: CopyOrders<S>>(
+    alloc: Global,
+    key: &str,
+    writer: &mut W,
+    shelves: &mut S,
+    copies: &mut K,
+) -> Result<Told, Io>
+    ensures obeys { (tally : Tally) (got : List ℕ) (came came_new : Account)
+        → ReadsLine came came_new got → IsCatalogOf got key.now
+        → ObeysBy S.shown K.made K.counted K.meanwhile tally copies.old copies.new
+        shelves.old shelves.new came came_new (W.contents writer.old) (W.contents writer.new) result }
+    ensures outcome { IfOk result IsOutcome }
+    // It fails only if a write or the flush failed.
+    ensures which { IfErr result (λ e. e ≡ Io.Write) }
+    ensures fails { FailsWith (W.writes writer.old).failed (W.writes writer.new).failed result }
+    ensures flushed { IfOk result (λ _. (W.writes writer.new).unflushed ≡ []) }
+{
+    let told = copies.catalog_to(alloc, shelves, key, writer);
+    if told == Err(CatalogRefusal::Output) {
+        return Err(Io::Write);
+    }
+    writer.restart();
+    tell(writer, Told::Outcome(outcome_of_catalog(told)))
+}
+
+/// Does what a line orders that asks for no catalog, writes what came of it, flushes that, and returns it.
+pub(crate) fn answer<W: Tell, S: Keyring, K: CopyOrders<S>>(
+    alloc: Global,
+    got: &[u8],
+    writer: &mut W,
+    tally: &Tally,
+    shelves: &mut S,
+    copies: &mut K,
+) -> Result<Told, Io>
+    ensures obeys { IsNoCatalog got.now → (came came_new : Account) → ReadsLine came came_new got.now
+        → ObeysBy S.shown K.made K.counted K.meanwhile tally.now copies.old copies.new
+        shelves.old shelves.new came came_new (W.contents writer.old) (W.contents writer.new) result }
+    ensures figures { IfOk result (TellsPing (K.figured copies.old shelves.new) (IsPinged tally.now
+        (S.shown shelves.old).failures (S.shown shelves.new).failures (K.counted shelves.old shelves.new))) }
+    // It fails only if a write or the flush failed.
+    ensures which { IfErr result (λ e. e ≡ Io.Write) }
+    ensures fails { FailsWith (W.writes writer.old).failed (W.writes writer.new).failed result }
+    ensures flushed { IfOk result (λ _. (W.writes writer.new).unflushed ≡ []) }
+{
+    let told = heed(alloc, got, tally, shelves, copies);
+    tell(writer, told)
+}
+
+/// Writes what an operator gets, flushes it, and returns it.
+pub(crate) fn tell<W: Tell>(writer: &mut W, told: Told) -> Result<Told, Io>
+    ensures same { IfOk result (λ said. said ≡ told) }
+    ensures tells { MatchResult result
+        (λ _. Appends (W.contents writer.old) (W.contents writer.new) (bytes_told told))
+        (λ e. (e ≡ Io.Write) × WritesSome (W.contents writer.old) (W.contents writer.new) (bytes_told told)) }
+    ensures fails { FailsWith (W.writes writer.old).failed (W.writes writer.new).failed result }
+    ensures flushed { IfOk result (λ _. (W.writes writer.new).unflushed ≡ []) }
+{
+    tell_line(writer, told.bytes())?;
+    Ok(told)
 }
 
 /// Writes a line and flushes it. `Io::Write` if a write or the flush fails: then a beginning of the line was written,
@@ -75,28 +142,6 @@ fn tell_line<W: Tell>(writer: &mut W, line: &[u8]) -> Result<(), Io>
     }
 }
 
-/// Reads a line, does what it orders, and returns what the operator gets. Fails with `Io::Read` if the line can't be
-/// read, and then nothing was done.
-fn hear<R: Hear, S: Keyring, K: CopyOrders<S>>(
-    alloc: Global,
-    reader: &mut R,
-    tally: &Tally,
-    shelves: &mut S,
-    copies: &mut K,
-) -> Result<Told, Io>
-    ensures hears { HearsBy S.shown K.made K.counted K.meanwhile tally.now copies.old copies.new
-        shelves.old shelves.new (R.account reader.old) (R.account reader.new) result }
-    ensures figures { IfOk result (TellsPing (K.figured copies.old shelves.new) (IsPinged tally.now
-        (S.shown shelves.old).failures (S.shown shelves.new).failures (K.counted shelves.old shelves.new))) }
-    ensures cause { IfErr result (λ _. IsUnreadable most_tries (R.reads reader.old) (R.reads reader.new)) }
-{
-    match read_line(alloc, reader) {
-        Ok(got) => Ok(heed(alloc, &got, tally, shelves, copies)),
-        Err(Unread::Io) => Err(Io::Read),
-        Err(Unread::Memory) => Ok(Told::Outcome(Outcome::Failed(StoreFault::Memory))),
-    }
-}
-
 /// Does what a line orders, and returns what the operator gets: `Outcome::Bad` if the line is no order.
 fn heed<S: Keyring, K: CopyOrders<S>>(
     alloc: Global,
@@ -105,8 +150,8 @@ fn heed<S: Keyring, K: CopyOrders<S>>(
     shelves: &mut S,
     copies: &mut K,
 ) -> Told
-    ensures heeds { HeedsBy S.shown K.made K.counted K.meanwhile tally.now copies.old copies.new
-        shelves.old shelves.new got.now result }
+    ensures heeds { IsNoCatalog got.now → HeedsBy S.shown K.made K.counted K.meanwhile tally.now copies.old copies.new
+        shelves.old shelves.new got.now [] result }
     ensures figures { TellsPing (K.figured copies.old shelves.new) (IsPinged tally.now (S.shown shelves.old).failures
         (S.shown shelves.new).failures (K.counted shelves.old shelves.new)) result }
 {

@@ -1,5 +1,6 @@
 //! The lines of operators.
 ghost use Rattle.std.specs.Prelude.{MatchOption};
+ghost use Rattle.control.specs.Line.{IsCatalogOf, IsNoCatalog};
 ghost use Rattle.control.specs.OperatorLine as spec;
 
 use crate::line::{LONGEST, LONGEST_COPY, line_in};
@@ -56,4 +57,14 @@ fn line_of_words(text: &str) -> Option<Line<'_>>
     }
     let order = order_of_words(&words)?;
     Some(Line::Order(order))
+}
+
+/// Returns the key whose catalog the bytes ask for, or None if they ask for none. Whose key it is, or whether it is
+/// one, the store knows.
+pub fn catalog_in(got: &[u8]) -> Option<&str>
+    ensures { MatchOption result (IsNoCatalog got.now) (λ key. IsCatalogOf got.now key.now) }
+{
+    let text = line_in(got, LONGEST)?;
+    let words = words_of(text)?;
+    word_behind(&words, "catalog")
 }

@@ -2,7 +2,7 @@
 ghost use Rattle.std.specs.Prelude.{◌≡◌, MatchOption};
 ghost use Rattle.control.specs.Outcome as spec;
 
-use crate::copies::CopyRefusal;
+use crate::copies::{CatalogRefusal, CopyRefusal};
 use world::registry::{RegistryReply, StoreFault};
 
 /// What came of an order.
@@ -46,6 +46,20 @@ pub(crate) fn outcome_of_copy(told: Result<(), CopyRefusal>) -> Outcome
         Err(CopyRefusal::Memory) => Outcome::Failed(StoreFault::Memory),
         Err(CopyRefusal::Busy) => Outcome::Busy,
         Err(CopyRefusal::Ended) => Outcome::Ended,
+    }
+}
+
+/// What came of a catalog. Where the output failed, nothing can be told.
+pub(crate) fn outcome_of_catalog(told: Result<(), CatalogRefusal>) -> Outcome
+    ensures { result ≡ spec.outcome_of_catalog told }
+{
+    match told {
+        Ok(()) => Outcome::RegistryReply(RegistryReply::Done),
+        Err(CatalogRefusal::NoKey) => Outcome::RegistryReply(RegistryReply::NoKey),
+        Err(CatalogRefusal::Device) => Outcome::Failed(StoreFault::Device),
+        Err(CatalogRefusal::Memory) => Outcome::Failed(StoreFault::Memory),
+        Err(CatalogRefusal::Busy) => Outcome::Busy,
+        Err(CatalogRefusal::Ended | CatalogRefusal::Output) => Outcome::Ended,
     }
 }
 

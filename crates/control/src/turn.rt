@@ -14,16 +14,17 @@ ghost use Rattle.control.specs.declared.callers.Caller.{Caller};
 
 use crate::calendar::Calendar;
 use crate::callers::{Caller, Callers, Operator};
-use crate::copies::{Copies, CopyOrders, CopyRefusal};
+use crate::copies::{CatalogRefusal, Copies, CopyOrders, CopyRefusal};
 use crate::health::Figures;
 use crate::serving::{Server, is_stopping};
 use crate::watched::{Loan, Watched};
-use histories::Tell;
+use histories::{Restart, Tell};
 use keyring::Keyring;
 use meanwhile::between::{Between, HowFar};
 use meanwhile::newcomers::Newcomers;
 use meanwhile::noting::{Moment, Noting};
 use socket::Peer;
+use std::alloc::Global;
 use std::marker::Brand;
 use std::time::Clock;
 use std::{io, mem};
@@ -71,6 +72,19 @@ impl<'a, 'b, 'c, N: Loan, M: Moment, S: Shelves, K: Copies<S>> CopyOrders<
     ) -> Result<(), CopyRefusal> {
         let told = Err(CopyRefusal::Busy);
         shelves.note_copy(path, told);
+        told
+    }
+
+    /// Prints nothing, and fails with `Busy`.
+    fn catalog_to<O: Restart>(
+        &mut self,
+        _alloc: Global,
+        shelves: &mut Watched<'a, N, Noting<'c, M, S>>,
+        key: &str,
+        _output: &mut O,
+    ) -> Result<(), CatalogRefusal> {
+        let told = Err(CatalogRefusal::Busy);
+        shelves.note_catalog(key, told);
         told
     }
 
@@ -427,6 +441,24 @@ impl<
         }
         shelves.note_time(self.calendar.time_now());
         Ok(())
+    }
+
+    fn catalog_to<U: Restart>(
+        &mut self,
+        alloc: Global,
+        shelves: &mut Watched<'a, N, S>,
+        key: &str,
+        output: &mut U,
+    ) -> Result<(), CatalogRefusal> {
+        let copies = self.copies;
+        self.callers.watch_operator();
+        self.copied = shelves.copied;
+        self.how_far = HowFar { done: 0, all: 0 };
+        mem::swap(&mut self.traffic, &mut shelves.traffic);
+        let told = copies.catalog(alloc, shelves.inner, key, output, self);
+        mem::swap(&mut self.traffic, &mut shelves.traffic);
+        shelves.note_catalog(key, told);
+        told
     }
 
     fn versions(&self, shelves: &mut Watched<'a, N, S>) -> Result<u64, StoreFault> {

@@ -2,7 +2,7 @@
 ghost use Rattle.std.specs.Prelude.{◌≡◌, IfErr, IfSome, None, option_copied};
 ghost use Rattle.std.specs.FinMap as map;
 ghost use Rattle.control.specs.Figures.{TellsKept};
-ghost use Rattle.control.specs.Notices.{Copied, Met, Ordered, line_of};
+ghost use Rattle.control.specs.Notices.{Catalogued, Copied, Met, Ordered, line_of};
 ghost use Rattle.control.specs.Traffic.{CountsIf, was_found, was_published};
 ghost use Rattle.modver.specs.SemanticVersion.{version_text};
 ghost use Rattle.world.specs.Latest.{latest_of};
@@ -14,10 +14,10 @@ ghost use Rattle.world.specs.Versions.{versions_of};
 ghost use Rattle.world.specs.Visible.{paths_seen};
 ghost use Rattle.world.specs.World.{count, heading, place, view, with_entry};
 
-use crate::copies::CopyRefusal;
+use crate::copies::{CatalogRefusal, CopyRefusal};
 use crate::errand::Errand;
 use crate::health::Figures;
-use crate::notice::{Notice, answered, copied, met, ordered};
+use crate::notice::{Notice, answered, catalogued, copied, met, ordered};
 use crate::order::Order;
 use crate::told::Told;
 use crate::traffic::{Traffic, Transfer};
@@ -140,6 +140,16 @@ impl<'a, N: Loan, S: Shelves> Watched<'a, N, S> {
         ensures noted { IfSome self.new.notice (λ n. n.text ≡ line_of (Copied path.now told)) }
     {
         self.notice = copied(self.alloc, path, told).ok();
+    }
+
+    /// Notes a catalog that was asked for.
+    pub(crate) fn note_catalog(&mut self, key: &str, told: Result<(), CatalogRefusal>)
+        ensures same { self.new.inner ≡ self.old.inner }
+        ensures counts { self.new.traffic ≡ self.old.traffic }
+        ensures time { self.new.copied ≡ self.old.copied }
+        ensures noted { IfSome self.new.notice (λ n. n.text ≡ line_of (Catalogued key.now told)) }
+    {
+        self.notice = catalogued(self.alloc, key, told).ok();
     }
 
     /// Notes when a copy was made, if the time could be read.

@@ -1,13 +1,20 @@
--- A served store is only read, by a count, or by a copy beside its turns.
-use Rattle.std.proofs.Common.{ℕ, List, ◌≡◌, ◌≤◌, inl, inr, Result, Ok, Err, IfOk}
+-- A served store is only read, by a count, or by a copy beside its turns. What is told of a copy and of a catalog.
+use Rattle.std.proofs.Common.{ℕ, List, [], ◌≡◌, ◌≤◌, Bool, true, false, Option, Some, inl, inr, refl}
+use Rattle.std.proofs.Common.{Result, Ok, Err, IfOk}
+use Rattle.std.specs.Prelude.{IsErrOf}
 use Rattle.files.specs.History.{Span}
 use Rattle.world.specs.Store.{Shown, Reads}
 use Rattle.world.specs.World.{World}
 use Rattle.world.specs.declared.registry.StoreFault.{StoreFault}
 use Rattle.statements.specs.Counted.{versions_in}
+use Rattle.catalog.specs.Meanwhile.{PrintsCatalogOn}
+use Rattle.catalog.specs.declared.between.CatalogEnd.{CatalogEnd}
+use Rattle.catalog.specs.declared.between.CatalogEnd.TheVariants as end
+use Rattle.catalog.specs.declared.print.Unprinted.TheVariants as why
 use Rattle.control.specs.Copying.{IsOnlyRead}
+use Rattle.control.specs.declared.copies.CatalogRefusal.TheVariants as catalog
 use Rattle.control.specs.declared.copies.CopyRefusal.{CopyRefusal}
-use Rattle.runner.specs.Copies.{CopiesFile, CopiesTo}
+use Rattle.runner.specs.Copies.{CopiesFile, CopiesTo, catalogued}
 
 -- a store whose count of failures alone grew
 pub recounted : (s : Shown) (n m : ℕ) → n ≤ m → IsOnlyRead (record s { failures = n }) (record s { failures = m })
@@ -40,3 +47,26 @@ pub copies_file : {S F D : Type 0} (shown : S → Shown) (shown_too : F → Show
 copies_file shown shown_too targets source source_new to result (inl it) =
     inl (record { begun = it.begun; ended = it.ended; begins = it.begins; does = it.does })
 copies_file shown shown_too targets source source_new to result (inr it) = inr (inl it.none)
+
+-- what was printed of a catalog, alone
+pub prints_alone : (old new : Shown) (key : List ℕ) (written written_new : Option (List ℕ))
+    (told : Result Bool CatalogEnd) (it : PrintsCatalogOn old new key written written_new told)
+    → PrintsCatalogOn old new key (Some []) (Some it.printed) told
+prints_alone old new key written written_new told it = record {
+  printed = it.printed;
+  appends = refl;
+  honest = it.honest;
+  at = it.at;
+  no_fewer = it.no_fewer;
+  device = it.device;
+}
+
+-- where the output is told to have failed it did
+pub output_told : (told : Result Bool CatalogEnd) → catalogued told ≡ Err catalog.Output
+    → IsErrOf told (end.Unprinted why.Output)
+output_told (Ok true) is = absurd (let e = is in cc)
+output_told (Ok false) is = absurd (let e = is in cc)
+output_told (Err (end.Unprinted why.Device)) is = absurd (let e = is in cc)
+output_told (Err (end.Unprinted why.Memory)) is = absurd (let e = is in cc)
+output_told (Err (end.Unprinted why.Output)) is = refl
+output_told (Err end.Ended) is = absurd (let e = is in cc)

@@ -11,6 +11,7 @@ use Rattle.commands.specs.Order.{CopiesThere, OrdersThere, RevokesThere, StopsTh
 use Rattle.commands.specs.Listing.{ListsThere}
 use Rattle.commands.specs.NewKey.{OrdersNew}
 use Rattle.commands.specs.Ping.{PingsThere}
+use Rattle.commands.specs.ServedCatalog.{CatalogsThere}
 use Rattle.commands.specs.Action.{acceptance}
 use Rattle.commands.specs.declared.refusal.CommandRefusal.{CommandRefusal}
 use Rattle.control.specs.declared.listing.Listing.{Listing}
@@ -50,6 +51,11 @@ module _ (came came_new : Account) (written written_new : Option (List ℕ)) (re
     pub lists : ListsThere listing written written_new result
     pub input : came_new ≡ came
 
+  -- a running `serve` was asked for the catalog of a key, which was printed, no store was opened, and nothing was read
+  pub record CatalogsAlone (key : List ℕ) : Type 0 where
+    pub catalogs : CatalogsThere key written written_new result
+    pub input : came_new ≡ came
+
 module _ {S C : Type 0} (acts : Deeds S) (state_of : C → State) (shown : S → Shown)
     (files targets : Span S C) (older : Span C C)
     (came came_new : Account) (written written_new : Option (List ℕ)) (result : Result Bool CommandRefusal) where
@@ -66,7 +72,7 @@ module _ {S C : Type 0} (acts : Deeds S) (state_of : C → State) (shown : S →
   IsOnNone = IsIdle files × IsIdle targets × IsIdle older
 
   -- What each kind of command does, and to which files of stores: those of the command, the new one, and the older one.
-  -- The last seven open no store: they send a line to a running `serve`, or can't.
+  -- The last eight open no store: they send a line to a running `serve`, or can't.
   abbrev pub Runs : Command → Type 0
   Runs (command.Init db) = Inits acts files db.now came came_new written written_new result × IsOnFiles
   Runs (command.AnswerInMemory team key) =
@@ -83,4 +89,6 @@ module _ {S C : Type 0} (acts : Deeds S) (state_of : C → State) (shown : S →
   Runs (command.Copy control to) = Alone (CopiesThere to.now) × IsOnNone
   Runs (command.Ping control) = PingsAlone came came_new written written_new result × IsOnNone
   Runs (command.List control listing) = ListsAlone came came_new written written_new result listing × IsOnNone
+  Runs (command.Catalog control key) =
+      CatalogsAlone came came_new written written_new result key.now × IsOnNone
   Runs (command.Stop control) = Alone StopsThere × IsOnNone

@@ -1,5 +1,6 @@
--- What a copy of the store of a served file into that of another file does, and what a count of its versions tells.
-use Rattle.std.specs.Prelude.{ℕ, List, ◌≡◌, ◌≤◌, ◌⊎◌, ⊤, Result, Ok, Err}
+-- What a copy of the store of a served file into that of another file does, what is printed of a catalog of it, and
+-- what a count of its versions tells.
+use Rattle.std.specs.Prelude.{ℕ, List, [], ◌≡◌, ◌≤◌, ◌⊎◌, ⊤, Bool, true, false, Some, Result, Ok, Err}
 use Rattle.files.specs.History.{Span, IsIdle, Refuses, Opens}
 use Rattle.world.specs.Store.{Shown}
 use Rattle.world.specs.World.{World}
@@ -11,7 +12,13 @@ use Rattle.store.specs.declared.between.CopyEnd.{CopyEnd}
 use Rattle.store.specs.declared.between.CopyEnd.TheVariants.{Refused, Ended}
 use Rattle.store.specs.declared.refusal.StoreRefusal.{StoreRefusal}
 use Rattle.store.specs.declared.refusal.StoreRefusal.TheVariants as store
-use Rattle.control.specs.Copying.{Making, ToPath}
+use Rattle.catalog.specs.Meanwhile.{PrintsCatalogOn}
+use Rattle.catalog.specs.declared.between.CatalogEnd.{CatalogEnd}
+use Rattle.catalog.specs.declared.between.CatalogEnd.TheVariants as end
+use Rattle.catalog.specs.declared.print.Unprinted.TheVariants as why
+use Rattle.control.specs.Copying.{Making, OfKey, ToPath}
+use Rattle.control.specs.declared.copies.CatalogRefusal.{CatalogRefusal}
+use Rattle.control.specs.declared.copies.CatalogRefusal.TheVariants as catalog
 use Rattle.control.specs.declared.copies.CopyRefusal.{CopyRefusal}
 use Rattle.control.specs.declared.copies.CopyRefusal.TheVariants as copy
 use Rattle.runner.specs.Opened.{OnOpened}
@@ -30,6 +37,15 @@ abbrev pub copied : Result (Unit {0}) CopyEnd → Result (Unit {0}) CopyRefusal
 copied (Ok u) = Ok tt
 copied (Err (Refused why)) = Err (uncopied why)
 copied (Err Ended) = Err copy.Ended
+
+-- what came of a catalog, by how its printing ended
+abbrev pub catalogued : Result Bool CatalogEnd → Result (Unit {0}) CatalogRefusal
+catalogued (Ok true) = Ok tt
+catalogued (Ok false) = Err catalog.NoKey
+catalogued (Err (end.Unprinted why.Device)) = Err catalog.Device
+catalogued (Err (end.Unprinted why.Memory)) = Err catalog.Memory
+catalogued (Err (end.Unprinted why.Output)) = Err catalog.Output
+catalogued (Err end.Ended) = Err catalog.Ended
 
 -- a count tells how many versions there are in each world that the served store stood for, on an honest disk
 abbrev pub CountsIn : {S : Type 0} → (S → Shown) → S → S → ℕ → Type 0
@@ -73,9 +89,18 @@ module _ {S F : Type 0} (shown : S → Shown) (shown_too : F → Shown) where
       ⊎ CopiesNone source source_new result
       ⊎ IsBusy source source_new result
 
+  -- These lines of the catalog of a key were printed, of each world that the served store stood for, and the result
+  -- says how that ended. Or nothing was done, since a copy is made or another catalog is printed.
+  abbrev pub CatalogsKey : S → S → List ℕ → List ℕ → Result (Unit {0}) CatalogRefusal → Type 0
+  CatalogsKey source source_new key printed result =
+      ((end : Result Bool CatalogEnd) × (result ≡ catalogued end)
+      × PrintsCatalogOn (shown source) (shown source_new) key (Some []) (Some printed) end)
+      ⊎ ((source_new ≡ source) × (printed ≡ []) × (result ≡ Err catalog.Busy))
+
   -- what was made of the served store
   abbrev pub Makes : (F → Type 0) → S → S → Making → Type 0
   Makes Begins source source_new (ToPath path result) = CopiesFile Begins source source_new path result
+  Makes Begins source source_new (OfKey key printed result) = CatalogsKey source source_new key printed result
 
   module _ {D : Type 0} (targets : Span F D) (source source_new : S) (to : List ℕ) where
     -- nothing was done with the served store, and no other was opened

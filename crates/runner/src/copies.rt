@@ -1,7 +1,8 @@
-//! Copies of the store of a file while it is served, counts of its versions, and its size.
+//! Copies of the store of a file while it is served, catalogs of it, counts of its versions, and its size.
 
 ghost use Rattle.std.specs.Prelude.{◌≡◌, ◌≢◌, IfErr, IfOk};
 ghost use Rattle.control.specs.Copying.{IsOnlyRead};
+ghost use Rattle.control.specs.declared.copies.CatalogRefusal.TheVariants as catalog;
 ghost use Rattle.control.specs.declared.copies.CopyRefusal.TheVariants.{Busy};
 ghost use Rattle.sqlite_wal.specs.Files.{image_at};
 ghost use Rattle.runner.specs.Copies as spec;
@@ -15,12 +16,16 @@ use crate::host::SystemHost;
 use crate::looks::Looks;
 use crate::slice_pace::SlicePace;
 use crate::system::SystemStoreFiles;
+use catalog::Unprinted;
+use catalog::between::{CatalogEnd, print_between};
 use commands::files::size_of_file;
-use control::{Copies, CopyRefusal, Figures};
+use control::{CatalogRefusal, Copies, CopyRefusal, Figures};
 use files::files::{StoreFiles, Use};
+use histories::Restart;
 use meanwhile::between::Between;
 use slices::pace::Pace;
 use sqlite::{Alter, Start};
+use std::alloc::Global;
 use std::rt::HostRuntime;
 use std::time::Clock;
 use store::between::CopyEnd;
@@ -30,7 +35,8 @@ use store::store::SqlShelves;
 use world::registry::StoreFault;
 use world::shelves::Shelves;
 
-/// Copies the served store of a file into other files, and looks at the sizes of the file and its log.
+/// Copies the served store of a file into other files, prints catalogs of it, and looks at the sizes of the file and
+/// its log.
 #[derive(Drop)]
 pub(crate) struct FileCopies<'a> {
     pub host: SystemHost<'a>,
@@ -102,6 +108,17 @@ impl<'a, S: Alter> Copies<SqlShelves<S>> for FileCopies<'a> {
         )
     }
 
+    fn catalog<O: Restart, B: Between<SqlShelves<S>>>(
+        &self,
+        alloc: Global,
+        shelves: &mut SqlShelves<S>,
+        key: &str,
+        output: &mut O,
+        between: &mut B,
+    ) -> Result<(), CatalogRefusal> {
+        catalogued(print_between(alloc, shelves, key, output, between))
+    }
+
     fn versions(&self, shelves: &mut SqlShelves<S>) -> Result<u64, StoreFault> {
         count_in(shelves)
     }
@@ -117,6 +134,8 @@ impl<'a, S: Alter> Copies<SqlShelves<S>> for FileCopies<'a> {
     }
 
     ghost busy = { λ s path. inr (inr (record { same = refl; tells = refl })) };
+
+    ghost no_catalog = { λ s key. inr (refl, refl, refl) };
 }
 
 /// Opens the store of a file and makes it a copy of a served store, whose file is at `db`. It does not open the served
@@ -213,4 +232,19 @@ fn count_in<S: Alter>(served: &mut SqlShelves<S>) -> Result<u64, StoreFault>
     ensures counted { IfOk result (λ n. CountsIn ⟦<SqlShelves<S> as Shelves>⟧.shown served.old served.new n) }
 {
     served.versions_kept()
+}
+
+/// Returns what came of a catalog, by how its printing ended.
+fn catalogued(end: Result<bool, CatalogEnd>) -> Result<(), CatalogRefusal>
+    ensures value { result ≡ spec.catalogued end }
+    ensures begun { IfErr result (λ why. why ≢ catalog.Busy) }
+{
+    match end {
+        Ok(true) => Ok(()),
+        Ok(false) => Err(CatalogRefusal::NoKey),
+        Err(CatalogEnd::Unprinted(Unprinted::Device)) => Err(CatalogRefusal::Device),
+        Err(CatalogEnd::Unprinted(Unprinted::Memory)) => Err(CatalogRefusal::Memory),
+        Err(CatalogEnd::Unprinted(Unprinted::Output)) => Err(CatalogRefusal::Output),
+        Err(CatalogEnd::Ended) => Err(CatalogRefusal::Ended),
+    }
 }

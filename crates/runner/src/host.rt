@@ -19,16 +19,17 @@ use commands::order::{copy_at, order_at, revoke_at, stop_at};
 use commands::ping::ping_at;
 use commands::progress::StderrLine;
 use commands::refusal::CommandRefusal;
+use commands::served_catalog::catalog_at;
 use control::{Listing, Order};
 use file_action::host::ActionHost;
 use files::files::StoreFiles;
 use histories::{Hear, Tell};
-use sqlite::Start;
+use sqlite::{Alter, Start};
 use sqlite_trees::store::Store;
 use std::alloc::Global;
 use std::rt::HostRuntime;
-use store::open::FileShelves;
 use store::refusal::StoreRefusal;
+use store::store::SqlShelves;
 use world::entry::Right;
 use world::shelves::Shelves;
 
@@ -41,6 +42,7 @@ pub trait Host<S, C>: ActionHost<S> + Looks {
     ghost use Rattle.commands.specs.Listing.{ListsThere};
     ghost use Rattle.commands.specs.NewKey.{OrdersNew};
     ghost use Rattle.commands.specs.Ping.{PingsThere};
+    ghost use Rattle.commands.specs.ServedCatalog.{CatalogsThere};
     ghost use Rattle.runner.specs.Extract.{ExtractsFile};
     ghost use Rattle.runner.specs.Migrate.{MigratesFile};
     ghost use Rattle.world.specs.Store.{Shown};
@@ -118,6 +120,15 @@ pub trait Host<S, C>: ActionHost<S> + Looks {
     ) -> Result<bool, CommandRefusal>
         ensures { ListsThere listing (O.contents output.old) (O.contents output.new) result };
 
+    /// Asks a running `serve` for the catalog of a key, and prints it. Fails as [`catalog_at`] does.
+    fn catalog<O: Tell>(
+        &mut self,
+        control: &str,
+        key: &str,
+        output: &mut O,
+    ) -> Result<bool, CommandRefusal>
+        ensures { CatalogsThere key.now (O.contents output.old) (O.contents output.new) result };
+
     /// Has a running `serve` end. Fails as [`stop_at`] does.
     fn stop(&mut self, control: &str) -> Result<(), CommandRefusal>
         ensures { StopsThere result };
@@ -181,7 +192,7 @@ impl<'a> ActionHost<OpenedStore> for SystemHost<'a> {
         input: &mut I,
         output: &mut O,
     ) -> Result<bool, CommandRefusal> {
-        act_in::<AsFound, I, O>(self.rt, name, &mut store.shelves, action, input, output)
+        act_in(self.rt, name, &mut store.shelves, action, input, output)
     }
 }
 
@@ -260,6 +271,15 @@ impl<'a> Host<OpenedStore, ClosedFile> for SystemHost<'a> {
         list_at(self.rt, control, listing, output)
     }
 
+    fn catalog<O: Tell>(
+        &mut self,
+        control: &str,
+        key: &str,
+        output: &mut O,
+    ) -> Result<bool, CommandRefusal> {
+        catalog_at(self.rt, control, key, output)
+    }
+
     fn stop(&mut self, control: &str) -> Result<(), CommandRefusal> {
         stop_at(self.rt, control)
     }
@@ -267,18 +287,18 @@ impl<'a> Host<OpenedStore, ClosedFile> for SystemHost<'a> {
 
 /// Does an action on the open store of the file of this name, and returns whether it was accepted. Fails as [`act_on`]
 /// does.
-fn act_in<T: Start, I: Hear, O: Tell>(
+fn act_in<S: Alter, I: Hear, O: Tell>(
     rt: &HostRuntime,
     name: &str,
-    shelves: &mut FileShelves<T>,
+    shelves: &mut SqlShelves<S>,
     action: &Action,
     input: &mut I,
     output: &mut O,
 ) -> Result<bool, CommandRefusal>
-    ensures { Acts ⟦<FileShelves<T> as Shelves>⟧.shown
-        (Makes ⟦<FileShelves<T> as Shelves>⟧.shown (λ (s : OpenedStore). ⟦<Found as Shelves>⟧.shown s.shelves)
+    ensures { Acts ⟦<SqlShelves<S> as Shelves>⟧.shown
+        (Makes ⟦<SqlShelves<S> as Shelves>⟧.shown (λ (s : OpenedStore). ⟦<Found as Shelves>⟧.shown s.shelves)
         (λ s. HasBegun ⟦<Found as Shelves>⟧.shown (image_at ⟦<AsFound as Start>⟧) s.shelves))
-        (CountsIn ⟦<FileShelves<T> as Shelves>⟧.shown)
+        (CountsIn ⟦<SqlShelves<S> as Shelves>⟧.shown)
         (record { store = shelves.old; came = I.account input.old; written = O.contents output.old })
         (record { store = shelves.new; came = I.account input.new; written = O.contents output.new })
         result action.now }

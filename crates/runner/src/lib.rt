@@ -13,6 +13,7 @@
 //! | [`Command::Copy`] | opens no store, and has the `serve` that has one open copy it into another file |
 //! | [`Command::Ping`] | opens no store, asks the `serve` that has one open for its health, and prints it |
 //! | [`Command::List`] | opens no store, asks the `serve` that has one open for a list, and prints it |
+//! | [`Command::Catalog`] | opens no store, asks the `serve` that has one open for a catalog, and prints it |
 //! | [`Command::Stop`] | opens no store, and has the `serve` end that has one open |
 //!
 //! One function opens each store and closes it before it returns: `on_file` for an action, `extract_file` for the store
@@ -114,6 +115,12 @@ pub enum Command<'a> {
         control: &'a str,
         listing: Listing,
     },
+    /// `catalog --control S --key K`: asks the `serve` that listens at the socket S for the catalog of a key, and prints
+    /// it.
+    Catalog {
+        control: &'a str,
+        key: &'a str,
+    },
     /// `stop --control S`: has the `serve` that listens at the socket S end.
     Stop {
         control: &'a str,
@@ -174,6 +181,7 @@ where
         Command::Copy { control, to } => acceptance(host.copy(control, to)),
         Command::Ping { control } => host.ping(control, output),
         Command::List { control, listing } => host.list(control, *listing, output),
+        Command::Catalog { control, key } => host.catalog(control, key, output),
         Command::Stop { control } => acceptance(host.stop(control)),
     }
 }

@@ -1,8 +1,10 @@
 //! A double of what copies a store and counts its versions.
 ghost use Rattle.std.specs.Prelude.{◌≢◌, IfErr};
+ghost use Rattle.control.specs.declared.copies.CatalogRefusal.TheVariants as catalog;
 ghost use Rattle.control.specs.declared.copies.CopyRefusal.TheVariants.{Busy};
 
-use control::{Copies, CopyOrders, CopyRefusal, Figures};
+use control::{CatalogRefusal, Copies, CopyOrders, CopyRefusal, Figures};
+use histories::Restart;
 use meanwhile::between::{Between, HowFar};
 use meanwhile::newcomers::Newcomers;
 use std::alloc::Global;
@@ -10,7 +12,8 @@ use world::registry::StoreFault;
 use world::shelves::Shelves;
 
 /// Makes no copy, and fails for three paths: for `full` with `NotEmpty`, for `small` with `Memory`, for the empty one
-/// with `Device`. Counts nothing, and returns this number. Its file has 8,192 bytes, and its log 4,152.
+/// with `Device`. Prints no catalog, and fails for three keys: for `nobody` with `NoKey`, for `small` with `Memory`, for
+/// the empty one with `Device`. Counts nothing, and returns this number. Its file has 8,192 bytes, and its log 4,152.
 #[derive(Drop)]
 pub(crate) struct Copier {
     alloc: Global,
@@ -33,6 +36,30 @@ fn copied_to(path: &str) -> Result<(), CopyRefusal>
         "small" => Err(CopyRefusal::Memory),
         "" => Err(CopyRefusal::Device),
         _ => Ok(()),
+    }
+}
+
+/// Returns what comes of the catalog of a key.
+fn printed_for(key: &str) -> Result<(), CatalogRefusal>
+    ensures begun { IfErr result (λ why. why ≢ catalog.Busy) }
+    ensures output { IfErr result (λ why. why ≢ catalog.Output) }
+{
+    match key {
+        "nobody" => Err(CatalogRefusal::NoKey),
+        "small" => Err(CatalogRefusal::Memory),
+        "" => Err(CatalogRefusal::Device),
+        _ => Ok(()),
+    }
+}
+
+/// Returns what comes of an order to print it: also `Busy` for `second`, and `Ended` for `last`.
+fn ordered_for(key: &str) -> Result<(), CatalogRefusal>
+    ensures { IfErr result (λ why. why ≢ catalog.Output) }
+{
+    match key {
+        "second" => Err(CatalogRefusal::Busy),
+        "last" => Err(CatalogRefusal::Ended),
+        _ => printed_for(key),
     }
 }
 
@@ -75,6 +102,21 @@ impl<S: Shelves> Copies<S> for Copier {
         copied_to(path)
     }
 
+    /// Has `between` take one turn. Fails with `Ended` if that ended the catalog.
+    fn catalog<O: Restart, B: Between<S>>(
+        &self,
+        alloc: Global,
+        shelves: &mut S,
+        key: &str,
+        _output: &mut O,
+        between: &mut B,
+    ) -> Result<(), CatalogRefusal> {
+        if !between.turn(shelves, &mut Newcomers::new(alloc)) {
+            return Err(CatalogRefusal::Ended);
+        }
+        printed_for(key)
+    }
+
     fn versions(&self, _shelves: &mut S) -> Result<u64, StoreFault> {
         Ok(self.versions)
     }
@@ -84,6 +126,8 @@ impl<S: Shelves> Copies<S> for Copier {
     }
 
     ghost busy = { λ _ _. tt };
+
+    ghost no_catalog = { λ _ _. tt };
 }
 
 /// Nobody is served while a copy is made.
@@ -103,6 +147,17 @@ impl<S: Shelves> CopyOrders<S> for Copier {
             "last" => Err(CopyRefusal::Ended),
             _ => copied_to(path),
         }
+    }
+
+    /// Prints nothing.
+    fn catalog_to<O: Restart>(
+        &mut self,
+        _alloc: Global,
+        _shelves: &mut S,
+        key: &str,
+        _output: &mut O,
+    ) -> Result<(), CatalogRefusal> {
+        ordered_for(key)
     }
 
     fn versions(&self, _shelves: &mut S) -> Result<u64, StoreFault> {

@@ -60,6 +60,15 @@ copy |device
 copy|bad
 copy one two|bad
 Copy one|bad
+catalog alphakey00000001|done
+catalog nobody|no-key
+catalog small|memory
+catalog second|busy
+catalog last|ended
+catalog |device
+catalog|bad
+catalog alphakey00000001 more|bad
+Catalog alphakey00000001|bad
 ping|connections=1006 2xx=1000 4xx=3 5xx=2 unanswered=1 store-failures=0 since=2026-11-26T18:40:00Z versions=12345 \
 bytes=8192 log=4152 shelves=0
 ping |bad

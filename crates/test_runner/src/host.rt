@@ -139,6 +139,15 @@ impl<'a> Host<MapShelves, MapShelves> for MemoryHost<'a> {
         Err(CommandRefusal::Device)
     }
 
+    fn catalog<O: Tell>(
+        &mut self,
+        _control: &str,
+        _key: &str,
+        _output: &mut O,
+    ) -> Result<bool, CommandRefusal> {
+        Err(CommandRefusal::Device)
+    }
+
     fn ping<O: Tell>(&mut self, _control: &str, _output: &mut O) -> Result<bool, CommandRefusal> {
         Err(CommandRefusal::Device)
     }

@@ -39,6 +39,7 @@ order | shelves.db | alpha | | device
 copy | shelves.db | | | device
 ping | shelves.db | | | device
 list | shelves.db | | | device
+catalog | shelves.db | | alphakey00000001 | device
 stop | shelves.db | | | device
 inventory | shelves.db | | alphakey00000001 | done
 ";
@@ -68,6 +69,7 @@ fn command_of<'a>(row: &'a str, teams: &'a [&'a str]) -> Command<'a> {
             control: db,
             listing: Listing::Keys,
         },
+        "catalog" => return Command::Catalog { control: db, key },
         "stop" => return Command::Stop { control: db },
         "team-add" => Action::Register { order },
         "key-add" => Action::Register {

@@ -66,7 +66,7 @@ store_lines =
     ∷ needs (codes "mod") ∷ needs (codes "zip") ∷ may (codes "time") ∷ [])
     ∷ plain (codes "import") (needs (codes "db") ∷ needs (codes "key") ∷ needs (codes "list") ∷ [])
     ∷ plain (codes "inventory") (needs (codes "db") ∷ needs (codes "key") ∷ [])
-    ∷ plain (codes "catalog") (needs (codes "db") ∷ needs (codes "key") ∷ [])
+    ∷ formed (codes "catalog") (may (codes "db") ∷ may (codes "control") ∷ needs (codes "key") ∷ [])
     ∷ plain (codes "requires")
     (needs (codes "db") ∷ needs (codes "key") ∷ needs (codes "module") ∷ needs (codes "version") ∷ [])
     ∷ []

@@ -100,7 +100,7 @@ static STORE_COMMANDS: [CommandRow; 12] = [
         name: "catalog",
         about: "Prints each version that the shelf of a key sees, as a line of JSON",
         options: &CATALOG,
-        forms: None,
+        forms: Some(CATALOG_FORMS),
         example: "",
     },
     CommandRow {
@@ -196,6 +196,9 @@ const KEY_LIST_FORMS: &str = "goshelf key-list --db <F>\n       goshelf key-list
 
 const SHELF_LIST_FORMS: &str =
     "goshelf shelf-list --db <F>\n       goshelf shelf-list --control <S>";
+
+const CATALOG_FORMS: &str =
+    "goshelf catalog --db <F> --key <K>\n       goshelf catalog --control <S> --key <K>";
 
 const SERVE_FORMS: &str = "\
 goshelf serve --db <F> --port <N> [--connections <M>] [--control <S>]

@@ -200,15 +200,15 @@ pub(crate) const IMPORT: [OptionRow; 3] = [
     },
 ];
 
-pub(crate) const INVENTORY: [OptionRow; 2] = [
-    DB,
-    OptionRow {
-        help: "A key of the shelf",
-        ..KEY
-    },
-];
+/// A key of a shelf that is read.
+const SHELF_KEY: OptionRow = OptionRow {
+    help: "A key of the shelf",
+    ..KEY
+};
 
-pub(crate) const CATALOG: [OptionRow; 2] = INVENTORY;
+pub(crate) const INVENTORY: [OptionRow; 2] = [DB, SHELF_KEY];
+
+pub(crate) const CATALOG: [OptionRow; 3] = [DB_OR_CONTROL, CONTROL, SHELF_KEY];
 
 pub(crate) const REQUIRES: [OptionRow; 4] = [
     DB,

@@ -50,6 +50,10 @@ pub returns-in-List : goal.returns-in-List
 returns-in-List g c = ran _ _ _ _ _ _ _ _ _ _ _ _ _ c.in-List.is
     (record { lists = c.list.ensures; input = refl }, (refl, refl, refl))
 
+pub returns-in-Catalog : goal.returns-in-Catalog
+returns-in-Catalog g c = ran _ _ _ _ _ _ _ _ _ _ _ _ _ c.in-Catalog.is
+    (record { catalogs = c.catalog.ensures; input = refl }, (refl, refl, refl))
+
 pub returns-in_ok-answer_in_memory-in-AnswerInMemory : goal.returns-in_ok-answer_in_memory-in-AnswerInMemory
 returns-in_ok-answer_in_memory-in-AnswerInMemory g c = ran _ _ _ _ _ _ _ _ _ _ _ _ _ c.in-AnswerInMemory.is (
   record {

@@ -4,11 +4,13 @@ use Rattle.catalog.proofs.between.print_line.Goals as goal
 
 pub returns-in-Ok-clause-prints : goal.returns-in-Ok-clause-prints
 returns-in-Ok-clause-prints g c = λ s.
-    line_on _ _ c.args.line.now _ _ c.take_turns.result c.in-Ok.ensures.puts (c.take_turns.ensures.stays s)
+    rw c.restart.ensures.bytes
+    (line_on _ _ c.args.line.now _ _ c.take_turn.result c.in-Ok.ensures.puts (c.take_turn.ensures.stays s))
 
 pub returns-in-Ok-clause-fails : goal.returns-in-Ok-clause-fails
 returns-in-Ok-clause-fails g c =
-    not_output_fails _ _ c.in-Ok.ensures.fails.no_fewer c.take_turns.result c.take_turns.ensures.output
+    rw c.restart.ensures.writes
+    (not_output_fails _ _ c.in-Ok.ensures.fails.no_fewer c.take_turn.result c.take_turn.ensures.output)
 
 pub returns-in-Err-clause-prints : goal.returns-in-Err-clause-prints
 returns-in-Err-clause-prints g c = λ s. line_cut _ c.args.line.now _ _ c.in-Err.why c.in-Err.ensures.puts

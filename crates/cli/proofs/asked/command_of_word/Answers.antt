@@ -12,6 +12,7 @@ returns-in-None c =
     let none = c.in_default in
     unordered (rows_of (found_of c.args.options.now)) c.args.word.now _
     (no_command (rows_of (found_of c.args.options.now)) c.args.word.now none.not-init none.not-answer
-    none.not-extract none.not-migrate none.not-copy none.not-ping none.not-text none.not-text-2 none.not-stop
+    none.not-extract none.not-migrate none.not-copy none.not-ping none.not-text none.not-text-2 none.not-catalog
+    none.not-stop
     (not_found c.order_of.result _ (search rules) c.order_of.ensures))
     c.unordered_command.ensures

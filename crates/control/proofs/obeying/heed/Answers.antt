@@ -9,9 +9,10 @@ use Rattle.control.proofs.TurnLemmas.{turns_none, turns_read, turns_ordered}
 use Rattle.control.proofs.obeying.heed.Goals as goal
 
 pub returns-in-Some-Stop-clause-heeds : goal.returns-in-Some-Stop-clause-heeds
-returns-in-Some-Stop-clause-heeds g c = record {
+returns-in-Some-Stop-clause-heeds g c = λ none. record {
   heard = Stop;
   from = rw c.in-Some-Stop.field-0-is at c.in-Some-Stop.ensures;
+  prints = refl;
   tells = refl;
   through = (refl, turns_none _);
   came = tt;
@@ -19,9 +20,10 @@ returns-in-Some-Stop-clause-heeds g c = record {
 }
 
 pub returns-in-Some-Ping-clause-heeds : goal.returns-in-Some-Ping-clause-heeds
-returns-in-Some-Ping-clause-heeds g c = record {
+returns-in-Some-Ping-clause-heeds g c = λ none. record {
   heard = Pinged c.ping.ensures.pings.heard;
   from = rw c.in-Some-Ping.field-0-is at c.in-Some-Ping.ensures;
+  prints = refl;
   tells = c.ping.ensures.pings.tells;
   through = (refl, turns_read _ _ c.ping.ensures.pings.reads);
   came = c.ping.ensures.pings.came;
@@ -29,9 +31,10 @@ returns-in-Some-Ping-clause-heeds g c = record {
 }
 
 pub returns-in-Some-Copy-clause-heeds : goal.returns-in-Some-Copy-clause-heeds
-returns-in-Some-Copy-clause-heeds g c = record {
+returns-in-Some-Copy-clause-heeds g c = λ none. record {
   heard = Made (ToPath c.in-Some-Copy.path.now c.copy_to.result);
   from = rw c.in-Some-Copy.field-0-is at c.in-Some-Copy.ensures;
+  prints = refl;
   tells = ap spoken.Outcome c.outcome_of_copy.ensures;
   through = c.copy_to.ensures.meanwhile;
   came = c.copy_to.ensures.came;
@@ -39,9 +42,10 @@ returns-in-Some-Copy-clause-heeds g c = record {
 }
 
 pub returns-in-Some-List-clause-heeds : goal.returns-in-Some-List-clause-heeds
-returns-in-Some-List-clause-heeds g c = record {
+returns-in-Some-List-clause-heeds g c = λ none. record {
   heard = Listed c.in-Some-List.listing c.list.ensures.heard;
   from = rw c.in-Some-List.field-0-is at c.in-Some-List.ensures;
+  prints = refl;
   tells = c.list.ensures.tells;
   through = (refl, turns_read _ _ (list_only_reads _ _ _ _ c.list.ensures.reads));
   came = tt;
@@ -49,9 +53,10 @@ returns-in-Some-List-clause-heeds g c = record {
 }
 
 pub returns-in-Some-RevokeNamed-clause-heeds : goal.returns-in-Some-RevokeNamed-clause-heeds
-returns-in-Some-RevokeNamed-clause-heeds g c = record {
+returns-in-Some-RevokeNamed-clause-heeds g c = λ none. record {
   heard = Named c.in-Some-RevokeNamed.fingerprint.now c.revoke_named.ensures.naming;
   from = rw c.in-Some-RevokeNamed.field-0-is at c.in-Some-RevokeNamed.ensures;
+  prints = refl;
   tells = ap spoken.Outcome c.revoke_named.ensures.tells;
   through = (refl, c.revoke_named.ensures.through);
   came = tt;
@@ -59,9 +64,10 @@ returns-in-Some-RevokeNamed-clause-heeds g c = record {
 }
 
 pub returns-in-Some-Order-clause-heeds : goal.returns-in-Some-Order-clause-heeds
-returns-in-Some-Order-clause-heeds g c = record {
+returns-in-Some-Order-clause-heeds g c = λ none. record {
   heard = Carried c.in-Some-Order.order c.carry_out.result;
   from = rw c.in-Some-Order.field-0-is at c.in-Some-Order.ensures;
+  prints = refl;
   tells = ap spoken.Outcome c.outcome_of.ensures;
   through = (refl, turns_ordered _ _ _ _ c.carry_out.ensures.does);
   came = tt;
@@ -69,9 +75,10 @@ returns-in-Some-Order-clause-heeds g c = record {
 }
 
 pub returns-in-None-clause-heeds : goal.returns-in-None-clause-heeds
-returns-in-None-clause-heeds g c = record {
+returns-in-None-clause-heeds g c = λ none. record {
   heard = NoOrder;
-  from = c.in-None.ensures;
+  from = (c.in-None.ensures, none);
+  prints = refl;
   tells = refl;
   through = (refl, turns_none _);
   came = tt;

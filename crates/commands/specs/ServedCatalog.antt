@@ -1,0 +1,73 @@
+-- A catalog of a running `serve`, printed as it comes.
+use Rattle.std.specs.Prelude.{ℕ, ◌≡◌, ◌⊎◌, ◌++◌, List, Bool, true, Option, Result, Ok, Err}
+use Rattle.std.specs.Io.KnownBytes.{Appends, Consumes}
+use Rattle.world.specs.declared.registry.RegistryReply.TheVariants as registered
+use Rattle.world.specs.declared.registry.StoreFault.TheVariants as fault
+use Rattle.control.specs.Asking.{AsksForCatalog}
+use Rattle.control.specs.Listing.{AreLines}
+use Rattle.control.specs.Outcome.{line_of}
+use Rattle.control.specs.declared.client.Untold.{Untold}
+use Rattle.control.specs.declared.client.Untold.TheVariants as untold
+use Rattle.control.specs.declared.outcome.Outcome.{Outcome}
+use Rattle.control.specs.declared.outcome.Outcome.TheVariants as outcome
+use Rattle.commands.specs.Printed.{PrintsFront}
+use Rattle.commands.specs.declared.refusal.CommandRefusal.{CommandRefusal}
+use Rattle.commands.specs.declared.refusal.CommandRefusal.TheVariants.{NoKey, Busy, Ended, Device, Memory, Io}
+
+-- how the command ends, by what was told; a key that no line can carry is nobody's
+abbrev pub catalog_ending : Result Outcome Untold → Result Bool CommandRefusal
+catalog_ending (Ok (outcome.RegistryReply registered.Done)) = Ok true
+catalog_ending (Ok (outcome.RegistryReply registered.NoKey)) = Err NoKey
+catalog_ending (Ok (outcome.RegistryReply other)) = Err Io
+catalog_ending (Ok (outcome.Failed fault.Device)) = Err Device
+catalog_ending (Ok (outcome.Failed fault.Memory)) = Err Memory
+catalog_ending (Ok outcome.NotEmpty) = Err Io
+catalog_ending (Ok outcome.Busy) = Err Busy
+catalog_ending (Ok outcome.Ended) = Err Ended
+catalog_ending (Ok outcome.Stopping) = Err Io
+catalog_ending (Ok outcome.Bad) = Err Io
+catalog_ending (Err untold.Words) = Err NoKey
+catalog_ending (Err untold.Memory) = Err Memory
+catalog_ending (Err untold.Io) = Err Io
+
+module _ (unread unread_new printed printed_new : Option (List ℕ)) where
+  -- lines came and were printed, each whole, and the line of this outcome came behind them
+  pub record PrintsLinesOf (told : Outcome) : Type 0 where
+    pub lines : List ℕ
+    pub are : AreLines lines
+    pub came : Consumes unread unread_new (lines ++ line_of told)
+    pub prints : Appends printed printed_new lines
+
+  -- bytes came, and a beginning of them was printed
+  pub record PrintsSome : Type 0 where
+    pub got : List ℕ
+    pub came : Consumes unread unread_new got
+    pub prints : PrintsFront printed printed_new got
+
+  -- what was told behind the lines, or that no outcome was: the reply was cut off, or the output failed
+  abbrev pub TellsCatalog : Result Outcome Untold → Type 0
+  TellsCatalog (Ok told) = PrintsLinesOf told
+  TellsCatalog (Err why) = (why ≡ untold.Io) × PrintsSome
+
+-- The catalog of the key was asked for, and the reply was printed as `TellsCatalog` says. Or it was not asked for, and
+-- nothing was printed.
+abbrev pub PrintsServed : Option (List ℕ) → Option (List ℕ) → Option (List ℕ) → Option (List ℕ) → Result Outcome Untold
+    → Result (Unit {0}) Untold → Type 0
+PrintsServed unread unread_new printed printed_new told (Ok u) = TellsCatalog unread unread_new printed printed_new told
+PrintsServed unread unread_new printed printed_new told (Err why) = (told ≡ Err why) × (printed_new ≡ printed)
+
+-- the catalog of the key was asked for, and what came was printed but for its last line, by which the command ends
+pub record CatalogsOver (unread unread_new written written_new : Option (List ℕ)) (key : List ℕ)
+    (printed printed_new : Option (List ℕ)) (result : Result Bool CommandRefusal) : Type 0 where
+  pub asked : Result (Unit {0}) Untold
+  pub asks : AsksForCatalog written written_new key asked
+  pub told : Result Outcome Untold
+  pub prints : PrintsServed unread unread_new printed printed_new told asked
+  pub ends : result ≡ catalog_ending told
+
+-- so it was over a connection, or there was none
+abbrev pub CatalogsThere : List ℕ → Option (List ℕ) → Option (List ℕ) → Result Bool CommandRefusal → Type 0
+CatalogsThere key printed printed_new result =
+    ((unread unread_new written written_new : Option (List ℕ))
+    × CatalogsOver unread unread_new written written_new key printed printed_new result)
+    ⊎ ((result ≡ Err Device) × (printed_new ≡ printed))

@@ -51,7 +51,8 @@ import --db none.db --key A
 inventory --db none.db
 catalog --db none.db
 catalog --key A
-catalog --control none.sock --key A
+catalog --control none
+catalog --control none --db none.db --key A
 requires --db none.db --key A --module example.com/lib
 key-list
 key-list --db none.db --key A
@@ -127,6 +128,8 @@ goshelf key-revoke --db <F> --shelf <S> --all
 goshelf key-revoke --control <S> --key <K>
 goshelf key-revoke --control <S> --fingerprint <X>
 goshelf key-revoke --control <S> --shelf <S> --all
+goshelf catalog --db <F> --key <K>
+goshelf catalog --control <S> --key <K>
 goshelf key-list --db <F>
 goshelf key-list --control <S>
 goshelf shelf-list --db <F>
@@ -145,7 +148,7 @@ key-revoke --db --control --key --fingerprint --shelf --all
 publish --db --key --module --version --mod --zip --time
 import --db --key --list
 inventory --db --key
-catalog --db --key
+catalog --db --control --key
 requires --db --key --module --version
 key-list --db --control
 shelf-list --db --control

@@ -73,6 +73,9 @@ key-revoke --fingerprint ccaaf6d99f2c8ac70 | 1 no-key
 key-revoke --fingerprint CCAAF6D99F2C8AC7 | 1 no-key
 key-revoke --fingerprint= | 1 no-key
 key-add --shelf common --key R --read-only | 0
+catalog --key A | 0
+catalog --key N | 1 no-key
+catalog --key= | 1 no-key
 """
 # words that no line can carry, and how both end
 UNSAYABLE = [
@@ -89,6 +92,7 @@ UNSAYABLE = [
     (["key-revoke", "--fingerprint", "ccaaf6d99f2c8ac7 "], "no-key"),
     (["key-revoke", "--fingerprint", "f" * 200], "no-key"),
     (["key-revoke", "--fingerprint", "ccaaf6d9\n9f2c8ac7"], "no-key"),
+    (["catalog", "--key", "k" * 200], "no-key"), (["catalog", "--key", KEY + " "], "no-key"),
 ]  # fmt: skip
 # what is sent before the operator shuts its side, and what is told
 LINES = [
@@ -106,6 +110,12 @@ LINES = [
     (b"revoke-fingerprint \n", b"no-key\n"), (b"revoke-fingerprint 0123456789abcdef more\n", b"bad\n"),
     (b"revoke-fingerprint " + b"0" * 108 + b"\n", b"no-key\n"),
     (b"revoke-fingerprint " + b"0" * 109 + b"\n", b"bad\n"),
+    (b"catalog\n", b"bad\n"), (b"catalog nosuchkey0000001", b"bad\n"), (b"catalog nosuchkey0000001 \n", b"bad\n"),
+    (b"catalog alphakey00000001 more\n", b"bad\n"), (b"catalog alphakey00000001\n\n", b"bad\n"),
+    (b"Catalog alphakey00000001\n", b"bad\n"), (b"catalog  alphakey00000001\n", b"bad\n"),
+    (b"catalog nosuchkey0000001\n", b"no-key\n"), (b"catalog \n", b"no-key\n"), (b"catalog a\0\n", b"no-key\n"),
+    (b"catalog alphakey00000001\n", b"done\n"), (b"catalog " + b"k" * 119 + b"\n", b"no-key\n"),
+    (b"catalog " + b"k" * 120 + b"\n", b"bad\n"),
     (b"key-list", b"bad\n"), (b"key-list \n", b"bad\n"), (b"shelf-list a\n", b"bad\n"), (b"key-list\n\n", b"bad\n"),
     (b"stop", b"bad\n"), (b"stop \n", b"bad\n"), (b"stop now\n", b"bad\n"), (b"Stop\n", b"bad\n"),
     (b"stop\nstop\n", b"bad\n"),

@@ -39,6 +39,7 @@ SUITES = (
     listed("beside_store", "curl flock setpriv sqlite3", is_long=True),
     listed("catalog", "go tidy", is_long=True),
     listed("catalog_browser", "chromium nginx openssl sqlite3 tidy"),
+    listed("catalog_control"),
     listed("catalog_front", "flock nginx openssl sqlite3"),
     listed("catalog_misuse"),
     listed("commands"),

@@ -29,7 +29,7 @@ PATHS, VERSIONS = 8, 3_000
 # seconds between two reads of a catalog that is read slowly, and those that a line may wait for its operator
 PACE, PATIENCE = 0.1, 2
 # peers who ask on and on, and the seconds that one may wait on a busy machine
-PEERS, LONGEST = 8, 1
+PEERS, LONGEST = 8, 4
 # what is published while the store is served, as in lib/catalog_store.py
 MORE = """
 A example.com/alpha v1.0.0 - 3
@@ -155,7 +155,7 @@ def meanwhile(suite):
         ("a GET", server.status(get(LIST)), 200),
         ("a publish of a path before all", publish(server, "example.com/a", "v1.0.0"), 201),
         ("one of a path behind all", publish(server, "example.com/z", "v1.0.0"), 201),
-        ("one that retracts", publish(server, "example.com/m7", "v1.9999.0", b"retract [v1.0.0, v9.9.9]\n"), 201),
+        ("one that retracts", publish(server, "example.com/m7", "v1.9999.0", b"retract [v1.0.0, v1.9999.0]\n"), 201),
         ("a version that is there", publish(server, "example.com/lib", "v1.0.0", b"go 1.21\n"), 409),
         ("a list", server.told(get("example.com/z/@v/list")).endswith(b"\r\n\r\nv1.0.0\n"), True),
         ("a team", server.order(b"team-add gamma\n"), b"done\n"),

@@ -5,6 +5,7 @@ nginx and goshelf are real, on a machine in a folder (lib/machine.py), set up by
 each user gets is compared with the pages of a store that was extracted for the team.
 """
 
+import contextlib
 import fcntl
 import grp
 import os
@@ -12,13 +13,13 @@ import re
 import subprocess
 import sys
 
-from lib.catalog_front import GOSHELF, MADE, USERS, lines_of, own_goshelf, set_up
+from lib.catalog_front import GOSHELF, MADE, USERS, between, lines_of, own_goshelf, set_up
 from lib.catalog_store import TODAY, tool
 from lib.front import keys_of, settle
 from lib.keys import KEYS
 from lib.messages import put
 from lib.peers import exchanged
-from lib.program import PROGRAM, done
+from lib.program import done
 from lib.scratch import play, read
 from lib.suite import Suite
 
@@ -166,31 +167,61 @@ def strangers(suite, reader):
 
 
 def words(reader):
-    """What goshelf was asked since the last call."""
+    """The words of the commands `goshelf` since the last call."""
     told = reader.machine.read("root/words").splitlines()
     reader.machine.write("root/words", "")
     return told
 
 
 def left(reader):
-    """What stands beside the store, and copies of it among the pages."""
+    """What stands beside the store, and copies and keys of it among the pages."""
     beside, among = (sorted(os.listdir(f"{reader.machine.folder}/{at}")) for at in ("var/lib/goshelf", AT))
-    return [*beside, *(it for it in among if it.startswith(".goshelf-"))]
+    return [*beside, *(it for it in among if it.startswith((".goshelf-", ".goshelf.")))]
+
+
+def keys_told(machine):
+    """A line for each key that goshelf has."""
+    return machine.does("goshelf key-list --control /run/goshelf/control")
+
+
+def who_shows(text):
+    """The words of the processes that show a text to `ps`."""
+    found = []
+    for pid in filter(str.isdigit, os.listdir("/proc")):
+        with contextlib.suppress(OSError):
+            found.append(read(f"/proc/{pid}/cmdline"))
+    return [it for it in found if text.encode() in it]
 
 
 def runs(suite, reader):
-    """A run makes what is new, by no key of the store, and leaves nothing beside it."""
-    machine, keys = reader.machine, [*KEYS.values(), *keys_of(reader.machine)]
+    """A run makes what is new, by a key of each shelf that goshelf has meanwhile alone."""
+    machine, keys, shown = reader.machine, [*KEYS.values(), *keys_of(reader.machine)], []
     words(reader)
-    told = machine.sh("goshelf-catalog")
-    asked = words(reader)
+    before = keys_told(machine)
+    with between(
+        machine, lambda order, _: shown.extend(who_shows(order[-1]) if order[0] == "catalog" else [])
+    ) as asked:
+        told = machine.sh("goshelf-catalog")
     suite.equal("the pages of other users", told, (0, re.sub(" .*", " nothing changed", MADE), ""))
-    names = [it.split()[0] for it in asked]
-    suite.equal("what goshelf is asked", names, ["--version", "copy", *["catalog"] * len(USERS)])
-    suite.equal("no key of the store is in its words", [it for it in asked if any(key in it for key in keys)], [])
-    suite.equal("the same store", machine.sh("goshelf-catalog"), (0, "nothing has changed\n", ""))
-    suite.equal("it is not copied", [it for it in words(reader) if it.startswith(("copy", "catalog"))], [])
-    before = pages_of(reader, "gamma")
+    verbs = ["ping", "shelf-list", *["reader-add", "catalog", "key-revoke"] * len(USERS)]
+    suite.equal("what goshelf is asked", [it.split()[0] for it in asked], verbs)
+    suite.equal("each shelf once", sorted(it.split()[1] for it in asked[2::3]), sorted(USERS.values()))
+    made = [it.split()[-1] for it in asked[2:]]
+    suite.equal("by a key of its own, which is revoked", made, [it for it in made[::3] for _ in range(3)])
+    suite.holds("no two of them are the same", len({*made}) == len(USERS) and not {*made} & {*keys})
+    suite.equal("goshelf has the keys of before", keys_told(machine), before)
+    suite.equal("`ps` shows none of them", shown, [])
+    told = [it for it in words(reader) if any(key in it for key in (*keys, *made))]
+    suite.equal("no key is in the words of a command", told, [])
+    with between(machine) as asked:
+        told = machine.sh("goshelf-catalog")
+    suite.equal("the same store", (told, asked), ((0, "nothing has changed\n", ""), ["ping", "shelf-list"]))
+    news(suite, reader, [*keys, *made])
+
+
+def news(suite, reader, keys):
+    """A version more, and a run by cron."""
+    machine, before = reader.machine, pages_of(reader, "gamma")
     publish = put("example.com/alpha/new", "v1.0.0", b"module example.com/alpha/new\n", key=KEYS["A"])
     suite.holds("a publish", exchanged(machine.behind, publish).startswith(b"HTTP/1.1 201 "))
     status, printed, errors = machine.sh("goshelf-catalog")
@@ -221,7 +252,7 @@ def readable(suite, machine, keys):
 
 
 def of_backups(suite, reader):
-    """`last` takes the last backup, and goshelf copies nothing."""
+    """`last` takes the last backup, and asks goshelf nothing."""
     machine = reader.machine
     told = machine.sh("goshelf-catalog last")
     suite.holds("without a backup", told[:2] == (1, "") and "there is no backup in " in told[2], told)
@@ -229,16 +260,37 @@ def of_backups(suite, reader):
     publish = put("example.com/alpha/later", "v1.0.0", b"module example.com/alpha/later\n", key=KEYS["A"])
     suite.holds("a publish after the backup", exchanged(machine.behind, publish).startswith(b"HTTP/1.1 201 "))
     words(reader)
-    told = machine.sh("goshelf-catalog last")
+    with between(machine) as asked:
+        told = machine.sh("goshelf-catalog last")
+        again = machine.sh("goshelf-catalog last")
     wanted = re.sub(" .*", " nothing changed", MADE)
-    suite.equal("the pages of the backup", told, (0, wanted, ""))
-    suite.equal("goshelf copies nothing", [it for it in words(reader) if it.startswith("copy")], [])
-    suite.equal("the same backup", machine.sh("goshelf-catalog last"), (0, "nothing has changed\n", ""))
+    suite.equal("the pages of the backup", (told, asked), ((0, wanted, ""), []))
+    suite.equal("the same backup", again, (0, "nothing has changed\n", ""))
+    keys = [*KEYS.values(), *keys_of(machine)]
+    suite.equal("no key of the store is shown", [it for it in words(reader) if any(key in it for key in keys)], [])
+    of_a_backup_at_beta(suite, reader)
     suite.equal("the later version is not there", reader.read("/m/example.com/alpha/later/")[0], 404)
     told = machine.sh("goshelf-catalog")
     suite.holds("the store has it", told[0] == 0 and told[1].startswith("alpha: 6 pages, 2 new"), told)
 
 
+def of_a_backup_at_beta(suite, reader):
+    """A backup of which goshelf prints nothing for a shelf."""
+    machine, before = reader.machine, left(reader)
+    machine.does(f"rm /{AT}/goshelf.state")
+    own_goshelf(machine, f"#!/bin/sh\n{FAILS_AT_BETA}{GOSHELF}")
+    told = machine.sh("goshelf-catalog last")
+    own_goshelf(machine, GOSHELF)
+    suite.holds("a shelf of a backup fails", told[0] == 1 and "beta: goshelf does not" in told[2], told)
+    suite.holds("the others do not", told[1] == re.sub("beta.*\n", "", re.sub(" .*", " nothing changed", MADE)), told)
+    suite.equal("nothing more is left", left(reader), before)
+
+
+# a goshelf that fails as soon as it is asked for what beta sees in a file
+FAILS_AT_BETA = """case "$1 $(sqlite3 "${3-}" "SELECT shelf FROM access WHERE token = '${5-}'" 2> /dev/null)" in
+"catalog beta") echo 'goshelf: device' >&2; exit 1 ;;
+esac
+"""
 # words that are bad usage
 WORDS = ("''", "first", "alpha", "last last", "--last", "--control", "last ''")
 # a way to break a run, as a script and the script that mends it, and what is said
@@ -252,9 +304,15 @@ BREAKS = (
         "goshelf is stopped",
         "systemctl stop goshelf",
         "systemctl start goshelf",
-        "does not copy its store: goshelf: device",
+        "does not answer: goshelf: device",
     ),
-    ("a folder of the name of the copy", "mkdir @COPY@", "rmdir @COPY@", "Is a directory"),
+    ("a folder of the name of the key", "mkdir @AT@/.goshelf.key", "rmdir @AT@/.goshelf.key", "Is a directory"),
+    (
+        "nothing that asks",
+        "mv /root/deploy/shelf_lines.py /root/aside",
+        "mv /root/aside /root/deploy/shelf_lines.py",
+        "can't open file",
+    ),
 )
 
 
@@ -262,12 +320,7 @@ def misused(suite, reader):
     """Wrong words and whatever is missing: a sentence says so, the pages stay, and nothing is left."""
     machine = reader.machine
     before, beside = {it: pages_of(reader, it) for it in USERS.values()}, left(reader)
-    places = {"@AT@": f"/{AT}", "@MAPS@": "/etc/nginx/goshelf", "@COPY@": "/var/lib/goshelf/goshelf-catalog.db"}
-    machine.does(f"rm /{AT}/goshelf.state")
-    with machine.busy(2):
-        told = machine.sh("goshelf-catalog")
-    suite.equal("while goshelf makes another copy, it waits", (told[0], told[2]), (0, ""))
-    before = {it: pages_of(reader, it) for it in USERS.values()}
+    places = {"@AT@": f"/{AT}", "@MAPS@": "/etc/nginx/goshelf"}
     machine.does(f"rm /{AT}/goshelf.state")
     for it in WORDS:
         told = machine.sh(f"goshelf-catalog {it}")
@@ -285,48 +338,88 @@ def misused(suite, reader):
     suite.equal("nothing more is beside the store", left(reader), beside)
 
 
-# a goshelf that does this as soon as it is asked for what beta sees, and one that does it behind a copy
-AT_BETA = """case "$1 $(sqlite3 "${{3-}}" "SELECT shelf FROM access WHERE token = '${{5-}}'" 2> /dev/null)" in
-"catalog beta") {} ;;
-esac
-"""
-AT_COPY = """if [ "$1" = copy ]; then
-    {PROGRAM} "$@"
-    mv "$5" @/root/elsewhere.db
-    ln -s @/root/elsewhere.db "$5"
-    exit
-fi
-"""
+def at_beta(verb, does):
+    """What `between` does with the orders of this verb for beta or its key: what `does` says of their sender."""
+    keys = {"beta"}
+
+    def found(order, sender):
+        if order[:2] == ["reader-add", "beta"]:
+            keys.add(order[2])
+        return does(sender) if order[0] == verb and keys & {*order} else None
+
+    return found
+
+
+def parent_of(number):
+    return int(read(f"/proc/{number}/stat").rpartition(b")")[2].split()[1])
+
+
+# what befalls the orders for beta, as a name, the verb, what is done, and what is said
+BEFALLS = (
+    ("goshelf prints nothing", "catalog", lambda _: b"device\n", "beta: goshelf does not print what it sees: device"),
+    ("goshelf ends", "catalog", lambda _: b'{"Path":"example.com/a"}\n', "what it sees: the reply was cut off"),
+    ("goshelf ends at once", "catalog", lambda _: b"", "what it sees: the reply was cut off"),
+    ("goshelf ends in a line", "catalog", lambda _: b"done\n{", "what it sees: the reply was cut off"),
+    ("goshelf makes no key", "reader-add", lambda _: b"memory\n", "what it sees: memory"),
+    ("the run is stopped", "catalog", lambda it: os.kill(parent_of(it), 15), ""),
+    ("what asks is stopped", "catalog", lambda it: os.kill(it, 15), "beta: goshelf does not print what it sees: "),
+    ("what asks is killed", "catalog", lambda it: os.kill(it, 9), "beta: goshelf does not print what it sees: "),
+)
 
 
 def broken(suite, reader):
-    """A shelf whose pages cannot be made, a run that is stopped or killed, and a link in the place of the copy."""
-    machine, top = reader.machine, f"{reader.machine.folder}/{AT}"
-    before, beside = {it: pages_of(reader, it) for it in USERS.values()}, left(reader)
-    for name, body, said in (
-        (
-            "a shelf of which goshelf prints nothing",
-            AT_BETA.format("echo 'goshelf: device' >&2; exit 1"),
-            "beta: goshelf ",
-        ),
-        ("a run that is stopped", AT_BETA.format("kill $PPID; exit 1"), ""),
-        ("a link in the place of the copy", AT_COPY.format(PROGRAM=PROGRAM), "goshelf-catalog.db is a link"),
-    ):
-        own_goshelf(machine, f"#!/bin/sh\n{body}{GOSHELF}")
-        told = machine.sh("goshelf-catalog")
-        suite.holds(f"{name}: it fails", told[0] == 1 and said in told[2] and "beta: 1" not in told[1], told)
+    """A shelf whose lines do not come, and a run that is stopped: the pages stay, and goshelf has no key more."""
+    machine = reader.machine
+    before, beside, keys = {it: pages_of(reader, it) for it in USERS.values()}, left(reader), keys_told(machine)
+    for name, verb, does, said in BEFALLS:
+        with between(machine, at_beta(verb, does)):
+            told = machine.sh("goshelf-catalog")
+        suite.holds(f"{name}: it fails", told[0] == 1 and said in told[2] and "beta: " not in told[1], told)
         suite.equal(f"{name}: the pages stay", {it: pages_of(reader, it) for it in before}, before)
-        suite.equal(f"{name}: nothing more is beside the store", left(reader), beside)
-    own_goshelf(machine, f"#!/bin/sh\n{AT_BETA.format('kill -9 $PPID; exit 1')}{GOSHELF}")
-    told = machine.sh("goshelf-catalog")
-    suite.holds("a run that is killed leaves its copy", told[0] == 137 and len(left(reader)) == len(beside) + 1, told)
-    found = [it for it in left(reader) if it not in beside]
-    suite.holds("where goshelf's user cannot put another", os.path.exists(f"{top}/{found[0]}/keys"), found)
-    own_goshelf(machine, GOSHELF)
-    # (the child that killed the run holds its lock until it ends)
-    held = os.open(f"{machine.folder}/var/lib/goshelf", os.O_RDONLY)
-    fcntl.flock(held, fcntl.LOCK_EX)
-    os.close(held)
+        suite.equal(f"{name}: nothing more is left", (left(reader), keys_told(machine)), (beside, keys))
+    tries = [b"busy\n", b"busy\n"]
+    with between(machine, at_beta("catalog", lambda _: tries.pop() if tries else None)) as asked:
+        told = machine.sh("goshelf-catalog")
+    suite.equal("while goshelf makes a copy, it waits", (told[0], told[2], tries), (0, "", []))
+    waits = [it.split()[0] for it in asked if it.split()[0] in ("reader-add", "catalog", "key-revoke")]
+    suite.equal("and has no key meanwhile", waits, ["reader-add", "catalog", "key-revoke"] * (len(USERS) + 2))
+    suite.equal("nothing more is left then", (left(reader), keys_told(machine)), (beside, keys))
+    unrevoked(suite, reader, beside, keys)
+    in_the_way(suite, reader, beside)
+
+
+def unrevoked(suite, reader, beside, keys):
+    """A key that a run cannot revoke is in a file that root alone reads, and the next run revokes it first."""
+    machine, at = reader.machine, f"{reader.machine.folder}/{AT}/.goshelf.key"
+    for name, verb, does, said in (
+        ("a revocation that fails", "key-revoke", lambda _: b"device\n", "is not revoked: device"),
+        ("a revocation without a reply", "key-revoke", lambda _: b"", "is not revoked: the reply was cut off"),
+        ("a run that is killed", "catalog", lambda it: (os.kill(parent_of(it), 9), os.kill(it, 9)) and None, ""),
+    ):
+        machine.does(f"rm -f /{AT}/goshelf.state")
+        with between(machine, at_beta(verb, does)):
+            told = machine.sh("goshelf-catalog")
+        suite.holds(f"{name}: it fails", told[0] != 0 and said in told[2], told)
+        key, mode = read(at).decode(), os.stat(at).st_mode & 0o777
+        suite.equal(f"{name}: the key is kept", (mode, len(keys_told(machine)) > len(keys)), (0o600, True))
+        with between(machine) as asked:
+            told = machine.sh("goshelf-catalog")
+        suite.equal(f"{name}: the next run", (told[0], told[2], asked[0]), (0, "", f"key-revoke {key}"))
+        suite.equal(f"{name}: leaves nothing", (left(reader), keys_told(machine)), (beside, keys))
+    for text in ("", "0" * 31, "0" * 32, "a\nkey-revoke b\n", "\0" * 32):
+        machine.does(f"rm -f /{AT}/goshelf.state")
+        machine.write(f"{AT}/.goshelf.key", text)
+        with between(machine) as asked:
+            told = machine.sh("goshelf-catalog")
+        sent = [f"key-revoke {text}"] if text == "0" * 32 else []
+        suite.equal(f"a key {text!r} that goshelf does not have", (told[0], told[2], asked[: len(sent)]), (0, "", sent))
+        suite.equal("leaves nothing", (left(reader), asked.count("ping")), (beside, 1))
+
+
+def in_the_way(suite, reader, beside):
+    """A folder of somebody's own in the place of the pages of a shelf."""
+    machine, top = reader.machine, f"{reader.machine.folder}/{AT}"
+    machine.does(f"rm /{AT}/goshelf.state")
     os.rename(f"{top}/beta", f"{top}/aside")
     os.mkdir(f"{top}/beta")
     told = machine.sh("goshelf-catalog")
@@ -335,7 +428,7 @@ def broken(suite, reader):
     os.rename(f"{top}/aside", f"{top}/beta")
     told = machine.sh("goshelf-catalog")
     suite.holds("the next run makes the pages", (told[0], told[2]) == (0, "") and "\nbeta: " in told[1], told)
-    suite.equal("what was killed left nothing", left(reader), beside)
+    suite.equal("nothing more is left", left(reader), beside)
 
 
 def main():

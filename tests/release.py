@@ -30,6 +30,7 @@ WANTED = {
     "deploy/systemd/goshelf.service",
     "deploy/warm/goshelf-warm",
     "deploy/common.sh",
+    "deploy/shelf_lines.py",
     "deploy/goshelf-paths",
     "deploy/nginx/paths.map",
     "deploy/nginx/elsewhere.conf",

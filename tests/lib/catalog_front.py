@@ -1,13 +1,18 @@
 """A machine with goshelf behind nginx and the pages of its shelves, by the commands of docs/NGINX.md, and its users."""
 
+import contextlib
 import os
 import secrets
+import socket
+import struct
+import threading
 from http.client import HTTPException, HTTPSConnection
 
 from lib.catalog_store import TODAY, make_store
 from lib.front import Client, settle, start
 from lib.machine import Machine
 from lib.pages import block
+from lib.peers import asked_by
 from lib.program import PROGRAM, ROOT
 
 # each user, and the user's shelf
@@ -64,6 +69,52 @@ def own_goshelf(machine, text):
     """Puts a script in the place of the command goshelf, which is a link to the program."""
     os.remove(f"{machine.folder}/usr/local/bin/goshelf")
     machine.command("goshelf", text)
+
+
+@contextlib.contextmanager
+def between(machine, does=lambda words, sender: None):
+    """Takes the orders for a machine's goshelf meanwhile, and yields them as they come. `does` gets the words of each
+    and the number of the process that sends it, and returns the reply. None stands for that of goshelf."""
+    at, orders = f"{machine.folder}/run/goshelf/control", []
+    os.rename(at, f"{at}.own")
+    with socket.socket(socket.AF_UNIX) as listener:
+        listener.bind(at)
+        listener.listen()
+        thread = threading.Thread(target=pass_on, args=(listener, f"{at}.own", does, orders))
+        thread.start()
+        try:
+            yield orders
+        finally:
+            listener.shutdown(socket.SHUT_RDWR)
+            thread.join()
+            os.rename(f"{at}.own", at)
+
+
+def pass_on(listener, own, does, orders):
+    """Passes orders on to a socket, one after another, until nobody listens any more."""
+    while True:
+        try:
+            held, _ = listener.accept()
+        except OSError:
+            return
+        # (the sender may have been killed)
+        with held, contextlib.suppress(OSError):
+            line = held.recv(4_096)
+            orders.append(line.decode().rstrip("\n"))
+            sender = struct.unpack("3i", held.getsockopt(socket.SOL_SOCKET, socket.SO_PEERCRED, 12))[0]
+            reply = does(orders[-1].split(" "), sender)
+            held.sendall(told_at(own, line) if reply is None else reply)
+
+
+def told_at(at, line):
+    """What the goshelf that listens at a socket replies to an order."""
+
+    def connected():
+        held = socket.socket(socket.AF_UNIX)
+        held.connect(at)
+        return held
+
+    return asked_by(connected, line)
 
 
 def set_up(suite, folder):

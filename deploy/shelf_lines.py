@@ -1,0 +1,123 @@
+"""Prints what a shelf sees, by a key that a running goshelf has only meanwhile. goshelf-catalog runs it.
+
+usage: shelf_lines.py CONTROL KEPT [SHELF]
+
+It asks at the socket CONTROL as `goshelf catalog` does, because `ps` would show the key of that command. The key is in
+the file KEPT from before goshelf has it until after it is revoked, so a later call revokes what a kill left. Without
+SHELF it does that alone.
+
+exit status: 0 done; 1 a line is missing or the key is not revoked, and standard error says why
+"""
+
+import os
+import re
+import secrets
+import signal
+import socket
+import sys
+import time
+
+# how often it asks a goshelf that makes a copy or another catalog, once a second
+TRIES = 600
+# seconds that it waits for more of a reply
+PATIENCE = 600
+
+
+class Refused(Exception):
+    """Why it failed."""
+
+
+def replied(control, line):
+    """Yields the lines of the reply to an order."""
+    with socket.socket(socket.AF_UNIX) as held:
+        held.settimeout(PATIENCE)
+        held.connect(control)
+        held.sendall(f"{line}\n".encode())
+        with held.makefile("rb") as reply:
+            yield from reply
+
+
+def word_of(line):
+    """The word of the last line of a reply."""
+    word = line.decode(errors="replace")
+    return word[:-1] if re.fullmatch("[a-z-]+\n", word) else "the reply was cut off"
+
+
+def order(control, line):
+    return word_of(b"".join(replied(control, line)))
+
+
+def revoke(control, kept):
+    """Revokes the key in a file, if there is one, and removes the file."""
+    try:
+        with open(kept, encoding="ascii", errors="replace") as file:
+            key = file.read()
+    except FileNotFoundError:
+        return
+    # (a key that is not whole was not added)
+    if re.fullmatch("[0-9a-f]{32}", key):
+        word = order(control, f"key-revoke {key}")
+        if word not in ("done", "no-key"):
+            raise Refused(f"the key in {kept} is not revoked: {word}")
+    os.remove(kept)
+
+
+def keep(kept, key):
+    """Writes a key into a new file, and waits until the disk has it."""
+    folder = os.open(os.path.dirname(kept), os.O_RDONLY)
+    with open(os.open(kept, os.O_WRONLY | os.O_CREAT | os.O_EXCL, 0o600), "w", encoding="ascii") as file:
+        file.write(key)
+        file.flush()
+        os.fsync(file.fileno())
+    os.fsync(folder)
+    os.close(folder)
+
+
+def print_lines(control, key):
+    """Prints the lines of a key's catalog, and returns the word behind them."""
+    last = b""
+    for line in replied(control, f"catalog {key}"):
+        sys.stdout.buffer.write(last)
+        last = line
+    sys.stdout.buffer.flush()
+    return word_of(last)
+
+
+def print_shelf(control, kept, shelf):
+    """Prints what a shelf sees, and returns the word behind that."""
+    key = secrets.token_hex(16)
+    keep(kept, key)
+    try:
+        word = order(control, f"reader-add {shelf} {key}")
+        return print_lines(control, key) if word == "done" else word
+    finally:
+        revoke(control, kept)
+
+
+def print_when_free(control, kept, shelf):
+    """Prints what a shelf sees, once goshelf makes no copy and no other catalog."""
+    for _ in range(TRIES):
+        word = print_shelf(control, kept, shelf)
+        if word != "busy":
+            break
+        # (a copy that begins now has no key of this)
+        time.sleep(1)
+    if word != "done":
+        raise Refused(word)
+
+
+def main(control, kept, *shelf):
+    for it in (signal.SIGHUP, signal.SIGINT, signal.SIGTERM):
+        signal.signal(it, lambda *_: sys.exit(1))
+    try:
+        revoke(control, kept)
+        if shelf:
+            print_when_free(control, kept, *shelf)
+    except (Refused, OSError) as refused:
+        print(refused, file=sys.stderr)
+        return 1
+    return 0
+
+
+if __name__ == "__main__":
+    sys.exit(main(*sys.argv[1:]))

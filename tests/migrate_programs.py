@@ -4,7 +4,14 @@
 So it is with what the go command asks. OLD_GOSHELF names a program of schema 2, and OLDEST_GOSHELF one of schema 1. The
 first serves a store to the go command, behind a recorder that keeps each request and each reply; then the migrated
 store is asked the same, and each reply has the same bytes. The second answers no port, so both are asked on standard
-input.
+input. Without both it skips their rows. These build them:
+
+    for commit in 3075c4d c37c80c; do
+        git clone -q . /tmp/$commit && git -C /tmp/$commit checkout -q $commit
+        (cd /tmp/$commit && ./goshelf --help > /dev/null)
+    done
+    export OLDEST_GOSHELF=/tmp/3075c4d/crates/goshelf/out/goshelf OLD_GOSHELF=/tmp/c37c80c/crates/goshelf/out/goshelf
+    tests/all migrate_programs
 """
 
 import os

@@ -1,9 +1,9 @@
 #!/usr/bin/env python3
 """What `serve --control` costs its peers and its operators.
 
-It measures GETs with the socket and without, orders under load, a key revoked, a copy. Build the program first
-(`./goshelf --version`); cc is on the path. With --program FILE it measures that program. It prints a table for
-bench/RESULTS.md, of five parts, or of those that --only names:
+It measures GETs with the socket and without, orders under load, a key revoked, a copy, a catalog. Build the program
+first (`./goshelf --version`); cc is on the path. With --program FILE it measures that program. It prints a table for
+bench/RESULTS.md, of six parts, or of those that --only names:
 
   gets      GETs a second of one `.mod` with `--control` beside those without, in turn, by a client in C, each on a
             connection of its own, and the server's processor time of one, which other processes on the machine hardly
@@ -18,6 +18,9 @@ bench/RESULTS.md, of five parts, or of those that --only names:
             while nobody asks, and while eight clients ask on and on; how long their requests wait meanwhile, beside the
             same load without a copy; and the server's peak memory of both, started as the unit starts it. With
             --beside FILE in turn with that program
+  catalog   `catalog --control` of a store of 2,000 paths with 10 versions each, beside `inventory --db` less what the
+            opening takes: the seconds of all processors, while nobody asks; and what it takes while eight clients ask
+            on and on, and how long their requests wait meanwhile, beside the same load without a catalog
 
 STORES names the folder of the stores, 6 GiB for all parts.
 """
@@ -34,12 +37,13 @@ import sys
 import tempfile
 import time
 
+import lists
 import store
 from memory import SETTING
 from serve import ROOT, client_in, fetched, started, stopped
 from store import KEY, PROGRAM
 
-PARTS = ("gets", "orders", "revoke", "pings", "copy")
+PARTS = ("gets", "orders", "revoke", "pings", "copy", "catalog")
 # seconds of load around a revocation
 BEFORE, AFTER = 0.5, 1.5
 # seconds of load without a copy, and the longest that a copy may take under load
@@ -83,6 +87,13 @@ class Server:
         begun = time.monotonic()
         subprocess.run([self.program, "copy", "--control", self.control, "--to", to], check=True)
         return begun, time.monotonic()
+
+    def printed(self):
+        """Has a catalog printed. Returns when the command began and when it had ended, the seconds of all processors
+        that it took, its own too, and its bytes."""
+        before, begun = used(self.child), time.monotonic()
+        own, _, size = lists.run(self.program, ["catalog", "--control", self.control, "--key", KEY], b"")
+        return begun, time.monotonic(), own + (used(self.child) - before) / 1e6, size
 
     def forget_peak(self):
         with open(f"/proc/{self.child.pid}/clear_refs", "w", encoding="ascii") as file:
@@ -352,6 +363,42 @@ def late(waits):
     return f"{in_order(waits, 0.999):.1f} ms at 99.9 %, {max(waits):,.1f} at most, of {len(waits):,}"
 
 
+def catalog(words, folder, client):
+    """Catalogs of a served store, beside inventories of its file, as rows of the table."""
+    file = os.path.join(folder, "listed.db")
+    lists.filled(file, words.paths, words.each, 1024, words.requires)
+    opening, inventory = (
+        [lists.run(words.program, it, b"")[0] for _ in range(words.rounds)]
+        for it in (["answer", "--db", file], ["inventory", "--db", file, "--key", KEY])
+    )
+    server = Server(words.program, file, f"{folder}/control")
+    targets = [f"/k/{KEY}/example.com/team/module{n * 7 % words.paths}/@v/v1.0.0.mod" for n in range(words.paths)]
+    alone = [server.printed() for _ in range(words.rounds)]
+    plain = waits_of(Load(client, server.port, targets, words.clients, PLAIN).outcomes())
+    waits, loaded = [], []
+    for _ in range(words.copies):
+        load = Load(client, server.port, targets, words.clients, BEFORE + LONGEST)
+        time.sleep(BEFORE)
+        begun, ended, _, size = server.printed()
+        if load.child.poll() is not None or size != alone[0][3]:
+            sys.exit("the load ended before the catalog did, or the catalog is not whole")
+        load.end()
+        waits += waits_of(load.outcomes(), begun, ended)
+        loaded.append(ended - begun)
+    server.stop()
+    remove(file)
+    less = statistics.median(inventory) - statistics.median(opening)
+    mine = [it for _, _, it, _ in alone]
+    name = f"`catalog --control` of {words.paths:,} paths with {words.each} versions each"
+    ratio = f"{middle(mine)}, {statistics.median(mine) / less:.2f} times the {less:.2f} of `inventory --db`"
+    return [
+        (f"{name}, nobody asks, all processors", f"{ratio} beside its opening of {statistics.median(opening):.2f}"),
+        (f"{name}, nobody asks", middle([ended - begun for begun, ended, _, _ in alone])),
+        (f"{name}, while {clients(words.clients)} ask", middle(loaded)),
+        (f"{name}, a request meanwhile", f"{late(waits)}; without a catalog {late(plain)}"),
+    ]
+
+
 def filled(file, count, length):
     """A store with this many zips of this length."""
     conn = store.made(file)
@@ -401,7 +448,10 @@ def options():
         ("pinged", 100_000, "versions of the store that is pinged"),
         ("mib", 1_024, "zips of 1 MiB in the first store that is copied"),
         ("small", 100_000, "zips of 1 KiB in the second"),
-        ("copies", 5, "turns of the copies"),
+        ("copies", 5, "turns of the copies, and of the catalogs under load"),
+        ("paths", 2_000, "paths of the store whose catalog is printed"),
+        ("each", 10, "versions of each of them"),
+        ("requires", 0, "requirements of each of their go.mods"),
     ):
         parser.add_argument(f"--{name}", type=int, default=default, help=f"{text} ({default:,})")
     return parser.parse_args()
@@ -417,9 +467,7 @@ def main():
         client = client_in(folder)
         for name in words.only.split(","):
             begun = time.monotonic()
-            rows += {"gets": gets, "orders": orders, "revoke": revoke, "pings": pings, "copy": copy}[name](
-                words, folder, client
-            )
+            rows += dict(zip(PARTS, (gets, orders, revoke, pings, copy, catalog)))[name](words, folder, client)
             print(f"{name}: {time.monotonic() - begun:.0f} s", file=sys.stderr, flush=True)
     print(table(rows))
 

@@ -29,12 +29,15 @@ class Refused(Exception):
 
 def replied(control, line):
     """Yields the lines of the reply to an order."""
-    with socket.socket(socket.AF_UNIX) as held:
-        held.settimeout(PATIENCE)
-        held.connect(control)
-        held.sendall(f"{line}\n".encode())
-        with held.makefile("rb") as reply:
-            yield from reply
+    try:
+        with socket.socket(socket.AF_UNIX) as held:
+            held.settimeout(PATIENCE)
+            held.connect(control)
+            held.sendall(f"{line}\n".encode())
+            with held.makefile("rb") as reply:
+                yield from reply
+    except OSError as error:
+        raise Refused(f"goshelf does not answer: {error.strerror or error}") from None
 
 
 def word_of(line):
@@ -44,7 +47,11 @@ def word_of(line):
 
 
 def order(control, line):
-    return word_of(b"".join(replied(control, line)))
+    """The word of the reply to an order, or why there is none."""
+    try:
+        return word_of(b"".join(replied(control, line)))
+    except Refused as refused:
+        return str(refused)
 
 
 def revoke(control, kept):

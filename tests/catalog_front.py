@@ -406,6 +406,13 @@ def unrevoked(suite, reader, beside, keys):
             told = machine.sh("goshelf-catalog")
         suite.equal(f"{name}: the next run", (told[0], told[2], asked[0]), (0, "", f"key-revoke {key}"))
         suite.equal(f"{name}: leaves nothing", (left(reader), keys_told(machine)), (beside, keys))
+    machine.does("systemctl stop goshelf")
+    machine.write(f"{AT}/.goshelf.key", "0" * 32)
+    told = machine.sh("goshelf-catalog")
+    said = "is not revoked: goshelf does not answer: ", "does not answer: goshelf: device"
+    suite.holds("goshelf is stopped: both are said", told[0] == 1 and all(it in told[2] for it in said), told)
+    suite.equal("and the key is kept", machine.read(f"{AT}/.goshelf.key"), "0" * 32)
+    machine.does("systemctl start goshelf")
     for text in ("", "0" * 31, "0" * 32, "a\nkey-revoke b\n", "\0" * 32):
         machine.does(f"rm -f /{AT}/goshelf.state")
         machine.write(f"{AT}/.goshelf.key", text)

@@ -16,12 +16,12 @@ as_owner() {
 }
 
 # Has goshelf copy its store to this file. goshelf writes the copy itself, and its unit lets it write only beside its
-# store. It makes one copy at a time, and another command may have ordered one.
+# store. It makes one copy or one catalog at a time, and another command may have ordered one.
 order_copy() {
     tries=0
     until told=$(goshelf copy --control "$control" --to "$1" 2>&1); do
         [ "$told" = 'goshelf: busy' ] || fail "goshelf does not copy its store: $told"
-        [ $((tries += 1)) -le 600 ] || fail 'goshelf has made another copy for ten minutes'
+        [ $((tries += 1)) -le 600 ] || fail 'goshelf has made copies or catalogs for ten minutes'
         sleep 1
     done
 }

@@ -6,7 +6,7 @@ It asks at the socket CONTROL as `goshelf catalog` does, because `ps` would show
 the file KEPT from before goshelf has it until after it is revoked, so a later call revokes what a kill left. Without
 SHELF it does that alone.
 
-exit status: 0 done; 1 a line is missing or the key is not revoked, and standard error says why
+exit status: 0 done; 1 a line is missing or the key is not revoked, and standard error says why; 2 bad usage
 """
 
 import os
@@ -71,7 +71,7 @@ def revoke(control, kept):
 
 def keep(kept, key):
     """Writes a key into a new file, and waits until the disk has it."""
-    folder = os.open(os.path.dirname(kept), os.O_RDONLY)
+    folder = os.open(os.path.dirname(kept) or ".", os.O_RDONLY)
     with open(os.open(kept, os.O_WRONLY | os.O_CREAT | os.O_EXCL, 0o600), "w", encoding="ascii") as file:
         file.write(key)
         file.flush()
@@ -113,7 +113,14 @@ def print_when_free(control, kept, shelf):
         raise Refused(word)
 
 
-def main(control, kept, *shelf):
+def main(words):
+    if words in (["-h"], ["--help"]):
+        print(__doc__, end="")
+        return 0
+    if len(words) not in (2, 3) or "" in words or words[0].startswith("-"):
+        print(__doc__, end="", file=sys.stderr)
+        return 2
+    control, kept, *shelf = words
     for it in (signal.SIGHUP, signal.SIGINT, signal.SIGTERM):
         signal.signal(it, lambda *_: sys.exit(1))
     try:
@@ -127,4 +134,4 @@ def main(control, kept, *shelf):
 
 
 if __name__ == "__main__":
-    sys.exit(main(*sys.argv[1:]))
+    sys.exit(main(sys.argv[1:]))

@@ -1,16 +1,20 @@
 #!/usr/bin/env python3
-"""tools/catalog, misused: words and lines that it refuses, and its folder after a killed run or beside another run."""
+"""tools/catalog, misused: words and lines that it refuses, and its folder after a killed run or beside another run.
+
+And what asks goshelf for these lines, where none answers.
+"""
 
 import fcntl
 import hashlib
 import os
+import shlex
 import subprocess
 import sys
 
 from lib import catalog_lines
 from lib.catalog_pages import Page
 from lib.catalog_store import EVIL, TODAY, TOOL, line_of, make, make_store, tool, write_lines
-from lib.program import ROOT
+from lib.program import ROOT, columns
 from lib.scratch import in_new_folders, read
 from lib.suite import Suite, shown
 
@@ -104,6 +108,40 @@ def unprinted(suite):
         is_right = (told.returncode, told.stdout) == (int(status), "") and said in told.stderr
         suite.holds(f"catalog_lines {words}: refused", is_right and "Traceback" not in told.stderr, told)
     suite.equal("no file is made", sorted(os.listdir(".")), before)
+
+
+# words of deploy/shelf_lines.py, its status, and what is said
+ASKS = """
+ | 2 | usage:
+control | 2 | usage:
+control kept alpha more | 2 | usage:
+--nosuch kept | 2 | usage:
+'' kept alpha | 2 | usage:
+control '' | 2 | usage:
+control kept '' | 2 | usage:
+nosuch kept | 0 |
+nosuch no/such/kept alpha | 1 | No such file
+nosuch kept alpha | 1 | the key in kept is not revoked: goshelf does not answer: No such file
+nosuch kept | 1 | the key in kept is not revoked: goshelf does not answer: No such file
+alpha kept | 1 | the key in kept is not revoked: goshelf does not answer: Connection refused
+"""
+
+
+def unasked(suite):
+    """What asks goshelf for the lines of a shelf, without a goshelf: it prints no line, and keeps the key."""
+    program = os.path.join(ROOT, "deploy", "shelf_lines.py")
+    with open("lines", "wb") as lines:
+        for row in ASKS.split("\n")[1:-1]:
+            words, status, said = columns(row, 3)
+            ran = subprocess.run(
+                [sys.executable, "-I", program, *shlex.split(words)], stdout=lines, stderr=subprocess.PIPE, text=True
+            )
+            is_right = ran.returncode == int(status) and said in ran.stderr and "Traceback" not in ran.stderr
+            suite.holds(f"shelf_lines {words}: {status}", is_right, (ran.returncode, ran.stderr))
+    suite.equal("no line is printed", read("lines"), b"")
+    suite.equal("who may read the key", (len(read("kept")), os.stat("kept").st_mode & 0o777), (32, 0o600))
+    told = subprocess.run([sys.executable, "-I", program, "--help"], capture_output=True, text=True)
+    suite.holds("shelf_lines --help", told.returncode == 0 and "\nusage: " in told.stdout, told)
 
 
 def misused(suite):
@@ -213,7 +251,7 @@ def played(suite):
     os.mkdir("mine")
     make("gamma")
     suite.equal("the pages", make("alpha", *COMMON), "4 pages, 4 new or changed\n")
-    for part in (unprinted, misused, left_alone, killed, odd):
+    for part in (unprinted, unasked, misused, left_alone, killed, odd):
         part(suite)
 
 

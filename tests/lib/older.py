@@ -7,18 +7,11 @@ from lib.keys import KEYS
 from lib.messages import put, raw_replies
 from lib.program import run
 from lib.scratch import write
-from lib.tables import PIECE, connected, entries_of, settled
+from lib.tables import ACCESS, META, PIECE, PIECES, VERSION, connected, entries_of, settled
 from lib.worked import FILES, worked_store
 
 # the tables of schemas 1 and 2: those that they share, and those of each
-SHARED = (
-    "CREATE TABLE meta (name TEXT PRIMARY KEY, value INTEGER NOT NULL) STRICT",
-    "CREATE TABLE shelf (name TEXT PRIMARY KEY) STRICT",
-    (
-        "CREATE TABLE access (token TEXT PRIMARY KEY, shelf TEXT NOT NULL REFERENCES shelf (name), publish INTEGER NOT"
-        " NULL CHECK (publish IN (0, 1))) STRICT"
-    ),
-)
+SHARED = (META, "CREATE TABLE shelf (name TEXT PRIMARY KEY) STRICT", ACCESS)
 OWN = {
     1: (
         (
@@ -27,17 +20,7 @@ OWN = {
         ),
         "CREATE TABLE body (id INTEGER PRIMARY KEY REFERENCES version (id), zip BLOB NOT NULL) STRICT",
     ),
-    2: (
-        (
-            "CREATE TABLE version (id INTEGER PRIMARY KEY, shelf TEXT NOT NULL REFERENCES shelf (name), path TEXT NOT"
-            " NULL, version TEXT NOT NULL, time TEXT, mod BLOB NOT NULL, order_key BLOB NOT NULL, rank_key BLOB NOT"
-            " NULL, UNIQUE (shelf, path, version)) STRICT"
-        ),
-        (
-            "CREATE TABLE piece (version INTEGER NOT NULL REFERENCES version (id), number INTEGER NOT NULL CHECK"
-            " (number >= 0), bytes BLOB NOT NULL, PRIMARY KEY (version, number)) STRICT"
-        ),
-    ),
+    2: (VERSION, PIECES),
 }
 # zips of more pieces than one, the last one full or not
 LONG = {"v1.0.1": b"p" * PIECE, "v1.0.2": b"q" * (PIECE + 1), "v1.0.3": bytes(range(256)) * 1024}
@@ -98,42 +81,31 @@ def with_log(folder, schema):
     conn.close()
 
 
-# the tables of schema 1, which have no keys of order, with their rows
-SCHEMA_1 = """
-CREATE TABLE meta (name TEXT PRIMARY KEY, value INTEGER NOT NULL) STRICT;
-CREATE TABLE shelf (name TEXT PRIMARY KEY) STRICT;
-CREATE TABLE access (token TEXT PRIMARY KEY, shelf TEXT NOT NULL REFERENCES shelf (name), publish INTEGER NOT NULL \
-CHECK (publish IN (0, 1))) STRICT;
-CREATE TABLE version (id INTEGER PRIMARY KEY, shelf TEXT NOT NULL REFERENCES shelf (name), path TEXT NOT NULL, \
-version TEXT NOT NULL, time TEXT, mod BLOB NOT NULL, UNIQUE (shelf, path, version)) STRICT;
-CREATE TABLE body (id INTEGER PRIMARY KEY REFERENCES version (id), zip BLOB NOT NULL) STRICT;
-INSERT INTO meta VALUES ('schema', 1);
-INSERT INTO shelf VALUES ('common'), ('alpha');
-INSERT INTO access VALUES ('alphakey00000001', 'alpha', 1);
-INSERT INTO version VALUES (7, 'common', 'example.com/lib', 'v1.0.0', NULL, \
-X'6d6f64756c65206578616d706c652e636f6d2f6c69620a');
-INSERT INTO body VALUES (7, X'5A');
-"""
-
+# a version of `common`, without the keys of order of schema 2
+ENTRY = "7, 'common', 'example.com/lib', 'v1.0.0', NULL, X'6d6f64756c65206578616d706c652e636f6d2f6c69620a'"
 # the keys of v1.0.0
 ORDER_KEY = "00000000000000010000000000000000000000000000000003"
 RANK_KEY = "03" + ORDER_KEY
 
-# the tables of schema 2, whose shelves have no parents, with their rows
-SCHEMA_2 = f"""
-CREATE TABLE meta (name TEXT PRIMARY KEY, value INTEGER NOT NULL) STRICT;
-CREATE TABLE shelf (name TEXT PRIMARY KEY) STRICT;
-CREATE TABLE access (token TEXT PRIMARY KEY, shelf TEXT NOT NULL REFERENCES shelf (name), publish INTEGER NOT NULL \
-CHECK (publish IN (0, 1))) STRICT;
-CREATE TABLE version (id INTEGER PRIMARY KEY, shelf TEXT NOT NULL REFERENCES shelf (name), path TEXT NOT NULL, \
-version TEXT NOT NULL, time TEXT, mod BLOB NOT NULL, order_key BLOB NOT NULL, rank_key BLOB NOT NULL, UNIQUE (shelf, \
-path, version)) STRICT;
-CREATE TABLE piece (version INTEGER NOT NULL REFERENCES version (id), number INTEGER NOT NULL CHECK (number >= 0), \
-bytes BLOB NOT NULL, PRIMARY KEY (version, number)) STRICT;
-INSERT INTO meta VALUES ('schema', 2);
-INSERT INTO shelf VALUES ('common'), ('alpha');
-INSERT INTO access VALUES ('alphakey00000001', 'alpha', 1);
-INSERT INTO version VALUES (7, 'common', 'example.com/lib', 'v1.0.0', NULL, \
-X'6d6f64756c65206578616d706c652e636f6d2f6c69620a', X'{ORDER_KEY}', X'{RANK_KEY}');
-INSERT INTO piece VALUES (7, 0, X'5A');
-"""
+
+def script(schema, *entry):
+    """The statements that make a store of a schema with alpha, its key, and these rows of an entry."""
+    return "".join(
+        f"{it};\n"
+        for it in (
+            *SHARED,
+            *OWN[schema],
+            f"INSERT INTO meta VALUES ('schema', {schema})",
+            "INSERT INTO shelf VALUES ('common'), ('alpha')",
+            f"INSERT INTO access VALUES ('{KEYS['A']}', 'alpha', 1)",
+            *entry,
+        )
+    )
+
+
+SCHEMA_1 = script(1, f"INSERT INTO version VALUES ({ENTRY})", "INSERT INTO body VALUES (7, X'5A')")
+SCHEMA_2 = script(
+    2,
+    f"INSERT INTO version VALUES ({ENTRY}, X'{ORDER_KEY}', X'{RANK_KEY}')",
+    "INSERT INTO piece VALUES (7, 0, X'5A')",
+)

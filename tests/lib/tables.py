@@ -5,6 +5,23 @@ import sqlite3
 
 # bytes of a piece of a zip but for its last
 PIECE = 65_536
+# the tables, of which those of schema 2 were the same but for `shelf`
+META = "CREATE TABLE meta (name TEXT PRIMARY KEY, value INTEGER NOT NULL) STRICT"
+SHELF = "CREATE TABLE shelf (name TEXT PRIMARY KEY, parent TEXT REFERENCES shelf (name)) STRICT"
+ACCESS = (
+    "CREATE TABLE access (token TEXT PRIMARY KEY, shelf TEXT NOT NULL REFERENCES shelf (name), publish INTEGER NOT NULL"
+    " CHECK (publish IN (0, 1))) STRICT"
+)
+VERSION = (
+    "CREATE TABLE version (id INTEGER PRIMARY KEY, shelf TEXT NOT NULL REFERENCES shelf (name), path TEXT NOT NULL,"
+    " version TEXT NOT NULL, time TEXT, mod BLOB NOT NULL, order_key BLOB NOT NULL, rank_key BLOB NOT NULL, UNIQUE"
+    " (shelf, path, version)) STRICT"
+)
+PIECES = (
+    "CREATE TABLE piece (version INTEGER NOT NULL REFERENCES version (id), number INTEGER NOT NULL CHECK (number >= 0),"
+    " bytes BLOB NOT NULL, PRIMARY KEY (version, number)) STRICT"
+)
+TABLES = (META, SHELF, ACCESS, VERSION, PIECES)
 PSEUDO = re.compile(r"^v0\.0\.0-(\d{14})-[0-9a-f]{12}$")
 
 

@@ -8,6 +8,7 @@
 //
 // A lane is a thread. A request that begins before the end is waited for.
 #include <arpa/inet.h>
+#include <err.h>
 #include <netinet/in.h>
 #include <pthread.h>
 #include <signal.h>
@@ -43,11 +44,6 @@ static struct sockaddr_in there;
 static double stop;
 static volatile sig_atomic_t is_over;
 
-static void fail(const char *what) {
-    perror(what);
-    exit(1);
-}
-
 static double now(void) {
     struct timespec told;
     clock_gettime(CLOCK_MONOTONIC, &told);
@@ -64,8 +60,8 @@ static void read_targets(void) {
     size_t length = 0, room = 0;
     while (getline(&line, &length, stdin) > 0) {
         line[strcspn(line, "\n")] = 0;
-        if (target_count == room && !(targets = realloc(targets, (room = 2 * room + 64) * sizeof *targets))) fail("realloc");
-        if (!(targets[target_count++] = strdup(line))) fail("strdup");
+        if (target_count == room && !(targets = realloc(targets, (room = 2 * room + 64) * sizeof *targets))) err(1, "realloc");
+        if (!(targets[target_count++] = strdup(line))) err(1, "strdup");
     }
     free(line);
 }
@@ -75,20 +71,20 @@ static int fetch(struct lane *lane, const char *target) {
     char request[1024];
     int status = 0, length = snprintf(request, sizeof request, "GET %s HTTP/1.1\r\nHost: a\r\nConnection: close\r\n\r\n", target);
     int conn = socket(AF_INET, SOCK_STREAM | SOCK_CLOEXEC, 0);
-    if (conn < 0 || connect(conn, (const struct sockaddr *)&there, sizeof there) != 0) fail("connect");
-    if (write(conn, request, length) != length) fail("write");
+    if (conn < 0 || connect(conn, (const struct sockaddr *)&there, sizeof there) != 0) err(1, "connect");
+    if (write(conn, request, length) != length) err(1, "write");
     ssize_t got;
     while ((got = read(conn, lane->part, PART)) > 0) {
         if (!status && got >= 12) status = atoi(lane->part + 9);
         lane->bytes += got;
     }
-    if (got < 0) fail("read");
+    if (got < 0) err(1, "read");
     close(conn);
     return status;
 }
 
 static void keep(struct lane *lane, struct outcome it) {
-    if (lane->count == lane->room && !(lane->outcomes = realloc(lane->outcomes, (lane->room = 2 * lane->room + 1024) * sizeof it))) fail("realloc");
+    if (lane->count == lane->room && !(lane->outcomes = realloc(lane->outcomes, (lane->room = 2 * lane->room + 1024) * sizeof it))) err(1, "realloc");
     lane->outcomes[lane->count++] = it;
 }
 
@@ -114,12 +110,12 @@ int main(int count, char **words) {
     struct lane *lanes = calloc(lane_count, sizeof *lanes);
     read_targets();
     for (size_t at = 0; at < lane_count; at++)
-        if (!(lanes[at].part = malloc(PART))) fail("malloc");
+        if (!(lanes[at].part = malloc(PART))) err(1, "malloc");
     double begun = now();
     stop = count == 4 ? begun + atof(words[3]) : 0;
     if (stop) signal(SIGTERM, end);
     for (size_t at = 0; at < lane_count; at++)
-        if (pthread_create(&lanes[at].thread, NULL, ask, &lanes[at])) fail("pthread_create");
+        if (pthread_create(&lanes[at].thread, NULL, ask, &lanes[at])) err(1, "pthread_create");
     long bytes = 0;
     for (size_t at = 0; at < lane_count; at++) {
         pthread_join(lanes[at].thread, NULL);

@@ -9,6 +9,7 @@
 // end of the answer before it. The outcome is a struct outcome for each request, in the order of the plan, and on standard error the seconds.
 
 #include <arpa/inet.h>
+#include <err.h>
 #include <errno.h>
 #include <fcntl.h>
 #include <netinet/tcp.h>
@@ -57,11 +58,6 @@ static size_t list_count, request_count, next_list, answered;
 static uint64_t start;
 static int poller;
 
-static void fail(const char *what) {
-    perror(what);
-    exit(1);
-}
-
 static uint64_t micros(void) {
     struct timespec now;
     clock_gettime(CLOCK_MONOTONIC, &now);
@@ -71,12 +67,12 @@ static uint64_t micros(void) {
 static char *whole_file(const char *name, size_t *length) {
     int fd = open(name, O_RDONLY);
     struct stat told;
-    if (fd < 0 || fstat(fd, &told) < 0) fail(name);
+    if (fd < 0 || fstat(fd, &told) < 0) err(1, "%s", name);
     char *bytes = malloc(told.st_size + 1);
     size_t held = 0;
     while (held < (size_t)told.st_size) {
         ssize_t got = read(fd, bytes + held, told.st_size - held);
-        if (got <= 0) fail(name);
+        if (got <= 0) err(1, "%s", name);
         held += got;
     }
     bytes[held] = 0;
@@ -109,16 +105,16 @@ static void read_plan(const char *name) {
 
 static void watch(struct lane *lane, int events, int how) {
     struct epoll_event event = {.events = events, .data.ptr = lane};
-    if (epoll_ctl(poller, how, lane->fd, &event) < 0) fail("epoll_ctl");
+    if (epoll_ctl(poller, how, lane->fd, &event) < 0) err(1, "epoll_ctl");
 }
 
 static void open_lane(struct lane *lane) {
     struct sockaddr_in there = {.sin_family = AF_INET, .sin_port = htons(lists[lane->list].port), .sin_addr.s_addr = htonl(INADDR_LOOPBACK)};
     int one = 1;
     lane->fd = socket(AF_INET, SOCK_STREAM | SOCK_NONBLOCK | SOCK_CLOEXEC, 0);
-    if (lane->fd < 0) fail("socket");
+    if (lane->fd < 0) err(1, "socket");
     setsockopt(lane->fd, IPPROTO_TCP, TCP_NODELAY, &one, sizeof one);
-    if (connect(lane->fd, (struct sockaddr *)&there, sizeof there) < 0 && errno != EINPROGRESS) fail("connect");
+    if (connect(lane->fd, (struct sockaddr *)&there, sizeof there) < 0 && errno != EINPROGRESS) err(1, "connect");
     lane->is_open = 1;
     watch(lane, EPOLLOUT, EPOLL_CTL_ADD);
 }
@@ -241,7 +237,7 @@ int main(int count, char **words) {
     read_plan(words[1]);
     size_t lane_count = atoi(words[2]);
     struct lane *lanes = calloc(lane_count, sizeof *lanes);
-    if ((poller = epoll_create1(EPOLL_CLOEXEC)) < 0) fail("epoll_create1");
+    if ((poller = epoll_create1(EPOLL_CLOEXEC)) < 0) err(1, "epoll_create1");
     start = micros();
     while (answered < request_count) {
         begin_due(lanes, lane_count);

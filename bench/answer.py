@@ -12,11 +12,12 @@ import sys
 import tempfile
 import time
 
-ROOT = os.path.dirname(os.path.dirname(os.path.abspath(__file__)))
-PROGRAM = os.path.abspath(os.environ.get("GOSHELF") or os.path.join(ROOT, "crates", "goshelf", "out", "goshelf"))
-KEY = "alphakey00000001"
+from shared import PROGRAM, need, place, scale_of
+
+from lib.keys import KEY, MEMORY
+
 BLOCK = bytes(range(256)) * 256
-WORDS = ["answer", "--mem", "--team", "alpha", "--key", KEY]
+WORDS = ["answer", *MEMORY]
 
 
 def publish(path, version, zip_length=0):
@@ -37,11 +38,6 @@ def ask(rest):
 
 def get(path, version, kind):
     return ask(f"{path}/@v/{version}.{kind}")
-
-
-def place(n):
-    """The path and the version of the nth entry, with at most 4,000 versions to a path."""
-    return f"example.com/m{n // 4000}", f"v1.0.{n % 4000}"
 
 
 def run(requests):
@@ -102,8 +98,8 @@ def in_pieces(length, requests):
     with tempfile.TemporaryFile() as target:
         started = time.monotonic()
         child = subprocess.Popen([PROGRAM] + WORDS, stdin=subprocess.PIPE, stdout=target, bufsize=0)
-        for place in range(0, len(stream), length):
-            child.stdin.write(stream[place : place + length])
+        for at in range(0, len(stream), length):
+            child.stdin.write(stream[at : at + length])
         child.stdin.close()
         _, status, usage = os.wait4(child.pid, 0)
         seconds = time.monotonic() - started
@@ -130,9 +126,8 @@ def streams(scale):
 
 
 def main():
-    scale = 10 if "--quick" in sys.argv else 1
-    if not os.path.exists(PROGRAM):
-        sys.exit("build the program first: ./goshelf --version")
+    scale = scale_of(sys.argv)
+    need()
 
     gets = 100_000 // scale
     one = [publish("example.com/lib", "v1.0.0")]

@@ -29,9 +29,8 @@ import time
 from company_plan import Company, Plan
 from company_plot import plot
 from company_public import ONE, SECOND, WAYS, Outside, files, free_port
+from shared import PROGRAM, ROOT, add_sizes
 
-ROOT = os.path.dirname(os.path.dirname(os.path.abspath(__file__)))
-PROGRAM = os.path.abspath(os.environ.get("GOSHELF") or os.path.join(ROOT, "crates", "goshelf", "out", "goshelf"))
 OUTCOME = struct.Struct("=IIQQ")
 TICK = os.sysconf("SC_CLK_TCK")
 QUANTILES = (0.5, 0.99, 0.999)
@@ -344,7 +343,8 @@ def table(rows, wrong):
 
 def options():
     parser = argparse.ArgumentParser(description=__doc__, formatter_class=argparse.RawDescriptionHelpFormatter)
-    for name, default, text in (
+    add_sizes(
+        parser,
         ("seed", 1, "another one makes another company"),
         ("teams", 8, "teams"),
         ("groups", 4, "groups that share them out"),
@@ -358,8 +358,7 @@ def options():
         ("lanes", 32, "connections at once"),
         ("workers", 1, "processes of nginx"),
         ("public", 0, "of 100 requests of a build those for public modules"),
-    ):
-        parser.add_argument(f"--{name}", type=int, default=default, help=f"{text} ({default:,})")
+    )
     parser.add_argument(
         "--load", type=float, default=0.5, help="the share of the highest rate at which latencies are measured (0.5)"
     )

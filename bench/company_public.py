@@ -6,11 +6,10 @@ It listens over TLS for nginx, and plain for those who ask it themselves.
 import os
 import shutil
 import subprocess
-import sys
 import time
 
-ROOT = os.path.dirname(os.path.dirname(os.path.abspath(__file__)))
-sys.path.insert(0, os.path.join(ROOT, "tests"))
+from shared import ROOT
+
 from lib.ports import free_port
 
 NAME, AUTHORITIES = "proxy.golang.org", "/etc/ssl/certs/ca-certificates.crt"

@@ -40,8 +40,9 @@ import time
 import lists
 import store
 from memory import SETTING
-from serve import ROOT, client_in, fetched, started, stopped
-from store import KEY, PROGRAM
+from serve import client_in, fetched, started, stopped
+from shared import PROGRAM, ROOT, add_sizes, need
+from store import KEY, middle
 
 PARTS = ("gets", "orders", "revoke", "pings", "copy", "catalog")
 # seconds of load around a revocation
@@ -132,11 +133,6 @@ def mod(n, key=KEY):
     """The target of the .mod of the nth version of a store."""
     path, version = store.place(n)
     return f"/k/{key}/{path}/@v/{version}.mod"
-
-
-def middle(values, form=".2f", unit=" s"):
-    """The median of some values, the least and the most."""
-    return f"{statistics.median(values):{form}}{unit} ({min(values):{form}} to {max(values):{form}})"
 
 
 def in_order(values, share):
@@ -354,9 +350,9 @@ def peaks_of(it):
 def times(took, theirs):
     """Some seconds, beside those of the other program where nobody asks, if there is one."""
     if not theirs:
-        return middle(took)
+        return middle(took, unit=" s")
     ratio = statistics.median(took) / statistics.median(theirs)
-    return f"{middle(took)}, {ratio:.2f} times the {statistics.median(theirs):.2f} of the program beside"
+    return f"{middle(took, unit=' s')}, {ratio:.2f} times the {statistics.median(theirs):.2f} of the program beside"
 
 
 def late(waits):
@@ -439,7 +435,8 @@ def options():
     parser.add_argument("--program", default=PROGRAM)
     parser.add_argument("--beside", help="another program, whose copies are made in turn", metavar="FILE")
     parser.add_argument("--only", help=f"parts, of {','.join(PARTS)}", default=",".join(PARTS))
-    for name, default, text in (
+    add_sizes(
+        parser,
         ("rounds", 9, "turns of gets, and revocations"),
         ("gets", 20_000, "GETs of a turn"),
         ("orders", 200, "orders under load"),
@@ -452,16 +449,14 @@ def options():
         ("paths", 2_000, "paths of the store whose catalog is printed"),
         ("each", 10, "versions of each of them"),
         ("requires", 0, "requirements of each of their go.mods"),
-    ):
-        parser.add_argument(f"--{name}", type=int, default=default, help=f"{text} ({default:,})")
+    )
     return parser.parse_args()
 
 
 def main():
     words = options()
     words.program = store.PROGRAM = os.path.abspath(words.program)
-    if not os.path.exists(words.program):
-        sys.exit("build the program first: ./goshelf --version")
+    need(words.program)
     rows = []
     with tempfile.TemporaryDirectory(prefix="goshelf-control-", dir=os.environ.get("STORES")) as folder:
         client = client_in(folder)

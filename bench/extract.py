@@ -19,7 +19,8 @@ import tempfile
 import time
 from collections import namedtuple
 
-from store import BLOCK, PROGRAM, TABLES, answered, gomod, keys
+from shared import PROGRAM, need, place, scale_of
+from store import BLOCK, answered, empty, gomod, middle, put_version
 
 ROUNDS = 5
 TEAMS = [f"team{n}" for n in range(10)]
@@ -28,8 +29,6 @@ TEAM = "team4"
 TRACED = "open,openat,stat,lstat,newfstatat,statx,access,faccessat2,flock,ftruncate,fsync,fdatasync,unlink,rename,close"
 # the process, the moment, the call, and the seconds that it took
 CALL = re.compile(r"(?:\d+ +)?(\d+\.\d+) (.*?)(?: <(\d+\.\d+)>)?$")
-# at most as many versions of one path
-OF_A_PATH = 4000
 COPY = (
     "INSERT INTO shelf SELECT name, parent FROM whole.shelf WHERE name = ?1",
     "INSERT INTO access SELECT * FROM whole.access WHERE shelf IN ('common', ?1)",
@@ -41,31 +40,25 @@ COPY = (
 )
 
 
-def made(file):
-    """A database with the tables of a store, and `common` alone."""
-    conn = sqlite3.connect(file, isolation_level=None)
-    conn.execute("PRAGMA foreign_keys = ON")
-    conn.executescript(TABLES)
-    conn.execute("DELETE FROM access")
-    conn.execute("DELETE FROM shelf WHERE name <> 'common'")
-    return conn
+def key_of(team):
+    return f"{team}key0000000001"
+
+
+def entry(n):
+    """The team, the path and the version of the nth entry, those of the teams by turns."""
+    return TEAMS[n % len(TEAMS)], *place(n // len(TEAMS))
 
 
 def filled(file, entries):
     """A store of this many versions with 1 KiB zips, those of the teams by turns."""
-    conn = made(file)
+    conn = empty(file)
     conn.execute("BEGIN")
     for team in TEAMS:
         conn.execute("INSERT INTO shelf VALUES (?, 'common')", (team,))
-        conn.execute("INSERT INTO access VALUES (?, ?, 1)", (f"{team}key0000000001", team))
+        conn.execute("INSERT INTO access VALUES (?, ?, 1)", (key_of(team), team))
     for n in range(entries):
-        team, place = TEAMS[n % len(TEAMS)], n // len(TEAMS)
-        path, version = f"example.com/m{place // OF_A_PATH}", f"v1.0.{place % OF_A_PATH}"
-        row = (team, path, version, gomod(path), *keys(version))
-        number = conn.execute(
-            "INSERT INTO version (shelf, path, version, mod, order_key, rank_key) VALUES (?, ?, ?, ?, ?, ?)", row
-        ).lastrowid
-        conn.execute("INSERT INTO piece VALUES (?, 0, ?)", (number, BLOCK))
+        team, path, version = entry(n)
+        put_version(conn, team, path, version, gomod(path), BLOCK)
     conn.execute("COMMIT")
     conn.close()
 
@@ -131,7 +124,7 @@ def copied(whole, part):
     """Seconds of sqlite3, from the opening of both to the end of the transaction."""
     removed(part)
     started = time.monotonic()
-    conn = made(part)
+    conn = empty(part)
     conn.execute("PRAGMA journal_mode = WAL")
     conn.execute("PRAGMA synchronous = FULL")
     conn.execute("ATTACH ? AS whole", (whole,))
@@ -169,30 +162,20 @@ def turn(whole, ours, theirs):
     return Turn(*traced(whole, ours), *extracted(whole, ours), copied(whole, theirs))
 
 
-def spread(values, form):
-    """The median of some values, the least and the most."""
-    values = sorted(values)
-    return f"{values[len(values) // 2]:{form}} ({values[0]:{form}} to {values[-1]:{form}})"
-
-
 def tell(turns, part):
     """Prints the times of the turns."""
+    opening, making, seconds, _, beside = zip(*turns)
+    ratios = [one / other for one, other in zip(making, beside)]
     print(
-        f"{part}, medians of {len(turns)} turns: the whole is opened in"
-        f" {spread((it.opening for it in turns), '.2f')} s, and the part made in"
-        f" {spread((it.making for it in turns), '.3f')} s; sqlite3 copies it in"
-        f" {spread((it.beside for it in turns), '.3f')} s"
+        f"{part}, medians of {len(turns)} turns: the whole is opened in {middle(opening)} s, and the part made in"
+        f" {middle(making, '.3f')} s; sqlite3 copies it in {middle(beside, '.3f')} s"
     )
-    print(
-        f"  making it takes {spread((it.making / it.beside for it in turns), '.2f')} times sqlite3's time; without"
-        f" strace all takes {spread((it.seconds for it in turns), '.2f')} s"
-    )
+    print(f"  making it takes {middle(ratios)} times sqlite3's time; without strace all takes {middle(seconds)} s")
 
 
 def main():
-    entries = 10_000 if "--quick" in sys.argv else 100_000
-    if not os.path.exists(PROGRAM):
-        sys.exit("build the program first: ./goshelf --version")
+    entries = 100_000 // scale_of(sys.argv)
+    need()
     if shutil.which("strace") is None:
         sys.exit("strace is wanted")
     with tempfile.TemporaryDirectory(dir=os.environ.get("STORES")) as folder:

@@ -10,7 +10,7 @@ import os
 import sys
 import tempfile
 
-from store import KEY, answered, keys, made
+from store import KEY, answered, made, put_version
 
 PATH = "example.com/lib"
 MIB = 1_048_576
@@ -30,11 +30,7 @@ def filled(file, count, length):
     conn.execute("BEGIN")
     for shelf, minor in (("common", 0), ("alpha", 1)):
         for n in range(count):
-            version = f"v1.{minor}.{n}"
-            row = (shelf, PATH, version, text, *keys(version))
-            conn.execute(
-                "INSERT INTO version (shelf, path, version, mod, order_key, rank_key) VALUES (?, ?, ?, ?, ?, ?)", row
-            )
+            put_version(conn, shelf, PATH, f"v1.{minor}.{n}", text)
     conn.execute("COMMIT")
     conn.close()
 

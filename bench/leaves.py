@@ -17,8 +17,8 @@ import tempfile
 
 sys.path.insert(0, os.path.dirname(os.path.abspath(__file__)))
 from kept import VERSIONS, gomod_of, gomods
+from shared import ROOT, scale_of
 
-ROOT = os.path.dirname(os.path.dirname(os.path.abspath(__file__)))
 PROGRAM = os.path.join(ROOT, "crates", "bench_leaves", "out", "bench_leaves")
 HOSTS = ["github.com", "github.com", "github.com", "golang.org/x", "google.golang.org", "gitlab.com", "k8s.io"]
 WORDS = (
@@ -149,7 +149,7 @@ def main():
     program = sys.argv[sys.argv.index("--program") + 1] if "--program" in sys.argv else PROGRAM
     if "--gomods" in sys.argv:
         return measure_worst(program)
-    scale = 10 if "--quick" in sys.argv else 1
+    scale = scale_of(sys.argv)
     if not os.path.exists(PROGRAM):
         sys.exit("build the program first: cd crates/bench_leaves && rt run -- gomod 0 </dev/null")
     measure_paths(1_000_000 // scale)

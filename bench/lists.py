@@ -17,7 +17,8 @@ import tempfile
 
 sys.path.insert(0, os.path.dirname(os.path.abspath(__file__)))
 from cost import instructions, stream_of
-from store import KEY, PIECE, PROGRAM, gomod, keys, made
+from shared import PROGRAM
+from store import KEY, gomod, made, put_version
 
 PATHS = (1_000, 10_000, 100_000)
 COUNTED = 10_000
@@ -38,12 +39,7 @@ def filled(file, paths, versions, zip_length, requires):
     zip = bytes(zip_length)
     for n in range(paths * versions):
         path, version = f"example.com/team/module{n // versions}", f"v1.{n % versions}.0"
-        row = ("alpha", path, version, requiring(path, n // versions, paths, requires), *keys(version))
-        number = conn.execute(
-            "INSERT INTO version (shelf, path, version, mod, order_key, rank_key) VALUES (?, ?, ?, ?, ?, ?)", row
-        ).lastrowid
-        for at in range(0, len(zip), PIECE):
-            conn.execute("INSERT INTO piece VALUES (?, ?, ?)", (number, at // PIECE, zip[at : at + PIECE]))
+        put_version(conn, "alpha", path, version, requiring(path, n // versions, paths, requires), zip)
     conn.execute("COMMIT")
     conn.close()
 

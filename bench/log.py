@@ -9,13 +9,13 @@ answered.
 
 import os
 import shutil
-import statistics
 import sys
 import tempfile
 import time
 
 sys.path.insert(0, os.path.dirname(os.path.abspath(__file__)))
 import store
+from store import middle
 
 ROUNDS = 5
 KINDS = (("1 KiB", 1_500, 1_024), ("1 MiB", 200, 2**20), ("16 MiB", 12, 2**24))
@@ -65,10 +65,6 @@ def longest(file):
         kept = log_of(file)
 
 
-def middle(values, digits):
-    return f"{statistics.median(values):.{digits}f} ({min(values):.{digits}f} to {max(values):.{digits}f})"
-
-
 def main():
     words = sys.argv[1:]
     programs = [os.path.abspath(it) for at, it in enumerate(words) if at and words[at - 1] == "--program"] or [
@@ -84,8 +80,8 @@ def main():
             took, log, opened, copy = zip(*of)
             print(
                 (
-                    f"{name}, {program}: {middle(took, 2)} ms a publish; a log of {max(log):.1f} MiB, opened in"
-                    f" {middle(opened, 2)} s, copied in {middle(copy, 2)} s"
+                    f"{name}, {program}: {middle(took)} ms a publish; a log of {max(log):.1f} MiB, opened in"
+                    f" {middle(opened)} s, copied in {middle(copy)} s"
                 ),
                 flush=True,
             )
@@ -99,7 +95,7 @@ def main():
                 took[at].append(store.answered(files[at], [])[0])
         for file, program, of in zip(files, programs, took):
             print(
-                f"{VERSIONS:,} versions with a log of {log_of(file):.1f} MiB, {program}: opened in {middle(of, 2)} s",
+                f"{VERSIONS:,} versions with a log of {log_of(file):.1f} MiB, {program}: opened in {middle(of)} s",
                 flush=True,
             )
 

@@ -16,12 +16,11 @@ import sys
 import tempfile
 import time
 
-from extract import OF_A_PATH, TEAMS, made, removed, rows, spread
-from store import gomod, keys
+from extract import TEAMS, entry, key_of, removed, rows
+from shared import PROGRAM, need, scale_of
+from store import empty, gomod, keys, middle
 
-sys.path.insert(0, os.path.join(os.path.dirname(os.path.abspath(__file__)), "..", "tests"))
 from lib.older import OWN, SHARED
-from lib.program import PROGRAM
 from lib.tables import PIECE
 
 # a zip of one piece: 100,000 of them are 1 GiB
@@ -38,10 +37,9 @@ def filled(file, schema, entries):
     conn.execute("INSERT INTO shelf VALUES ('common')")
     for team in TEAMS:
         conn.execute("INSERT INTO shelf VALUES (?)", (team,))
-        conn.execute("INSERT INTO access VALUES (?, ?, 1)", (f"{team}key0000000001", team))
+        conn.execute("INSERT INTO access VALUES (?, ?, 1)", (key_of(team), team))
     for n in range(entries):
-        team, place = TEAMS[n % len(TEAMS)], n // len(TEAMS)
-        path, version = f"example.com/m{place // OF_A_PATH}", f"v1.0.{place % OF_A_PATH}"
+        team, path, version = entry(n)
         row = (n + 1, team, path, version, None, gomod(path))
         if schema == 1:
             conn.execute("INSERT INTO version VALUES (?, ?, ?, ?, ?, ?)", row)
@@ -79,7 +77,7 @@ def copied(old, new, schema):
     """Seconds of sqlite3, and of its processor, from the opening of both to the end of the transaction."""
     removed(new)
     started, used = time.monotonic(), time.process_time()
-    conn = made(new)
+    conn = empty(new)
     conn.execute("PRAGMA journal_mode = WAL")
     conn.execute("PRAGMA synchronous = FULL")
     conn.execute("ATTACH ? AS old", (old,))
@@ -116,10 +114,10 @@ def measured(folder, schema, entries, rounds):
     seconds, used, peaks, beside, used_beside = zip(*turns)
     size = os.path.getsize(old) >> 20
     print(f"schema {schema}, {entries:,} versions, {size} MiB, medians of {rounds} turns:", end=" ")
-    print(f"migrated in {spread(seconds, '.2f')} s, by sqlite3 in {spread(beside, '.2f')} s,", end=" ")
-    print(f"{spread(ratios(seconds, beside), '.2f')} times its time")
-    print(f"    of the processor {spread(used, '.2f')} s and {spread(used_beside, '.2f')} s", end=", ")
-    print(f"{spread(ratios(used, used_beside), '.2f')} times as much")
+    print(f"migrated in {middle(seconds)} s, by sqlite3 in {middle(beside)} s,", end=" ")
+    print(f"{middle(ratios(seconds, beside))} times its time")
+    print(f"    of the processor {middle(used)} s and {middle(used_beside)} s", end=", ")
+    print(f"{middle(ratios(used, used_beside))} times as much")
     subprocess.run([PROGRAM, "team-add", "--db", other, "--team", "alpha"], check=True)
     old_alone = ran(1, "migrate", "--from", old, "--to", other)[2]
     new_alone = ran(1, "key-revoke", "--db", ours, "--key", "nosuchkey0000001")[2]
@@ -134,7 +132,8 @@ def ratios(ones, others):
 
 
 def main(words):
-    entries = 10_000 if "--quick" in words else 100_000
+    entries = 100_000 // scale_of(words)
+    need()
     rounds = int(words[words.index("--rounds") + 1]) if "--rounds" in words else 5
     with tempfile.TemporaryDirectory(prefix="goshelf-migrate-") as folder:
         for schema in (1, 2):

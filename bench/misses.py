@@ -9,7 +9,6 @@ and go.
 
 import argparse
 import http.client
-import os
 import socket
 import ssl
 import statistics
@@ -17,7 +16,8 @@ import sys
 import tempfile
 import time
 
-sys.path.insert(0, os.path.join(os.path.dirname(os.path.dirname(os.path.abspath(__file__))), "tests"))
+from shared import need
+
 from lib.developers import Developers
 from lib.outside import NAME
 
@@ -64,6 +64,7 @@ def main():
     parser.add_argument("--delay", type=int, default=20)
     parser.add_argument("--count", type=int, default=200)
     sizes = parser.parse_args()
+    need()
     with tempfile.TemporaryDirectory(prefix="goshelf-misses-") as folder:
         company = Developers(folder)
         try:

@@ -20,10 +20,9 @@ import tempfile
 import time
 
 import store
-from store import KEY, PROGRAM
+from shared import PROGRAM, ROOT, need
+from store import KEY, middle
 
-ROOT = os.path.dirname(os.path.dirname(os.path.abspath(__file__)))
-sys.path.insert(0, os.path.join(ROOT, "tests"))
 from lib.ports import free_port
 
 AT = f"/k/{KEY}/example.com/lib/@v/v1.0.0"
@@ -89,10 +88,7 @@ def start_goshelf(program, folder):
     conn.execute("BEGIN")
     for n in range(PATHS):
         for version in (f"v1.0.{at}" for at in range(VERSIONS)):
-            row = ("alpha", path_of(n), version, store.gomod(path_of(n)), *store.keys(version))
-            conn.execute(
-                "INSERT INTO version (shelf, path, version, mod, order_key, rank_key) VALUES (?, ?, ?, ?, ?, ?)", row
-            )
+            store.put_version(conn, "alpha", path_of(n), version, store.gomod(path_of(n)))
     conn.execute("COMMIT")
     conn.close()
     child, port = started(program, file)
@@ -155,10 +151,6 @@ def fetched(client, port, targets, lanes=1):
     return seconds, own
 
 
-def spread(values):
-    return f"{statistics.median(values):,.1f} ({min(values):,.1f} to {max(values):,.1f})"
-
-
 def compare(client, ports, name, targets, lanes, rounds):
     """Prints the medians of rounds in turn, with the least and the most of each."""
     took = [[fetched(client, port, targets, lanes) for port in ports] for _ in range(rounds)]
@@ -167,8 +159,8 @@ def compare(client, ports, name, targets, lanes, rounds):
     busy = statistics.median(own / seconds for one in took for seconds, own in one)
     print(
         (
-            f"{name}, {lanes} at once: goshelf {spread(ours)} a second, nginx {spread(theirs)}: {ratio:.2f} times;"
-            f" client busy {busy:.0%}"
+            f"{name}, {lanes} at once: goshelf {middle(ours, ',.1f')} a second, nginx {middle(theirs, ',.1f')}:"
+            f" {ratio:.2f} times; client busy {busy:.0%}"
         ),
         flush=True,
     )
@@ -195,8 +187,7 @@ def options():
 
 def main():
     words = options()
-    if not os.path.exists(words.program):
-        sys.exit("build the program first: ./goshelf --version")
+    need(words.program)
     with tempfile.TemporaryDirectory(prefix="goshelf-serve-") as folder:
         client = client_in(folder)
         ours, our_port = start_goshelf(os.path.abspath(words.program), folder)

@@ -13,8 +13,9 @@ import sys
 import tempfile
 import time
 
-from company import ROOT, Store, write_shards
+from company import Store, write_shards
 from company_plan import Company
+from shared import ROOT
 
 ROUNDS = 5
 

@@ -16,38 +16,18 @@ import sys
 import tempfile
 import time
 
-ROOT = os.path.dirname(os.path.dirname(os.path.abspath(__file__)))
-PROGRAM = os.path.abspath(os.environ.get("GOSHELF") or os.path.join(ROOT, "crates", "goshelf", "out", "goshelf"))
-KEY = "alphakey00000001"
+from shared import PROGRAM, need, place, scale_of
+
+from lib.keys import KEY
+from lib.tables import PIECE, TABLES, order_key, rank_key
+
 BLOCK = bytes(range(256)) * 4
-# bytes of a piece of a zip but for its last
-PIECE = 65_536
 ROUNDS = 9
-TABLES = """
-CREATE TABLE meta (name TEXT PRIMARY KEY, value INTEGER NOT NULL) STRICT;
-CREATE TABLE shelf (name TEXT PRIMARY KEY, parent TEXT REFERENCES shelf (name)) STRICT;
-CREATE TABLE access (token TEXT PRIMARY KEY, shelf TEXT NOT NULL REFERENCES shelf (name), publish INTEGER NOT NULL \
-CHECK (publish IN (0, 1))) STRICT;
-CREATE TABLE version (id INTEGER PRIMARY KEY, shelf TEXT NOT NULL REFERENCES shelf (name), path TEXT NOT NULL, \
-version TEXT NOT NULL, time TEXT, mod BLOB NOT NULL, order_key BLOB NOT NULL, rank_key BLOB NOT NULL, UNIQUE (shelf, \
-path, version)) STRICT;
-CREATE TABLE piece (version INTEGER NOT NULL REFERENCES version (id), number INTEGER NOT NULL CHECK (number >= 0), \
-bytes BLOB NOT NULL, PRIMARY KEY (version, number)) STRICT;
-INSERT INTO meta VALUES ('schema', 3);
-INSERT INTO shelf VALUES ('common', NULL), ('alpha', 'common');
-INSERT INTO access VALUES ('alphakey00000001', 'alpha', 1);
-"""
-
-
-def place(n):
-    """The path and the version of the nth entry, with at most 4,000 versions to a path."""
-    return f"example.com/m{n // 4000}", f"v1.0.{n % 4000}"
 
 
 def keys(version):
-    """The order_key and the rank_key of a release."""
-    order = b"".join(int(number).to_bytes(8, "big") for number in version[1:].split(".")) + b"\3"
-    return order, b"\3" + order
+    """The order_key and the rank_key of a version."""
+    return order_key(version), rank_key(version)
 
 
 def gomod(path):
@@ -73,23 +53,38 @@ def get(n):
     return f"GET /k/{KEY}/{path}/@v/{version}.mod HTTP/1.1\r\n\r\n".encode()
 
 
-def made(file):
-    """A database with the tables of a store, made by sqlite3."""
+def empty(file):
+    """A database with the tables of a store and `common` alone, made by sqlite3."""
     conn = sqlite3.connect(file, isolation_level=None)
     conn.execute("PRAGMA foreign_keys = ON")
-    conn.executescript(TABLES)
+    for table in TABLES:
+        conn.execute(table)
+    conn.execute("INSERT INTO meta VALUES ('schema', 3)")
+    conn.execute("INSERT INTO shelf VALUES ('common', NULL)")
     return conn
+
+
+def made(file):
+    """A database with the tables of a store, with alpha and its key, made by sqlite3."""
+    conn = empty(file)
+    conn.execute("INSERT INTO shelf VALUES ('alpha', 'common')")
+    conn.execute("INSERT INTO access VALUES (?, 'alpha', 1)", (KEY,))
+    return conn
+
+
+def put_version(conn, shelf, path, version, mod, zip=b""):
+    """Adds a version with its go.mod and its zip."""
+    number = conn.execute(
+        "INSERT INTO version (shelf, path, version, mod, order_key, rank_key) VALUES (?, ?, ?, ?, ?, ?)",
+        (shelf, path, version, mod, *keys(version)),
+    ).lastrowid
+    for at in range(0, len(zip), PIECE):
+        conn.execute("INSERT INTO piece VALUES (?, ?, ?)", (number, at // PIECE, zip[at : at + PIECE]))
 
 
 def insert(conn, n, zip_length):
     path, version = place(n)
-    row = ("alpha", path, version, gomod(path), *keys(version))
-    number = conn.execute(
-        "INSERT INTO version (shelf, path, version, mod, order_key, rank_key) VALUES (?, ?, ?, ?, ?, ?)", row
-    ).lastrowid
-    zip = BLOCK * (zip_length // len(BLOCK))
-    for at in range(0, len(zip), PIECE):
-        conn.execute("INSERT INTO piece VALUES (?, ?, ?)", (number, at // PIECE, zip[at : at + PIECE]))
+    put_version(conn, "alpha", path, version, gomod(path), BLOCK * (zip_length // len(BLOCK)))
 
 
 def filled(file, entries):
@@ -160,9 +155,9 @@ def publishes(folder, count, zip_length, name):
     )
 
 
-def middle(values):
+def middle(values, form=".2f", unit=""):
     """The median of some values, the least and the most."""
-    return f"{statistics.median(values):.2f} ({min(values):.2f} to {max(values):.2f})"
+    return f"{statistics.median(values):{form}}{unit} ({min(values):{form}} to {max(values):{form}})"
 
 
 def filled_file(folder, entries):
@@ -227,9 +222,8 @@ def on_one_path(folder, versions, asks, publishes):
 
 
 def main():
-    scale = 10 if "--quick" in sys.argv else 1
-    if not os.path.exists(PROGRAM):
-        sys.exit("build the program first: ./goshelf --version")
+    scale = scale_of(sys.argv)
+    need()
     with tempfile.TemporaryDirectory(dir=os.environ.get("STORES")) as folder:
         publishes(folder, 1_500 // scale, 1024, "1 KiB")
         publishes(folder, 100 // scale, 2**20, "1 MiB")

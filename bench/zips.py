@@ -15,7 +15,9 @@ import subprocess
 import sys
 import tempfile
 
-from serve import KEY, PROGRAM, ask, client_in, fetched, resident, start_nginx, started, stopped
+from serve import ask, client_in, fetched, resident, start_nginx, started, stopped
+from shared import PROGRAM
+from store import KEY, middle
 
 # of each size how many versions there are, and how often one of them is fetched again
 SIZES = ((1_024, 1_000, 4_000), (65_536, 100, 2_000), (1_048_576, 20, 300), (16_777_216, 4, 30))
@@ -76,7 +78,7 @@ def round_of(client, port, scale):
 def tell(name, mine, other):
     """Prints the medians of one kind of fetch, with the least and the most."""
     ratio = statistics.median(two / one for one, two in zip(mine, other))
-    texts = [f"{statistics.median(it):.3f} ms ({min(it):.3f} to {max(it):.3f})" for it in (mine, other)]
+    texts = [middle(it, ".3f", " ms") for it in (mine, other)]
     print(f"  {name}: {texts[0]}, nginx {texts[1]}: {ratio:.2f} times nginx", flush=True)
 
 

@@ -16,7 +16,6 @@ import tempfile
 import termios
 import time
 
-sys.path.insert(0, os.path.dirname(os.path.abspath(__file__)))
 from answer import KEY, PROGRAM, WORDS, ask, get, publish
 
 ZIP = 16 * 2**20

@@ -15,7 +15,6 @@ import subprocess
 import sys
 import tempfile
 
-sys.path.insert(0, os.path.dirname(os.path.abspath(__file__)))
 from kept import VERSIONS, gomod_of, gomods
 from shared import ROOT, scale_of
 

@@ -15,7 +15,6 @@ import subprocess
 import sys
 import tempfile
 
-sys.path.insert(0, os.path.dirname(os.path.abspath(__file__)))
 from cost import instructions, stream_of
 from shared import PROGRAM
 from store import KEY, gomod, made, put_version

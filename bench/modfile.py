@@ -13,7 +13,6 @@ import subprocess
 import sys
 import tempfile
 
-sys.path.insert(0, os.path.dirname(os.path.abspath(__file__)))
 from leaves import PROGRAM, requirements
 
 SOURCE = os.path.join(os.path.dirname(os.path.abspath(__file__)), "modfile.go")

@@ -14,16 +14,13 @@ from lib.go_sessions import (
     COMMON,
     GREET,
     ON_ALPHA,
-    ON_BETA,
     ON_COMMON,
+    PUBLISHED,
     READER,
     Client,
-    builds,
+    asks,
     downloads,
-    gets,
     is_not_found,
-    lists,
-    teams,
 )
 from lib.keys import KEYS
 from lib.modules import module, sums
@@ -105,7 +102,7 @@ def group(server, member, of_group, alpha):
 
 def publishes(server):
     """Each version is published by PUT, and a second time it is there."""
-    for key, entries in ((ALPHA, ON_ALPHA), (COMMON, ON_COMMON), (BETA, ON_BETA)):
+    for key, entries in PUBLISHED:
         for entry in entries:
             told = server.put(key, *entry)
             SUITE.holds(f"publish {entry[0]} {entry[1]}", told == (201, b"published\n"), told)
@@ -148,11 +145,7 @@ def session(folder):
     SUITE.holds("the store is held", (status, told) == (1, "goshelf: device\n"), told)
     alpha = Client(SUITE, server, os.path.join(folder, "alpha"), READER)
     beta = Client(SUITE, server, os.path.join(folder, "beta"), BETA)
-    downloads(alpha, [*ON_ALPHA, *ON_COMMON])
-    lists(alpha)
-    gets(alpha)
-    builds(alpha)
-    teams(alpha, beta)
+    asks(alpha, beta)
     two_contents(server, alpha, beta)
     group(
         server,

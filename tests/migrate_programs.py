@@ -21,21 +21,7 @@ import subprocess
 import sys
 import threading
 
-from lib.go_sessions import (
-    ALPHA,
-    BETA,
-    COMMON,
-    ON_ALPHA,
-    ON_BETA,
-    ON_COMMON,
-    READER,
-    Client,
-    builds,
-    downloads,
-    gets,
-    lists,
-    teams,
-)
+from lib.go_sessions import ALPHA, BETA, COMMON, PUBLISHED, READER, Client, asks
 from lib.keys import KEYS, SHELVES
 from lib.messages import get, put, raw_replies
 from lib.modules import escaped
@@ -81,8 +67,7 @@ class Passing(socketserver.BaseRequestHandler):
         self.request.sendall(reply)
 
 
-# what go_client publishes on shelves that schema 2 has
-PUBLISHED = ((ALPHA, ON_ALPHA), (COMMON, ON_COMMON), (BETA, ON_BETA))
+# the shelves of go_client that schema 2 has, with their keys
 OF_GO = (("beta", BETA), ("alpha", ALPHA, READER), ("common", COMMON))
 
 
@@ -145,11 +130,7 @@ def of_go(suite, program, file):
     alpha, beta = (
         Client(suite, recorder, os.path.abspath(name), key) for name, key in (("alpha", READER), ("beta", BETA))
     )
-    downloads(alpha, [*ON_ALPHA, *ON_COMMON])
-    lists(alpha)
-    gets(alpha)
-    builds(alpha)
-    teams(alpha, beta)
+    asks(alpha, beta)
     recorder.shutdown()
     serving.stop()
     return recorder.kept

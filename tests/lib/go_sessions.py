@@ -29,6 +29,8 @@ ON_ALPHA = [
 ]
 ON_COMMON = [module("example.com/base", it) for it in ("v1.0.0", "v1.1.0")]
 ON_BETA = [module("example.com/secret", "v1.0.0"), module("example.com/words", "v0.9.0")]
+# what each key publishes
+PUBLISHED = ((ALPHA, ON_ALPHA), (COMMON, ON_COMMON), (BETA, ON_BETA))
 
 
 class Client:
@@ -176,6 +178,15 @@ def is_not_found(client, query):
     client.suite.holds(
         f"{client.key} sees no {query}", status != 0 and "404 Not Found" in errors + output, f"{status} {errors}"
     )
+
+
+def asks(alpha, beta):
+    """All that a developer of alpha and one of beta ask of a store with what is published."""
+    downloads(alpha, [*ON_ALPHA, *ON_COMMON])
+    lists(alpha)
+    gets(alpha)
+    builds(alpha)
+    teams(alpha, beta)
 
 
 def teams(alpha, beta):

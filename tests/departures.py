@@ -20,6 +20,12 @@ PACKAGES = "/usr/share/gocode/src/golang.org/x/mod"
 LONG_PATH = "example.com/" + "a" * 244
 LONG_VERSION = "v1.0.0-" + "a" * 122
 
+
+def of_lines(what, lines):
+    """A row about the lines behind the module line of a go.mod."""
+    return what, "gomod", rf"module example.com/x\n{lines}\n"
+
+
 # What a row is about, and the row: a path, a path and a version, or the text of a go.mod. In that text \n ends a line,
 # and <C2 A0> has the bytes that it names, as `unwritten` reads it.
 ROWS = [
@@ -35,43 +41,31 @@ ROWS = [
     ("a date that does not exist", "version", "example.com/x", "v0.0.0-20240230120000-abcdefabcdef"),
     ("a time of day that does not exist", "version", "example.com/x", "v0.0.0-20240131250000-abcdefabcdef"),
     ("an empty go.mod", "gomod", r""),
-    ("`go 0.0`", "gomod", r"module example.com/x\ngo 0.0\n"),
-    ("`go` with three numbers", "gomod", r"module example.com/x\ngo 1.21.0\n"),
-    ("`toolchain`", "gomod", r"module example.com/x\ntoolchain go1.21.0\n"),
-    ("`tool`", "gomod", r"module example.com/x\ntool example.com/x/cmd\n"),
-    ("`godebug`", "gomod", r"module example.com/x\ngodebug default=go1.21\n"),
-    ("`ignore`", "gomod", r"module example.com/x\nignore ./static\n"),
-    ("an unknown directive", "gomod", r"module example.com/x\nfrobnicate y\n"),
+    of_lines("`go 0.0`", "go 0.0"),
+    of_lines("`go` with three numbers", "go 1.21.0"),
+    of_lines("`toolchain`", "toolchain go1.21.0"),
+    of_lines("`tool`", "tool example.com/x/cmd"),
+    of_lines("`godebug`", "godebug default=go1.21"),
+    of_lines("`ignore`", "ignore ./static"),
+    of_lines("an unknown directive", "frobnicate y"),
     ("a raw string as a value", "gomod", r"module `example.com/x`\n"),
     ("an escape in a value", "gomod", r'module "example.com\u002fx"' + r"\n"),
     ("a keyword in quotation marks", "gomod", r'"module" example.com/x\n'),
-    ("a required version that is not canonical", "gomod", r"module example.com/x\nrequire example.com/y v1\n"),
-    ("a retracted interval from high to low", "gomod", r"module example.com/x\nretract [v1.1.0, v1.0.0]\n"),
-    ("a retraction of another major", "gomod", r"module example.com/x\nretract v2.0.0\n"),
-    ("a replacement by a Windows path", "gomod", r"module example.com/x\nreplace example.com/y => C:\y\n"),
-    ("an empty block on one line", "gomod", r"module example.com/x\nrequire ( )\n"),
+    of_lines("a required version that is not canonical", "require example.com/y v1"),
+    of_lines("a retracted interval from high to low", "retract [v1.1.0, v1.0.0]"),
+    of_lines("a retraction of another major", "retract v2.0.0"),
+    of_lines("a replacement by a Windows path", r"replace example.com/y => C:\y"),
+    of_lines("an empty block on one line", "require ( )"),
     ("a comment that is not UTF-8", "gomod", r"module example.com/x // <FF>\n"),
-    ("a required path with a reserved name", "gomod", r"module example.com/x\nrequire example.com/con v1.0.0\n"),
-    ("a required path with a plus sign", "gomod", r"module example.com/x\nrequire a+b v1.0.0\n"),
-    (
-        "a replacement by a path without a dot in its first element",
-        "gomod",
-        r"module example.com/x\nreplace example.com/y => mymod v1.0.0\n",
-    ),
-    (
-        "a replacement by a version of another major",
-        "gomod",
-        r"module example.com/x\nreplace example.com/y => example.com/z v2.0.0\n",
-    ),
-    ("a replacement by `..`", "gomod", r"module example.com/x\nreplace example.com/y => ..\n"),
-    ("`go` with a release candidate", "gomod", r"module example.com/x\ngo 1.21rc1\n"),
-    ("a no-break space in a file path", "gomod", r"module example.com/x\nreplace example.com/y => ./a<C2 A0>b\n"),
-    ("a zero-width space in a file path", "gomod", r"module example.com/x\nreplace example.com/y => ./a<E2 80 8B>b\n"),
-    (
-        "a required path without a dot in its first element",
-        "gomod",
-        r"module example.com/x\nrequire mymod v0.0.0\nreplace mymod => ./mymod\n",
-    ),
+    of_lines("a required path with a reserved name", "require example.com/con v1.0.0"),
+    of_lines("a required path with a plus sign", "require a+b v1.0.0"),
+    of_lines("a replacement by a path without a dot in its first element", "replace example.com/y => mymod v1.0.0"),
+    of_lines("a replacement by a version of another major", "replace example.com/y => example.com/z v2.0.0"),
+    of_lines("a replacement by `..`", "replace example.com/y => .."),
+    of_lines("`go` with a release candidate", "go 1.21rc1"),
+    of_lines("a no-break space in a file path", "replace example.com/y => ./a<C2 A0>b"),
+    of_lines("a zero-width space in a file path", "replace example.com/y => ./a<E2 80 8B>b"),
+    of_lines("a required path without a dot in its first element", r"require mymod v0.0.0\nreplace mymod => ./mymod"),
 ]
 
 

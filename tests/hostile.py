@@ -210,6 +210,25 @@ BETA, BETA_READER = ALONE[1][1:]
 GAMMA, GAMMA_READER = MEMBERS[0][1:]
 PLATFORM, PLATFORM_READER = GROUP[1:]
 COMMON, COMMON_READER = TOP[1:]
+
+
+def came_last(name, key, parent, zip_bytes, more, others):
+    """What the key of a team that came last is answered: it sees what its parent published with this zip, conflicts
+    with it or repeats it, and publishes another version, with one more zip, which others do not see."""
+    version = f"{OWN}/@v/v1.0.1.zip"
+    return [
+        (
+            f"{name}: sees {parent}",
+            [get(f"{OWN}/@v/v1.0.0.zip", key), get(f"{OWN}/@v/list", key)],
+            [zipped(zip_bytes), LIST],
+        ),
+        (f"{name}: conflicts with {parent}", [own("v1.0.0", key, b"another zip")], [CONFLICT]),
+        (f"{name}: repeats what {parent} has", [own("v1.0.0", key, zip_bytes)], [AGAIN]),
+        (f"{name}: publishes its own", [own("v1.0.1", key, more), get(version, key)], [PUBLISHED, zipped(more)]),
+        by_both(f"{name}: the others do not see it", version, others, NOT_FOUND),
+    ]
+
+
 # once common has published too, each shelf goes on seeing its own; of two teams that came last, each with a key of 64
 # bytes, `late` sees common, and `member`, which is of the group, sees the group
 AFTER = [
@@ -220,42 +239,15 @@ AFTER = [
     ("beta: sees its own list", [get(f"{OWN}/@v/list", BETA_READER)], [LIST]),
     ("beta: sees its own latest", [get(f"{OWN}/@latest", BETA_READER)], [LATEST]),
     ("beta: sees one module", [get("-/modules", BETA_READER)], [MODULES]),
-    (
-        "late: sees common",
-        [get(f"{OWN}/@v/v1.0.0.zip", LATE), get(f"{OWN}/@v/list", LATE)],
-        [zipped(COMMON.encode()), LIST],
-    ),
-    ("late: conflicts with common", [own("v1.0.0", LATE, b"another zip")], [CONFLICT]),
-    ("late: repeats what common has", [own("v1.0.0", LATE, COMMON.encode())], [AGAIN]),
-    (
-        "late: publishes its own",
-        [own("v1.0.1", LATE, b"Z"), get(f"{OWN}/@v/v1.0.1.zip", LATE)],
-        [PUBLISHED, zipped(b"Z")],
-    ),
-    by_both(
-        "late: the others do not see it",
-        f"{OWN}/@v/v1.0.1.zip",
-        (BETA, COMMON, COMMON_READER, GAMMA, PLATFORM, MEMBER),
-        NOT_FOUND,
-    ),
-    (
-        "member: sees the group",
-        [get(f"{OWN}/@v/v1.0.0.zip", MEMBER), get(f"{OWN}/@v/list", MEMBER)],
-        [zipped(PLATFORM.encode()), LIST],
-    ),
-    ("member: conflicts with the group", [own("v1.0.0", MEMBER, b"another zip")], [CONFLICT]),
+    *came_last("late", LATE, "common", COMMON.encode(), b"Z", (BETA, COMMON, COMMON_READER, GAMMA, PLATFORM, MEMBER)),
     ("member: conflicts with the group, by common's zip", [own("v1.0.0", MEMBER, COMMON.encode())], [CONFLICT]),
-    ("member: repeats what the group has", [own("v1.0.0", MEMBER, PLATFORM.encode())], [AGAIN]),
-    (
-        "member: publishes its own",
-        [own("v1.0.1", MEMBER, b"M"), get(f"{OWN}/@v/v1.0.1.zip", MEMBER)],
-        [PUBLISHED, zipped(b"M")],
-    ),
-    by_both(
-        "member: the others do not see it",
-        f"{OWN}/@v/v1.0.1.zip",
+    *came_last(
+        "member",
+        MEMBER,
+        "the group",
+        PLATFORM.encode(),
+        b"M",
         (BETA, COMMON, GAMMA, GAMMA_READER, PLATFORM, PLATFORM_READER),
-        NOT_FOUND,
     ),
     (
         "member: the group publishes it too",

@@ -36,6 +36,7 @@ CALLS += ",fstat,lseek"
 PAUSE = 400_000
 # more calls on both files than a run makes
 MOST = 400
+NEW = "new.db"
 
 
 def keeps_log(folder):
@@ -86,27 +87,32 @@ def raced(folder, to, turn, before=()):
     return (child.returncode, told), (commit.returncode, commit.stderr), lines_in(trace) >= turn
 
 
-def races(suite, about, make, to=None):
+def fault_of(base, ended, committed, to, ends):
+    """What is wrong with a race over a store of these keys, or None."""
+    both = base | {KEY}
+    if committed != (0, ""):
+        return f"sqlite3 could not commit: {committed}"
+    if (found := keys_of("folder")) != both:
+        return f"the store has the keys {sorted(found)}"
+    if ends and ended not in ends:
+        return f"migrate ended with {ended}"
+    if ended == (0, "") and {row[0] for row in rows_of(to)[0][1]} not in (base, both):
+        return "the new store has other keys"
+    return None
+
+
+def races(suite, about, make, to=NEW, before=(), ends=()):
     """A commit behind one call after another: it stays, and the new store has the rows from before it, or from after
-    it."""
+    it. `migrate` has to end in one of some ways, if any are named."""
     step, tried = 1 if "--long" in sys.argv else 3, 0
     for turn in range(1, MOST, step):
         make("folder")
         base = keys_of("folder")
-        ended, committed, is_reached = raced("folder", to or "new.db", turn)
-        wrong = None
-        if committed != (0, ""):
-            wrong = f"sqlite3 could not commit: {committed}"
-        elif keys_of("folder") != base | {KEY}:
-            wrong = f"the store has the keys {sorted(keys_of('folder'))}"
-        elif ended not in ((0, ""), (1, "goshelf: device\n")) and to is None:
-            wrong = f"migrate ended with {ended}"
-        elif ended == (0, "") and {row[0] for row in rows_of("new.db")[0][1]} not in (base, base | {KEY}):
-            wrong = "the new store has other keys"
-        suite.counts(f"{about}, behind call {turn}", wrong)
+        ended, committed, is_reached = raced("folder", to, turn, before)
+        suite.counts(f"{about}, behind call {turn}", fault_of(base, ended, committed, to, ends))
         shutil.rmtree("folder")
-        if to is None:
-            remove_store("new.db")
+        if to == NEW:
+            remove_store(to)
         if not is_reached:
             break
         tried += 1
@@ -114,11 +120,20 @@ def races(suite, about, make, to=None):
 
 
 def commits(suite):
+    ends = (0, ""), (1, "goshelf: device\n")
     filled(suite)
-    races(suite, "no log before", keeps_log)
-    races(suite, "a log before", with_a_log)
+    races(suite, "no log before", keeps_log, ends=ends)
+    races(suite, "a log before", with_a_log, ends=ends)
     assert run(["team-add", "--db", "team.db", "--team", "alpha"])[0] == 0
     races(suite, "into a store that is not empty", keeps_log, "team.db")
+
+
+def read_only(folder):
+    """Makes an older store with a log, which the user nobody may only read."""
+    with_a_log(folder)
+    os.chmod(folder, 0o755)
+    for name in os.listdir(folder):
+        os.chmod(f"{folder}/{name}", 0o644)
 
 
 def reader(suite):
@@ -127,23 +142,7 @@ def reader(suite):
         return suite.skip("a read-only file", "the user nobody cannot be used here")
     filled(suite)
     os.chmod(".", 0o777)
-    step, tried = 1 if "--long" in sys.argv else 3, 0
-    for turn in range(1, MOST, step):
-        with_a_log("folder")
-        os.chmod("folder", 0o755)
-        for name in os.listdir("folder"):
-            os.chmod(f"folder/{name}", 0o644)
-        base = keys_of("folder")
-        ended, committed, is_reached = raced("folder", "new.db", turn, NOBODY)
-        is_whole = ended != (0, "") or {row[0] for row in rows_of("new.db")[0][1]} in (base, base | {KEY})
-        wrong = None if (committed, keys_of("folder")) == ((0, ""), base | {KEY}) and is_whole else (ended, committed)
-        suite.counts(f"a read-only file, behind call {turn}", wrong)
-        shutil.rmtree("folder")
-        remove_store("new.db")
-        if not is_reached:
-            break
-        tried += 1
-    suite.holds(f"a read-only file: it was stopped behind {tried} calls", tried > 2)
+    races(suite, "a read-only file", read_only, before=NOBODY)
 
 
 def behind_the_commit(suite):

@@ -14,6 +14,7 @@ from lib.machine import Machine
 from lib.pages import block
 from lib.peers import asked_by
 from lib.program import PROGRAM, ROOT
+from lib.scratch import closed_on_failure
 
 # each user, and the user's shelf
 USERS = {"ann": "alpha", "bea": "beta", "gus": "gamma", "dee": "delta", "pam": "platform", "cam": "common"}
@@ -120,7 +121,7 @@ def told_at(at, line):
 def set_up(suite, folder):
     """Users of each shelf of the store of lib/catalog_store.py, and their pages."""
     machine = Machine(folder)
-    try:
+    with closed_on_failure(machine):
         make_store(suite, machine.store)
         own_goshelf(machine, GOSHELF)
         start(machine, lambda block: block.replace('"example.com" "alpha"', PATHS))
@@ -135,9 +136,6 @@ def set_up(suite, folder):
         settle(reader, "ann", 404)
         machine.does(block("sh", "/var/lib/goshelf-catalog"))
         suite.equal("the pages are made", machine.sh("goshelf-catalog"), (0, MADE, ""))
-    except BaseException:
-        machine.close()
-        raise
     return reader
 
 

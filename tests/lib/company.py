@@ -15,6 +15,7 @@ from lib.pages import block
 from lib.peers import fetched, over
 from lib.ports import wait_until
 from lib.program import done
+from lib.scratch import closed_on_failure
 
 FIRST, SITE, OTHER, DESK = "shelf.example.com", "site.example.com", "site-b.example.com", "desk.example.com"
 FRONTS = (FIRST, SITE, OTHER)
@@ -51,11 +52,8 @@ class Company:
         self.network = Network(folder, (*self.fronts, DESK))
         self.hosts, self.seed = self.network.hosts, random.Random(7)
         self.first, self.published = self.hosts[FIRST], set()
-        try:
+        with closed_on_failure(self):
             self.start()
-        except BaseException:
-            self.close()
-            raise
 
     def start(self):
         certificates = {name: self.hosts[name].certificate(*self.more_names) for name in self.fronts}

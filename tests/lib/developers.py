@@ -14,7 +14,7 @@ from lib.machine import AUTHORITIES, Machine
 from lib.modules import escaped
 from lib.outside import STORE, Outside, module
 from lib.ports import wait_until
-from lib.scratch import read, write
+from lib.scratch import closed_on_failure, read, write
 from lib.stores import new_store
 
 PATHS = {
@@ -42,11 +42,8 @@ class Developers:
         self.folder, self.count = folder, 0
         self.outside = Outside(f"{folder}/outside")
         self.machine = Machine(f"{folder}/machine", self.outside.port)
-        try:
+        with closed_on_failure(self):
             self.start()
-        except BaseException:
-            self.close()
-            raise
 
     def start(self):
         new_store(self.machine.store, ("alpha", "firstkey00000001"), ("beta", "firstkey00000002"))

@@ -11,6 +11,7 @@ from lib.logins import Logins
 from lib.machine import Machine
 from lib.pages import block
 from lib.ports import wait_for
+from lib.scratch import closed_on_failure
 from lib.stores import new_store
 
 LIB = "/example.com/lib"
@@ -85,16 +86,13 @@ class Client(Logins):
 def set_up(suite, folder):
     """The users of a machine with goshelf behind nginx, by the page's commands."""
     machine = Machine(folder)
-    try:
+    with closed_on_failure(machine):
         new_store(machine.store, ("alpha", UNUSED), ("beta", "firstkey00000002"), (LONG, "firstkey00000003"))
         start(machine, lambda block: block.replace("alpha", f"alpha beta {LONG}"))
         client = Client(machine)
         for user in USERS:
             client.add(*user)
         settle(client, wanted=404)
-    except BaseException:
-        machine.close()
-        raise
     maps = [f"{folder}/etc/nginx/goshelf/{name}" for name in ("users.map", "keys.map")]
     suite.equal("only root may read the maps", [os.stat(it).st_mode & 0o777 for it in maps], [0o600, 0o600])
     return client

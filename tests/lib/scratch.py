@@ -43,6 +43,16 @@ def in_a_folder(suite, session):
     return suite.end()
 
 
+@contextlib.contextmanager
+def closed_on_failure(it):
+    """Closes a thing if the block that sets it up fails."""
+    try:
+        yield
+    except BaseException:
+        it.close()
+        raise
+
+
 def play(suite, about, why, made, parts, is_able=True):
     """Has a suite play parts with what `made` makes in a new folder, closes it, and returns the suite's exit status.
 

@@ -10,7 +10,7 @@ use Rattle.commands.specs.declared.action.Action.TheVariants as action
 use Rattle.commands.specs.declared.serve.Entrance.{Entrance}
 use Rattle.commands.specs.declared.serve.Entrance.TheVariants.{Input, Port}
 use Rattle.control.specs.declared.listing.Listing.TheVariants.{Keys, Shelves}
-use Rattle.control.specs.declared.order.Order.{Order}
+use Rattle.control.specs.declared.registry_command.RegistryCommand.{RegistryCommand}
 use Rattle.runner.specs.declared.Command.{Command}
 use Rattle.runner.specs.declared.Command.TheVariants as command
 use Rattle.cli.specs.Asks.{AsksAction, AsksCommand, AsksConnections, AsksEntrance, AsksOrder, AsksUnordered}
@@ -129,7 +129,7 @@ no_unordered rows word db is acts (command.List control listing) asks = asks
 no_unordered rows word db is acts (command.Catalog control key) asks = asks
 no_unordered rows word db is acts (command.Stop control) asks = asks
 
--- where no file is named, these two words alone ask for a command that names no order
+-- where no file is named, these two words alone ask for a command that names no registry command
 pub no_sent : (rows : List Row) (word : Text) → Lacks rows (codes "db") → (word ≡ codes "key-add" → ⊥)
     → (word ≡ codes "key-revoke" → ⊥) → (asked : Command) → AsksUnordered rows word asked → ⊥
 no_sent rows word lacks add revoke (command.OnStore db a) asks = let bad : None ≡ Some db.now = sym lacks ∙ asks.0 in cc
@@ -146,13 +146,13 @@ no_sent rows word lacks add revoke (command.List control listing) asks = asks
 no_sent rows word lacks add revoke (command.Catalog control key) asks = asks
 no_sent rows word lacks add revoke (command.Stop control) asks = asks
 
--- a word asks for no command that is none of these, and asks for no order, and for nothing that is none
+-- a word asks for no command that is none of these, and asks for no registry command, and for nothing that is none
 pub no_command : (rows : List Row) (word : Text) → (word ≡ codes "init" → ⊥) → (word ≡ codes "answer" → ⊥)
     → (word ≡ codes "extract" → ⊥)
     → (word ≡ codes "migrate" → ⊥) → (word ≡ codes "copy" → ⊥) → (word ≡ codes "ping" → ⊥)
     → (word ≡ codes "key-list" → ⊥) → (word ≡ codes "shelf-list" → ⊥) → (word ≡ codes "catalog" → ⊥)
     → (word ≡ codes "stop" → ⊥)
-    → ((o : Order) → AsksOrder rows word o → ⊥) → ((c : Command) → AsksUnordered rows word c → ⊥)
+    → ((o : RegistryCommand) → AsksOrder rows word o → ⊥) → ((c : Command) → AsksUnordered rows word c → ⊥)
     → (asked : Command) → AsksCommand rows word asked → ⊥
 no_command rows word init answer extract migrate copy ping keys shelves catalog stop order acts = go
   where
@@ -188,7 +188,7 @@ no_command rows word init answer extract migrate copy ping keys shelves catalog 
     go (command.Catalog control key) asks = catalog asks.0
     go (command.Stop control) asks = stop asks.0
 
--- a command that names no order is a command
+-- a command that names no registry command is a command
 is_command : (rows : List Row) (word : Text) (c : Command) → AsksUnordered rows word c → AsksCommand rows word c
 is_command rows word (command.OnStore db action.Open) asks = absurd asks.1
 is_command rows word (command.OnStore db (action.Register o)) asks = absurd asks.1
@@ -216,7 +216,7 @@ is_command rows word (command.List control listing) asks = absurd asks
 is_command rows word (command.Catalog control key) asks = absurd asks
 is_command rows word (command.Stop control) asks = absurd asks
 
--- where a word asks for nothing else, what is found among the commands that name no order is asked for
+-- where a word asks for nothing else, what is found among the commands that name no registry command is asked for
 pub unordered : (rows : List Row) (word : Text) (o : Option Command)
     → (((c : Command) → AsksUnordered rows word c → ⊥) → (c : Command) → AsksCommand rows word c → ⊥)
     → Finds o (AsksUnordered rows word) → Finds o (AsksCommand rows word)

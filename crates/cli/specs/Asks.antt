@@ -16,8 +16,9 @@ use Rattle.commands.specs.declared.serve.Entrance.{Entrance}
 use Rattle.commands.specs.declared.serve.Entrance.TheVariants.{Input, Port}
 use Rattle.control.specs.declared.listing.Listing.{Listing}
 use Rattle.control.specs.declared.listing.Listing.TheVariants.{Keys, Shelves}
-use Rattle.control.specs.declared.order.Order.{Order}
-use Rattle.control.specs.declared.order.Order.TheVariants.{GroupAdd, KeyAdd, KeyRevoke, KeysRevoke, TeamAdd}
+use Rattle.control.specs.declared.registry_command.RegistryCommand.{RegistryCommand}
+use Rattle.control.specs.declared.registry_command.RegistryCommand.TheVariants.{GroupAdd, KeyAdd, KeyRevoke}
+use Rattle.control.specs.declared.registry_command.RegistryCommand.TheVariants.{KeysRevoke, TeamAdd}
 use Rattle.runner.specs.declared.Command.{Command}
 use Rattle.runner.specs.declared.Command.TheVariants as command
 use Rattle.words.specs.Table.{faults, given}
@@ -73,7 +74,7 @@ module _ (rows : List Row) where
 
   -- ---- which command is asked for by its word
 
-  abbrev pub AsksOrder : Text → Order → Type 0
+  abbrev pub AsksOrder : Text → RegistryCommand → Type 0
   AsksOrder word (TeamAdd name group) = (word ≡ codes "team-add") × Is (codes "team") name.now
       × MayBe (codes "group") group
   AsksOrder word (GroupAdd name) = (word ≡ codes "group-add") × Is (codes "group") name.now
@@ -121,8 +122,8 @@ module _ (rows : List Row) where
   AsksAction word (action.Serve entrance connections control) = (word ≡ codes "serve")
       × AsksEntrance entrance × AsksConnections connections × MayBe (codes "control") control
 
-  -- a command that names no order: an action on the store of a file, a key that is made for a running server, or a
-  -- fingerprint whose key that server is to revoke
+  -- a command that names no registry command: an action on the store of a file, a key that is made for a running
+  -- server, or a fingerprint whose key that server is to revoke
   abbrev pub AsksUnordered : Text → Command → Type 0
   AsksUnordered word (command.OnStore db action) = Is (codes "db") db.now × AsksAction word action
   AsksUnordered word (command.OrderNew control shelf right) = (word ≡ codes "key-add") × Lacks (codes "db")

@@ -1,7 +1,7 @@
 //! The command that the words of the command line ask for.
 ghost use Rattle.std.specs.Prelude.{◌≡◌, ℕ, List, codes, if◌then◌else◌, option_map, map};
 ghost use Rattle.clap.specs.Words.{all_of, found_of, first_of, rows_of, subcommand_rows_of};
-ghost use Rattle.control.specs.declared.order.Order.{Order};
+ghost use Rattle.control.specs.declared.registry_command.RegistryCommand.{RegistryCommand};
 ghost use Rattle.cli.specs.Asks.{AsksAction, AsksCommand, AsksConnections, AsksEntrance, AsksOrder, AsksUnordered};
 ghost use Rattle.cli.specs.Asks.{Finds, Lacks};
 ghost use Rattle.cli.specs.Asks.{GivenAsks, ReadsNumber, is_by_words, is_flagged};
@@ -12,7 +12,7 @@ use commands::action::Action;
 use commands::publish::{Files, Words};
 use commands::report::Named;
 use commands::serve::Entrance;
-use control::{Listing, Order};
+use control::{Listing, RegistryCommand};
 use runner::Command;
 use world::entry::Right;
 
@@ -63,8 +63,8 @@ fn command_of_word<'m, 'a>(word: &str, options: &'m ArgMatches<'a>) -> Option<Co
     }
 }
 
-/// Returns the command of a word and options that name no order: an action on the store of a file, a key that is made
-/// and sent to a running server, or a fingerprint that is.
+/// Returns the command of a word and options that name no registry command: an action on the store of a file, a key
+/// that is made and sent to a running server, or a fingerprint that is.
 fn unordered_command<'a>(word: &str, options: &ArgMatches<'a>) -> Option<Command<'a>>
     ensures { Finds result (AsksUnordered (rows_of (found_of options.now)) word.now) }
 {
@@ -201,7 +201,7 @@ fn catalog_of<'a>(options: &ArgMatches<'a>) -> Option<Command<'a>>
 
 /// Returns a registry command: on the running server whose socket the words name, or on the store of a file. None if
 /// they name both or neither.
-fn registry_command<'a>(order: Order<'a>, options: &ArgMatches<'a>) -> Option<Command<'a>>
+fn registry_command<'a>(order: RegistryCommand<'a>, options: &ArgMatches<'a>) -> Option<Command<'a>>
     ensures { (word : List ℕ) → AsksOrder (rows_of (found_of options.now)) word order.entry
         → Finds result (AsksCommand (rows_of (found_of options.now)) word) }
 {
@@ -215,16 +215,16 @@ fn registry_command<'a>(order: Order<'a>, options: &ArgMatches<'a>) -> Option<Co
     }
 }
 
-/// Returns the order of a registry command, or None for another command.
-fn order_of<'a>(word: &str, options: &ArgMatches<'a>) -> Option<Order<'a>>
+/// Returns the registry command of a word and options, or None for another command.
+fn order_of<'a>(word: &str, options: &ArgMatches<'a>) -> Option<RegistryCommand<'a>>
     ensures { Finds result (AsksOrder (rows_of (found_of options.now)) word.now) }
 {
     match word {
-        "team-add" => Some(Order::TeamAdd {
+        "team-add" => Some(RegistryCommand::TeamAdd {
             name: text(options, "team")?,
             group: text(options, "group"),
         }),
-        "group-add" => Some(Order::GroupAdd {
+        "group-add" => Some(RegistryCommand::GroupAdd {
             name: text(options, "group")?,
         }),
         "key-add" => key_add_of(options),
@@ -233,8 +233,8 @@ fn order_of<'a>(word: &str, options: &ArgMatches<'a>) -> Option<Order<'a>>
     }
 }
 
-/// Returns the order of `key-add` with a key, or None if a key is to be made or none is named.
-fn key_add_of<'a>(options: &ArgMatches<'a>) -> Option<Order<'a>>
+/// Returns the registry command of `key-add` with a key, or None if a key is to be made or none is named.
+fn key_add_of<'a>(options: &ArgMatches<'a>) -> Option<RegistryCommand<'a>>
     ensures { Finds result (AsksOrder (rows_of (found_of options.now)) (codes "key-add")) }
 {
     match (
@@ -242,7 +242,7 @@ fn key_add_of<'a>(options: &ArgMatches<'a>) -> Option<Order<'a>>
         text(options, "key"),
         is_flagged(options, "new"),
     ) {
-        (Some(shelf), Some(key), false) => Some(Order::KeyAdd {
+        (Some(shelf), Some(key), false) => Some(RegistryCommand::KeyAdd {
             shelf,
             key,
             right: right_of(is_flagged(options, "read-only")),
@@ -251,9 +251,9 @@ fn key_add_of<'a>(options: &ArgMatches<'a>) -> Option<Order<'a>>
     }
 }
 
-/// Returns the order of `key-revoke` with a key, or with a shelf whose keys are all revoked, or None if a fingerprint
-/// is named in their place, or nothing.
-fn key_revoke_of<'a>(options: &ArgMatches<'a>) -> Option<Order<'a>>
+/// Returns the registry command of `key-revoke` with a key, or with a shelf whose keys are all revoked, or None if a
+/// fingerprint is named in their place, or nothing.
+fn key_revoke_of<'a>(options: &ArgMatches<'a>) -> Option<RegistryCommand<'a>>
     ensures { Finds result (AsksOrder (rows_of (found_of options.now)) (codes "key-revoke")) }
 {
     match (
@@ -262,8 +262,8 @@ fn key_revoke_of<'a>(options: &ArgMatches<'a>) -> Option<Order<'a>>
         text(options, "shelf"),
         is_flagged(options, "all"),
     ) {
-        (Some(key), None, None, false) => Some(Order::KeyRevoke { key }),
-        (None, None, Some(shelf), true) => Some(Order::KeysRevoke { shelf }),
+        (Some(key), None, None, false) => Some(RegistryCommand::KeyRevoke { key }),
+        (None, None, Some(shelf), true) => Some(RegistryCommand::KeysRevoke { shelf }),
         _ => None,
     }
 }

@@ -18,7 +18,7 @@ use Rattle.control.specs.Hearing.{Heard, Carried, Made, Listed, Pinged, Named, S
 use Rattle.control.specs.Hearing.{GoesAs, IsHeardIn, steps_heard}
 use Rattle.control.specs.Hearing.{told_heard}
 use Rattle.control.specs.Line.{IsSaid, IsSent, IsCopyTo, catalog_words, copy_words, named_words}
-use Rattle.control.specs.Order.{Orders, said_in, event_of, outcome_in}
+use Rattle.control.specs.RegistryCommand.{SaysCommand, said_in, event_of, outcome_in}
 use Rattle.control.specs.Outcome.{outcome_of}
 use Rattle.control.specs.Words.{Said, IsTextOf, space, is_word, is_word_byte, behind, line_end}
 use Rattle.control.specs.declared.health.Health.{Health}
@@ -27,10 +27,11 @@ use Rattle.control.specs.declared.outcome.Outcome.TheVariants as outcome
 use Rattle.control.specs.declared.told.Told.{Told}
 use Rattle.control.specs.declared.told.Told.TheVariants as spoken
 use Rattle.control.specs.declared.listing.Listing.TheVariants.{Keys, Shelves}
-use Rattle.control.specs.declared.order.Order.{Order}
-use Rattle.control.specs.declared.order.Order.TheVariants.{TeamAdd, GroupAdd, KeyAdd, KeyRevoke, KeysRevoke}
+use Rattle.control.specs.declared.registry_command.RegistryCommand.{RegistryCommand}
+use Rattle.control.specs.declared.registry_command.RegistryCommand.TheVariants.{TeamAdd, GroupAdd, KeyAdd}
+use Rattle.control.specs.declared.registry_command.RegistryCommand.TheVariants.{KeyRevoke, KeysRevoke}
 use Rattle.control.proofs.LineLemmas.{one_line}
-use Rattle.control.proofs.OrderLemmas.{one_event}
+use Rattle.control.proofs.RegistryCommandLemmas.{one_event}
 use Rattle.control.proofs.WordLemmas.{false_after, one_saying}
 use Rattle.commands.specs.Controlled.{EndsAt, EndsAsOnTheStore}
 use Rattle.commands.specs.Order.{ComeToTheSame, told_ending, unsayable}
@@ -58,7 +59,7 @@ same_said sent s t one two =
 abbrev says_copy : Said → Bool
 says_copy s = bytes_eq s.verb (codes "copy")
 
-no_copy_words : (path : List ℕ) (order : Order) → ¬ (copy_words path ≡ said_in order)
+no_copy_words : (path : List ℕ) (order : RegistryCommand) → ¬ (copy_words path ≡ said_in order)
 no_copy_words path (TeamAdd name group) e = true≢false (ap says_copy e)
 no_copy_words path (GroupAdd name) e = true≢false (ap says_copy e)
 no_copy_words path (KeyAdd shelf key Publishes) e = true≢false (ap says_copy e)
@@ -66,7 +67,7 @@ no_copy_words path (KeyAdd shelf key Reads) e = true≢false (ap says_copy e)
 no_copy_words path (KeyRevoke key) e = true≢false (ap says_copy e)
 no_copy_words path (KeysRevoke shelf) e = true≢false (ap says_copy e)
 
-no_copy : (sent path : List ℕ) (order : Order) → IsSent sent order → ¬ IsCopyTo sent path
+no_copy : (sent path : List ℕ) (order : RegistryCommand) → IsSent sent order → ¬ IsCopyTo sent path
 no_copy sent path order orders copies =
     no_copy_words path order (same_said sent (copy_words path) (said_in order) copies orders)
 
@@ -75,7 +76,7 @@ no_copy sent path order orders copies =
 abbrev says_catalog : Said → Bool
 says_catalog s = bytes_eq s.verb (codes "catalog")
 
-no_catalog_words : (key : List ℕ) (order : Order) → ¬ (catalog_words key ≡ said_in order)
+no_catalog_words : (key : List ℕ) (order : RegistryCommand) → ¬ (catalog_words key ≡ said_in order)
 no_catalog_words key (TeamAdd name group) e = true≢false (ap says_catalog e)
 no_catalog_words key (GroupAdd name) e = true≢false (ap says_catalog e)
 no_catalog_words key (KeyAdd shelf name Publishes) e = true≢false (ap says_catalog e)
@@ -88,7 +89,7 @@ no_catalog_words key (KeysRevoke shelf) e = true≢false (ap says_catalog e)
 abbrev says_named : Said → Bool
 says_named s = bytes_eq s.verb (codes "revoke-fingerprint")
 
-pub no_named_words : (f : List ℕ) (order : Order) → ¬ (named_words f ≡ said_in order)
+pub no_named_words : (f : List ℕ) (order : RegistryCommand) → ¬ (named_words f ≡ said_in order)
 no_named_words f (TeamAdd name group) e = true≢false (ap says_named e)
 no_named_words f (GroupAdd name) e = true≢false (ap says_named e)
 no_named_words f (KeyAdd shelf key Publishes) e = true≢false (ap says_named e)
@@ -99,16 +100,16 @@ no_named_words f (KeysRevoke shelf) e = true≢false (ap says_named e)
 -- ---- one order
 
 -- the bytes order one event
-same_event : (got : List ℕ) (one two : Order) → IsSent got one → IsSent got two → event_of one ≡ event_of two
+same_event : (got : List ℕ) (one two : RegistryCommand) → IsSent got one → IsSent got two → event_of one ≡ event_of two
 same_event got one two first second =
     one_event first.line one two first.says
-    (subst (λ l. Orders l two) (one_line got first.line second.line first.ends.is second.ends) second.says)
+    (subst (λ l. SaysCommand l two) (one_line got first.line second.line first.ends.is second.ends) second.says)
 
 abbrev pub registered_in : Reply → RegistryReply
 registered_in (Registry r) = r
 registered_in reply = Done
 
-pub replied : (w : World) (o : Order) → registered_in (reply_to w (event_of o)) ≡ outcome_in w o
+pub replied : (w : World) (o : RegistryCommand) → registered_in (reply_to w (event_of o)) ≡ outcome_in w o
 replied w (TeamAdd name group) = refl
 replied w (GroupAdd name) = refl
 replied w (KeyAdd shelf key right) = refl
@@ -120,10 +121,10 @@ outcome_in_told (spoken.Outcome outcome) = outcome
 outcome_in_told (spoken.Health line) = outcome.Bad
 outcome_in_told (spoken.List lines) = outcome.Bad
 
-module _ (idle meanwhile : Type 0) (old new : Shown) (sent : List ℕ) (order asked : Order)
+module _ (idle meanwhile : Type 0) (old new : Shown) (sent : List ℕ) (order asked : RegistryCommand)
     (result : Result (Unit {0}) CommandRefusal) (w : World) where
-  carried : new.is_honest → old.stands w → IsWorld w → ComeToTheSame asked order → IsSent sent asked → (other : Order)
-      → IsSent sent other
+  carried : new.is_honest → old.stands w → IsWorld w → ComeToTheSame asked order → IsSent sent asked
+      → (other : RegistryCommand) → IsSent sent other
       → (told : Result RegistryReply StoreFault) → result ≡ told_ending (unsayable asked) (Ok (outcome_of told))
       → GoesThroughSteps old new (steps_heard (Carried other told)) → EndsAt new w order result
   carried honest stands is same asks other heard (Ok r) ends through =

@@ -13,12 +13,12 @@ use Rattle.control.specs.Hearing.{Heard, Carried, Made, Listed, Pinged, Named, S
 use Rattle.control.specs.Hearing.{GoesAs, IsHeardIn, ListsBy, told_heard}
 use Rattle.control.specs.Line.{IsNaming, catalog_words, copy_words, named_words}
 use Rattle.control.specs.Naming.{Finds, Naming, NamesOne, NamesNone, Unread, named_result, named_steps}
-use Rattle.control.specs.Order.{said_in}
+use Rattle.control.specs.RegistryCommand.{said_in}
 use Rattle.control.specs.Outcome.{outcome_of}
 use Rattle.control.specs.Words.{Said}
 use Rattle.control.specs.declared.health.Health.{Health}
 use Rattle.control.specs.declared.listing.Listing.TheVariants.{Keys, Shelves}
-use Rattle.control.specs.declared.order.Order.TheVariants.{KeyRevoke}
+use Rattle.control.specs.declared.registry_command.RegistryCommand.TheVariants.{KeyRevoke}
 use Rattle.control.specs.declared.outcome.Outcome.{Outcome}
 use Rattle.control.specs.declared.told.Told.TheVariants as spoken
 use Rattle.commands.specs.Controlled.{RevokesAt, RevokesAsOnTheStore}

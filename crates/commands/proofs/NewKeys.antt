@@ -10,14 +10,14 @@ use Rattle.world.specs.declared.registry.RegistryReply.TheVariants as registered
 use Rattle.world.specs.declared.registry.StoreFault.{StoreFault}
 use Rattle.world.specs.declared.registry.StoreFault.TheVariants as fault
 use Rattle.machine.proofs.AfterRead.{crash_after}
-use Rattle.control.specs.declared.order.Order.{Order}
+use Rattle.control.specs.declared.registry_command.RegistryCommand.{RegistryCommand}
 use Rattle.commands.specs.Ending.{Registers, ending}
 use Rattle.commands.specs.NewKey.{Found, HasCause, Makes}
 use Rattle.commands.specs.declared.refusal.CommandRefusal.{CommandRefusal}
 use Rattle.commands.specs.declared.refusal.CommandRefusal.TheVariants.{Io}
 
--- an order that is carried out after the store was read
-pub registers_after : {T : Type 0} (old mid new : Shown) (found : T) (value : World → T) (order : Order)
+-- a registry command that is carried out after the store was read
+pub registers_after : {T : Type 0} (old mid new : Shown) (found : T) (value : World → T) (order : RegistryCommand)
     (result : Result (Unit {0}) CommandRefusal)
     → Reads old mid (Ok found) value → Registers mid new order result → Registers old new order result
 registers_after old mid new found value order result reads registers = record {
@@ -45,8 +45,8 @@ made_is (Ok None) bytes key made = cc
 made_is (Err fault.Device) bytes key made = cc
 made_is (Err fault.Memory) bytes key made = cc
 
--- an order that is carried out after a key was made
-pub registers_made : (old mid new : Shown) (shelf bytes key : List ℕ) (found : Found) (order : Order)
+-- a registry command that is carried out after a key was made
+pub registers_made : (old mid new : Shown) (shelf bytes key : List ℕ) (found : Found) (order : RegistryCommand)
     (result : Result (Unit {0}) CommandRefusal)
     → Makes found bytes (Ok key) → Reads old mid found (λ w. map.get w.shelves shelf)
     → Registers mid new order result → Registers old new order result
@@ -68,8 +68,8 @@ never_io (Err fault.Device) is = cc
 never_io (Err fault.Memory) is = cc
 
 -- a registry command does not
-pub registers_cause : (old new : Shown) (order : Order) (result : Result (Unit {0}) CommandRefusal) (cause : Type 0)
-    → Registers old new order result → HasCause result cause
+pub registers_cause : (old new : Shown) (order : RegistryCommand) (result : Result (Unit {0}) CommandRefusal)
+    (cause : Type 0) → Registers old new order result → HasCause result cause
 registers_cause old new order (Ok u) cause registers = tt
 registers_cause old new order (Err e) cause registers =
     λ is. absurd (never_io registers.told (ap Err (sym is) ∙ registers.ends))

@@ -25,11 +25,12 @@ use Rattle.world.proofs.Orders.{text_self}
 use Rattle.machine.specs.Machine.{after}
 use Rattle.control.specs.Asking.{IsUnsayable, Asks}
 use Rattle.control.specs.Line.{IsSaid, longest}
-use Rattle.control.specs.Order.{add_word, said_in, event_of, outcome_in}
+use Rattle.control.specs.RegistryCommand.{add_word, said_in, event_of, outcome_in}
 use Rattle.control.specs.Words.{Said, space, line_end, is_word, is_word_byte, is_word_if, behind, text_of}
 use Rattle.control.specs.declared.client.Untold.{Untold}
-use Rattle.control.specs.declared.order.Order.{Order}
-use Rattle.control.specs.declared.order.Order.TheVariants.{TeamAdd, GroupAdd, KeyAdd, KeyRevoke, KeysRevoke}
+use Rattle.control.specs.declared.registry_command.RegistryCommand.{RegistryCommand}
+use Rattle.control.specs.declared.registry_command.RegistryCommand.TheVariants.{TeamAdd, GroupAdd, KeyAdd}
+use Rattle.control.specs.declared.registry_command.RegistryCommand.TheVariants.{KeyRevoke, KeysRevoke}
 use Rattle.control.specs.declared.outcome.Outcome.{Outcome}
 use Rattle.commands.specs.Ending.{ending}
 use Rattle.commands.specs.Order.{group_sent, IsSentFor, ComeToTheSame, refusal_by, unsayable, told_ending, OrdersOver}
@@ -213,7 +214,7 @@ same_team w t (Some g) is = go (is_team_name g) refl
           refused w t common (common_no_group w) ∙ sym (refused w t g none),
         )
 
-pub comes_to_the_same : (order sent : Order) → IsSentFor order sent → ComeToTheSame sent order
+pub comes_to_the_same : (order sent : RegistryCommand) → IsSentFor order sent → ComeToTheSame sent order
 comes_to_the_same (TeamAdd name group) sent (other, is, same) w world =
     let one = same_team w name.now (option_copied group) world in
     let both = subst (λ g. (team_added w name.now g ≡ team_added w name.now (option_copied group))
@@ -312,7 +313,7 @@ revoke_all_unsaid shelf unsaid w is = go (map.contains_key w.shelves shelf.now) 
         absurd (unsaid it.0 it.1)
 
 -- an order that no line carries ends in each world as the command says, also if another is sent for it
-pub unsent_ends : (order sent : Order) → IsSentFor order sent → IsUnsayable sent → (w : World) → IsWorld w
+pub unsent_ends : (order sent : RegistryCommand) → IsSentFor order sent → IsUnsayable sent → (w : World) → IsWorld w
     → Err (unsayable sent) ≡ ending (Ok (outcome_in w order))
 unsent_ends (TeamAdd name group) sent (other, is, same) unsaid w world =
     let sayable = subst IsGroupSayable (sym same) (sent_sayable (option_copied group)) in
@@ -333,7 +334,7 @@ unsent_ends (KeysRevoke shelf) sent is unsaid w world = ap (λ o. Err (unsayable
 -- ---- the command
 
 -- a command that sends the order for its own, and ends by the result, does as `OrdersOver` says
-pub orders_over : (unread unread_new written written_new : Option (List ℕ)) (order asked : Order)
+pub orders_over : (unread unread_new written written_new : Option (List ℕ)) (order asked : RegistryCommand)
     (told : Result Outcome Untold) (result : Result (Unit {0}) CommandRefusal)
     → IsSentFor order asked → Asks unread unread_new written written_new asked told
     → result ≡ told_ending (unsayable asked) told

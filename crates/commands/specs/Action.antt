@@ -4,7 +4,7 @@ use Rattle.std.specs.Prelude.{ℕ, List, [], ◌≡◌, true, Bool, Option, opti
 use Rattle.histories.specs.Account.{Account}
 use Rattle.world.specs.Store.{Shown}
 use Rattle.world.specs.declared.entry.Right.{Right}
-use Rattle.control.specs.declared.order.Order.{Order}
+use Rattle.control.specs.declared.registry_command.RegistryCommand.{RegistryCommand}
 use Rattle.commands.specs.Ending.{Registers, RevokesNamed}
 use Rattle.commands.specs.ImportFile.{ImportsFile}
 use Rattle.commands.specs.NewKey.{AddsNew}
@@ -35,8 +35,8 @@ acceptance (Ok u) = Ok true
 acceptance (Err refusal) = Err refusal
 
 module _ {S : Type 0} (shown : S → Shown) (made : Made S) (counted : Counted S) (old new : Moment S) where
-  -- the order was carried out on the store, and nothing was read or written
-  pub record RegistersAlone (order : Order) (result : Result Bool CommandRefusal) : Type 0 where
+  -- the registry command was carried out on the store, and nothing was read or written
+  pub record RegistersAlone (order : RegistryCommand) (result : Result Bool CommandRefusal) : Type 0 where
     pub ended : Result (Unit {0}) CommandRefusal
     pub registers : Registers (shown old.store) (shown new.store) order ended
     pub told : result ≡ acceptance ended

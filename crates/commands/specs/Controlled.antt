@@ -7,9 +7,9 @@ use Rattle.machine.specs.Machine.{after}
 use Rattle.keyring.specs.Revoke.{after_revoke_with, revoked_with}
 use Rattle.control.specs.Copying.{Making}
 use Rattle.control.specs.Hearing.{Heeds}
-use Rattle.control.specs.Order.{event_of, outcome_in}
+use Rattle.control.specs.RegistryCommand.{event_of, outcome_in}
 use Rattle.control.specs.declared.health.Health.{Health}
-use Rattle.control.specs.declared.order.Order.{Order}
+use Rattle.control.specs.declared.registry_command.RegistryCommand.{RegistryCommand}
 use Rattle.control.specs.declared.outcome.Outcome.{Outcome}
 use Rattle.control.specs.declared.told.Told.TheVariants as spoken
 use Rattle.commands.specs.Ending.{ending}
@@ -19,7 +19,7 @@ use Rattle.commands.specs.declared.refusal.CommandRefusal.{CommandRefusal}
 -- The command wrote these bytes, the server did what they order, and the command got its outcome.
 pub record AreConnected (made : Making → Type 0)
     (pinged : Result Health StoreFault → Type 0) (idle meanwhile : Type 0)
-    (old new : Shown) (order : Order) (result : Result (Unit {0}) CommandRefusal) : Type 0 where
+    (old new : Shown) (order : RegistryCommand) (result : Result (Unit {0}) CommandRefusal) : Type 0 where
   pub unread : Option (List ℕ)
   pub unread_new : Option (List ℕ)
   pub sent : List ℕ
@@ -30,7 +30,7 @@ pub record AreConnected (made : Making → Type 0)
 
 -- The command ends by the machine's reply to the order in this world, and the store stands for the world after it. Or
 -- it ends by a fault of the store, which still stands for this world.
-abbrev pub EndsAt : Shown → World → Order → Result (Unit {0}) CommandRefusal → Type 0
+abbrev pub EndsAt : Shown → World → RegistryCommand → Result (Unit {0}) CommandRefusal → Type 0
 EndsAt new w order result =
     ((result ≡ ending (Ok (outcome_in w order))) × new.stands (after w (event_of order)))
     ⊎ ((fault : StoreFault) × (result ≡ ending (Err fault)) × new.stands w)
@@ -40,7 +40,7 @@ abbrev pub EndsAsOnTheStore :
     (Making → Type 0) → (Result Health StoreFault → Type 0)
     → (idle meanwhile : Type 0) → Shown → Shown → Type 0
 EndsAsOnTheStore made pinged idle meanwhile old new =
-    (order : Order) (result : Result (Unit {0}) CommandRefusal) (w : World)
+    (order : RegistryCommand) (result : Result (Unit {0}) CommandRefusal) (w : World)
     → AreConnected made pinged idle meanwhile old new order result → new.is_honest → old.stands w
     → EndsAt new w order result
 

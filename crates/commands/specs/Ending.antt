@@ -6,8 +6,8 @@ use Rattle.world.specs.declared.registry.RegistryReply.TheVariants as registered
 use Rattle.world.specs.declared.registry.StoreFault.{StoreFault}
 use Rattle.world.specs.declared.registry.StoreFault.TheVariants as fault
 use Rattle.machine.specs.Machine.{after}
-use Rattle.control.specs.Order.{event_of, outcome_in}
-use Rattle.control.specs.declared.order.Order.{Order}
+use Rattle.control.specs.RegistryCommand.{event_of, outcome_in}
+use Rattle.control.specs.declared.registry_command.RegistryCommand.{RegistryCommand}
 use Rattle.keyring.specs.Revoke.{revoked_with, after_revoke_with}
 use Rattle.commands.specs.declared.refusal.CommandRefusal.{CommandRefusal}
 use Rattle.commands.specs.declared.refusal.CommandRefusal.TheVariants as refusal
@@ -40,9 +40,10 @@ ending (Ok registered.NoGroup) = Err refusal.NoGroup
 ending (Err fault.Device) = Err refusal.Device
 ending (Err fault.Memory) = Err refusal.Memory
 
--- From old to new the order was carried out: in each world that the store stood for, it gave the machine's reply and
--- made the world after the order's event, or met a fault and changed nothing; and the command ends by that.
-pub record Registers (old new : Shown) (order : Order) (result : Result (Unit {0}) CommandRefusal) : Type 0 where
+-- From old to new the registry command was carried out: in each world that the store stood for, it gave the machine's
+-- reply and made the world after its event, or met a fault and changed nothing; and the program's command ends by that.
+pub record Registers
+    (old new : Shown) (order : RegistryCommand) (result : Result (Unit {0}) CommandRefusal) : Type 0 where
   pub told : Result RegistryReply StoreFault
   pub does : Does old new told (λ w. outcome_in w order) (λ w. after w (event_of order))
   pub ends : result ≡ ending told

@@ -9,8 +9,8 @@ use Rattle.world.specs.Store.{Shown, Reads}
 use Rattle.world.specs.declared.entry.Right.{Right}
 use Rattle.world.specs.declared.registry.StoreFault.{StoreFault}
 use Rattle.world.specs.declared.registry.StoreFault.TheVariants as fault
-use Rattle.control.specs.declared.order.Order.{Order}
-use Rattle.control.specs.declared.order.Order.TheVariants.{KeyAdd}
+use Rattle.control.specs.declared.registry_command.RegistryCommand.{RegistryCommand}
+use Rattle.control.specs.declared.registry_command.RegistryCommand.TheVariants.{KeyAdd}
 use Rattle.commands.specs.Ending.{Registers}
 use Rattle.commands.specs.Order.{OrdersThere}
 use Rattle.commands.specs.Printed.{HasFailed, PrintsFront}
@@ -44,8 +44,8 @@ abbrev pub PrintsNone : Option (List ℕ) → Option (List ℕ) → Result (List
 PrintsNone written written_new (Ok key) refusal = (refusal ≡ Io) × PrintsFront written written_new (key_line key)
 PrintsNone written written_new (Err why) refusal = (refusal ≡ why) × (written_new ≡ written)
 
--- The key that the bytes make was printed, and then this was done with the order that adds it.
-pub record PrintsIt (orders : Order → Type 0) (shelf : Bor (List ℕ)) (right : Right) (bytes : List ℕ)
+-- The key that the bytes make was printed, and then this was done with the registry command that adds it.
+pub record PrintsIt (orders : RegistryCommand → Type 0) (shelf : Bor (List ℕ)) (right : Right) (bytes : List ℕ)
     (written written_new : Option (List ℕ)) : Type 0 where
   pub key : Bor (List ℕ)
   pub is : key_of bytes ≡ Some key.now
@@ -59,8 +59,8 @@ pub record OrdersNone (is_made : Result (List ℕ) CommandRefusal → Type 0) (w
   pub makes : is_made made
   pub prints : PrintsNone written written_new made refusal
 
--- the key that the bytes make was printed, and then added as an order adds it that names it; or the shelf was looked
--- up, which changes nothing, and none was added
+-- the key that the bytes make was printed, and then added as a registry command adds it that names it; or the shelf
+-- was looked up, which changes nothing, and none was added
 abbrev pub AddsMade : Shown → Shown → Bor (List ℕ) → Right → List ℕ → Option (List ℕ) → Option (List ℕ)
     → Result (Unit {0}) CommandRefusal → Type 0
 AddsMade old new shelf right bytes written written_new result =

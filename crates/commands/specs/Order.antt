@@ -8,9 +8,10 @@ use Rattle.keyring.specs.Revoke.{revoked_with}
 use Rattle.control.specs.Asking.{Asks, AsksToCopy, AsksToRevoke, AsksToStop}
 use Rattle.control.specs.declared.client.Untold.{Untold}
 use Rattle.control.specs.declared.client.Untold.TheVariants as untold
-use Rattle.control.specs.declared.order.Order.{Order}
-use Rattle.control.specs.declared.order.Order.TheVariants.{TeamAdd, GroupAdd, KeyAdd, KeyRevoke, KeysRevoke}
-use Rattle.control.specs.Order.{event_of, outcome_in}
+use Rattle.control.specs.declared.registry_command.RegistryCommand.{RegistryCommand}
+use Rattle.control.specs.declared.registry_command.RegistryCommand.TheVariants.{TeamAdd, GroupAdd, KeyAdd}
+use Rattle.control.specs.declared.registry_command.RegistryCommand.TheVariants.{KeyRevoke, KeysRevoke}
+use Rattle.control.specs.RegistryCommand.{event_of, outcome_in}
 use Rattle.control.specs.declared.outcome.Outcome.{Outcome}
 use Rattle.control.specs.declared.outcome.Outcome.TheVariants as outcome
 use Rattle.commands.specs.Ending.{ending}
@@ -27,14 +28,14 @@ group_sent None = None
 group_sent (Some group) = if is_team_name group then Some group else Some common
 
 -- this order is sent for that one
-abbrev pub IsSentFor : Order → Order → Type 0
+abbrev pub IsSentFor : RegistryCommand → RegistryCommand → Type 0
 IsSentFor (TeamAdd name group) sent =
     (other : Option (Bor (List ℕ))) × (sent ≡ TeamAdd name other)
     × (option_copied other ≡ group_sent (option_copied group))
 IsSentFor order sent = sent ≡ order
 
 -- two orders have the same outcome and the same effect in each world
-abbrev pub ComeToTheSame : Order → Order → Type 0
+abbrev pub ComeToTheSame : RegistryCommand → RegistryCommand → Type 0
 ComeToTheSame one two = (w : World) → IsWorld w
     → (outcome_in w one ≡ outcome_in w two) × (after w (event_of one) ≡ after w (event_of two))
 
@@ -45,7 +46,7 @@ abbrev pub refusal_by : Bool → CommandRefusal → CommandRefusal
 refusal_by keeps refusal = if keeps then refusal else Name
 
 -- why an order is refused that no line can carry
-abbrev pub unsayable : Order → CommandRefusal
+abbrev pub unsayable : RegistryCommand → CommandRefusal
 unsayable (TeamAdd name group) = Name
 unsayable (GroupAdd name) = Name
 unsayable (KeyAdd shelf key right) = refusal_by (is_key key.now) NoTeam
@@ -66,15 +67,15 @@ told_ending unsaid (Err untold.Memory) = Err Memory
 told_ending unsaid (Err untold.Io) = Err Io
 
 -- in each world, the command ends as the order does there
-abbrev pub EndsInEach : Order → Result (Unit {0}) CommandRefusal → Type 0
+abbrev pub EndsInEach : RegistryCommand → Result (Unit {0}) CommandRefusal → Type 0
 EndsInEach order result = (w : World) → IsWorld w → result ≡ ending (Ok (outcome_in w order))
 
 -- The line of an order with the same effect was sent as `Asks` says, and the command ends by the result. If that order
 -- has no line, the command ends as the order does in each world.
 pub record OrdersOver
-    (unread unread_new written written_new : Option (List ℕ)) (order : Order)
+    (unread unread_new written written_new : Option (List ℕ)) (order : RegistryCommand)
     (result : Result (Unit {0}) CommandRefusal) : Type 0 where
-  pub asked : Order
+  pub asked : RegistryCommand
   pub same : ComeToTheSame asked order
   pub told : Result Outcome Untold
   pub asks : Asks unread unread_new written written_new asked told
@@ -82,7 +83,7 @@ pub record OrdersOver
   pub unsent : told ≡ Err untold.Words → EndsInEach order result
 
 -- so it was over a connection, or there was none
-abbrev pub OrdersThere : Order → Result (Unit {0}) CommandRefusal → Type 0
+abbrev pub OrdersThere : RegistryCommand → Result (Unit {0}) CommandRefusal → Type 0
 OrdersThere order result =
     ((unread unread_new written written_new : Option (List ℕ))
     × OrdersOver unread unread_new written written_new order result)

@@ -14,7 +14,7 @@ use crate::report::{
     Named, print_catalog, print_inventory, print_keys, print_requirements, print_shelves,
 };
 use crate::serve::{Entrance, serve};
-use control::{Copies, Order};
+use control::{Copies, RegistryCommand};
 use histories::{Hear, Tell, Telling};
 use keyring::Keyring;
 use outline::outlines::Outlines;
@@ -28,7 +28,7 @@ pub enum Action<'a> {
     Open,
     /// `team-add`, `group-add`, `key-add` or `key-revoke`: carries out a registry command.
     Register {
-        order: Order<'a>,
+        order: RegistryCommand<'a>,
     },
     /// `key-add --new`: makes a key, prints it, and adds it to a shelf.
     AddNew {

@@ -7,7 +7,7 @@ use crate::printing::print_both;
 use crate::random_bytes::{RandomBytes, SystemRandomBytes};
 use crate::refusal::CommandRefusal;
 use crate::registry::register;
-use control::Order;
+use control::RegistryCommand;
 use histories::Tell;
 use keyring::Keyring;
 use keyring::made::key_of;
@@ -112,7 +112,7 @@ fn order_made<O: Tell>(
     match print_both(key.as_str().as_bytes(), b"\n", output) {
         Ok(()) => {
             let key = key.as_str();
-            order_at(rt, path, &Order::KeyAdd { shelf, key, right })
+            order_at(rt, path, &RegistryCommand::KeyAdd { shelf, key, right })
         }
         Err(_) => Err(CommandRefusal::Io),
     }
@@ -140,7 +140,7 @@ fn add_made<S: Keyring, O: Tell>(
     match print_both(key.as_str().as_bytes(), b"\n", output) {
         Ok(()) => {
             let key = key.as_str();
-            register(shelves, &Order::KeyAdd { shelf, key, right })
+            register(shelves, &RegistryCommand::KeyAdd { shelf, key, right })
         }
         Err(_) => Err(CommandRefusal::Io),
     }

@@ -5,7 +5,9 @@ ghost use Rattle.commands.specs.Order as spec;
 use crate::copy_progress::{AwaitedCopy, patient_server_at};
 use crate::progress::StderrLine;
 use crate::refusal::{CommandRefusal, ending};
-use control::{Order, Outcome, Untold, ask, ask_to_copy, ask_to_revoke, ask_to_stop, server_at};
+use control::{
+    Outcome, RegistryCommand, Untold, ask, ask_to_copy, ask_to_revoke, ask_to_stop, server_at,
+};
 use histories::{Hear, Hearing, Tell, Telling};
 use std::alloc::Global;
 use std::io::Write;
@@ -16,7 +18,7 @@ use world::names::{COMMON, is_key, is_team_name};
 /// Fails with the refusals of that command; with `Device` also if nobody listens there or the system refuses the
 /// connection; with `Memory` also if memory runs out for the line, and then nothing is sent; and with `Io` if no
 /// outcome of a registry command came. Then the order may have been carried out.
-pub fn order_at(rt: &HostRuntime, path: &str, order: &Order) -> Result<(), CommandRefusal>
+pub fn order_at(rt: &HostRuntime, path: &str, order: &RegistryCommand) -> Result<(), CommandRefusal>
     ensures { spec.OrdersThere order.now result }
 {
     match server_at(rt, path) {
@@ -37,7 +39,7 @@ pub fn order_over<R: Hear, W: Tell>(
     alloc: Global,
     reader: &mut R,
     writer: &mut W,
-    order: &Order,
+    order: &RegistryCommand,
 ) -> Result<(), CommandRefusal>
     ensures { spec.OrdersOver (R.remaining reader.old) (R.remaining reader.new)
         (W.contents writer.old) (W.contents writer.new) order.now result }
@@ -48,11 +50,11 @@ pub fn order_over<R: Hear, W: Tell>(
 }
 
 /// Returns the order to send for another: one that is equivalent in every world, and whose group can stand in a line.
-fn order_to_send<'a>(order: &Order<'a>) -> Order<'a>
+fn order_to_send<'a>(order: &RegistryCommand<'a>) -> RegistryCommand<'a>
     ensures { spec.IsSentFor order.now result }
 {
     match order {
-        Order::TeamAdd { name, group } => Order::TeamAdd {
+        RegistryCommand::TeamAdd { name, group } => RegistryCommand::TeamAdd {
             name,
             group: group_to_send(*group),
         },
@@ -90,14 +92,14 @@ fn told_ending(
 
 /// Why an order is refused that no line can carry: a name or the key in it breaks its rule, so no shelf has that name,
 /// and none the key. A team's group is never the reason, since the one that is sent can stand in a line.
-fn unsayable(order: &Order) -> CommandRefusal
+fn unsayable(order: &RegistryCommand) -> CommandRefusal
     ensures { result ≡ spec.unsayable order.now }
 {
     match order {
-        Order::TeamAdd { .. } | Order::GroupAdd { .. } => CommandRefusal::Name,
-        Order::KeyAdd { key, .. } => refusal_by(is_key(key), CommandRefusal::NoTeam),
-        Order::KeyRevoke { .. } => CommandRefusal::NoKey,
-        Order::KeysRevoke { .. } => CommandRefusal::NoTeam,
+        RegistryCommand::TeamAdd { .. } | RegistryCommand::GroupAdd { .. } => CommandRefusal::Name,
+        RegistryCommand::KeyAdd { key, .. } => refusal_by(is_key(key), CommandRefusal::NoTeam),
+        RegistryCommand::KeyRevoke { .. } => CommandRefusal::NoKey,
+        RegistryCommand::KeysRevoke { .. } => CommandRefusal::NoTeam,
     }
 }
 

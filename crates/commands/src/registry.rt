@@ -2,7 +2,7 @@
 ghost use Rattle.commands.specs.Ending.{Registers, RevokesNamed};
 
 use crate::refusal::{CommandRefusal, ending};
-use control::{Order, carry_out};
+use control::{RegistryCommand, carry_out};
 use keyring::Keyring;
 use keyring::revoke::revoke_with;
 use std::alloc::Global;
@@ -11,7 +11,7 @@ use world::shelves::Shelves;
 /// Carries out a registry command as the machine does. Adding a team fails with `Name`, `Taken` or `NoGroup`, a group
 /// with `Name` or `Taken`, and a key with `Name`, `NoTeam` or `Taken`; revoking a key fails with `NoKey`, and all keys
 /// of a shelf with `NoTeam`; and each with a fault of the store. A command that fails changes nothing.
-pub fn register<S: Shelves>(shelves: &mut S, order: &Order) -> Result<(), CommandRefusal>
+pub fn register<S: Shelves>(shelves: &mut S, order: &RegistryCommand) -> Result<(), CommandRefusal>
     ensures { Registers (S.shown shelves.old) (S.shown shelves.new) order.now result }
 {
     let told = carry_out(shelves, order);

@@ -4,7 +4,7 @@ use Rattle.std.specs.Prelude.{option_copied, IfOk, IfErr}
 use denote.Ref.{Bor}
 use Rattle.control.specs.Asking.{AsksBy, IsUnwritten, Sends}
 use Rattle.control.specs.Line.{IsSaid}
-use Rattle.control.specs.Order.{SaysNone, two}
+use Rattle.control.specs.RegistryCommand.{SaysNone, two}
 use Rattle.control.specs.Words.{Said, said}
 use Rattle.control.specs.declared.words.Words.{Words}
 use Rattle.control.specs.declared.client.Untold.{Untold}

@@ -23,8 +23,8 @@ step_asked w m (Served reply) ts = refl
 
 pub world_step : (w : World) (t : Turn) (ts : List Turn) → world_at (world_at w (t ∷ [])) ts ≡ world_at w (t ∷ ts)
 world_step w (Asked x) ts = step_asked w x.message x.outcome ts
-world_step w (Ordered order (Ok r)) ts = refl
-world_step w (Ordered order (Err fault)) ts = refl
+world_step w (Ordered command (Ok r)) ts = refl
+world_step w (Ordered command (Err fault)) ts = refl
 
 -- if `LeavesTwo` holds of more turns once the first ones were calm, it holds of all of them
 pub leaves_more : (new : Shown) (w : World) (ts : List Turn) (u : Turn) (us : List Turn)

@@ -30,8 +30,8 @@ text_for (Command e) a = line_for a
 
 text_is : (t : Turn) → text_to text_for (answered_of t) ≡ text_at t
 text_is (Asked x) = refl
-text_is (Ordered order (Ok r)) = refl
-text_is (Ordered order (Err fault)) = refl
+text_is (Ordered command (Ok r)) = refl
+text_is (Ordered command (Err fault)) = refl
 
 -- ---- turns as answered events
 

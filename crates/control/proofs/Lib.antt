@@ -1,8 +1,8 @@
 pub mod WordLemmas
-pub mod OrderLemmas
+pub mod RegistryCommandLemmas
 pub mod LineLemmas
 pub mod CopyLemmas
-pub mod OperatorLineLemmas
+pub mod OrderLemmas
 pub mod OutcomeLemmas
 pub mod CrashLemmas
 pub mod TurnLemmas

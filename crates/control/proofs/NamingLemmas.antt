@@ -9,10 +9,10 @@ use Rattle.world.specs.declared.registry.RegistryReply.{RegistryReply}
 use Rattle.world.specs.declared.registry.RegistryReply.TheVariants.{NoKey}
 use Rattle.world.specs.declared.registry.StoreFault.{StoreFault}
 use Rattle.control.specs.Naming.{NamesOne, NamesNone, Unread, RevokesNamed}
-use Rattle.control.specs.Order.{event_of, outcome_in}
+use Rattle.control.specs.RegistryCommand.{event_of, outcome_in}
 use Rattle.control.specs.Outcome.{outcome_of}
 use Rattle.control.specs.Turns.{Ordered}
-use Rattle.control.specs.declared.order.Order.TheVariants.{KeyRevoke}
+use Rattle.control.specs.declared.registry_command.RegistryCommand.TheVariants.{KeyRevoke}
 use Rattle.control.specs.declared.outcome.Outcome.{Outcome}
 use Rattle.control.proofs.ListingLemmas.{only_read}
 use Rattle.control.proofs.TurnLemmas.{turns_more, turns_ordered, turns_read}

@@ -179,8 +179,8 @@ calm_about (Opened file n) =
     calm_line 111 (codes "pened: ") _ refl refl refl
     (calm_end (file ++ (codes ": " ++ (decimal n ++ codes " versions"))))
 calm_about (Uncounted file met) = calm_line 111 (codes "pened: ") _ refl refl refl (calm_told file (case.Failed met))
-calm_about (Ordered order told) =
-    calm_line 111 (codes "rder: ") _ refl refl refl (calm_told (shown_words order) (outcome.outcome_of told))
+calm_about (Ordered command told) =
+    calm_line 111 (codes "rder: ") _ refl refl refl (calm_told (shown_words command) (outcome.outcome_of told))
 calm_about (Copied path told) =
     calm_line 111 (codes "rder: ") _ refl refl refl (calm_told (codes "copy " ++ path) (outcome.outcome_of_copy told))
 calm_about (Catalogued key told) =

@@ -50,7 +50,7 @@ first_message (Some (Closes closing)) = omega arith
 
 no_message : (heard : Option Heard) → messages (turns_in (steps_if heard)) ≡ 0
 no_message None = refl
-no_message (Some (Carried order told)) = refl
+no_message (Some (Carried command told)) = refl
 no_message (Some (Made making)) = refl
 no_message (Some (Pinged told)) = refl
 no_message (Some (Listed listing told)) = refl

@@ -58,7 +58,7 @@ pub data Ordered (idle meanwhile : Type 0) (old new : Shown) (heard : Option Hea
 pub ordered_if : (idle meanwhile : Type 0) (old new : Shown) (heard : Option Heard)
     → GoesIf idle meanwhile old new heard → Ordered idle meanwhile old new heard
 ordered_if idle meanwhile old new None goes = Other goes.0 goes.1
-ordered_if idle meanwhile old new (Some (Carried order told)) goes = Other goes.0 goes.1
+ordered_if idle meanwhile old new (Some (Carried command told)) goes = Other goes.0 goes.1
 ordered_if idle meanwhile old new (Some (hearing.Made making)) goes = ToMake making refl goes
 ordered_if idle meanwhile old new (Some (Pinged told)) goes = Other goes.0 goes.1
 ordered_if idle meanwhile old new (Some (Listed listing told)) goes = Other goes.0 goes.1
@@ -118,7 +118,7 @@ either_way R idle meanwhile old new heard one two (ToMake making is done) = two 
 goes_unsaid : (idle meanwhile : Type 0) (old new : Shown) (heard : Option Heard) → GoesIf idle meanwhile old new heard
     → GoesIf (Unit {0}) meanwhile old new heard
 goes_unsaid idle meanwhile old new None goes = (tt, goes.1)
-goes_unsaid idle meanwhile old new (Some (Carried order told)) goes = (tt, goes.1)
+goes_unsaid idle meanwhile old new (Some (Carried command told)) goes = (tt, goes.1)
 goes_unsaid idle meanwhile old new (Some (hearing.Made making)) goes = goes
 goes_unsaid idle meanwhile old new (Some (Pinged told)) goes = (tt, goes.1)
 goes_unsaid idle meanwhile old new (Some (Listed listing told)) goes = (tt, goes.1)

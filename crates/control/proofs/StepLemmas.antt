@@ -88,7 +88,7 @@ module _ {S : Type 0} (shown : S → Shown) (made : S → S → Making → Type 
       → ListsIf (shown old) (shown new) heard
       → AllRead shown made counted w (steps_if heard)
   read_heard tally old new h w stands None came lists = tt
-  read_heard tally old new h w stands (Some (Carried order told)) came lists = tt
+  read_heard tally old new h w stands (Some (Carried command told)) came lists = tt
   read_heard tally old new h w stands (Some (hearing.Made making)) came lists =
       (record { source = old; source_new = new; honest = h; stands = stands; came = came }, tt)
   read_heard tally old new h w stands (Some (Pinged (Ok health))) came lists =

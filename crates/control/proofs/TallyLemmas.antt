@@ -14,7 +14,7 @@ use Rattle.control.specs.Visits.{Call, OfPeer, OfOperator, Untaken, AllTallied, 
 use Rattle.control.specs.Naming.{NamesOne, NamesNone, Unread}
 use Rattle.control.specs.Turns.{Asked, Ordered}
 use Rattle.control.specs.Visits.{answered_with, peers, steps_if, steps_with}
-use Rattle.control.specs.declared.order.Order.TheVariants.{KeyRevoke}
+use Rattle.control.specs.declared.registry_command.RegistryCommand.TheVariants.{KeyRevoke}
 use Rattle.control.specs.declared.tally.Tally.{Tally}
 
 -- ---- one connection more
@@ -83,7 +83,7 @@ pub tells_tally : (made : Making → Type 0) (tally : Tally) (before now : ℕ)
     (counted : ℕ → Type 0)
     (heard : Option Heard) → CameIf made (IsPinged tally before now counted) heard → TellsTally tally heard
 tells_tally made tally before now counted None came = tt
-tells_tally made tally before now counted (Some (Carried order told)) came = tt
+tells_tally made tally before now counted (Some (Carried command told)) came = tt
 tells_tally made tally before now counted (Some (Made making)) came = tt
 tells_tally made tally before now counted (Some (Pinged (Ok health))) came = came.0
 tells_tally made tally before now counted (Some (Pinged (Err fault))) came = tt
@@ -102,7 +102,7 @@ one_step since step tells = All-cons (TellsSince since) step [] tells (All-nil (
 since_if : (since : List ℕ) (tally : Tally) (heard : Option Heard) → tally.since ≡ since → TellsTally tally heard
     → All (TellsSince since) (steps_if heard)
 since_if since tally None is told = All-nil (TellsSince since)
-since_if since tally (Some (Carried order done)) is told = one_step since _ tt
+since_if since tally (Some (Carried command done)) is told = one_step since _ tt
 since_if since tally (Some (Made making)) is told = one_step since _ tt
 since_if since tally (Some (Pinged (Ok health))) is told =
     one_step since (Counted (Ok health)) (ap (λ t. t.since) told ∙ is)

@@ -16,11 +16,12 @@ use Rattle.engine.specs.Exchange.{Exchange}
 use Rattle.engine.specs.Store.{GoesThrough}
 use Rattle.engine.proofs.RunLemmas.{world_more, met_either}
 use Rattle.control.specs.Copying.{IsOnlyRead}
-use Rattle.control.specs.Order.{event_of, outcome_in}
+use Rattle.control.specs.RegistryCommand.{event_of, outcome_in}
 use Rattle.control.specs.Turns.{Turn, Asked, Ordered, turn_event, turn_answer, messages, AllCalm, LeavesTwo, StandsIf}
 use Rattle.control.specs.Turns.{world_at, GoesThroughTurns}
-use Rattle.control.specs.declared.order.Order.{Order}
-use Rattle.control.specs.declared.order.Order.TheVariants.{TeamAdd, GroupAdd, KeyAdd, KeyRevoke, KeysRevoke}
+use Rattle.control.specs.declared.registry_command.RegistryCommand.{RegistryCommand}
+use Rattle.control.specs.declared.registry_command.RegistryCommand.TheVariants.{TeamAdd, GroupAdd, KeyAdd}
+use Rattle.control.specs.declared.registry_command.RegistryCommand.TheVariants.{KeyRevoke, KeysRevoke}
 use Rattle.control.proofs.CrashLemmas.{leaves_still, leaves_more, world_step}
 
 -- ---- none
@@ -112,8 +113,8 @@ turns_asked old new (x ∷ []) few through = record {
 turns_asked old new (x ∷ y ∷ more) few through = absurd (omega (arith, few))
 
 module _ (old new : Shown) (w : World) where
-  -- what was done for an order is what the machine does for its event
-  by_event : (o : Order) (told : Result RegistryReply StoreFault)
+  -- what was done for a registry command is what the machine does for its event
+  by_event : (o : RegistryCommand) (told : Result RegistryReply StoreFault)
       → DoesAt old new w told (outcome_in w o) (after w (event_of o))
       → (outcome : RegistryReply) × (reply_to w (event_of o) ≡ Registry outcome)
       × DoesAt old new w told outcome (after w (event_of o))
@@ -123,8 +124,9 @@ module _ (old new : Shown) (w : World) where
   by_event (KeyRevoke key) told does = (_, refl, does)
   by_event (KeysRevoke shelf) told does = (_, refl, does)
 
-  -- an order that was done got the machine's reply to its event
-  pub replied : (o : Order) (r : RegistryReply) → DoesAt old new w (Ok r) (outcome_in w o) (after w (event_of o))
+  -- a registry command that was done got the machine's reply to its event
+  pub replied : (o : RegistryCommand) (r : RegistryReply)
+      → DoesAt old new w (Ok r) (outcome_in w o) (after w (event_of o))
       → DoesAt {T = Reply} old new w (Ok (Registry r)) (reply_to w (event_of o)) (after w (event_of o))
   replied o r does = let so = by_event o (Ok r) does in record {
     answer = ap Registry so.2.answer ∙ sym so.1;
@@ -133,8 +135,8 @@ module _ (old new : Shown) (w : World) where
     crash = record { either = does.crash.either; alone = does.crash.alone; settled = does.crash.settled; failed = tt };
   }
 
--- a store that carried out an order goes through one turn
-pub turns_ordered : (old new : Shown) (o : Order) (told : Result RegistryReply StoreFault)
+-- a store that carried out a registry command goes through one turn
+pub turns_ordered : (old new : Shown) (o : RegistryCommand) (told : Result RegistryReply StoreFault)
     → Does old new told (λ w. outcome_in w o) (λ w. after w (event_of o))
     → GoesThroughTurns old new (Ordered o told ∷ []) false
 turns_ordered old new o (Ok r) does = record {

@@ -5,14 +5,14 @@ use Rattle.engine.specs.Written.{WritesBeginning}
 use Rattle.control.specs.Health.{IsHealthLine}
 use Rattle.control.specs.Listing.{IsReplyOf, line_for}
 use Rattle.control.specs.Line.{IsCatalogOf, IsNaming, IsSaid, IsSent, IsCopyTo, longest, ping_line, stop_line}
-use Rattle.control.specs.Order.{said_in}
+use Rattle.control.specs.RegistryCommand.{said_in}
 use Rattle.control.specs.Outcome.{line_of}
 use Rattle.control.specs.Told.{bytes_told}
 use Rattle.control.specs.Words.{Said}
 use Rattle.control.specs.declared.client.Untold.{Untold}
 use Rattle.control.specs.declared.listing.Listing.{Listing}
 use Rattle.control.specs.declared.client.Untold.TheVariants.{Words, Memory, Io}
-use Rattle.control.specs.declared.order.Order.{Order}
+use Rattle.control.specs.declared.registry_command.RegistryCommand.{RegistryCommand}
 use Rattle.control.specs.declared.outcome.Outcome.{Outcome}
 use Rattle.control.specs.declared.told.Told.{Told}
 use Rattle.control.specs.declared.told.Told.TheVariants as spoken
@@ -21,9 +21,9 @@ use Rattle.control.specs.declared.told.Told.TheVariants as spoken
 abbrev pub IsUnsaid : ℕ → Said → Type 0
 IsUnsaid most s = (sent : List ℕ) → ¬ IsSaid most sent s
 
--- no bytes are a line of this order
-abbrev pub IsUnsayable : Order → Type 0
-IsUnsayable order = IsUnsaid longest (said_in order)
+-- no bytes are a line of this registry command
+abbrev pub IsUnsayable : RegistryCommand → Type 0
+IsUnsayable command = IsUnsaid longest (said_in command)
 
 -- why there is no line of the words
 abbrev pub IsUnwritten : ℕ → Said → Untold → Type 0
@@ -57,11 +57,12 @@ AsksBy is_line unread unread_new written written_new (Err Memory) = Keeps writte
 AsksBy is_line unread unread_new written written_new (Err Io) =
     (sent : List ℕ) × is_line sent × (WritesBeginning written written_new sent ⊎ Appends written written_new sent)
 
--- so it was with the line of the order
+-- so it was with the line of the registry command
 abbrev pub Asks :
-    Option (List ℕ) → Option (List ℕ) → Option (List ℕ) → Option (List ℕ) → Order → Result Outcome Untold → Type 0
-Asks unread unread_new written written_new order told =
-    AsksBy (λ sent. IsSent sent order) unread unread_new written written_new told
+    Option (List ℕ) → Option (List ℕ) → Option (List ℕ) → Option (List ℕ) → RegistryCommand → Result Outcome Untold
+    → Type 0
+Asks unread unread_new written written_new command told =
+    AsksBy (λ sent. IsSent sent command) unread unread_new written written_new told
 
 -- so it was with the line that orders a copy to the path
 abbrev pub AsksToCopy :

@@ -15,13 +15,13 @@ use Rattle.control.specs.Health.{IsPinged, line_of}
 use Rattle.control.specs.Line.{ReadsLine, IsCatalogOf, IsNoCatalog, IsNaming, IsSent, IsCopyTo, ping_line, stop_line}
 use Rattle.control.specs.Listing.{ReadsList, line_for, told_of_list}
 use Rattle.control.specs.Naming.{Finds, Naming, named_result, named_steps}
-use Rattle.control.specs.OperatorLine.{AreNoLine}
+use Rattle.control.specs.Order.{AreNoOrder}
 use Rattle.control.specs.Outcome.{outcome_of, outcome_of_catalog, outcome_of_copy}
 use Rattle.control.specs.Told.{bytes_told}
 use Rattle.control.specs.Turns.{Ordered}
 use Rattle.control.specs.declared.health.Health.{Health}
 use Rattle.control.specs.declared.listing.Listing.{Listing}
-use Rattle.control.specs.declared.order.Order.{Order}
+use Rattle.control.specs.declared.registry_command.RegistryCommand.{RegistryCommand}
 use Rattle.control.specs.declared.outcome.Outcome.TheVariants.{Failed, Stopping, Bad}
 use Rattle.control.specs.declared.tally.Tally.{Tally}
 use Rattle.control.specs.declared.told.Told.{Told}
@@ -29,8 +29,8 @@ use Rattle.control.specs.declared.told.Told.TheVariants as spoken
 
 -- what a line ordered, and the result
 pub data Heard : Type 0 where
-  -- it was an order, which was carried out
-  Carried : Order → Result RegistryReply StoreFault → Heard
+  -- it was a registry command, which was carried out
+  Carried : RegistryCommand → Result RegistryReply StoreFault → Heard
   -- this was to be made of the store
   Made : Making → Heard
   -- the health of the server was asked for, and this was told
@@ -57,7 +57,7 @@ told_of_making (ToPath path told) = spoken.Outcome (outcome_of_copy told)
 told_of_making (OfKey key printed told) = spoken.Outcome (outcome_of_catalog told)
 
 abbrev pub told_heard : Heard → Told
-told_heard (Carried order told) = spoken.Outcome (outcome_of told)
+told_heard (Carried command told) = spoken.Outcome (outcome_of told)
 told_heard (Made making) = told_of_making making
 told_heard (Pinged told) = told_of_ping told
 told_heard (Listed listing told) = told_of_list told
@@ -73,7 +73,7 @@ printed_of_making (OfKey key printed told) = printed
 
 abbrev pub printed_heard : Heard → List ℕ
 printed_heard (Made making) = printed_of_making making
-printed_heard (Carried order told) = []
+printed_heard (Carried command told) = []
 printed_heard (Pinged told) = []
 printed_heard (Listed listing told) = []
 printed_heard (Named f naming) = []
@@ -85,9 +85,10 @@ printed_heard NoMemory = []
 abbrev pub bytes_heard : Heard → List ℕ
 bytes_heard heard = printed_heard heard ++ bytes_told (told_heard heard)
 
--- the steps of it: one for an order, a copy, a ping or a list, one or two for a fingerprint, and otherwise none
+-- the steps of it: one for a registry command, a copy, a ping or a list, one or two for a fingerprint, and otherwise
+-- none
 abbrev pub steps_heard : Heard → List Step
-steps_heard (Carried order told) = Turned (Ordered order told) ∷ []
+steps_heard (Carried command told) = Turned (Ordered command told) ∷ []
 steps_heard (Made making) = copying.Made making ∷ []
 steps_heard (Pinged told) = Counted told ∷ []
 steps_heard (Listed listing told) = copying.Listed listing told ∷ []
@@ -103,13 +104,13 @@ IsMakingIn got (OfKey key printed told) = IsCatalogOf got key
 
 -- these bytes ordered it
 abbrev pub IsHeardIn : List ℕ → Heard → Type 0
-IsHeardIn got (Carried order told) = IsSent got order
+IsHeardIn got (Carried command told) = IsSent got command
 IsHeardIn got (Made making) = IsMakingIn got making
 IsHeardIn got (Pinged told) = got ≡ ping_line
 IsHeardIn got (Listed listing told) = got ≡ line_for listing
 IsHeardIn got (Named f naming) = IsNaming got f
 IsHeardIn got Stop = got ≡ stop_line
-IsHeardIn got NoOrder = AreNoLine got × IsNoCatalog got
+IsHeardIn got NoOrder = AreNoOrder got × IsNoCatalog got
 IsHeardIn got NoMemory = ⊥
 
 -- the bytes that ordered it were read, unless memory ran out before
@@ -141,7 +142,7 @@ GoesAs idle meanwhile old new heard = idle × GoesThroughSteps old new (steps_he
 module _ (made : Making → Type 0) (pinged : Result Health StoreFault → Type 0) where
   -- where an operator ordered something to be made or asked for the health, this came of it
   abbrev pub CameOf : Heard → Type 0
-  CameOf (Carried order told) = Unit {0}
+  CameOf (Carried command told) = Unit {0}
   CameOf (Made making) = made making
   CameOf (Pinged told) = pinged told
   CameOf (Listed listing told) = Unit {0}

@@ -10,21 +10,21 @@ use Rattle.engine.specs.Reply.{text_of}
 use Rattle.control.specs.Outcome.{outcome_of, line_of}
 use Rattle.control.specs.Turns.{Turn, Asked, Ordered, answered_of, turn_event, turn_answer, world_at, GoesThroughTurns}
 
--- what came: a message, or the event of an order
+-- what came: a message, or the event of a registry command
 abbrev pub origin_at : Turn → EventOrigin
 origin_at t = origin_of (answered_of t)
 
--- what is written for it: the bytes for a message, or the line of an order's outcome
+-- what is written for it: the bytes for a message, or the line of the outcome of a registry command
 abbrev pub text_at : Turn → List ℕ
 text_at (Asked x) = text_of x
-text_at (Ordered order told) = line_of (outcome_of told)
+text_at (Ordered command told) = line_of (outcome_of told)
 
 -- puts a turn before others if this answer is a reply
 abbrev pub if_faultless : Turn → Answer → List Turn → List Turn
 if_faultless t (Replied r) ts = t ∷ ts
 if_faultless t (Failed fault) ts = ts
 
--- the turns that met no fault: messages that were not answered 503, and orders that were done or refused
+-- the turns that met no fault: messages that were not answered 503, and registry commands that were done or refused
 abbrev pub faultless : List Turn → List Turn
 faultless [] = []
 faultless (t ∷ ts) = if_faultless t (turn_answer t) (faultless ts)

@@ -8,10 +8,10 @@ pub mod Isolated
 pub mod Laws
 pub mod Line
 pub mod Listing
-pub mod OperatorLine
+pub mod Order
 pub mod Naming
 pub mod Notices
-pub mod Order
+pub mod RegistryCommand
 pub mod Outcome
 pub mod Pace
 pub mod Pinging

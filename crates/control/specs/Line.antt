@@ -4,9 +4,9 @@ use Rattle.std.specs.Str.{IsUtf8}
 use Rattle.histories.specs.Account.{Account, Gives}
 use Rattle.histories.specs.Calls.{Reads}
 use Rattle.engine.specs.Causes.{IsUnreadable}
-use Rattle.control.specs.Order.{said_in, two}
+use Rattle.control.specs.RegistryCommand.{said_in, two}
 use Rattle.control.specs.Words.{Said, IsTextOf, line_end}
-use Rattle.control.specs.declared.order.Order.{Order}
+use Rattle.control.specs.declared.registry_command.RegistryCommand.{RegistryCommand}
 
 -- the most bytes of a line without its end
 abbrev pub longest : ℕ
@@ -31,13 +31,13 @@ pub record IsSaid (most : ℕ) (got : List ℕ) (s : Said) : Type 0 where
   pub ends : IsLine most got line
   pub says : IsTextOf line s
 
--- the bytes are the line of an order
-abbrev pub IsSent : List ℕ → Order → Type 0
-IsSent got order = IsSaid longest got (said_in order)
+-- the bytes are the line of a registry command
+abbrev pub IsSent : List ℕ → RegistryCommand → Type 0
+IsSent got command = IsSaid longest got (said_in command)
 
--- the bytes are no line of an order
-abbrev pub IsNoOrder : List ℕ → Type 0
-IsNoOrder got = (order : Order) → ¬ IsSent got order
+-- the bytes are no line of a registry command
+abbrev pub IsNoCommand : List ℕ → Type 0
+IsNoCommand got = (command : RegistryCommand) → ¬ IsSent got command
 
 -- the words that order a copy to a path
 abbrev pub copy_words : List ℕ → Said

@@ -11,12 +11,12 @@ use Rattle.world.specs.declared.registry.StoreFault.{StoreFault}
 use Rattle.control.specs.Copying.{Step, LookedUp, Turned, GoesThroughSteps}
 use Rattle.control.specs.Outcome.{outcome_of}
 use Rattle.control.specs.Turns.{Ordered}
-use Rattle.control.specs.declared.order.Order.TheVariants.{KeyRevoke}
+use Rattle.control.specs.declared.registry_command.RegistryCommand.TheVariants.{KeyRevoke}
 use Rattle.control.specs.declared.outcome.Outcome.{Outcome}
 
 -- what came of a fingerprint
 pub data Naming : Type 0 where
-  -- one key has it, and the order that revokes this key was carried out, with this result
+  -- one key has it, and the registry command that revokes this key was carried out, with this result
   NamesOne : Bor (List ℕ) → Result RegistryReply StoreFault → Naming
   -- no key has it, or several have
   NamesNone : Naming
@@ -29,7 +29,7 @@ named_result (NamesOne key told) = told
 named_result NamesNone = Ok NoKey
 named_result (Unread fault) = Err fault
 
--- the steps of it: the look, which only reads, and the order if one key was found
+-- the steps of it: the look, which only reads, and the registry command if one key was found
 abbrev pub named_steps : List ℕ → Naming → List Step
 named_steps f (NamesOne key told) = LookedUp f (Ok (Some key.now)) ∷ Turned (Ordered (KeyRevoke key) told) ∷ []
 named_steps f NamesNone = LookedUp f (Ok None) ∷ []

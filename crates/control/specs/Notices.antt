@@ -15,8 +15,9 @@ use Rattle.control.specs.declared.copies.CatalogRefusal.{CatalogRefusal}
 use Rattle.control.specs.declared.copies.CopyRefusal.{CopyRefusal}
 use Rattle.control.specs.declared.errand.Errand.{Errand}
 use Rattle.control.specs.declared.errand.Errand.TheVariants as errand
-use Rattle.control.specs.declared.order.Order.{Order}
-use Rattle.control.specs.declared.order.Order.TheVariants.{TeamAdd, GroupAdd, KeyAdd, KeyRevoke, KeysRevoke}
+use Rattle.control.specs.declared.registry_command.RegistryCommand.{RegistryCommand}
+use Rattle.control.specs.declared.registry_command.RegistryCommand.TheVariants.{TeamAdd, GroupAdd, KeyAdd}
+use Rattle.control.specs.declared.registry_command.RegistryCommand.TheVariants.{KeyRevoke, KeysRevoke}
 use Rattle.control.specs.declared.outcome.Outcome.{Outcome}
 use Rattle.control.specs.declared.outcome.Outcome.TheVariants.{Failed}
 
@@ -30,7 +31,7 @@ is_plain_byte b = nat_le 32 b && not (nat_eq b 127)
 abbrev pub plain : List ℕ → List ℕ
 plain text = if list_all is_plain_byte text then text else codes "?"
 
--- the words of an order, with the fingerprint of the key in its place
+-- the words of a registry command, with the fingerprint of the key in its place
 abbrev pub behind_team : Option (List ℕ) → List ℕ
 behind_team None = []
 behind_team (Some group) = codes " " ++ group
@@ -39,7 +40,7 @@ abbrev pub right_words : Right → List ℕ
 right_words Reads = codes " read-only "
 right_words Publishes = codes " "
 
-abbrev pub shown_words : Order → List ℕ
+abbrev pub shown_words : RegistryCommand → List ℕ
 shown_words (TeamAdd name group) = codes "team-add " ++ (name.now ++ behind_team (option_copied group))
 shown_words (GroupAdd name) = codes "group-add " ++ name.now
 shown_words (KeyAdd shelf key right) = codes "key-add " ++ (shelf.now ++ (right_words right ++ fingerprint key.now))
@@ -63,8 +64,8 @@ pub data Occasion : Type 0 where
   Opened : List ℕ → ℕ → Occasion
   -- it was opened, and its versions could not be counted
   Uncounted : List ℕ → StoreFault → Occasion
-  -- an order was carried out
-  Ordered : Order → Result RegistryReply StoreFault → Occasion
+  -- a registry command was carried out
+  Ordered : RegistryCommand → Result RegistryReply StoreFault → Occasion
   -- a copy to this path was ordered
   Copied : List ℕ → Result (Unit {0}) CopyRefusal → Occasion
   -- the catalog of this key was asked for
@@ -90,7 +91,7 @@ abbrev pub line_of : Occasion → List ℕ
 line_of (Opened file n) = codes "opened: "
     ++ (plain (file ++ (codes ": " ++ (decimal n ++ codes " versions"))) ++ codes "\n")
 line_of (Uncounted file fault) = outcome_line (codes "opened: ") file (Failed fault)
-line_of (Ordered order told) = outcome_line (codes "order: ") (shown_words order) (outcome_of told)
+line_of (Ordered command told) = outcome_line (codes "order: ") (shown_words command) (outcome_of told)
 line_of (Copied path told) = outcome_line (codes "order: ") (codes "copy " ++ path) (outcome_of_copy told)
 line_of (Catalogued key told) =
     outcome_line (codes "order: ") (codes "catalog " ++ fingerprint key) (outcome_of_catalog told)

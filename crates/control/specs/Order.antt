@@ -1,68 +1,41 @@
--- Orders, their lines, and what they do.
-use Rattle.std.specs.Prelude.{ℕ, ◌≢◌, List, codes, Some, None, option_copied}
-use Rattle.machine.specs.declared.request.Event.{Event}
-use Rattle.machine.specs.declared.request.Event.TheVariants as event
-use Rattle.world.specs.World.{World}
-use Rattle.world.specs.Registry.{team_added, group_added, key_added, key_revoked, keys_revoked}
-use Rattle.world.specs.declared.entry.Right.{Right}
-use Rattle.world.specs.declared.entry.Right.TheVariants.{Reads, Publishes}
-use Rattle.world.specs.declared.registry.RegistryReply.{RegistryReply}
-use Rattle.control.specs.Words.{Said, text_of, IsTextOf}
+-- The orders of operators, and the bytes of each.
+use Rattle.std.specs.Prelude.{ℕ, ◌≡◌, ◌≢◌, ◌≤◌, List, length}
+use Rattle.control.specs.Line.{IsCopyTo, IsNaming, IsNoCopy, IsNoNaming, IsNoCommand, IsSent}
+use Rattle.control.specs.Line.{copy_words, longest, named_words, ping_line, stop_line}
+use Rattle.control.specs.Listing.{AsksForNone, line_for}
+use Rattle.control.specs.RegistryCommand.{SaysCommand}
+use Rattle.control.specs.Words.{IsTextOf}
 use Rattle.control.specs.declared.order.Order.{Order}
-use Rattle.control.specs.declared.order.Order.TheVariants.{TeamAdd, GroupAdd, KeyAdd, KeyRevoke, KeysRevoke}
+use Rattle.control.specs.declared.order.Order.TheVariants as order
+use Rattle.control.specs.declared.registry_command.RegistryCommand.{RegistryCommand}
 
--- the word that adds a key with this right
-abbrev pub add_word : Right → List ℕ
-add_word Publishes = codes "key-add"
-add_word Reads = codes "reader-add"
+-- the bytes are the line of this order
+abbrev pub AreOrder : List ℕ → Order → Type 0
+AreOrder got order.Stop = got ≡ stop_line
+AreOrder got order.Ping = got ≡ ping_line
+AreOrder got (order.Copy path) = IsCopyTo got path.now
+AreOrder got (order.List listing) = got ≡ line_for listing
+AreOrder got (order.RevokeNamed f) = IsNaming got f.now
+AreOrder got (order.Registry command) = IsSent got command
 
--- what two words say, and three
-abbrev pub two : List ℕ → List ℕ → Said
-two verb first = record { verb = verb; first = first; second = None }
+-- the bytes are the line of no order
+abbrev pub AreNoOrder : List ℕ → Type 0
+AreNoOrder got =
+    IsNoCommand got × (got ≢ stop_line) × (got ≢ ping_line) × IsNoCopy got × AsksForNone got × IsNoNaming got
 
-abbrev pub three : List ℕ → List ℕ → List ℕ → Said
-three verb first second = record { verb = verb; first = first; second = Some second }
+-- the text of two words or three, without the end of the line, is that of this order
+abbrev pub Says : List ℕ → Order → Type 0
+Says text (order.Copy path) = IsTextOf text (copy_words path.now)
+Says text (order.RevokeNamed f) = IsTextOf text (named_words f.now) × (length text ≤ longest)
+Says text (order.Registry command) = SaysCommand text command × (length text ≤ longest)
+Says text other = ⊥
 
--- these words are no two of which the first is this one
-abbrev pub SaysNone : List ℕ → Said → Type 0
-SaysNone verb s = (word : List ℕ) → s ≢ two verb word
+-- the text is that of no registry command, and names no key
+abbrev pub OrdersNothing : List ℕ → Type 0
+OrdersNothing text =
+    ((command : RegistryCommand) → ¬ SaysCommand text command) × ((f : List ℕ) → ¬ IsTextOf text (named_words f))
 
--- the words of an order
-abbrev pub said_in : Order → Said
-said_in (TeamAdd name group) = record { verb = codes "team-add"; first = name.now; second = option_copied group }
-said_in (GroupAdd name) = two (codes "group-add") name.now
-said_in (KeyAdd shelf key right) = three (add_word right) shelf.now key.now
-said_in (KeyRevoke key) = two (codes "key-revoke") key.now
-said_in (KeysRevoke shelf) = two (codes "keys-revoke") shelf.now
-
--- these words say no order
-abbrev pub SaysNoOrder : Said → Type 0
-SaysNoOrder s = (order : Order) → s ≢ said_in order
-
--- this word adds no key
-abbrev pub AddsNoKey : List ℕ → Type 0
-AddsNoKey verb = (right : Right) → verb ≢ add_word right
-
--- the line of an order, without its end
-abbrev pub order_line : Order → List ℕ
-order_line order = text_of (said_in order)
-
--- The line is the order's, and each of its words has no space and no end of a line.
-abbrev pub Orders : List ℕ → Order → Type 0
-Orders line order = IsTextOf line (said_in order)
-
--- the machine's event
-abbrev pub event_of : Order → Event
-event_of (TeamAdd name group) = event.TeamAdd name.now (option_copied group)
-event_of (GroupAdd name) = event.GroupAdd name.now
-event_of (KeyAdd shelf key right) = event.KeyAdd shelf.now key.now right
-event_of (KeyRevoke key) = event.KeyRevoke key.now
-event_of (KeysRevoke shelf) = event.KeysRevoke shelf.now
-
--- the machine's reply to the order in a world
-abbrev pub outcome_in : World → Order → RegistryReply
-outcome_in w (TeamAdd name group) = team_added w name.now (option_copied group)
-outcome_in w (GroupAdd name) = group_added w name.now
-outcome_in w (KeyAdd shelf key right) = key_added w shelf.now key.now
-outcome_in w (KeyRevoke key) = key_revoked w key.now
-outcome_in w (KeysRevoke shelf) = keys_revoked w shelf.now
+-- nor is it that of a copy
+abbrev pub SaysNothing : List ℕ → Type 0
+SaysNothing text =
+    ((path : List ℕ) → ¬ IsTextOf text (copy_words path)) × (length text ≤ longest → OrdersNothing text)

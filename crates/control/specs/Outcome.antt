@@ -12,7 +12,7 @@ use Rattle.control.specs.declared.copies.CopyRefusal.TheVariants as copy
 use Rattle.control.specs.declared.outcome.Outcome.{Outcome}
 use Rattle.control.specs.declared.outcome.Outcome.TheVariants as outcome
 
--- the outcome of an order that was carried out with this result
+-- the outcome of a registry command that was carried out with this result
 abbrev pub outcome_of : Result RegistryReply StoreFault → Outcome
 outcome_of (Ok r) = outcome.RegistryReply r
 outcome_of (Err f) = outcome.Failed f

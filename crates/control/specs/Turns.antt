@@ -12,22 +12,22 @@ use Rattle.world.specs.declared.registry.RegistryReply.{RegistryReply}
 use Rattle.world.specs.declared.registry.StoreFault.{StoreFault}
 use Rattle.engine.specs.Exchange.{Exchange, IsUnmet, answer_of as answer_to_message}
 use Rattle.engine.specs.AnsweredEvent.{AnsweredEvent, Message, Command, event_at, answer_at}
-use Rattle.control.specs.Order.{event_of}
-use Rattle.control.specs.declared.order.Order.{Order}
+use Rattle.control.specs.RegistryCommand.{event_of}
+use Rattle.control.specs.declared.registry_command.RegistryCommand.{RegistryCommand}
 
--- a message that was answered, or an order that was carried out
+-- a message that was answered, or a registry command that was carried out
 pub data Turn : Type 0 where
   Asked : Exchange → Turn
-  Ordered : Order → Result RegistryReply StoreFault → Turn
+  Ordered : RegistryCommand → Result RegistryReply StoreFault → Turn
 
-abbrev pub answer_to_order : Result RegistryReply StoreFault → Answer
-answer_to_order (Ok r) = Replied (Registry r)
-answer_to_order (Err fault) = Failed fault
+abbrev pub answer_to_command : Result RegistryReply StoreFault → Answer
+answer_to_command (Ok r) = Replied (Registry r)
+answer_to_command (Err fault) = Failed fault
 
 -- what came to the store, and its answer
 abbrev pub answered_of : Turn → AnsweredEvent
 answered_of (Asked x) = record { origin = Message x.message; answer = answer_to_message x }
-answered_of (Ordered order told) = record { origin = Command (event_of order); answer = answer_to_order told }
+answered_of (Ordered command told) = record { origin = Command (event_of command); answer = answer_to_command told }
 
 abbrev pub turn_event : Turn → Event
 turn_event t = event_at (answered_of t)
@@ -39,16 +39,16 @@ turn_answer t = answer_at (answered_of t)
 abbrev pub messages : List Turn → ℕ
 messages [] = 0
 messages (Asked x ∷ ts) = messages ts + 1
-messages (Ordered order told ∷ ts) = messages ts
+messages (Ordered command told ∷ ts) = messages ts
 
--- the order met no fault
-abbrev pub IsUnmetOrder : Result RegistryReply StoreFault → Type 0
-IsUnmetOrder (Ok r) = Unit {0}
-IsUnmetOrder (Err fault) = ⊥
+-- the registry command met no fault
+abbrev pub IsUnmetCommand : Result RegistryReply StoreFault → Type 0
+IsUnmetCommand (Ok r) = Unit {0}
+IsUnmetCommand (Err fault) = ⊥
 
 abbrev pub IsUnmetTurn : Turn → Type 0
 IsUnmetTurn (Asked x) = IsUnmet x.outcome
-IsUnmetTurn (Ordered order told) = IsUnmetOrder told
+IsUnmetTurn (Ordered command told) = IsUnmetCommand told
 
 -- the machine's world after the turns
 abbrev pub world_at : World → List Turn → World
@@ -76,7 +76,7 @@ StandsIf true shown = (w : World) × shown.stands w
 
 -- From old to new the store went through the turns, and was read for copies between them or was not.
 pub record GoesThroughTurns (old new : Shown) (turns : List Turn) (read : Bool) : Type 0 where
-  -- in one run of the machine the messages were answered and the orders carried out
+  -- in one run of the machine the messages were answered and the registry commands carried out
   pub runs : Runs old new (map turn_event turns) (map turn_answer turns)
   -- if a crash before the turns could leave only the first world, a crash now leaves one of two worlds, as `LeavesTwo`
   -- says

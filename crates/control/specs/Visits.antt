@@ -71,7 +71,7 @@ steps_of (OfPeer visit answered) = map (λ x. Turned (Asked x)) (exchanges_of vi
 steps_of (OfOperator audience) = steps_if audience.heard
 steps_of Untaken = []
 
--- the messages, the orders, the copies, the pings, the lists and the looks for keys, as they came
+-- the messages, the registry commands, the copies, the pings, the lists and the looks for keys, as they came
 abbrev pub steps_with : {P O : Type 0} → List (Call P O) → List Step
 steps_with [] = []
 steps_with (call ∷ calls) = steps_of call ++ steps_with calls

@@ -15,7 +15,7 @@ ghost use Rattle.control.specs.Visits.{IsUnheard};
 use crate::copies::CopyOrders;
 use crate::line::{Unread, read_line};
 use crate::obeying::{answer, print_for, tell};
-use crate::operator_line::catalog_in;
+use crate::order::catalog_in;
 use crate::outcome::Outcome;
 use crate::patience::ForOrder;
 use crate::tally::Tally;

@@ -5,8 +5,8 @@ ghost use Rattle.control.specs.Asking.{AsksToCopy, AsksToRevoke, AsksToStop};
 ghost use Rattle.control.specs.Asking.{IsUnwritten, Sends, TellsOutcome, TellsHealth, TellsList, IsTold, TellsBytes};
 ghost use Rattle.control.specs.Line.{IsCatalogOf, IsCopyTo, IsNaming, IsSaid, IsSent};
 ghost use Rattle.control.specs.Line.{catalog_words, copy_words, longest, longest_copy, named_words};
-ghost use Rattle.control.specs.Order as spec;
-ghost use Rattle.control.specs.Order.{said_in};
+ghost use Rattle.control.specs.RegistryCommand as spec;
+ghost use Rattle.control.specs.RegistryCommand.{said_in};
 ghost use Rattle.control.specs.Outcome.{line_of};
 ghost use Rattle.control.specs.Told.{bytes_told};
 ghost use Rattle.control.specs.Words.{said, text_of, behind, line_end};
@@ -14,8 +14,8 @@ ghost use Rattle.control.specs.Words.{said, text_of, behind, line_end};
 use crate::health::health_line_in;
 use crate::line::{LONGEST, LONGEST_COPY, PING_LINE, STOP_LINE, line_in, read_all, read_line};
 use crate::listing::{Listing, list_in};
-use crate::order::Order;
 use crate::outcome::Outcome;
+use crate::registry_command::RegistryCommand;
 use crate::told::Told;
 use crate::two_words::two_words;
 use crate::words::{Words, are_words};
@@ -48,20 +48,20 @@ impl From<AllocError> for Untold {
     }
 }
 
-/// Sends an order and returns its outcome.
+/// Sends a registry command and returns its outcome.
 ///
-/// `Untold::Words`: no line can carry the order. `Untold::Memory`: memory ran out for the line. In both cases nothing
+/// `Untold::Words`: no line can carry the command. `Untold::Memory`: memory ran out for the line. In both cases nothing
 /// was sent. `Untold::Io`: the line was not sent whole, or no outcome was read.
 pub fn ask<R: Hear, W: Tell>(
     alloc: Global,
     reader: &mut R,
     writer: &mut W,
-    order: &Order,
+    command: &RegistryCommand,
 ) -> Result<Outcome, Untold>
     ensures { Asks (R.remaining reader.old) (R.remaining reader.new)
-        (W.contents writer.old) (W.contents writer.new) order.now result }
+        (W.contents writer.old) (W.contents writer.new) command.now result }
 {
-    let line = line_to_send(alloc, order)?;
+    let line = line_to_send(alloc, command)?;
     send(alloc, reader, writer, &line)
 }
 
@@ -177,12 +177,12 @@ fn send<R: Hear, W: Tell>(
     }
 }
 
-/// The line of an order with its end.
-fn line_to_send(alloc: Global, order: &Order) -> Result<Vec<u8>, Untold>
-    ensures ok { IfOk result (λ line. IsSent line.items order.now) }
-    ensures err { IfErr result (λ why. IsUnwritten longest (said_in order.now) why) }
+/// The line of a registry command with its end.
+fn line_to_send(alloc: Global, command: &RegistryCommand) -> Result<Vec<u8>, Untold>
+    ensures ok { IfOk result (λ line. IsSent line.items command.now) }
+    ensures err { IfErr result (λ why. IsUnwritten longest (said_in command.now) why) }
 {
-    let words = words_in(order);
+    let words = words_in(command);
     line_saying(alloc, &words, LONGEST)
 }
 
@@ -228,32 +228,32 @@ fn line_saying(alloc: Global, words: &Words, most: usize) -> Result<Vec<u8>, Unt
     Ok(line)
 }
 
-/// The words of an order.
-fn words_in<'a>(order: &Order<'a>) -> Words<'a>
-    ensures { said result ≡ said_in order.now }
+/// The words of a registry command.
+fn words_in<'a>(command: &RegistryCommand<'a>) -> Words<'a>
+    ensures { said result ≡ said_in command.now }
 {
-    match order {
-        Order::TeamAdd { name, group } => Words {
+    match command {
+        RegistryCommand::TeamAdd { name, group } => Words {
             verb: "team-add",
             first: name,
             second: *group,
         },
-        Order::GroupAdd { name } => Words {
+        RegistryCommand::GroupAdd { name } => Words {
             verb: "group-add",
             first: name,
             second: None,
         },
-        Order::KeyAdd { shelf, key, right } => Words {
+        RegistryCommand::KeyAdd { shelf, key, right } => Words {
             verb: add_word(*right),
             first: shelf,
             second: Some(key),
         },
-        Order::KeyRevoke { key } => Words {
+        RegistryCommand::KeyRevoke { key } => Words {
             verb: "key-revoke",
             first: key,
             second: None,
         },
-        Order::KeysRevoke { shelf } => Words {
+        RegistryCommand::KeysRevoke { shelf } => Words {
             verb: "keys-revoke",
             first: shelf,
             second: None,

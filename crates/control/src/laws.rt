@@ -5,7 +5,7 @@ ghost use Rattle.control.specs.Notices.{NoneIsRefusal};
 
 use world::shelves::Shelves;
 
-/// A line orders one thing: two orders with the same line are the same event of the machine.
+/// A line orders one thing: two registry commands with the same line are the same event of the machine.
 pub fn line_orders_one_thing()
     ensures { OneEventALine }
 {}
@@ -22,9 +22,9 @@ pub fn no_notice_is_a_refusal()
 
 /// Isolation also holds between two calls of [`serve_both`](crate::serve_both), over any two stores whose worlds agree
 /// on the registry and on what a shelf sees, on honest disks: if the second goes through the turns of the first without
-/// the messages of other teams, it writes the same bytes for each remaining message, and the same line for each order.
-/// The messages that a call answered 503 and the orders that met a fault are left out of it. The worlds after both
-/// agree again.
+/// the messages of other teams, it writes the same bytes for each remaining message, and the same line for each
+/// registry command. The messages that a call answered 503 and the commands that met a fault are left out of it. The
+/// worlds after both agree again.
 pub fn isolation_of_turns<S: Shelves, T: Shelves>()
     ensures { (old new : S) (old_too new_too : T)
         → TurnsAreAnsweredAlike (S.shown old) (S.shown new) (T.shown old_too) (T.shown new_too) }

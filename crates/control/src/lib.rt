@@ -3,8 +3,8 @@
 //!
 //! | what | where |
 //! |---|---|
-//! | the lines of operators, and which one some bytes are | [`Line`], [`line_of_bytes`] |
-//! | the orders that change a store | [`Order`] |
+//! | the orders of operators, and which one some bytes are | [`Order`], [`order_of_bytes`] |
+//! | the registry commands, which change a store | [`RegistryCommand`] |
 //! | what makes copies of it, and what shows when | [`Copies`], [`CopyOrders`], [`Calendar`] |
 //! | what a ping is told: how connections were answered, what was counted by shelf, and more | [`Tally`], [`Health`] |
 //! | the lists of keys and of shelves | [`Listing`] |
@@ -31,12 +31,12 @@ mod listing;
 mod naming;
 mod notice;
 mod obeying;
-mod operator_line;
 mod order;
 mod outcome;
 mod patience;
 mod pinging;
 mod progress;
+mod registry_command;
 mod serve;
 mod serving;
 mod socket_file;
@@ -61,9 +61,9 @@ pub use health::{Figures, Health};
 pub use listing::Listing;
 pub use notice::{Notice, ended, opened};
 pub use obeying::obey;
-pub use operator_line::{Line, line_of_bytes};
-pub use order::Order;
+pub use order::{Order, order_of_bytes};
 pub use outcome::Outcome;
+pub use registry_command::RegistryCommand;
 pub use serve::serve_both;
 pub use socket_file::{operators_at, remove_socket, server_at};
 pub use tally::Tally;

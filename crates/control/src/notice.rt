@@ -7,8 +7,8 @@ ghost use Rattle.keyring.specs.KeyList as keys;
 
 use crate::copies::{CatalogRefusal, CopyRefusal};
 use crate::errand::{Errand, two};
-use crate::order::Order;
 use crate::outcome::{Outcome, outcome_of, outcome_of_catalog, outcome_of_copy};
+use crate::registry_command::RegistryCommand;
 use keyring::key_list::fingerprint;
 use std::alloc::{AllocError, Global};
 use text::Text;
@@ -93,16 +93,16 @@ pub fn ended(alloc: Global, file: &str) -> Result<Notice, AllocError>
     Ok(Notice::of(line, false))
 }
 
-/// Says what came of an order that was carried out, with the fingerprint of the key in its place. Fails only if memory
-/// runs out.
+/// Says what came of a registry command that was carried out, with the fingerprint of the key in its place. Fails only
+/// if memory runs out.
 pub(crate) fn ordered(
     alloc: Global,
-    order: &Order,
+    command: &RegistryCommand,
     told: Result<RegistryReply, StoreFault>,
 ) -> Result<Notice, AllocError>
-    ensures { IfOk result (λ notice. notice.text ≡ spec.line_of (Ordered order.now told)) }
+    ensures { IfOk result (λ notice. notice.text ≡ spec.line_of (Ordered command.now told)) }
 {
-    let words = shown_words(alloc, order)?;
+    let words = shown_words(alloc, command)?;
     let line = outcome_line(alloc, "order: ", words.as_str(), outcome_of(told))?;
     Ok(Notice::of(line, false))
 }
@@ -162,19 +162,20 @@ fn outcome_line(alloc: Global, kind: &str, text: &str, told: Outcome) -> Result<
     Ok(line)
 }
 
-/// Returns the words of an order, with the fingerprint of the key in its place. Fails only if memory runs out.
-fn shown_words(alloc: Global, order: &Order) -> Result<String, AllocError>
-    ensures { IfOk result (λ words. string_bytes words ≡ spec.shown_words order.now) }
+/// Returns the words of a registry command, with the fingerprint of the key in its place. Fails only if memory runs
+/// out.
+fn shown_words(alloc: Global, command: &RegistryCommand) -> Result<String, AllocError>
+    ensures { IfOk result (λ words. string_bytes words ≡ spec.shown_words command.now) }
 {
-    match order {
-        Order::TeamAdd { name, group } => team_words(alloc, name, *group),
-        Order::GroupAdd { name } => two(alloc, "group-add ", name),
-        Order::KeyAdd { shelf, key, right } => key_words(alloc, shelf, key, *right),
-        Order::KeyRevoke { key } => {
+    match command {
+        RegistryCommand::TeamAdd { name, group } => team_words(alloc, name, *group),
+        RegistryCommand::GroupAdd { name } => two(alloc, "group-add ", name),
+        RegistryCommand::KeyAdd { shelf, key, right } => key_words(alloc, shelf, key, *right),
+        RegistryCommand::KeyRevoke { key } => {
             let named = fingerprint(alloc, key)?;
             two(alloc, "key-revoke ", named.as_str())
         }
-        Order::KeysRevoke { shelf } => two(alloc, "keys-revoke ", shelf),
+        RegistryCommand::KeysRevoke { shelf } => two(alloc, "keys-revoke ", shelf),
     }
 }
 

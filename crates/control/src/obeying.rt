@@ -14,7 +14,7 @@ use crate::copies::{CatalogRefusal, CopyOrders};
 use crate::line::{Unread, read_line};
 use crate::listing::list;
 use crate::naming::revoke_named;
-use crate::operator_line::{Line, catalog_in, line_of_bytes};
+use crate::order::{Order, catalog_in, order_of_bytes};
 use crate::outcome::{Outcome, outcome_of, outcome_of_catalog, outcome_of_copy};
 use crate::pinging::ping;
 use crate::tally::Tally;
@@ -155,17 +155,17 @@ fn heed<S: Keyring, K: CopyOrders<S>>(
     ensures figures { TellsPing (K.figured copies.old shelves.new) (IsPinged tally.now (S.shown shelves.old).failures
         (S.shown shelves.new).failures (K.counted shelves.old shelves.new)) result }
 {
-    match line_of_bytes(got) {
-        Some(Line::Stop) => Told::Outcome(Outcome::Stopping),
-        Some(Line::Ping) => ping(alloc, tally, shelves, copies),
-        Some(Line::Copy(path)) => Told::Outcome(outcome_of_copy(copies.copy_to(shelves, path))),
-        Some(Line::List(listing)) => list(alloc, shelves, listing),
-        Some(Line::RevokeNamed(fingerprint)) => Told::Outcome(revoke_named(
+    match order_of_bytes(got) {
+        Some(Order::Stop) => Told::Outcome(Outcome::Stopping),
+        Some(Order::Ping) => ping(alloc, tally, shelves, copies),
+        Some(Order::Copy(path)) => Told::Outcome(outcome_of_copy(copies.copy_to(shelves, path))),
+        Some(Order::List(listing)) => list(alloc, shelves, listing),
+        Some(Order::RevokeNamed(fingerprint)) => Told::Outcome(revoke_named(
             alloc,
             shelves,
             fingerprint,
         )),
-        Some(Line::Order(order)) => Told::Outcome(outcome_of(carry_out(shelves, &order))),
+        Some(Order::Registry(command)) => Told::Outcome(outcome_of(carry_out(shelves, &command))),
         None => Told::Outcome(Outcome::Bad),
     }
 }

@@ -1,94 +1,70 @@
-//! Orders, and the words of each.
-ghost use Rattle.std.specs.Prelude.{◌≡◌, MatchOption};
+//! The orders of operators.
+ghost use Rattle.std.specs.Prelude.{MatchOption};
+ghost use Rattle.control.specs.Line.{IsCatalogOf, IsNoCatalog};
 ghost use Rattle.control.specs.Order as spec;
-ghost use Rattle.control.specs.Words.{said};
 
-use crate::words::Words;
-use world::entry::Right;
+use crate::line::{LONGEST, LONGEST_COPY, line_in};
+use crate::listing::Listing;
+use crate::registry_command::{RegistryCommand, command_of_words};
+use crate::two_words::word_behind;
+use crate::words::words_of;
 
-/// A registry command that an operator orders.
+/// What an operator's line asks for.
 #[derive(Clone, Copy, Drop)]
 pub enum Order<'a> {
-    /// `team-add NAME` or `team-add NAME GROUP`: adds a team, as a member of a group or of none.
-    TeamAdd {
-        name: &'a str,
-        group: Option<&'a str>,
-    },
-    /// `group-add NAME`: adds a group.
-    GroupAdd {
-        name: &'a str,
-    },
-    /// `key-add SHELF KEY`, or `reader-add SHELF KEY`: adds a key that may publish, or one that may only read.
-    KeyAdd {
-        shelf: &'a str,
-        key: &'a str,
-        right: Right,
-    },
-    /// `key-revoke KEY`: revokes a key.
-    KeyRevoke {
-        key: &'a str,
-    },
-    /// `keys-revoke SHELF`: revokes all keys of a shelf.
-    KeysRevoke {
-        shelf: &'a str,
-    },
+    /// `stop`: the end of the server.
+    Stop,
+    /// `ping`: the health of the server.
+    Ping,
+    /// `copy PATH`: a copy of the store into the file of a path.
+    Copy(&'a str),
+    /// `key-list` or `shelf-list`: a list.
+    List(Listing),
+    /// `revoke-fingerprint X`: the end of the only key with a fingerprint.
+    RevokeNamed(&'a str),
+    /// A registry command: a change of the store.
+    Registry(RegistryCommand<'a>),
 }
 
-/// Returns the order that the words say, or None if they say none. It does not check the rules of names and keys: the
-/// store does, when the order is carried out.
-pub(crate) fn order_of_words<'a>(words: &Words<'a>) -> Option<Order<'a>>
-    ensures { MatchOption result (spec.SaysNoOrder (said words.now)) (λ order. said words.now ≡ spec.said_in order) }
+/// Returns the order whose line the bytes are, with its end, or None if they are that of none. It does not check the
+/// rules of names and keys: the store does, when an order is carried out.
+pub fn order_of_bytes(got: &[u8]) -> Option<Order<'_>>
+    ensures { MatchOption result (spec.AreNoOrder got.now) (λ order. spec.AreOrder got.now order) }
 {
-    match words.second {
-        Some(second) => longer(words.verb, words.first, second),
-        None => shorter(words.verb, words.first),
+    let text = line_in(got, LONGEST_COPY)?;
+    match text {
+        "stop" => Some(Order::Stop),
+        "ping" => Some(Order::Ping),
+        "key-list" => Some(Order::List(Listing::Keys)),
+        "shelf-list" => Some(Order::List(Listing::Shelves)),
+        _ => order_of_words(text),
     }
 }
 
-/// Returns the order that three words say, or None if they say none.
-fn longer<'a>(verb: &'a str, first: &'a str, second: &'a str) -> Option<Order<'a>>
-    ensures { MatchOption result (spec.SaysNoOrder (spec.three verb.now first.now second.now))
-        (λ order. spec.three verb.now first.now second.now ≡ spec.said_in order) }
+/// Returns the order whose line has this text of two words or three before its end, or None if none has it.
+fn order_of_words(text: &str) -> Option<Order<'_>>
+    ensures { MatchOption result (spec.SaysNothing text.now) (λ order. spec.Says text.now order) }
 {
-    if verb == "team-add" {
-        let group = Some(second);
-        return Some(Order::TeamAdd { name: first, group });
+    let words = words_of(text)?;
+    if let Some(path) = word_behind(&words, "copy") {
+        return Some(Order::Copy(path));
     }
-    let right = right_of(verb)?;
-    Some(Order::KeyAdd {
-        shelf: first,
-        key: second,
-        right,
-    })
+    if text.len() > LONGEST {
+        return None;
+    }
+    if let Some(fingerprint) = word_behind(&words, "revoke-fingerprint") {
+        return Some(Order::RevokeNamed(fingerprint));
+    }
+    let command = command_of_words(&words)?;
+    Some(Order::Registry(command))
 }
 
-/// Returns the right of the keys that a word adds, or None if it adds no key.
-fn right_of(verb: &str) -> Option<Right>
-    ensures { MatchOption result (spec.AddsNoKey verb.now) (λ right. verb.now ≡ spec.add_word right) }
+/// Returns the key whose catalog the bytes ask for, or None if they ask for none. Whose key it is, or whether it is
+/// one, the store knows.
+pub fn catalog_in(got: &[u8]) -> Option<&str>
+    ensures { MatchOption result (IsNoCatalog got.now) (λ key. IsCatalogOf got.now key.now) }
 {
-    if verb == "key-add" {
-        Some(Right::Publishes)
-    } else if verb == "reader-add" {
-        Some(Right::Reads)
-    } else {
-        None
-    }
-}
-
-/// Returns the order that two words say, or None if they say none.
-fn shorter<'a>(verb: &'a str, name: &'a str) -> Option<Order<'a>>
-    ensures { MatchOption result (spec.SaysNoOrder (spec.two verb.now name.now))
-        (λ order. spec.two verb.now name.now ≡ spec.said_in order) }
-{
-    if verb == "team-add" {
-        Some(Order::TeamAdd { name, group: None })
-    } else if verb == "group-add" {
-        Some(Order::GroupAdd { name })
-    } else if verb == "key-revoke" {
-        Some(Order::KeyRevoke { key: name })
-    } else if verb == "keys-revoke" {
-        Some(Order::KeysRevoke { shelf: name })
-    } else {
-        None
-    }
+    let text = line_in(got, LONGEST)?;
+    let words = words_of(text)?;
+    word_behind(&words, "catalog")
 }

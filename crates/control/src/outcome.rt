@@ -8,7 +8,8 @@ use world::registry::{RegistryReply, StoreFault};
 /// What came of an order.
 #[derive(Clone, Copy, Debug, Drop, PartialEq, Eq)]
 pub enum Outcome {
-    /// The machine's reply to the order; only `Done` changed anything. `Done` also means that a copy was made.
+    /// The machine's reply to the registry command; only `Done` changed anything. `Done` also means that a copy was
+    /// made.
     RegistryReply(RegistryReply),
     /// A disk failed, the file of a copy can't be opened, or memory ran out, for the order or already for its line.
     /// Nothing was changed.
@@ -25,7 +26,7 @@ pub enum Outcome {
     Bad,
 }
 
-/// What came of an order that was carried out.
+/// What came of a registry command that was carried out.
 pub(crate) fn outcome_of(told: Result<RegistryReply, StoreFault>) -> Outcome
     ensures { result ≡ spec.outcome_of told }
 {

@@ -54,7 +54,7 @@ pub fn serve_both<
     connections: u32,
     errors: &mut E,
 )
-    // One run of the machine: its events are the messages, at most one on each connection, and the orders.
+    // One run of the machine: its events are the messages, at most one on each connection, and the registry commands.
     ensures goes { GoesOn (S.shown shelves.old) (S.shown shelves.new) connections }
     // Each message is answered on the connection that it came over, and the outcome of each order is told on its own.
     // If none is, or it is not written whole, a call of that connection failed.

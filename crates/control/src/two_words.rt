@@ -1,6 +1,6 @@
 //! Lines of two words.
 ghost use Rattle.std.specs.Prelude.{◌≡◌, MatchOption};
-ghost use Rattle.control.specs.Order.{SaysNone, two};
+ghost use Rattle.control.specs.RegistryCommand.{SaysNone, two};
 ghost use Rattle.control.specs.Words.{said};
 
 use crate::words::Words;

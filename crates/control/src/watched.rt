@@ -18,7 +18,7 @@ use crate::copies::{CatalogRefusal, CopyRefusal};
 use crate::errand::Errand;
 use crate::health::Figures;
 use crate::notice::{Notice, answered, catalogued, copied, met, ordered};
-use crate::order::Order;
+use crate::registry_command::RegistryCommand;
 use crate::told::Told;
 use crate::traffic::{Traffic, Transfer};
 use engine::Io;
@@ -123,13 +123,13 @@ impl<'a, N: Loan, S: Shelves> Watched<'a, N, S> {
         }
     }
 
-    /// Notes an order that was carried out.
-    fn note_order(&mut self, order: &Order, told: Result<RegistryReply, StoreFault>)
+    /// Notes a registry command that was carried out.
+    fn note_command(&mut self, command: &RegistryCommand, told: Result<RegistryReply, StoreFault>)
         ensures same { self.new.inner ≡ self.old.inner }
         ensures counts { self.new.traffic ≡ self.old.traffic }
-        ensures noted { IfSome self.new.notice (λ n. n.text ≡ line_of (Ordered order.now told)) }
+        ensures noted { IfSome self.new.notice (λ n. n.text ≡ line_of (Ordered command.now told)) }
     {
-        self.notice = ordered(self.alloc, order, told).ok();
+        self.notice = ordered(self.alloc, command, told).ok();
     }
 
     /// Notes a copy that was ordered.
@@ -332,7 +332,7 @@ impl<'a, N: Loan, S: Shelves> Shelves for Watched<'a, N, S> {
         ensures counts { self.new.traffic ≡ self.old.traffic }
     {
         let told = self.inner.team_add(name, group);
-        self.note_order(&Order::TeamAdd { name, group }, told);
+        self.note_command(&RegistryCommand::TeamAdd { name, group }, told);
         told
     }
 
@@ -343,7 +343,7 @@ impl<'a, N: Loan, S: Shelves> Shelves for Watched<'a, N, S> {
         ensures counts { self.new.traffic ≡ self.old.traffic }
     {
         let told = self.inner.group_add(name);
-        self.note_order(&Order::GroupAdd { name }, told);
+        self.note_command(&RegistryCommand::GroupAdd { name }, told);
         told
     }
 
@@ -354,7 +354,7 @@ impl<'a, N: Loan, S: Shelves> Shelves for Watched<'a, N, S> {
         ensures counts { self.new.traffic ≡ self.old.traffic }
     {
         let told = self.inner.key_add(shelf, key, right);
-        self.note_order(&Order::KeyAdd { shelf, key, right }, told);
+        self.note_command(&RegistryCommand::KeyAdd { shelf, key, right }, told);
         told
     }
 
@@ -365,7 +365,7 @@ impl<'a, N: Loan, S: Shelves> Shelves for Watched<'a, N, S> {
         ensures counts { self.new.traffic ≡ self.old.traffic }
     {
         let told = self.inner.key_revoke(key);
-        self.note_order(&Order::KeyRevoke { key }, told);
+        self.note_command(&RegistryCommand::KeyRevoke { key }, told);
         told
     }
 
@@ -376,7 +376,7 @@ impl<'a, N: Loan, S: Shelves> Shelves for Watched<'a, N, S> {
         ensures counts { self.new.traffic ≡ self.old.traffic }
     {
         let told = self.inner.keys_revoke(shelf);
-        self.note_order(&Order::KeysRevoke { shelf }, told);
+        self.note_command(&RegistryCommand::KeysRevoke { shelf }, told);
         told
     }
 

@@ -20,7 +20,7 @@ use commands::ping::ping_at;
 use commands::progress::StderrLine;
 use commands::refusal::CommandRefusal;
 use commands::served_catalog::catalog_at;
-use control::{Listing, Order};
+use control::{Listing, RegistryCommand};
 use file_action::host::ActionHost;
 use files::files::StoreFiles;
 use histories::{Hear, Tell};
@@ -86,7 +86,7 @@ pub trait Host<S, C>: ActionHost<S> + Looks {
             from.now to.now result };
 
     /// Sends an order to a running `serve`. Fails as [`order_at`] does.
-    fn order(&mut self, control: &str, order: &Order) -> Result<(), CommandRefusal>
+    fn order(&mut self, control: &str, order: &RegistryCommand) -> Result<(), CommandRefusal>
         ensures { OrdersThere order.now result };
 
     /// Makes a key, prints it, and sends an order to add it to a running `serve`. Fails as [`order_new_at`] does.
@@ -236,7 +236,7 @@ impl<'a> Host<OpenedStore, ClosedFile> for SystemHost<'a> {
         migrate_file(self.rt.alloc(), self, older, targets, from, to)
     }
 
-    fn order(&mut self, control: &str, order: &Order) -> Result<(), CommandRefusal> {
+    fn order(&mut self, control: &str, order: &RegistryCommand) -> Result<(), CommandRefusal> {
         order_at(self.rt, control, order)
     }
 

@@ -46,7 +46,7 @@ use crate::older_files::OlderFiles;
 use commands::action::{Action, acceptance};
 use commands::memory::answer_in_memory;
 use commands::refusal::CommandRefusal;
-use control::{Listing, Order};
+use control::{Listing, RegistryCommand};
 use file_action::{init, on_file};
 use files::files::StoreFiles;
 use histories::{Hear, Tell};
@@ -84,7 +84,7 @@ pub enum Command<'a> {
     /// A registry command with `--control S`: orders the `serve` that listens at the socket S to carry it out.
     Order {
         control: &'a str,
-        order: Order<'a>,
+        order: RegistryCommand<'a>,
     },
     /// `key-add --control S --new`: makes a key, prints it, and orders the `serve` that listens at the socket S to add
     /// it.

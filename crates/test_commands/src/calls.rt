@@ -5,7 +5,7 @@ use commands::refusal::CommandRefusal;
 use commands::registry::register;
 use commands::requirements::requirements;
 use commands::sources::Sources;
-use control::Order;
+use control::RegistryCommand;
 use engine::Io;
 use histories::Telling;
 use outline::outlines::Outlines;
@@ -66,23 +66,23 @@ fn answered<S: Outlines, F: Sources>(
 }
 
 /// Returns the order of a row, or None if it has no registry command.
-fn order_of<'a>(command: &str, key: &'a str, asked: &'a str) -> Option<Order<'a>> {
+fn order_of<'a>(command: &str, key: &'a str, asked: &'a str) -> Option<RegistryCommand<'a>> {
     match command {
-        "team-add" => Some(Order::TeamAdd {
+        "team-add" => Some(RegistryCommand::TeamAdd {
             name: asked,
             group: None,
         }),
-        "member-add" => Some(Order::TeamAdd {
+        "member-add" => Some(RegistryCommand::TeamAdd {
             name: asked,
             group: Some(key),
         }),
-        "group-add" => Some(Order::GroupAdd { name: asked }),
-        "key-add" => Some(Order::KeyAdd {
+        "group-add" => Some(RegistryCommand::GroupAdd { name: asked }),
+        "key-add" => Some(RegistryCommand::KeyAdd {
             shelf: asked,
             key,
             right: Right::Publishes,
         }),
-        "reader-add" => Some(Order::KeyAdd {
+        "reader-add" => Some(RegistryCommand::KeyAdd {
             shelf: asked,
             key,
             right: Right::Reads,

@@ -3,7 +3,7 @@ use crate::copier::Copier;
 use commands::order::{copy_over, order_over, revoke_over};
 use commands::ping::ping_over;
 use commands::refusal::CommandRefusal;
-use control::{Order, Tally, obey};
+use control::{RegistryCommand, Tally, obey};
 use histories::{Hearing, Telling};
 use keyring::Keyring;
 use memory_store::map_shelves::MapShelves;
@@ -174,36 +174,36 @@ fn column(row: &str, index: usize) -> &str {
 }
 
 /// Returns the order of a number. No line can carry 4 to 7, and 9.
-fn order_at(number: &str) -> Order<'static> {
+fn order_at(number: &str) -> RegistryCommand<'static> {
     let (shelf, key) = ("alpha", "alphakey00000001");
     match number {
-        "0" => Order::KeyAdd {
+        "0" => RegistryCommand::KeyAdd {
             shelf,
             key,
             right: Right::Reads,
         },
-        "1" => Order::TeamAdd {
+        "1" => RegistryCommand::TeamAdd {
             name: shelf,
             group: Some("platform"),
         },
-        "2" => Order::KeyRevoke { key },
-        "3" => Order::GroupAdd { name: "platform" },
-        "4" => Order::TeamAdd {
+        "2" => RegistryCommand::KeyRevoke { key },
+        "3" => RegistryCommand::GroupAdd { name: "platform" },
+        "4" => RegistryCommand::TeamAdd {
             name: "alpha\nteam-add",
             group: None,
         },
-        "5" => Order::TeamAdd {
+        "5" => RegistryCommand::TeamAdd {
             name: shelf,
             group: Some("plat form"),
         },
-        "6" => Order::KeyAdd {
+        "6" => RegistryCommand::KeyAdd {
             shelf: "al pha",
             key,
             right: Right::Publishes,
         },
-        "7" => Order::KeysRevoke { shelf: "al pha" },
-        "8" => Order::KeysRevoke { shelf },
-        _ => Order::KeyRevoke { key: "alpha key" },
+        "7" => RegistryCommand::KeysRevoke { shelf: "al pha" },
+        "8" => RegistryCommand::KeysRevoke { shelf },
+        _ => RegistryCommand::KeyRevoke { key: "alpha key" },
     }
 }
 

@@ -3,7 +3,7 @@ use commands::action::{Action, acceptance};
 use commands::refusal::CommandRefusal;
 use commands::registry::register;
 use commands::report::print_inventory;
-use control::{Listing, Order};
+use control::{Listing, RegistryCommand};
 use file_action::host::ActionHost;
 use files::files::StoreFiles;
 use histories::{Hear, Tell};
@@ -108,7 +108,7 @@ impl<'a> Host<MapShelves, MapShelves> for MemoryHost<'a> {
         Err(CommandRefusal::NotEmpty)
     }
 
-    fn order(&mut self, _control: &str, _order: &Order) -> Result<(), CommandRefusal> {
+    fn order(&mut self, _control: &str, _order: &RegistryCommand) -> Result<(), CommandRefusal> {
         Err(CommandRefusal::Device)
     }
 

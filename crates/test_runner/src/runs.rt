@@ -3,7 +3,7 @@ use crate::host::MemoryHost;
 use crate::no_older::NoOlderFiles;
 use commands::action::Action;
 use commands::refusal::CommandRefusal;
-use control::{Listing, Order};
+use control::{Listing, RegistryCommand};
 use files::files::StoreFiles;
 use files::memory::MemoryStoreFiles;
 use files::record::Record;
@@ -47,7 +47,7 @@ inventory | shelves.db | | alphakey00000001 | done
 /// Returns the command of a row.
 fn command_of<'a>(row: &'a str, teams: &'a [&'a str]) -> Command<'a> {
     let (db, name, key) = (cell(row, 1), cell(row, 2), cell(row, 3));
-    let order = Order::TeamAdd { name, group: None };
+    let order = RegistryCommand::TeamAdd { name, group: None };
     let action = match cell(row, 0) {
         "init" => return Command::Init { db },
         "extract" => return Command::Extract {
@@ -73,7 +73,7 @@ fn command_of<'a>(row: &'a str, teams: &'a [&'a str]) -> Command<'a> {
         "stop" => return Command::Stop { control: db },
         "team-add" => Action::Register { order },
         "key-add" => Action::Register {
-            order: Order::KeyAdd {
+            order: RegistryCommand::KeyAdd {
                 shelf: name,
                 key,
                 right: Right::Publishes,

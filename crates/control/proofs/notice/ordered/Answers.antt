@@ -3,4 +3,4 @@ use Rattle.control.specs.Notices.{Ordered}
 use Rattle.control.proofs.notice.ordered.Goals as goal
 
 pub of-requires : goal.of-requires
-of-requires c = ∣ (Ordered c.args.order.now c.args.told, search rules) ∣₁
+of-requires c = ∣ (Ordered c.args.command.now c.args.told, search rules) ∣₁

@@ -63,10 +63,10 @@ returns-in-Some-RevokeNamed-clause-heeds g c = λ none. record {
   lists = c.revoke_named.ensures.finds;
 }
 
-pub returns-in-Some-Order-clause-heeds : goal.returns-in-Some-Order-clause-heeds
-returns-in-Some-Order-clause-heeds g c = λ none. record {
-  heard = Carried c.in-Some-Order.order c.carry_out.result;
-  from = rw c.in-Some-Order.field-0-is at c.in-Some-Order.ensures;
+pub returns-in-Some-Registry-clause-heeds : goal.returns-in-Some-Registry-clause-heeds
+returns-in-Some-Registry-clause-heeds g c = λ none. record {
+  heard = Carried c.in-Some-Registry.command c.carry_out.result;
+  from = rw c.in-Some-Registry.field-0-is at c.in-Some-Registry.ensures;
   prints = refl;
   tells = ap spoken.Outcome c.outcome_of.ensures;
   through = (refl, turns_ordered _ _ _ _ c.carry_out.ensures.does);

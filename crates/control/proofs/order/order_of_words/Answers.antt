@@ -1,7 +1,7 @@
 use Rattle.std.proofs.Common.{◌≡◌, None, arith, rules}
 use Rattle.control.specs.Words.{said}
-use Rattle.control.proofs.OperatorLineLemmas.{no_words_said, says_nothing}
-use Rattle.control.proofs.operator_line.line_of_words.Goals as goal
+use Rattle.control.proofs.OrderLemmas.{no_words_said, says_nothing}
+use Rattle.control.proofs.order.order_of_words.Goals as goal
 
 pub returns-in_err-words : goal.returns-in_err-words
 returns-in_err-words c =
@@ -15,10 +15,10 @@ returns-then-text-gt-LONGEST c =
     says_nothing c.args.text.now (said c.in_ok-words.words) c.in_ok-words.ensures
     (rw c.in_default.is at c.word_behind.ensures) (λ short. absurd (omega (arith, short, long)))
 
-pub returns-in_err-order : goal.returns-in_err-order
-returns-in_err-order c =
-    let none : c.from_residual-in_err-order.result ≡ None = search rules in
-    let no_order : c.order_of_words.result ≡ None = search rules in
+pub returns-in_err-command : goal.returns-in_err-command
+returns-in_err-command c =
+    let none : c.from_residual-in_err-command.result ≡ None = search rules in
+    let no_command : c.command_of_words.result ≡ None = search rules in
     rw none (says_nothing c.args.text.now (said c.in_ok-words.words) c.in_ok-words.ensures
     (rw c.in_default.is at c.word_behind.ensures)
-    (λ short. (rw c.in_default-word_behind.is at c.word_behind-2.ensures, rw no_order at c.order_of_words.ensures)))
+    (λ short. (rw c.in_default-word_behind.is at c.word_behind-2.ensures, rw no_command at c.command_of_words.ensures)))

@@ -1,6 +1,6 @@
 use Rattle.std.proofs.Common.{◌≡◌, None, rules}
-use Rattle.control.proofs.OperatorLineLemmas.{no_line, words_line}
-use Rattle.control.proofs.operator_line.line_of_bytes.Goals as goal
+use Rattle.control.proofs.OrderLemmas.{no_line, words_line}
+use Rattle.control.proofs.order.order_of_bytes.Goals as goal
 
 pub returns-in_err-text : goal.returns-in_err-text
 returns-in_err-text c =
@@ -12,4 +12,4 @@ pub returns-in_default : goal.returns-in_default
 returns-in_default c =
     let other = c.in_default in
     words_line c.args.got.now c.in_ok-text.text.now c.in_ok-text.ensures other.not-stop other.not-ping other.not-text
-    other.not-text-2 c.line_of_words.result c.line_of_words.ensures
+    other.not-text-2 c.order_of_words.result c.order_of_words.ensures

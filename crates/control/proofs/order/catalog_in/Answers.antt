@@ -1,7 +1,7 @@
 use Rattle.std.proofs.Common.{◌≡◌, None, rules}
 use Rattle.control.specs.Words.{said}
-use Rattle.control.proofs.OperatorLineLemmas.{catalog_line, no_catalog_line, no_catalog_text}
-use Rattle.control.proofs.operator_line.catalog_in.Goals as goal
+use Rattle.control.proofs.OrderLemmas.{catalog_line, no_catalog_line, no_catalog_text}
+use Rattle.control.proofs.order.catalog_in.Goals as goal
 
 pub returns-in_err-text : goal.returns-in_err-text
 returns-in_err-text c =

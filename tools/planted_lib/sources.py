@@ -82,14 +82,26 @@ def holder_of(lines, at, indent):
     """Returns what rattle calls the impl or trait around a row: a type or a trait, or both as in MapShelvesShelves;
     else ''."""
     for row in range(at, -1, -1):
-        found = HOLDER.match(lines[row])
+        found = HOLDER.match(head_at(lines, row))
         if found and len(lines[row]) - len(lines[row].lstrip()) < len(indent):
             trait, _, of_type = found[1].partition("{")[0].rpartition(" for ")
-            argument = re.search(r"<([^'].*)>", trait)
-            return last_word(of_type) + last_word(trait) + (last_word(argument[1]) if argument else "")
+            return types_in(of_type) + types_in(trait) if trait else last_word(of_type)
     return ""
+
+
+def head_at(lines, row):
+    """Returns the head that begins at a row without its bounds, in one line: that of an impl may stand on several."""
+    last = row
+    while lines[row].lstrip().startswith(("impl", "unsafe impl")) and "{" not in lines[last] and last + 1 < len(lines):
+        last += 1
+    return " ".join(it.strip() for it in lines[row : last + 1]).partition(" where ")[0]
 
 
 def last_word(path):
     """Returns the last name of a path, without its arguments."""
     return "".join(re.findall(r"\w+", path.partition("<")[0])[-1:])
+
+
+def types_in(head):
+    """Returns the types and the trait that a head names, as one word, without those of one letter."""
+    return "".join(re.findall(r"\b[A-Z]\w+", head))

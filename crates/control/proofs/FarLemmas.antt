@@ -1,6 +1,6 @@
 -- What a ping is told while a copy is made.
 use Rattle.std.specs.Prelude.{◌||◌, IfOk}
-use Rattle.std.proofs.Common.{Bool, ℕ, ◌+◌, ◌≡◌, subst, List, Option, Some, Result, Ok, Err}
+use Rattle.std.proofs.Common.{Bool, ℕ, ◌+◌, ◌≡◌, subst, List, Option, Result, Ok, Err}
 use Rattle.histories.specs.Account.{Account}
 use Rattle.histories.specs.Calls.{Reads, Writes}
 use Rattle.meanwhile.specs.declared.between.HowFar.{HowFar}
@@ -21,10 +21,10 @@ use Rattle.control.specs.declared.told.Told.{Told}
 use Rattle.control.specs.declared.told.Told.TheVariants as spoken
 use Rattle.control.specs.declared.traffic.Traffic.{Traffic}
 
--- the lines of a health that are told tell how far the copy is, where this is known of its figures
-pub tells_how_far : (far : HowFar) (known : Figures → Type 0) (traffic : Traffic) (copied : Option (List ℕ))
+-- the lines of a health that are told tell how far the copy is, or of none, where this is known of its figures
+pub tells_how_far : (far : Option HowFar) (known : Figures → Type 0) (traffic : Traffic) (copied : Option (List ℕ))
     (pinged : Result Health StoreFault → Type 0) (told : Result Told Io)
-    → IfOk told (TellsPing (TellsKept known traffic copied (Some far)) pinged) → IfOk told (TellsHowFar far)
+    → IfOk told (TellsPing (TellsKept known traffic copied far) pinged) → IfOk told (TellsHowFar far)
 tells_how_far far known traffic copied pinged (Ok (spoken.Health lines)) (h, came, is, same) = (h, is.how_far, same)
 tells_how_far far known traffic copied pinged (Ok (spoken.Outcome outcome)) tells = tt
 tells_how_far far known traffic copied pinged (Ok (spoken.List lines)) tells = tt
@@ -39,7 +39,7 @@ module _ {O : Type 0} (heeded : O → Account × Reads) (told : O → Option (Li
       (IsOnlyRead (shown s) (shown t)) operator stops (shown s) (shown t)
 
   -- an operator was obeyed while a copy is made, with a tally that is that of the moment
-  pub obeys_meanwhile : (far : HowFar) (tally : Tally) (operator : O) (stops : Bool) (p q : Progress) (s t : S)
+  pub obeys_meanwhile : (far : Option HowFar) (tally : Tally) (operator : O) (stops : Bool) (p q : Progress) (s t : S)
       → (o : Obeyed tally operator stops s t) → IfOk o.audience.told (TellsHowFar far) → tally ≡ p.tally
       → q.tally ≡ p.tally → q.left ≡ p.left → q.taken ≡ p.taken + 1 → q.stops ≡ (p.stops || stops)
       → ObeysMeanwhile heeded told shown made counted operator far p q s t

@@ -421,7 +421,7 @@ module _ {P O : Type 0} (heeded : O → Account × Reads) (told : O → Option (
 
     -- an operator, for whom no copy was made
     pub serves_told : (waiting rest : Option (List (Caller P O))) (p q : Progress) (s t : S) (operator : O)
-        (far : HowFar)
+        (far : Option HowFar)
         → Come waiting rest (Operator operator ∷ []) → is_new (Operator operator) → p.stops ≡ false
         → ObeysMeanwhile heeded told shown made counted operator far p q s t → From true waiting rest p q s t
     unfolding serves_operator

@@ -1,5 +1,5 @@
 -- What a ping does, and what it is told.
-use Rattle.std.specs.Prelude.{ℕ, ◌≡◌, ◌⊎◌, Some, Result, Ok, Err}
+use Rattle.std.specs.Prelude.{ℕ, ◌≡◌, ◌⊎◌, Option, Result, Ok, Err}
 use Rattle.world.specs.Store.{Shown}
 use Rattle.world.specs.declared.registry.StoreFault.{StoreFault}
 use Rattle.world.specs.declared.registry.StoreFault.TheVariants.{Memory}
@@ -32,8 +32,8 @@ TellsPing known pinged (spoken.Health lines) = (h : Health) × pinged (Ok h) × 
 TellsPing known pinged (spoken.Outcome outcome) = Unit {0}
 TellsPing known pinged (spoken.List lines) = Unit {0}
 
--- where the lines of a health are told, they tell that the copy is so far
-abbrev pub TellsHowFar : HowFar → Told → Type 0
-TellsHowFar far (spoken.Health lines) = (h : Health) × (h.figures.copying ≡ Some far) × (lines ≡ line_of h)
+-- where the lines of a health are told, they tell that the copy is so far, or of none
+abbrev pub TellsHowFar : Option HowFar → Told → Type 0
+TellsHowFar far (spoken.Health lines) = (h : Health) × (h.figures.copying ≡ far) × (lines ≡ line_of h)
 TellsHowFar far (spoken.Outcome outcome) = Unit {0}
 TellsHowFar far (spoken.List lines) = Unit {0}

@@ -41,11 +41,11 @@ EndsBy {P} {O} false true calls =
     (first : List (Call P O)) × (last : Call P O) × (calls ≡ first ++ last ∷ []) × All IsNoStop first × IsStop last
 EndsBy false false calls = All IsNoStop calls
 
--- An operator was obeyed while a copy is made, with the tally of the moment. No copy was made for it, and a ping was
--- told how far the one is.
+-- An operator was obeyed while a copy is made or a catalog is printed, with the tally of the moment. No copy was made
+-- for it, and a ping was told how far the one is, or of none.
 pub record ObeysMeanwhile {O : Type 0} (heeded : O → Account × Reads) (told : O → Option (List ℕ) × Writes)
     {S : Type 0} (shown : S → Shown) (made : S → S → Making → Type 0)
-    (counted : S → S → ℕ → Type 0) (operator : O) (far : HowFar) (before after : Progress) (old new : S) : Type 0
+    (counted : S → S → ℕ → Type 0) (operator : O) (far : Option HowFar) (before after : Progress) (old new : S) : Type 0
   where
     pub stops : Bool
     pub obeys : ObeysOne heeded told (made old new)

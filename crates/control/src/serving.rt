@@ -44,8 +44,8 @@ pub(crate) struct Server<'x, C, P, O, L, K, D, E> {
     pub(crate) traffic: Traffic,
     /// When the last copy was made, for those who ask while the next one is.
     pub(crate) copied: Option<TimeText>,
-    /// How far the copy is that is being made, for those who ask then.
-    pub(crate) how_far: HowFar,
+    /// How far the copy is that is being made, for those who ask then; none while a catalog is printed.
+    pub(crate) how_far: Option<HowFar>,
     peers: PhantomData<P>,
     operators: PhantomData<O>,
 }
@@ -93,7 +93,7 @@ impl<
             progress: Progress::new(since, connections),
             traffic: Traffic::new(alloc),
             copied: None,
-            how_far: HowFar { done: 0, all: 0 },
+            how_far: None,
             peers: PhantomData,
             operators: PhantomData,
         }

@@ -38,8 +38,8 @@ const MOST_SERVED: u32 = 16;
 #[derive(Drop)]
 struct BusyCopies<'b, K> {
     copies: &'b K,
-    /// How far that one is.
-    how_far: HowFar,
+    /// How far that one is, unless it is a catalog that is printed.
+    how_far: Option<HowFar>,
 }
 
 impl<'a, 'b, 'c, N: Loan, M: Moment, S: Shelves, K: Copies<S>> CopyOrders<
@@ -54,8 +54,8 @@ impl<'a, 'b, 'c, N: Loan, M: Moment, S: Shelves, K: Copies<S>> CopyOrders<
 
     ghost counted = { λ old new n. K.counted old.inner.now.inner.now new.inner.now.inner.now n };
 
-    /// They tell how far the copy is.
-    ghost figured = { λ b w f. TellsKept (K.figured w.inner.now.inner.now) w.traffic w.copied (Some b.how_far) f };
+    /// They tell how far the copy is, or of none while a catalog is printed.
+    ghost figured = { λ b w f. TellsKept (K.figured w.inner.now.inner.now) w.traffic w.copied b.how_far f };
 
     /// The store is only read.
     ghost meanwhile = { λ _ _ old new. IsOnlyRead
@@ -93,7 +93,7 @@ impl<'a, 'b, 'c, N: Loan, M: Moment, S: Shelves, K: Copies<S>> CopyOrders<
     }
 
     fn figures<'s>(&self, shelves: &'s Watched<'a, N, Noting<'c, M, S>>) -> Figures<'s> {
-        shelves.figures_with(figures_in(self.copies, shelves.inner), Some(self.how_far))
+        shelves.figures_with(figures_in(self.copies, shelves.inner), self.how_far)
     }
 }
 
@@ -377,9 +377,9 @@ impl<
 
     fn note_how_far(&mut self, how_far: HowFar)
         ensures same { (s : S) → ⟦<Server<'x, C, P, O, L, K, D, E> as Between<S>>⟧.went self.old self.new s s }
-        ensures noted { self.new.how_far ≡ how_far }
+        ensures noted { self.new.how_far ≡ Some how_far }
     {
-        self.how_far = how_far;
+        self.how_far = Some(how_far);
     }
 
     ghost rests = { λ b s t read. turns_rest _ _ _ _ _ _ _ _ _ t read };
@@ -431,7 +431,7 @@ impl<
         let copies = self.copies;
         self.callers.watch_operator();
         self.copied = shelves.copied;
-        self.how_far = HowFar { done: 0, all: 0 };
+        self.how_far = Some(HowFar { done: 0, all: 0 });
         mem::swap(&mut self.traffic, &mut shelves.traffic);
         let told = copies.copy(shelves.inner, path, self);
         mem::swap(&mut self.traffic, &mut shelves.traffic);
@@ -453,7 +453,7 @@ impl<
         let copies = self.copies;
         self.callers.watch_operator();
         self.copied = shelves.copied;
-        self.how_far = HowFar { done: 0, all: 0 };
+        self.how_far = None;
         mem::swap(&mut self.traffic, &mut shelves.traffic);
         let told = copies.catalog(alloc, shelves.inner, key, output, self);
         mem::swap(&mut self.traffic, &mut shelves.traffic);

@@ -7,7 +7,7 @@ use Rattle.world.specs.Registry.{team_added, group_added, key_added, key_revoked
 use Rattle.world.specs.declared.entry.Right.{Right}
 use Rattle.world.specs.declared.entry.Right.TheVariants.{Reads, Publishes}
 use Rattle.world.specs.declared.registry.RegistryReply.{RegistryReply}
-use Rattle.control.specs.Words.{Said, text_of, IsTextOf}
+use Rattle.control.specs.Words.{Said, IsTextOf}
 use Rattle.control.specs.declared.registry_command.RegistryCommand.{RegistryCommand}
 use Rattle.control.specs.declared.registry_command.RegistryCommand.TheVariants.{TeamAdd, GroupAdd, KeyAdd}
 use Rattle.control.specs.declared.registry_command.RegistryCommand.TheVariants.{KeyRevoke, KeysRevoke}
@@ -43,10 +43,6 @@ SaysNoCommand s = (command : RegistryCommand) → s ≢ said_in command
 -- this word adds no key
 abbrev pub AddsNoKey : List ℕ → Type 0
 AddsNoKey verb = (right : Right) → verb ≢ add_word right
-
--- the line of a registry command, without its end
-abbrev pub line_of_command : RegistryCommand → List ℕ
-line_of_command command = text_of (said_in command)
 
 -- The line is the registry command's, and each of its words has no space and no end of a line.
 abbrev pub SaysCommand : List ℕ → RegistryCommand → Type 0

@@ -1,5 +1,5 @@
 -- A command with `--control`, and the `serve` that gets its line.
-use Rattle.std.proofs.Common.{◌≡◌, ℕ, List, [], ◌∷◌, ◌++◌, Bool, true, false, Some, Result, Ok, Err, refl, ◌∙◌, sym, ap}
+use Rattle.std.proofs.Common.{◌≡◌, ℕ, List, [], ◌∷◌, ◌++◌, Bool, true, Some, Result, Ok, Err, refl, ◌∙◌, sym, ap}
 use Rattle.std.proofs.Common.{subst, inl, inr, true≢false}
 use Rattle.std.specs.Prelude.{bytes_eq, codes}
 use Rattle.std.proofs.lemmas.List.Folds.{list_all-append}

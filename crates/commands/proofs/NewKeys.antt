@@ -1,5 +1,5 @@
 -- A key that is added after its shelf was looked up.
-use Rattle.std.proofs.Common.{◌≡◌, ◌∙◌, ap, sym, ℕ, List, Some, None, Result, Ok, Err, inl, inr}
+use Rattle.std.proofs.Common.{◌≡◌, ◌∙◌, ap, sym, ℕ, List, Some, None, Result, Ok, Err}
 use Rattle.std.specs.FinMap as map
 use Rattle.keyring.specs.Made.{key_of}
 use Rattle.world.proofs.Causes.{in_turn}

@@ -1,5 +1,5 @@
 -- A store whose versions are counted before it is served.
-use Rattle.std.proofs.Common.{◌≡◌, ℕ, List, [], ◌∷◌, Option, None, Result, Ok, Err, IfOk, refl}
+use Rattle.std.proofs.Common.{ℕ, List, [], ◌∷◌, None, Result, Ok, Err, IfOk, refl}
 use Rattle.std.proofs.lemmas.List.Elements.{All-cons}
 use Rattle.world.specs.Store.{Shown}
 use Rattle.world.specs.declared.registry.StoreFault.{StoreFault}

@@ -39,6 +39,12 @@ log=4152 copied=2026-11-26T18:50:00Z shelves=1
 shelf alpha publishes=1 fetches=1
 ";
 
+/// What one is told while a catalog is printed.
+const HEALTH_IN_CATALOG: &str = "\
+connections=0 2xx=0 4xx=0 5xx=0 unanswered=0 store-failures=0 since=2026-11-26T18:40:00Z versions=7 bytes=8192 \
+log=4152 shelves=0
+";
+
 const PUBLISHED: &str =
     "HTTP/1.1 201 Created\r\nContent-Type: text/plain; charset=utf-8\r\nContent-Length: 10\r\nConnection: close\r\n\r\n\
      published\n";
@@ -209,6 +215,20 @@ fn counts_by_shelf_while_a_copy_is_made_and_tells_when(rt: HostRuntime) -> Resul
     assert!(rt; told.as_slice() == HEALTH.as_bytes());
     assert!(rt; copied.as_slice() == b"done\n".as_slice());
     assert!(rt; told_after.as_slice() == HEALTH_AFTER.as_bytes());
+    Ok(())
+}
+
+#[test]
+fn a_ping_tells_of_no_copy_while_a_catalog_is_printed(rt: HostRuntime) -> Result<(), Fail> {
+    let mut printed = Vec::new(rt.alloc());
+    let mut told = Vec::new(rt.alloc());
+    let mut callers = LinkedList::new(rt.alloc());
+    callers.push_back(Caller::Operator(sending(b"catalog alphakey00000001\n", &mut printed)))?;
+    callers.push_back(Caller::Operator(sending(b"ping\n", &mut told)))?;
+    let mut errors = Vec::new(rt.alloc());
+    serve(&rt, queue_of(callers, 1), &mut shelves(&rt)?, &mut errors)?;
+    assert!(rt; told.as_slice() == HEALTH_IN_CATALOG.as_bytes());
+    assert!(rt; printed.as_slice() == b"done\n".as_slice());
     Ok(())
 }
 

@@ -87,7 +87,16 @@ pub trait Operator {
     /// The calls that bear on how long a write to it waits, the last of them first.
     ghost write_calls: { Self → List Call };
 
-    /// Carries out its order, as `obey` does. A ping gets this tally, and the figures that `copies` has.
+    /// Reads its line, does what that orders, writes what came of it, flushes that, and returns it; `copies` makes
+    /// copies.
+    ///
+    /// `Outcome::Stopping`: the server is to end. `Told::Health`: the line is a ping, which gets the tally, the
+    /// failures of the store, and the versions and the figures that `copies` has of it. `Told::List`: the line asks for
+    /// a list. `Outcome::Failed` with `StoreFault::Memory` also means that memory ran out for the line, and that
+    /// nothing was done.
+    ///
+    /// `Io::Read`: nothing was done, and nothing written. `Io::Write`: a write or the flush failed; a beginning of the
+    /// line was written or all of it, and the shelves are as after the order.
     fn obeyed<C: Clock, S: Keyring, K: CopyOrders<S>>(
         self,
         alloc: Global,
@@ -142,8 +151,8 @@ impl<R: BoundRead + Drop, W: BoundWrite + Drop> Operator for Connection<R, W> {
     }
 }
 
-/// Carries out the order of an operator, as `obey` does. All reads of the line together have 2 seconds, and so have
-/// all writes of the outcome.
+/// Carries out the order of an operator, as `Operator::obeyed` does. All reads of the line together have 2 seconds, and
+/// so have all writes of the outcome.
 fn obey_since<
     C: Clock,
     I: Start,

@@ -9,7 +9,7 @@
 //! | what a ping is told: how connections were answered, what was counted by shelf, and more | [`Tally`], [`Health`] |
 //! | the lists of keys and of shelves | [`Listing`] |
 //! | what came of an order, and the line that tells it | [`Outcome`], [`Told`] |
-//! | taking an operator's line, and carrying its order out | [`obey`], [`carry_out`] |
+//! | taking an operator's line, and carrying its order out | [`Operator`], [`carry_out`] |
 //! | peers of a port and operators of a socket, one after another | [`serve_both`], [`Callers`], [`Doors`] |
 //! | what happened, in lines without a key, for standard error | [`Notice`], [`opened`], [`ended`], [`tell`] |
 //! | the socket | [`operators_at`], [`remove_socket`] |
@@ -60,7 +60,6 @@ pub use copies::{CatalogRefusal, Copies, CopyOrders, CopyRefusal};
 pub use health::{Figures, Health};
 pub use listing::Listing;
 pub use notice::{Notice, ended, opened};
-pub use obeying::obey;
 pub use order::{Order, order_of_bytes};
 pub use outcome::Outcome;
 pub use registry_command::RegistryCommand;

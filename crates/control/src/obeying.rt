@@ -1,70 +1,29 @@
-//! One order.
+//! What is done with the line of an operator.
 ghost use Rattle.std.specs.Prelude.{ℕ, ◌≡◌, List, [], IfOk, IfErr, MatchResult, OnOk};
 ghost use Rattle.std.specs.Io.KnownBytes.{Appends};
 ghost use Rattle.histories.specs.Account.{Account};
-ghost use Rattle.engine.specs.Causes.{FailsWith, IsCausedIn};
+ghost use Rattle.engine.specs.Causes.{FailsWith};
 ghost use Rattle.control.specs.Health.{IsPinged};
 ghost use Rattle.control.specs.Hearing.{HeedsBy, ObeysBy, TellsLine, WritesSome};
-ghost use Rattle.control.specs.Line.{IsCatalogOf, IsNoCatalog, ReadsLine, most_tries};
+ghost use Rattle.control.specs.Line.{IsCatalogOf, IsNoCatalog, ReadsLine};
 ghost use Rattle.control.specs.Pinging.{TellsPing};
 ghost use Rattle.control.specs.Told.{IsOutcome, bytes_told};
 
 use crate::carry::carry_out;
 use crate::copies::{CatalogRefusal, CopyOrders};
-use crate::line::{Unread, read_line};
 use crate::listing::list;
 use crate::naming::revoke_named;
-use crate::order::{Order, catalog_in, order_of_bytes};
+use crate::order::{Order, order_of_bytes};
 use crate::outcome::{Outcome, outcome_of, outcome_of_catalog, outcome_of_copy};
 use crate::pinging::ping;
 use crate::tally::Tally;
 use crate::told::Told;
 use engine::Io;
 use engine::write::write_bytes;
-use histories::{Hear, Restart, Tell};
+use histories::{Restart, Tell};
 use keyring::Keyring;
 use std::alloc::Global;
-use world::registry::StoreFault;
 use world::shelves::Shelves;
-
-/// Reads an operator's line, does what it orders, writes what came of it, flushes that, and returns it; `copies` makes
-/// copies.
-///
-/// `Outcome::Stopping`: the server is to end. `Told::Health`: the line is a ping, which gets the tally, the failures of
-/// the store, and the versions and the figures that `copies` has of it. `Told::List`: the line asks for a list.
-/// `Outcome::Failed` with `StoreFault::Memory` also means that memory ran out for the line, and that nothing was done.
-///
-/// `Io::Read`: nothing was done, and nothing written. `Io::Write`: a write or the flush failed; a beginning of the line
-/// was written or all of it, and the shelves are as after the order.
-pub fn obey<R: Hear, W: Restart, S: Keyring, K: CopyOrders<S>>(
-    alloc: Global,
-    reader: &mut R,
-    writer: &mut W,
-    tally: &Tally,
-    shelves: &mut S,
-    copies: &mut K,
-) -> Result<Told, Io>
-    ensures obeys { ObeysBy S.shown K.made K.counted K.meanwhile tally.now copies.old copies.new
-        shelves.old shelves.new (R.account reader.old) (R.account reader.new)
-        (W.contents writer.old) (W.contents writer.new) result }
-    // A ping is told what `copies` knows of the store, and nothing else.
-    ensures figures { IfOk result (TellsPing (K.figured copies.old shelves.new) (IsPinged tally.now
-        (S.shown shelves.old).failures (S.shown shelves.new).failures (K.counted shelves.old shelves.new))) }
-    // It fails only if a call of the reader or of the writer failed, or if no read is left.
-    ensures cause { IfErr result (IsCausedIn most_tries (R.reads reader.old) (R.reads reader.new)
-        (W.writes writer.old) (W.writes writer.new)) }
-    // What was written is flushed.
-    ensures flushed { IfOk result (λ _. (W.writes writer.new).unflushed ≡ []) }
-{
-    match read_line(alloc, reader) {
-        Ok(got) => match catalog_in(&got) {
-            Some(key) => print_for(alloc, key, writer, shelves, copies),
-            None => answer(alloc, &got, writer, tally, shelves, copies),
-        },
-        Err(Unread::Io) => Err(Io::Read),
-        Err(Unread::Memory) => tell(writer, Told::Outcome(Outcome::Failed(StoreFault::Memory))),
-    }
-}
 
 /// Prints the catalog of a key, writes what came of that, flushes it, and returns it.
 pub(crate) fn print_for<W: Restart, S: Shelves, K: CopyOrders<S>>(

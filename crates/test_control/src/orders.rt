@@ -3,13 +3,15 @@ use crate::copier::Copier;
 use commands::order::{copy_over, order_over, revoke_over};
 use commands::ping::ping_over;
 use commands::refusal::CommandRefusal;
-use control::{RegistryCommand, Tally, obey};
+use control::{Operator, RegistryCommand, Tally};
 use histories::{Hearing, Telling};
 use keyring::Keyring;
 use memory_store::map_shelves::MapShelves;
 use modver::read_time;
 use std::alloc::Global;
+use std::rt::HostRuntime;
 use std::test::Fail;
+use test_support::in_memory::sending;
 use world::entry::Right;
 
 /// Lines in their order, and after `|` the outcome of each.
@@ -222,25 +224,31 @@ fn some_tally() -> Result<Tally, Fail> {
     })
 }
 
+/// Carries out the order of an operator, and reports whether all of its outcome was written.
+fn is_obeyed<O: Operator + Drop, S: Keyring>(
+    rt: &HostRuntime,
+    operator: O,
+    tally: &Tally,
+    shelves: &mut S,
+) -> bool {
+    let mut copies = Copier::new(rt.alloc(), 12_345);
+    operator
+        .obeyed(rt.alloc(), rt, tally, shelves, &mut copies)
+        .told
+        .is_ok()
+}
+
 /// Returns the first row whose line has another outcome, or the empty text if each has its own.
 fn wrong_row<S: Keyring + Drop>(
-    alloc: Global,
+    rt: &HostRuntime,
     tally: &Tally,
     mut shelves: S,
 ) -> Result<&'static str, Fail> {
+    let alloc = rt.alloc();
     for row in ROWS.lines() {
         let sent = format!(in alloc; "{}\n", column(row, 0))?;
         let mut told = Vec::new(alloc);
-        if obey(
-            alloc,
-            &mut Hearing::new(sent.as_bytes()),
-            &mut Telling::new(&mut told),
-            tally,
-            &mut shelves,
-            &mut Copier::new(alloc, 12_345),
-        )
-        .is_err()
-        {
+        if !is_obeyed(rt, sending(sent.as_bytes(), &mut told), tally, &mut shelves) {
             return Ok(row);
         }
         let wanted = format!(in alloc; "{}\n", column(row, 1))?;
@@ -352,7 +360,7 @@ fn answers_each_line(rt: HostRuntime) -> Result<(), Fail> {
     let Ok(shelves) = MapShelves::new(rt.alloc()) else {
         return Err(Fail::from("no memory"));
     };
-    assert!(rt; wrong_row(rt.alloc(), &some_tally()?, shelves)? == "");
+    assert!(rt; wrong_row(&rt, &some_tally()?, shelves)? == "");
     Ok(())
 }
 

@@ -146,8 +146,8 @@ pub fn revoke_over<R: Hear, W: Tell>(
 /// for that as long as it takes. On a terminal it shows how far the copy is. `NotEmpty` if the file has more than an
 /// empty store or is that of the served store. `Device` if nobody listens there, the system refuses the connection, the
 /// file can't be opened, SQLite has a use for it beside a database, or a disk failed. `Memory` if memory ran out there,
-/// or here for the line. `Busy` if the server is making another copy, and `Ended` if it ended this one. `Name` if no
-/// line can carry the path: nothing was sent. `Io` if no outcome of a copy came.
+/// or here for the line. `Busy` if the server is making another copy or printing a catalog, and `Ended` if it ended
+/// this one. `Name` if no line can carry the path: nothing was sent. `Io` if no outcome of a copy came.
 pub fn copy_at(rt: &HostRuntime, control: &str, path: &str) -> Result<(), CommandRefusal>
     ensures { spec.CopiesThere path.now result }
 {

@@ -15,7 +15,7 @@ pub enum CopyRefusal {
     Device,
     /// Memory ran out.
     Memory,
-    /// Another copy is being made.
+    /// Another copy is being made, or a catalog is printed.
     Busy,
     /// The server ends, the operator has left, or memory ran out for what was published meanwhile.
     Ended,
@@ -141,7 +141,8 @@ pub trait CopyOrders<S: Shelves> {
     ghost meanwhile: { Self → Self → S → S → Type 0 };
 
     /// Makes the store of a file, with this path, one of the store as it is at this moment. Fails as `Copies::copy`
-    /// does, and with `Busy` if another copy is being made.
+    /// does, and with `Busy` if another copy is being made or a catalog is
+    /// printed.
     fn copy_to(&mut self, shelves: &mut S, path: &str) -> Result<(), CopyRefusal>
         ensures meanwhile { meanwhile self.old self.new shelves.old shelves.new }
         ensures came { made shelves.old shelves.new (ToPath path.now result) };

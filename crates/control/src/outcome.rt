@@ -9,16 +9,17 @@ use world::registry::{RegistryReply, StoreFault};
 #[derive(Clone, Copy, Debug, Drop, PartialEq, Eq)]
 pub enum Outcome {
     /// The machine's reply to the registry command; only `Done` changed anything. `Done` also means that a copy was
-    /// made.
+    /// made, or that all of a catalog was printed.
     RegistryReply(RegistryReply),
     /// A disk failed, the file of a copy can't be opened, or memory ran out, for the order or already for its line.
     /// Nothing was changed.
     Failed(StoreFault),
     /// No copy was made: the file has more than an empty store, or is that of the served store.
     NotEmpty,
-    /// No copy was made: another one is being made.
+    /// No copy was made and no catalog printed: another one of these is not over.
     Busy,
-    /// No copy was made: the server ends, or memory ran out for what was published meanwhile.
+    /// No copy was made, or not all of a catalog was printed: the server ends, the operator has left, or memory ran out
+    /// for what was published meanwhile.
     Ended,
     /// The server ends.
     Stopping,

@@ -1,4 +1,4 @@
-//! A turn between two slices of a copy: those who wait are served.
+//! A turn between two slices of a copy, or two lines of a catalog: those who wait are served.
 ghost use Rattle.std.specs.Prelude.{◌≡◌, List, Option, IfOk, IsTrue, true, false};
 ghost use Rattle.socket.specs.Connections.{Accepts, both};
 ghost use Rattle.meanwhile.specs.Meanwhile.{Notes};
@@ -34,7 +34,7 @@ use world::shelves::Shelves;
 /// The most callers who are served between two slices. More of them wait for the next slice.
 const MOST_SERVED: u32 = 16;
 
-/// What an operator finds who orders a copy while another one is made.
+/// What an operator finds who orders something while a copy is made or a catalog is printed.
 #[derive(Drop)]
 struct BusyCopies<'b, K> {
     copies: &'b K,

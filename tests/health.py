@@ -159,7 +159,7 @@ def unanswered(suite):
         server.connected().close()
     status = server.status(get(LIST))
     spent = time.monotonic() - begun
-    suite.holds(f"1,000 that close at once, and a request, take {spent:.2f} s", status == 404 and spent < 5, status)
+    suite.holds(f"1,000 that close at once, and a request, take {spent:.2f} s", status == 404 and spent < 30, status)
     suite.equal("and are counted", counts(), [1_061, 0, 1, 0, 1_060])
     with server.connected() as held:
         held.sendall(b"GET /k")

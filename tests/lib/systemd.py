@@ -1,5 +1,6 @@
 """A copy of this machine, run by systemd: the same files under an overlay, with processes and a network of its own."""
 
+import contextlib
 import os
 import shutil
 import subprocess
@@ -108,7 +109,8 @@ class Copy:
     def close(self):
         """Ends all that runs on the copy, and takes its group away."""
         if self.first:
-            os.kill(int(self.first), 9)
+            with contextlib.suppress(ProcessLookupError):
+                os.kill(int(self.first), 9)
         self.child.kill()
         self.child.wait()
         self.log.close()

@@ -1,4 +1,4 @@
-//! What reads a store that is served: copies of it, and how much it keeps.
+//! What reads a store that is served: copies of it, the catalogs of its keys, and how much it keeps.
 use crate::health::Figures;
 use histories::Restart;
 use meanwhile::between::Between;
@@ -38,7 +38,7 @@ pub enum CatalogRefusal {
     Output,
 }
 
-/// What copies a store while it is served, and counts what it keeps.
+/// What copies a store while it is served, prints the catalogs of its keys, and counts what it keeps.
 pub trait Copies<S: Shelves> {
     ghost use Rattle.std.specs.Prelude.{ℕ, ◌≡◌, ◌≢◌, ◌<◌, ◌≤◌, List, [], Err, IfErr, IfOk};
     ghost use Rattle.std.specs.Io.KnownBytes.{Appends};
@@ -118,7 +118,7 @@ pub trait Copies<S: Shelves> {
     ghost no_catalog: { (s : S) (key : List ℕ) → made s s (OfKey key [] (Err catalog.Busy)) };
 }
 
-/// What carries out the orders to copy a store, and counts what it keeps.
+/// What carries out the orders to copy a store and to print a catalog, and counts what it keeps.
 pub trait CopyOrders<S: Shelves> {
     ghost use Rattle.std.specs.Prelude.{ℕ, ◌≡◌, ◌<◌, ◌≤◌, List, Err, IfOk};
     ghost use Rattle.std.specs.Io.KnownBytes.{Appends};

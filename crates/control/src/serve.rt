@@ -144,7 +144,7 @@ fn serve_lent<
         connections,
     );
     let mut watched: Watched<'a, N, S> = Watched::new(alloc, shelves);
-    serve_each(&mut server, &mut watched);
+    server.serve_each(&mut watched);
     let (callers, errors) = server.into_parts();
     Lent {
         callers,
@@ -153,70 +153,66 @@ fn serve_lent<
     }
 }
 
-/// Serves callers, one after another, until no more are to be taken.
-fn serve_each<
+/// What a server does from its first caller to its last.
+impl<
+    'x,
     C: Clock,
     P: Peer + Drop,
     O: Operator + Drop,
     L: Callers<P, O>,
-    S: Keyring,
-    K: Copies<S>,
+    K,
     D: Calendar + Drop,
     E: Tell,
-    N: Loan,
->(server: &mut Server<'_, C, P, O, L, K, D, E>, watched: &mut Watched<'_, N, S>)
-    requires { server.old.progress.taken ≡ 0 }
-    ensures serves { Serves (both O.came O.reads) (both O.written O.writes)
-        (both P.came P.reads) (both P.written P.writes) L.is_new S.shown K.made K.counted false
-        (L.waiting server.old.callers.now) (L.waiting server.new.callers.now)
-        server.old.progress server.new.progress watched.old.inner.now watched.new.inner.now }
-    ensures over { IsOver server.new.progress.stops server.new.progress.left server.new.progress.taken }
-    ensures same { server.new.callers.ghost_name ≡ server.old.callers.ghost_name }
-    ensures same_errors { server.new.errors.ghost_name ≡ server.old.errors.ghost_name }
-    ensures notes { WritesNotices (E.contents server.old.errors.now) (E.contents server.new.errors.now) }
-{
-    for _ in 0..u64::MAX {
-        if server.progress.is_over() {
-            return;
-        }
-        match server.callers.next() {
-            Ok(Caller::Operator(operator)) => obey_on(server, operator, watched),
-            Ok(Caller::Peer(peer)) => server.answer(peer, watched),
-            Err(_) => server.progress.count_untaken(),
+> Server<'x, C, P, O, L, K, D, E> {
+    /// Serves callers, one after another, until no more are to be taken.
+    fn serve_each<N: Loan, S: Keyring>(&mut self, watched: &mut Watched<'_, N, S>)
+    where
+        K: Copies<S>,
+        requires { self.old.progress.taken ≡ 0 }
+        ensures serves { Serves (both O.came O.reads) (both O.written O.writes)
+            (both P.came P.reads) (both P.written P.writes) L.is_new S.shown K.made K.counted false
+            (L.waiting self.old.callers.now) (L.waiting self.new.callers.now)
+            self.old.progress self.new.progress watched.old.inner.now watched.new.inner.now }
+        ensures over { IsOver self.new.progress.stops self.new.progress.left self.new.progress.taken }
+        ensures same { self.new.callers.ghost_name ≡ self.old.callers.ghost_name }
+        ensures same_errors { self.new.errors.ghost_name ≡ self.old.errors.ghost_name }
+        ensures notes { WritesNotices (E.contents self.old.errors.now) (E.contents self.new.errors.now) }
+    {
+        for _ in 0..u64::MAX {
+            if self.progress.is_over() {
+                return;
+            }
+            match self.callers.next() {
+                Ok(Caller::Operator(operator)) => self.obey_on(operator, watched),
+                Ok(Caller::Peer(peer)) => self.answer(peer, watched),
+                Err(_) => self.progress.count_untaken(),
+            }
         }
     }
-}
 
-/// Carries out the order of an operator. While a copy is made for it, others are served. Ignores failures of the
-/// connection.
-fn obey_on<
-    C: Clock,
-    P: Peer + Drop,
-    O: Operator + Drop,
-    L: Callers<P, O>,
-    S: Keyring,
-    K: Copies<S>,
-    D: Calendar + Drop,
-    E: Tell,
-    N: Loan,
->(server: &mut Server<'_, C, P, O, L, K, D, E>, operator: O, watched: &mut Watched<'_, N, S>)
-    requires { IsGoing server.old.progress.stops server.old.progress.left server.old.progress.taken }
-    ensures serves { (waiting : Option (List (Caller P O)))
-        → Come waiting (L.waiting server.old.callers.now) (Operator operator ∷ [])
-        → L.is_new (Operator operator)
-        → Serves (both O.came O.reads) (both O.written O.writes)
-        (both P.came P.reads) (both P.written P.writes) L.is_new S.shown K.made K.counted false
-        waiting (L.waiting server.new.callers.now)
-        server.old.progress server.new.progress watched.old.inner.now watched.new.inner.now }
-    ensures taken { server.old.progress.taken + 1 ≤ server.new.progress.taken }
-    ensures same { server.new.callers.ghost_name ≡ server.old.callers.ghost_name }
-    ensures same_errors { server.new.errors.ghost_name ≡ server.old.errors.ghost_name }
-    ensures notes { WritesNotices (E.contents server.old.errors.now) (E.contents server.new.errors.now) }
-{
-    server.progress.count_operator();
-    let (alloc, clock, tally) = (server.alloc, server.clock, server.progress.tally);
-    let after = operator.obeyed(alloc, clock, &tally, watched, server);
-    watched.note_told(&after.told);
-    server.progress.end_if(is_stopping(after.told));
-    server.tell(watched);
+    /// Carries out the order of an operator. While a copy is made for it, others are served. Ignores failures of the
+    /// connection.
+    fn obey_on<N: Loan, S: Keyring>(&mut self, operator: O, watched: &mut Watched<'_, N, S>)
+    where
+        K: Copies<S>,
+        requires { IsGoing self.old.progress.stops self.old.progress.left self.old.progress.taken }
+        ensures serves { (waiting : Option (List (Caller P O)))
+            → Come waiting (L.waiting self.old.callers.now) (Operator operator ∷ [])
+            → L.is_new (Operator operator)
+            → Serves (both O.came O.reads) (both O.written O.writes)
+            (both P.came P.reads) (both P.written P.writes) L.is_new S.shown K.made K.counted false
+            waiting (L.waiting self.new.callers.now)
+            self.old.progress self.new.progress watched.old.inner.now watched.new.inner.now }
+        ensures taken { self.old.progress.taken + 1 ≤ self.new.progress.taken }
+        ensures same { self.new.callers.ghost_name ≡ self.old.callers.ghost_name }
+        ensures same_errors { self.new.errors.ghost_name ≡ self.old.errors.ghost_name }
+        ensures notes { WritesNotices (E.contents self.old.errors.now) (E.contents self.new.errors.now) }
+    {
+        self.progress.count_operator();
+        let (alloc, clock, tally) = (self.alloc, self.clock, self.progress.tally);
+        let after = operator.obeyed(alloc, clock, &tally, watched, self);
+        watched.note_told(&after.told);
+        self.progress.end_if(is_stopping(after.told));
+        self.tell(watched);
+    }
 }

@@ -123,157 +123,6 @@ fn figures_in<'s, M: Moment, S: Shelves, K: Copies<S>>(
     copies.figures(noting.inner)
 }
 
-/// Carries out the order of an operator who came while a copy is made. Ignores failures of the connection.
-fn obey_meanwhile<
-    'b,
-    C: Clock,
-    P: Peer + Drop,
-    O: Operator + Drop,
-    L: Callers<P, O>,
-    S: Keyring,
-    K: Copies<S>,
-    D: Calendar + Drop,
-    E: Tell,
-    N: Loan,
-    M: Moment,
->(
-    server: &mut Server<'_, C, P, O, L, K, D, E>,
-    operator: O,
-    watched: &mut Watched<'_, N, Noting<'b, M, S>>,
-)
-    requires { IsGoing server.old.progress.stops server.old.progress.left server.old.progress.taken }
-    ensures obeys { ObeysMeanwhile (both O.came O.reads) (both O.written O.writes)
-        ⟦<Noting<'b, M, S> as Shelves>⟧.shown
-        (λ old new making. K.made old.inner.now new.inner.now making)
-        (λ old new n. K.counted old.inner.now new.inner.now n)
-        operator server.old.how_far server.old.progress server.new.progress
-        watched.old.inner.now watched.new.inner.now }
-    ensures same { server.new.callers ≡ server.old.callers }
-    ensures same_errors { server.new.errors.ghost_name ≡ server.old.errors.ghost_name }
-    ensures notes { WritesNotices (E.contents server.old.errors.now) (E.contents server.new.errors.now) }
-{
-    server.progress.count_operator();
-    let tally = server.progress.tally;
-    let mut copies = BusyCopies {
-        copies: server.copies,
-        how_far: server.how_far,
-    };
-    let after = operator.obeyed(server.alloc, server.clock, &tally, watched, &mut copies);
-    watched.note_told(&after.told);
-    server.progress.end_if(is_stopping(after.told));
-    server.tell(watched);
-}
-
-/// Serves a caller who was taken while a copy is made, or counts a connection that could not be taken.
-fn serve_next<
-    'b,
-    C: Clock,
-    P: Peer + Drop,
-    O: Operator + Drop,
-    L: Callers<P, O>,
-    S: Keyring,
-    K: Copies<S>,
-    D: Calendar + Drop,
-    E: Tell,
-    N: Loan,
-    M: Moment,
->(
-    server: &mut Server<'_, C, P, O, L, K, D, E>,
-    next: io::Result<Caller<P, O>>,
-    watched: &mut Watched<'_, N, Noting<'b, M, S>>,
-)
-    requires { IsGoing server.old.progress.stops server.old.progress.left server.old.progress.taken }
-    ensures serves { (waiting : Option (List (Caller P O))) → Accepts waiting (L.waiting server.old.callers.now) next
-        → IfOk next (λ caller. L.is_new caller)
-        → Serves (both O.came O.reads) (both O.written O.writes)
-        (both P.came P.reads) (both P.written P.writes) L.is_new ⟦<Noting<'b, M, S> as Shelves>⟧.shown
-        (λ old new making. K.made old.inner.now new.inner.now making)
-        (λ old new n. K.counted old.inner.now new.inner.now n) true waiting (L.waiting server.new.callers.now)
-        server.old.progress server.new.progress watched.old.inner.now watched.new.inner.now }
-    ensures same { server.new.callers.ghost_name ≡ server.old.callers.ghost_name }
-    ensures same_errors { server.new.errors.ghost_name ≡ server.old.errors.ghost_name }
-    ensures notes { WritesNotices (E.contents server.old.errors.now) (E.contents server.new.errors.now) }
-{
-    match next {
-        Ok(Caller::Operator(operator)) => obey_meanwhile(server, operator, watched),
-        Ok(Caller::Peer(peer)) => server.answer(peer, watched),
-        Err(_) => server.progress.count_untaken(),
-    }
-}
-
-/// Serves those who wait, at most `MOST_SERVED` of them, while a copy of the store is made.
-fn serve_waiting<
-    'b,
-    C: Clock,
-    P: Peer + Drop,
-    O: Operator + Drop,
-    L: Callers<P, O>,
-    S: Keyring,
-    K: Copies<S>,
-    D: Calendar + Drop,
-    E: Tell,
-    N: Loan,
-    M: Moment,
->(server: &mut Server<'_, C, P, O, L, K, D, E>, watched: &mut Watched<'_, N, Noting<'b, M, S>>)
-    ensures serves { Serves (both O.came O.reads) (both O.written O.writes)
-        (both P.came P.reads) (both P.written P.writes) L.is_new ⟦<Noting<'b, M, S> as Shelves>⟧.shown
-        (λ old new making. K.made old.inner.now new.inner.now making)
-        (λ old new n. K.counted old.inner.now new.inner.now n) true
-        (L.waiting server.old.callers.now) (L.waiting server.new.callers.now)
-        server.old.progress server.new.progress watched.old.inner.now watched.new.inner.now }
-    ensures same { server.new.callers.ghost_name ≡ server.old.callers.ghost_name }
-    ensures same_errors { server.new.errors.ghost_name ≡ server.old.errors.ghost_name }
-    ensures notes { WritesNotices (E.contents server.old.errors.now) (E.contents server.new.errors.now) }
-{
-    for _ in 0..MOST_SERVED {
-        if server.progress.is_over() {
-            return;
-        }
-        match server.callers.next_waiting() {
-            Some(next) => serve_next(server, next, watched),
-            None => return,
-        }
-    }
-}
-
-/// Serves as `serve_waiting` does, with the counts of shelves that the server has, and returns the loan of the store.
-fn serve_noting<
-    'a,
-    'b,
-    C: Clock,
-    P: Peer + Drop,
-    O: Operator + Drop,
-    L: Callers<P, O>,
-    S: Keyring,
-    K: Copies<S>,
-    D: Calendar + Drop,
-    E: Tell,
-    N: Loan,
-    M: Moment,
->(
-    server: &mut Server<'_, C, P, O, L, K, D, E>,
-    noting: &'a mut Noting<'b, M, S>,
-) -> &'a mut Noting<'b, M, S>
-    requires { noting.ghost_name ≡ N.name }
-    ensures same_store { result.ghost_name ≡ noting.entry.ghost_name }
-    ensures serves { Serves (both O.came O.reads) (both O.written O.writes)
-        (both P.came P.reads) (both P.written P.writes) L.is_new ⟦<Noting<'b, M, S> as Shelves>⟧.shown
-        (λ old new making. K.made old.inner.now new.inner.now making)
-        (λ old new n. K.counted old.inner.now new.inner.now n) true
-        (L.waiting server.old.callers.now) (L.waiting server.new.callers.now)
-        server.old.progress server.new.progress noting.old result.now }
-    ensures same { server.new.callers.ghost_name ≡ server.old.callers.ghost_name }
-    ensures same_errors { server.new.errors.ghost_name ≡ server.old.errors.ghost_name }
-    ensures notes { WritesNotices (E.contents server.old.errors.now) (E.contents server.new.errors.now) }
-{
-    let mut watched: Watched<'a, N, Noting<'b, M, S>> = Watched::new(server.alloc, noting);
-    watched.copied = server.copied;
-    mem::swap(&mut watched.traffic, &mut server.traffic);
-    serve_waiting(server, &mut watched);
-    mem::swap(&mut watched.traffic, &mut server.traffic);
-    watched.into_inner()
-}
-
 /// A store after a turn, and whether the place of a version was lost in it.
 #[derive(Drop)]
 struct AfterTurn<'a, S> {
@@ -281,51 +130,168 @@ struct AfterTurn<'a, S> {
     lost: bool,
 }
 
-/// Serves those who wait with a store that notes what they publish, and returns its loan.
-fn take_turn<
-    'a,
+/// What a server does in a turn.
+impl<
+    'x,
     C: Clock,
     P: Peer + Drop,
     O: Operator + Drop,
     L: Callers<P, O>,
-    S: Keyring,
-    K: Copies<S>,
+    K,
     D: Calendar + Drop,
     E: Tell,
-    M: Moment,
->(
-    server: &mut Server<'_, C, P, O, L, K, D, E>,
-    shelves: &'a mut S,
-    news: &mut Newcomers,
-) -> AfterTurn<'a, S>
-    requires name { shelves.ghost_name ≡ M.name }
-    requires was { (w : World) → (S.shown shelves.old).stands w → M.was w }
-    requires stood { (w : World) → M.was w → (S.shown shelves.old).stands w }
-    requires before { M.before ≡ news.old }
-    ensures same_store { result.shelves.ghost_name ≡ shelves.entry.ghost_name }
-    ensures serves { Serves (both O.came O.reads) (both O.written O.writes)
-        (both P.came P.reads) (both P.written P.writes) L.is_new S.shown K.made K.counted true
-        (L.waiting server.old.callers.now) (L.waiting server.new.callers.now)
-        server.old.progress server.new.progress shelves.old result.shelves.now }
-    ensures newcomers { result.lost ≡ false
-        → Notes (S.shown shelves.old) (S.shown result.shelves.now) news.old news.new }
-    ensures same { server.new.callers.ghost_name ≡ server.old.callers.ghost_name }
-    ensures same_errors { server.new.errors.ghost_name ≡ server.old.errors.ghost_name }
-    ensures notes { WritesNotices (E.contents server.old.errors.now) (E.contents server.new.errors.now) }
-{
-    let before = mem::replace(news, Newcomers::new(server.alloc));
-    let mut noting: Noting<'a, M, S> = Noting::new(server.alloc, shelves, before);
-    let _lent = serve_noting::<C, P, O, L, S, K, D, E, Brand, M>(server, &mut noting);
-    let Noting {
-        inner,
-        news: now,
-        lost,
-        ..
-    } = noting;
-    *news = now;
-    AfterTurn {
-        shelves: inner,
-        lost,
+> Server<'x, C, P, O, L, K, D, E> {
+    /// Carries out the order of an operator who came while a copy is made. Ignores failures of the connection.
+    fn obey_meanwhile<'b, N: Loan, M: Moment, S: Keyring>(
+        &mut self,
+        operator: O,
+        watched: &mut Watched<'_, N, Noting<'b, M, S>>,
+    )
+    where
+        K: Copies<S>,
+        requires { IsGoing self.old.progress.stops self.old.progress.left self.old.progress.taken }
+        ensures obeys { ObeysMeanwhile (both O.came O.reads) (both O.written O.writes)
+            ⟦<Noting<'b, M, S> as Shelves>⟧.shown
+            (λ old new making. K.made old.inner.now new.inner.now making)
+            (λ old new n. K.counted old.inner.now new.inner.now n)
+            operator self.old.how_far self.old.progress self.new.progress
+            watched.old.inner.now watched.new.inner.now }
+        ensures same { self.new.callers ≡ self.old.callers }
+        ensures same_errors { self.new.errors.ghost_name ≡ self.old.errors.ghost_name }
+        ensures notes { WritesNotices (E.contents self.old.errors.now) (E.contents self.new.errors.now) }
+    {
+        self.progress.count_operator();
+        let tally = self.progress.tally;
+        let mut copies = BusyCopies {
+            copies: self.copies,
+            how_far: self.how_far,
+        };
+        let after = operator.obeyed(self.alloc, self.clock, &tally, watched, &mut copies);
+        watched.note_told(&after.told);
+        self.progress.end_if(is_stopping(after.told));
+        self.tell(watched);
+    }
+
+    /// Serves a caller who was taken while a copy is made, or counts a connection that could not be taken.
+    fn serve_next<'b, N: Loan, M: Moment, S: Keyring>(
+        &mut self,
+        next: io::Result<Caller<P, O>>,
+        watched: &mut Watched<'_, N, Noting<'b, M, S>>,
+    )
+    where
+        K: Copies<S>,
+        requires { IsGoing self.old.progress.stops self.old.progress.left self.old.progress.taken }
+        ensures serves { (waiting : Option (List (Caller P O)))
+            → Accepts waiting (L.waiting self.old.callers.now) next → IfOk next (λ caller. L.is_new caller)
+            → Serves (both O.came O.reads) (both O.written O.writes)
+            (both P.came P.reads) (both P.written P.writes) L.is_new ⟦<Noting<'b, M, S> as Shelves>⟧.shown
+            (λ old new making. K.made old.inner.now new.inner.now making)
+            (λ old new n. K.counted old.inner.now new.inner.now n) true waiting (L.waiting self.new.callers.now)
+            self.old.progress self.new.progress watched.old.inner.now watched.new.inner.now }
+        ensures same { self.new.callers.ghost_name ≡ self.old.callers.ghost_name }
+        ensures same_errors { self.new.errors.ghost_name ≡ self.old.errors.ghost_name }
+        ensures notes { WritesNotices (E.contents self.old.errors.now) (E.contents self.new.errors.now) }
+    {
+        match next {
+            Ok(Caller::Operator(operator)) => self.obey_meanwhile(operator, watched),
+            Ok(Caller::Peer(peer)) => self.answer(peer, watched),
+            Err(_) => self.progress.count_untaken(),
+        }
+    }
+
+    /// Serves those who wait, at most `MOST_SERVED` of them, while a copy of the store is made.
+    fn serve_waiting<'b, N: Loan, M: Moment, S: Keyring>(
+        &mut self,
+        watched: &mut Watched<'_, N, Noting<'b, M, S>>,
+    )
+    where
+        K: Copies<S>,
+        ensures serves { Serves (both O.came O.reads) (both O.written O.writes)
+            (both P.came P.reads) (both P.written P.writes) L.is_new ⟦<Noting<'b, M, S> as Shelves>⟧.shown
+            (λ old new making. K.made old.inner.now new.inner.now making)
+            (λ old new n. K.counted old.inner.now new.inner.now n) true
+            (L.waiting self.old.callers.now) (L.waiting self.new.callers.now)
+            self.old.progress self.new.progress watched.old.inner.now watched.new.inner.now }
+        ensures same { self.new.callers.ghost_name ≡ self.old.callers.ghost_name }
+        ensures same_errors { self.new.errors.ghost_name ≡ self.old.errors.ghost_name }
+        ensures notes { WritesNotices (E.contents self.old.errors.now) (E.contents self.new.errors.now) }
+    {
+        for _ in 0..MOST_SERVED {
+            if self.progress.is_over() {
+                return;
+            }
+            match self.callers.next_waiting() {
+                Some(next) => self.serve_next(next, watched),
+                None => return,
+            }
+        }
+    }
+
+    /// Serves as `serve_waiting` does, with the counts of shelves that the server has, and returns the loan of the
+    /// store.
+    fn serve_noting<'a, 'b, N: Loan, M: Moment, S: Keyring>(
+        &mut self,
+        noting: &'a mut Noting<'b, M, S>,
+    ) -> &'a mut Noting<'b, M, S>
+    where
+        K: Copies<S>,
+        requires { noting.ghost_name ≡ N.name }
+        ensures same_store { result.ghost_name ≡ noting.entry.ghost_name }
+        ensures serves { Serves (both O.came O.reads) (both O.written O.writes)
+            (both P.came P.reads) (both P.written P.writes) L.is_new ⟦<Noting<'b, M, S> as Shelves>⟧.shown
+            (λ old new making. K.made old.inner.now new.inner.now making)
+            (λ old new n. K.counted old.inner.now new.inner.now n) true
+            (L.waiting self.old.callers.now) (L.waiting self.new.callers.now)
+            self.old.progress self.new.progress noting.old result.now }
+        ensures same { self.new.callers.ghost_name ≡ self.old.callers.ghost_name }
+        ensures same_errors { self.new.errors.ghost_name ≡ self.old.errors.ghost_name }
+        ensures notes { WritesNotices (E.contents self.old.errors.now) (E.contents self.new.errors.now) }
+    {
+        let mut watched: Watched<'a, N, Noting<'b, M, S>> = Watched::new(self.alloc, noting);
+        watched.copied = self.copied;
+        mem::swap(&mut watched.traffic, &mut self.traffic);
+        self.serve_waiting(&mut watched);
+        mem::swap(&mut watched.traffic, &mut self.traffic);
+        watched.into_inner()
+    }
+
+    /// Serves those who wait with a store that notes what they publish, and returns its loan.
+    fn take_turn<'a, M: Moment, S: Keyring>(
+        &mut self,
+        shelves: &'a mut S,
+        news: &mut Newcomers,
+    ) -> AfterTurn<'a, S>
+    where
+        K: Copies<S>,
+        requires name { shelves.ghost_name ≡ M.name }
+        requires was { (w : World) → (S.shown shelves.old).stands w → M.was w }
+        requires stood { (w : World) → M.was w → (S.shown shelves.old).stands w }
+        requires before { M.before ≡ news.old }
+        ensures same_store { result.shelves.ghost_name ≡ shelves.entry.ghost_name }
+        ensures serves { Serves (both O.came O.reads) (both O.written O.writes)
+            (both P.came P.reads) (both P.written P.writes) L.is_new S.shown K.made K.counted true
+            (L.waiting self.old.callers.now) (L.waiting self.new.callers.now)
+            self.old.progress self.new.progress shelves.old result.shelves.now }
+        ensures newcomers { result.lost ≡ false
+            → Notes (S.shown shelves.old) (S.shown result.shelves.now) news.old news.new }
+        ensures same { self.new.callers.ghost_name ≡ self.old.callers.ghost_name }
+        ensures same_errors { self.new.errors.ghost_name ≡ self.old.errors.ghost_name }
+        ensures notes { WritesNotices (E.contents self.old.errors.now) (E.contents self.new.errors.now) }
+    {
+        let before = mem::replace(news, Newcomers::new(self.alloc));
+        let mut noting: Noting<'a, M, S> = Noting::new(self.alloc, shelves, before);
+        let _lent = self.serve_noting::<Brand, M, S>(&mut noting);
+        let Noting {
+            inner,
+            news: now,
+            lost,
+            ..
+        } = noting;
+        *news = now;
+        AfterTurn {
+            shelves: inner,
+            lost,
+        }
     }
 }
 
@@ -371,7 +337,7 @@ impl<
         ensures stays { IsTrue result → L.left self.new.callers.now ≡ false }
         ensures goes { IsTrue result → self.new.progress.stops ≡ false }
     {
-        let after = take_turn::<C, P, O, L, S, K, D, E, Brand>(self, shelves, news);
+        let after = self.take_turn::<Brand, S>(shelves, news);
         !after.lost && !self.progress.stops && !self.callers.has_left()
     }
 

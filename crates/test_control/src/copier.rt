@@ -12,8 +12,9 @@ use world::registry::StoreFault;
 use world::shelves::Shelves;
 
 /// Makes no copy, and fails for three paths: for `full` with `NotEmpty`, for `small` with `Memory`, for the empty one
-/// with `Device`. Prints no catalog, and fails for three keys: for `nobody` with `NoKey`, for `small` with `Memory`, for
-/// the empty one with `Device`. Counts nothing, and returns this number. Its file has 8,192 bytes, and its log 4,152.
+/// with `Device`. Prints no catalog, and fails for three keys: for `nobody` with `NoKey`, for `small` with `Memory`,
+/// for the empty one with `Device`. Counts nothing, and returns this number. Its file has 8,192 bytes, and its log
+/// 4,152.
 #[derive(Drop)]
 pub(crate) struct Copier {
     alloc: Global,

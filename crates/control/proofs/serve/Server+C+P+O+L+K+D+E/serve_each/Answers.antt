@@ -1,8 +1,8 @@
 use Rattle.std.proofs.Common.{arith, false, inr, refl, ◌∙◌}
 use Rattle.control.proofs.NoticeLemmas.{notices_more, notices_none}
 use Rattle.control.proofs.ServingLemmas.{serves_more, serves_none, serves_peer, serves_untaken}
-use Rattle.control.proofs.serve.serve_each.Goals as goal
-use Rattle.control.proofs.serve.serve_each.Goals.{in-Ok-Operator, in-Ok-Peer, in-Err}
+use Rattle.control.proofs.serve.Server+C+P+O+L+K+D+E.serve_each.Goals as goal
+use Rattle.control.proofs.serve.Server+C+P+O+L+K+D+E.serve_each.Goals.{in-Ok-Operator, in-Ok-Peer, in-Err}
 
 pub loop-init : goal.loop-init
 loop-init g c = record {
@@ -18,7 +18,7 @@ loop-preserved g c =
     let holds = c.loop.invariant in
     let going = c.is_over.ensures.goes c.if-is_over.false in
     elim c.match-next.branch [
-      | in-Ok-Operator w ↦ rw (w.server-is, w.watched-is) (record {
+      | in-Ok-Operator w ↦ rw (w.self-is, w.watched-is) (record {
         some = omega (arith, holds.some, w.obey_on.ensures.taken);
         all = serves_more _ _ _ _ _ _ _ _ false _ _ _ _ _ _ _ _ _ holds.all
             (w.obey_on.ensures.serves _
@@ -28,7 +28,7 @@ loop-preserved g c =
         same_errors = w.obey_on.ensures.same_errors ∙ holds.same_errors;
         notes = notices_more _ _ _ holds.notes w.obey_on.ensures.notes;
       })
-      | in-Ok-Peer w ↦ rw (w.server-is, w.watched-is, w.answer.ensures.same) (record {
+      | in-Ok-Peer w ↦ rw (w.self-is, w.watched-is, w.answer.ensures.same) (record {
         some = omega (arith, holds.some, w.answer.ensures.serves.taken);
         all = serves_more _ _ _ _ _ _ _ _ false _ _ _ _ _ _ _ _ _ holds.all
             (serves_peer _ _ _ _ _ _ _ _ false _ _ _ _ _ _ _
@@ -38,7 +38,7 @@ loop-preserved g c =
         same_errors = w.answer.ensures.same_errors ∙ holds.same_errors;
         notes = notices_more _ _ _ holds.notes w.answer.ensures.notes;
       })
-      | in-Err w ↦ rw (w.server-is, w.watched-is) (record {
+      | in-Err w ↦ rw (w.self-is, w.watched-is) (record {
         some = omega (arith, holds.some, w.count_untaken.ensures.taken);
         all = serves_more _ _ _ _ _ _ _ _ false _ _ _ _ _ _ _ _ _ holds.all
             (serves_untaken _ _ _ _ _ _ _ _ false _ _ _ _ _ _ w.in-Err.ensures.takes going.0
@@ -67,7 +67,7 @@ returns-clause-serves g c = c.loop.invariant.all
 
 pub returns-clause-over : goal.returns-clause-over
 returns-clause-over g c =
-    inr (inr (omega (arith, c.loop.invariant.some, c.loop.auto.counter-end, c.loop.server.progress.fits)))
+    inr (inr (omega (arith, c.loop.invariant.some, c.loop.auto.counter-end, c.loop.self.progress.fits)))
 
 pub returns-clause-same : goal.returns-clause-same
 returns-clause-same g c = c.loop.invariant.same

@@ -3,7 +3,7 @@ use Rattle.socket.specs.Connections.{both}
 use Rattle.meanwhile.specs.Noted.{IsNoted, with_said}
 use Rattle.control.specs.Notices.{WritesNotices}
 use Rattle.control.specs.Serving.{Serves}
-use Rattle.control.proofs.turn.serve_waiting.Given as goal
+use Rattle.control.proofs.turn.Server+C+P+O+L+K+D+E.serve_waiting.Given as goal
 
 -- the callers so far were served
 abbrev pub invariant-loop : goal.invariant-loop
@@ -17,9 +17,9 @@ invariant-loop g l =
           (λ n. with_said (g.S.Shelves.shown n.inner.now) (IsNoted n.lost g.M.Moment.was g.M.Moment.before n.news))
           (λ old new making. g.K.Copies.made old.inner.now new.inner.now making)
           (λ old new n. g.K.Copies.counted old.inner.now new.inner.now n) true
-          (waiting l.fn.server.callers.now) (waiting l.server.callers.now) l.fn.server.progress l.server.progress
+          (waiting l.fn.self.callers.now) (waiting l.self.callers.now) l.fn.self.progress l.self.progress
           l.fn.watched.inner.now l.watched.inner.now;
-      same : l.server.callers.ghost_name ≡ l.fn.server.callers.ghost_name;
-      same_errors : l.server.errors.ghost_name ≡ l.fn.server.errors.ghost_name;
-      notes : WritesNotices (g.E.Write.contents l.fn.server.errors.now) (g.E.Write.contents l.server.errors.now);
+      same : l.self.callers.ghost_name ≡ l.fn.self.callers.ghost_name;
+      same_errors : l.self.errors.ghost_name ≡ l.fn.self.errors.ghost_name;
+      notes : WritesNotices (g.E.Write.contents l.fn.self.errors.now) (g.E.Write.contents l.self.errors.now);
     }

@@ -3,7 +3,7 @@ use Rattle.socket.specs.Connections.{both}
 use Rattle.control.proofs.NoticeLemmas.{notices_more, notices_none}
 use Rattle.control.proofs.ServeLemmas.{obeyed_one}
 use Rattle.control.proofs.ServingLemmas.{all_turns, either_way, obey_serves, ordered_if}
-use Rattle.control.proofs.serve.obey_on.Goals as goal
+use Rattle.control.proofs.serve.Server+C+P+O+L+K+D+E.obey_on.Goals as goal
 
 pub returns-clause-serves : goal.returns-clause-serves
 returns-clause-serves g c = λ waiting comes fresh.
@@ -61,7 +61,7 @@ returns-clause-notes g c =
     notices_more _ _ _
     (either_way _ _ _ _ _ next.audience.heard
     (λ same. let e : g.E.Write.contents c.obeyed-after.new.copies.errors.now
-    ≡ g.E.Write.contents c.args.server.now.errors.now =
+    ≡ g.E.Write.contents c.args.self.now.errors.now =
     ap (λ x. g.E.Write.contents x.errors.now) same in
     rw e (notices_none _))
     (λ made. (all_turns _ _ _ _ _ _ _ _ _ _ made.1).notes)

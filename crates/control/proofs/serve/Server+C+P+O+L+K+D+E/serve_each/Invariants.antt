@@ -2,7 +2,7 @@ use Rattle.std.proofs.Common.{◌≤◌, ◌≡◌, false}
 use Rattle.socket.specs.Connections.{both}
 use Rattle.control.specs.Notices.{WritesNotices}
 use Rattle.control.specs.Serving.{Serves}
-use Rattle.control.proofs.serve.serve_each.Given as goal
+use Rattle.control.proofs.serve.Server+C+P+O+L+K+D+E.serve_each.Given as goal
 
 -- the callers so far were served, and are as many as the rounds at least
 abbrev pub invariant-loop : goal.invariant-loop
@@ -12,12 +12,12 @@ invariant-loop g l =
     let p = g.P.Peer in
     let waiting = g.L.Callers.waiting in
     record {
-      some : l.counter ≤ l.server.progress.taken;
+      some : l.counter ≤ l.self.progress.taken;
       all : Serves (both o.came o.reads) (both o.written o.writes) (both p.came p.reads) (both p.written p.writes)
           g.L.Callers.is_new s.shown g.K.Copies.made g.K.Copies.counted false
-          (waiting l.fn.server.callers.now) (waiting l.server.callers.now) l.fn.server.progress l.server.progress
+          (waiting l.fn.self.callers.now) (waiting l.self.callers.now) l.fn.self.progress l.self.progress
           l.fn.watched.inner.now l.watched.inner.now;
-      same : l.server.callers.ghost_name ≡ l.fn.server.callers.ghost_name;
-      same_errors : l.server.errors.ghost_name ≡ l.fn.server.errors.ghost_name;
-      notes : WritesNotices (g.E.Write.contents l.fn.server.errors.now) (g.E.Write.contents l.server.errors.now);
+      same : l.self.callers.ghost_name ≡ l.fn.self.callers.ghost_name;
+      same_errors : l.self.errors.ghost_name ≡ l.fn.self.errors.ghost_name;
+      notes : WritesNotices (g.E.Write.contents l.fn.self.errors.now) (g.E.Write.contents l.self.errors.now);
     }

@@ -6,12 +6,12 @@ use Rattle.control.specs.Pinging.{TellsHowFar}
 use Rattle.control.proofs.FarLemmas.{obeys_meanwhile, tells_how_far}
 use Rattle.control.proofs.ServeLemmas.{obeyed_one, obeyed_told}
 use Rattle.control.proofs.ServingLemmas.{obeys_unsaid, unsaid_told}
-use Rattle.control.proofs.turn.obey_meanwhile.Goals as goal
+use Rattle.control.proofs.turn.Server+C+P+O+L+K+D+E.obey_meanwhile.Goals as goal
 
 pub returns-clause-obeys : goal.returns-clause-obeys
 returns-clause-obeys g c =
     let o = g.O.Operator in
-    let far = c.args.server.now.how_far in
+    let far = c.args.self.now.how_far in
     let given = c.obeyed-after.ensures in
     let obeyed = obeyed_one (both o.came o.reads) (both o.written o.writes) _ _ _ _ _ _ _ _ c.is_stopping.result _
     given.obeys given.cause c.is_stopping.ensures in

@@ -8,7 +8,7 @@ use Rattle.control.specs.Health.{tally_of}
 use Rattle.control.specs.declared.health.Figures.{Figures}
 use Rattle.control.specs.declared.health.Health.{Health}
 use Rattle.control.proofs.StepLemmas.{steps_more}
-use Rattle.control.proofs.TurnLemmas.{turns_read}
+use Rattle.control.proofs.TaskLemmas.{tasks_read}
 
 module _ {S : Type 0} (shown : S → Shown) (made : S → S → Making → Type 0)
     (counted : S → S → ℕ → Type 0) (old mid new : S) (since : List ℕ) (most : ℕ)
@@ -22,7 +22,7 @@ module _ {S : Type 0} (shown : S → Shown) (made : S → S → Making → Type 
     steps = Counted told ∷ goes.steps;
     few = goes.few;
     through = steps_more (shown old) (shown mid) (shown new) (Counted told ∷ []) goes.steps
-        (turns_read (shown old) (shown mid) read) goes.through;
+        (tasks_read (shown old) (shown mid) read) goes.through;
     reads = λ h w stands. more h w stands
         (goes.reads h w (read.stays (goes.through.runs.honest h) w stands));
     begun = All-cons (TellsSince since) (Counted told) goes.steps tells goes.begun;

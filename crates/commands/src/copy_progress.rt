@@ -9,7 +9,7 @@ use std::rt::HostRuntime;
 use std::time::Duration;
 
 /// How many seconds a read waits before the server is asked how far the copy is, and its answer is waited for.
-const TURN: u64 = 1;
+const PATIENCE: u64 = 1;
 
 /// A connection to the server that listens at a socket. Each read from it waits as long as it takes, but a second at a
 /// time if the line is shown.
@@ -20,7 +20,7 @@ pub(crate) fn patient_server_at(
 ) -> io::Result<UnixStream> {
     let server = server_at(rt, control)?;
     let longest = if line.is_shown() {
-        Some(Duration::from_secs(TURN))
+        Some(Duration::from_secs(PATIENCE))
     } else {
         None
     };
@@ -69,7 +69,7 @@ impl<'a> AwaitedCopy<'a> {
     fn ask(&self) -> Option<Progress> {
         let server = server_at(self.rt, self.control).ok()?;
         server
-            .set_read_timeout(Some(Duration::from_secs(TURN)))
+            .set_read_timeout(Some(Duration::from_secs(PATIENCE)))
             .ok()?;
         let told = ask_for_health(
             self.rt.alloc(),
@@ -86,7 +86,7 @@ impl<'a> AwaitedCopy<'a> {
 impl<'a> Read for AwaitedCopy<'a> {
     fn read(&mut self, buf: &mut [u8]) -> io::Result<usize> {
         let mut server = self.server;
-        for _turn in 0..u64::MAX {
+        for _read in 0..u64::MAX {
             match server.read(buf) {
                 Err(error) if self.line.is_shown() && is_late(&error) => self.show(),
                 told => {

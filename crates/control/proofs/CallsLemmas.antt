@@ -6,20 +6,20 @@ use Rattle.std.proofs.Common.{append-nil}
 use Rattle.std.proofs.lemmas.Bool.{false≢true}
 use Rattle.std.proofs.lemmas.List.Elements.{All-append, All-cons, All-nil}
 use Rattle.world.specs.Store.{Shown}
-use Rattle.control.specs.Copying.{Step, turns_in, has_read, IsOnlyRead}
+use Rattle.control.specs.Copying.{Step, tasks_in, has_read, IsOnlyRead}
 use Rattle.control.specs.Health.{Answered, tally_of, with_one}
 use Rattle.control.specs.Progress.{IsOver}
 use Rattle.control.specs.Serving.{AllTold, EndsBy}
 use Rattle.control.specs.Serving.{tally_after}
-use Rattle.control.specs.Turns.{Turn, GoesThroughTurns, StandsIf}
+use Rattle.control.specs.Tasks.{Task, GoesThroughTasks, StandsIf}
 use Rattle.control.specs.Visits.{Call, OfPeer, OfOperator, Untaken, AllTallied}
 use Rattle.control.specs.Visits.{IsEnd, IsNoStop, IsStop, TellsTally}
 use Rattle.control.specs.Visits.{answered_with, callers_of, connections_of, peers, steps_of, steps_with}
 use Rattle.control.specs.declared.callers.Caller.TheVariants.{Peer, Operator}
 use Rattle.control.specs.declared.tally.Tally.{Tally}
-use Rattle.control.proofs.StepLemmas.{read_append, turns_append}
+use Rattle.control.proofs.StepLemmas.{read_append, tasks_append}
 use Rattle.control.proofs.TallyLemmas.{answered_last, tally_push}
-use Rattle.control.proofs.TurnLemmas.{read_none, turns_more, turns_none, turns_read}
+use Rattle.control.proofs.TaskLemmas.{read_none, tasks_more, tasks_none, tasks_read}
 
 -- ---- lists of callers
 
@@ -143,21 +143,21 @@ both_or true x y = refl
 both_or false x y = refl
 
 pub through_append : (read : Bool) (old mid new : Shown) (xs ys : List Step)
-    → GoesThroughTurns old mid (turns_in xs) (read || has_read xs)
-    → GoesThroughTurns mid new (turns_in ys) (read || has_read ys)
-    → GoesThroughTurns old new (turns_in (xs ++ ys)) (read || has_read (xs ++ ys))
+    → GoesThroughTasks old mid (tasks_in xs) (read || has_read xs)
+    → GoesThroughTasks mid new (tasks_in ys) (read || has_read ys)
+    → GoesThroughTasks old new (tasks_in (xs ++ ys)) (read || has_read (xs ++ ys))
 through_append read old mid new xs ys first next =
-    rw (turns_append xs ys, read_append xs ys)
-    (subst (GoesThroughTurns old new (turns_in xs ++ turns_in ys)) (both_or read (has_read xs) (has_read ys))
-    (turns_more old mid new (turns_in xs) (read || has_read xs) first (turns_in ys) (read || has_read ys) next))
+    rw (tasks_append xs ys, read_append xs ys)
+    (subst (GoesThroughTasks old new (tasks_in xs ++ tasks_in ys)) (both_or read (has_read xs) (has_read ys))
+    (tasks_more old mid new (tasks_in xs) (read || has_read xs) first (tasks_in ys) (read || has_read ys) next))
 
 stands_before : (read : Bool) (shown : Shown) → StandsIf true shown → StandsIf read shown
 stands_before true shown some = some
 stands_before false shown some = tt
 
 -- if nothing is said of reads, it may have been read
-pub read_or : (read b : Bool) (old new : Shown) (ts : List Turn) → GoesThroughTurns old new ts b
-    → GoesThroughTurns old new ts (read || b)
+pub read_or : (read b : Bool) (old new : Shown) (ts : List Task) → GoesThroughTasks old new ts b
+    → GoesThroughTasks old new ts (read || b)
 read_or true b old new ts through = record {
   runs = through.runs;
   left = through.left;
@@ -168,13 +168,13 @@ read_or true b old new ts through = record {
 }
 read_or false b old new ts through = through
 
--- a store that was read after some turns
-pub through_read : (old mid new : Shown) (ts : List Turn) → GoesThroughTurns old mid ts true → IsOnlyRead mid new
-    → GoesThroughTurns old new ts true
+-- a store that was read after some tasks
+pub through_read : (old mid new : Shown) (ts : List Task) → GoesThroughTasks old mid ts true → IsOnlyRead mid new
+    → GoesThroughTasks old new ts true
 through_read old mid new ts first read =
-    subst (λ us. GoesThroughTurns old new us true) (append-nil ts)
-    (turns_more old mid new ts true first [] true (turns_read mid new read))
+    subst (λ us. GoesThroughTasks old new us true) (append-nil ts)
+    (tasks_more old mid new ts true first [] true (tasks_read mid new read))
 
-pub none_through : (read : Bool) (shown : Shown) → GoesThroughTurns shown shown [] (read || false)
-none_through true shown = turns_read shown shown (read_none shown)
-none_through false shown = turns_none shown
+pub none_through : (read : Bool) (shown : Shown) → GoesThroughTasks shown shown [] (read || false)
+none_through true shown = tasks_read shown shown (read_none shown)
+none_through false shown = tasks_none shown

@@ -5,7 +5,7 @@ pub mod CopyLemmas
 pub mod OrderLemmas
 pub mod OutcomeLemmas
 pub mod CrashLemmas
-pub mod TurnLemmas
+pub mod TaskLemmas
 pub mod HearingLemmas
 pub mod AskingLemmas
 pub mod PaceLemmas

@@ -11,11 +11,11 @@ use Rattle.world.specs.declared.registry.StoreFault.{StoreFault}
 use Rattle.control.specs.Naming.{NamesOne, NamesNone, Unread, RevokesNamed}
 use Rattle.control.specs.RegistryCommand.{event_of, outcome_in}
 use Rattle.control.specs.Outcome.{outcome_of}
-use Rattle.control.specs.Turns.{Ordered}
+use Rattle.control.specs.Tasks.{Ordered}
 use Rattle.control.specs.declared.registry_command.RegistryCommand.TheVariants.{KeyRevoke}
 use Rattle.control.specs.declared.outcome.Outcome.{Outcome}
 use Rattle.control.proofs.ListingLemmas.{only_read}
-use Rattle.control.proofs.TurnLemmas.{turns_more, turns_ordered, turns_read}
+use Rattle.control.proofs.TaskLemmas.{tasks_more, tasks_ordered, tasks_read}
 
 module _ (old mid new : Shown) (f : List ℕ) where
   -- one key was found, and then revoked
@@ -25,8 +25,8 @@ module _ (old mid new : Shown) (f : List ℕ) where
       → outcome ≡ outcome_of told → RevokesNamed old new f outcome
   one_named key told outcome reads does tells = record {
     naming = NamesOne key told;
-    through = turns_more old mid new [] true (turns_read old mid (only_read old mid _ _ reads))
-        (Ordered (KeyRevoke key) told ∷ []) false (turns_ordered mid new (KeyRevoke key) told does);
+    through = tasks_more old mid new [] true (tasks_read old mid (only_read old mid _ _ reads))
+        (Ordered (KeyRevoke key) told ∷ []) false (tasks_ordered mid new (KeyRevoke key) told does);
     finds = λ h w stands. (reads.at (does.honest h) w stands).answer;
     tells = tells;
   }
@@ -37,7 +37,7 @@ module _ (old new : Shown) (f : List ℕ) where
       → RevokesNamed old new f (outcome_of (Ok NoKey))
   none_named reads = record {
     naming = NamesNone;
-    through = turns_read old new (only_read old new _ _ reads);
+    through = tasks_read old new (only_read old new _ _ reads);
     finds = λ h w stands. (reads.at h w stands).answer;
     tells = refl;
   }
@@ -47,7 +47,7 @@ module _ (old new : Shown) (f : List ℕ) where
       → RevokesNamed old new f (outcome_of (Err fault))
   unread_named fault reads = record {
     naming = Unread fault;
-    through = turns_read old new (only_read old new _ _ reads);
+    through = tasks_read old new (only_read old new _ _ reads);
     finds = tt;
     tells = refl;
   }

@@ -14,14 +14,14 @@ use Rattle.engine.specs.Store.{GoesThrough}
 use Rattle.engine.specs.declared.fault.Io.{Io}
 use Rattle.engine.specs.declared.fault.Io.TheVariants as io
 use Rattle.socket.specs.Connections.{Come, exchanges_of}
-use Rattle.control.specs.Copying.{Making, Turned, turns_in, has_read, GoesOnRead, GoesThroughSteps}
+use Rattle.control.specs.Copying.{Making, OfTask, tasks_in, has_read, GoesOnRead, GoesThroughSteps}
 use Rattle.control.specs.Health.{Answered}
 use Rattle.control.specs.Hearing.{Heard, Carried, Made, Listed, Pinged, Named, Stop, NoOrder, NoMemory}
 use Rattle.control.specs.Hearing.{Obeys, WritesSome, bytes_heard, printed_heard, told_heard}
 use Rattle.control.specs.Line.{most_tries}
 use Rattle.control.specs.Naming.{NamesOne, NamesNone, Unread}
 use Rattle.control.specs.Told.{bytes_told}
-use Rattle.control.specs.Turns.{Asked, messages, GoesOn}
+use Rattle.control.specs.Tasks.{Asked, messages, GoesOn}
 use Rattle.control.specs.Visits.{Call, OfPeer, OfOperator, Untaken, steps_if}
 use Rattle.control.specs.Visits.{steps_with, peers, AnswersOne, ObeysOne}
 use Rattle.control.specs.Visits.{ReadsEach}
@@ -32,23 +32,23 @@ use Rattle.control.specs.declared.told.Told.TheVariants as spoken
 use Rattle.control.specs.declared.outcome.Outcome.TheVariants.{Stopping}
 use Rattle.control.proofs.StepLemmas.{messages_both}
 use Rattle.control.proofs.TallyLemmas.{since_told}
-use Rattle.control.proofs.TurnLemmas.{turns_asked}
+use Rattle.control.proofs.TaskLemmas.{tasks_asked}
 
 -- ---- one connection
 
 -- a store that goes through what came first from a peer goes through at most one step
 pub steps_first : (old new : Shown) (first : Option First) → GoesThrough old new (exchanges_of first)
-    → GoesThroughSteps old new (map (λ x. Turned (Asked x)) (exchanges_of first))
-steps_first old new None through = turns_asked old new [] (omega arith) through
-steps_first old new (Some (Message x)) through = turns_asked old new (x ∷ []) (omega arith) through
-steps_first old new (Some (Closes closing)) through = turns_asked old new [] (omega arith) through
+    → GoesThroughSteps old new (map (λ x. OfTask (Asked x)) (exchanges_of first))
+steps_first old new None through = tasks_asked old new [] (omega arith) through
+steps_first old new (Some (Message x)) through = tasks_asked old new (x ∷ []) (omega arith) through
+steps_first old new (Some (Closes closing)) through = tasks_asked old new [] (omega arith) through
 
-first_message : (first : Option First) → messages (turns_in (map (λ x. Turned (Asked x)) (exchanges_of first))) ≤ 1
+first_message : (first : Option First) → messages (tasks_in (map (λ x. OfTask (Asked x)) (exchanges_of first))) ≤ 1
 first_message None = omega arith
 first_message (Some (Message x)) = omega arith
 first_message (Some (Closes closing)) = omega arith
 
-no_message : (heard : Option Heard) → messages (turns_in (steps_if heard)) ≡ 0
+no_message : (heard : Option Heard) → messages (tasks_in (steps_if heard)) ≡ 0
 no_message None = refl
 no_message (Some (Carried command told)) = refl
 no_message (Some (Made making)) = refl
@@ -192,11 +192,11 @@ then_come (Some all) (Some more) (Some few) first next one two =
 
 module _ {P O : Type 0} where
   -- there are at most as many messages as peers
-  pub one_each : (calls : List (Call P O)) → messages (turns_in (steps_with calls)) ≤ peers calls
+  pub one_each : (calls : List (Call P O)) → messages (tasks_in (steps_with calls)) ≤ peers calls
   one_each [] = omega arith
   one_each (OfPeer visit answered ∷ calls) = omega (
     arith,
-    messages_both (map (λ x. Turned (Asked x)) (exchanges_of visit.first)) (steps_with calls),
+    messages_both (map (λ x. OfTask (Asked x)) (exchanges_of visit.first)) (steps_with calls),
     first_message visit.first,
     one_each calls,
   )
@@ -217,7 +217,7 @@ module _ {P O : Type 0} where
         → ReadsEach heeded told heard written shown made counted is_new waiting rest s t since n
         → GoesOn (shown s) (shown t) n
     each_goes since waiting rest s t n all = record {
-      turns = turns_in (steps_with all.each.calls);
+      tasks = tasks_in (steps_with all.each.calls);
       read = has_read (steps_with all.each.calls);
       few = omega (arith, one_each all.each.calls, all.each.few);
       through = all.each.through;

@@ -15,7 +15,7 @@ use Rattle.meanwhile.specs.Meanwhile.{IsAsItWas}
 use Rattle.meanwhile.specs.declared.between.HowFar.{HowFar}
 use Rattle.engine.specs.declared.fault.Io.{Io}
 use Rattle.socket.specs.Connections.{Come, exchanges_of}
-use Rattle.control.specs.Copying.{Making, OfKey, ToPath, turns_in, has_read, AllRead, GoesThroughSteps, IsOnlyRead}
+use Rattle.control.specs.Copying.{Making, OfKey, ToPath, tasks_in, has_read, AllRead, GoesThroughSteps, IsOnlyRead}
 use Rattle.control.specs.Health.{IsPinged, tally_of}
 use Rattle.control.specs.Hearing.{Heard, Carried, Pinged, Listed, Named, Stop, NoOrder, NoMemory}
 use Rattle.control.specs.Hearing.{told_of_making}
@@ -24,7 +24,7 @@ use Rattle.control.specs.Progress.{IsOver}
 use Rattle.control.specs.Serving.{AllTold, EndsBy, Instant, ObeysMeanwhile}
 use Rattle.control.specs.Serving.{Serves, ServesMeanwhile, ServesPeer, TakesTurn}
 use Rattle.control.specs.Serving.{TakesTurns, TakesTurnsBy, tally_after}
-use Rattle.control.specs.Turns.{GoesThroughTurns}
+use Rattle.control.specs.Tasks.{GoesThroughTasks}
 use Rattle.control.specs.Visits.{Call, OfPeer, OfOperator, Untaken, Audience, CameIf, EndsEach, GoesIf}
 use Rattle.control.specs.Visits.{IsCallThere, IsToldThere, ObeysOne, ReadsEach, TellsTally}
 use Rattle.control.specs.Visits.{answered_with, callers_of, connections_of, steps_if, steps_of, steps_with}
@@ -42,7 +42,7 @@ use Rattle.control.proofs.NoticeLemmas.{notices_more, notices_none}
 use Rattle.control.proofs.ServeLemmas.{none_come, steps_first, then_come}
 use Rattle.control.proofs.StepLemmas.{no_reads, read_heard, read_then}
 use Rattle.control.proofs.TallyLemmas.{tells_tally}
-use Rattle.control.proofs.TurnLemmas.{turns_none, turns_read}
+use Rattle.control.proofs.TaskLemmas.{tasks_none, tasks_read}
 use Rattle.control.proofs.CallsLemmas.{all_tallied, answered_append, callers_append, connections_append, ends_append}
 use Rattle.control.proofs.CallsLemmas.{goes_on, is_end, may_end, none_ends, none_through, peers_few, read_or}
 use Rattle.control.proofs.CallsLemmas.{steps_append, tally_append, through_append, through_read, told_append}
@@ -72,7 +72,7 @@ through_told : (idle : Type 0) (old new : Shown) (heard : Option Heard)
     → Ordered idle (IsOnlyRead old new) old new heard → GoesThroughSteps old new (steps_if heard)
 through_told idle old new heard (Other still through) = through
 through_told idle old new heard (ToMake making is read) =
-    subst (λ h. GoesThroughSteps old new (steps_if h)) (sym is) (turns_read old new read)
+    subst (λ h. GoesThroughSteps old new (steps_if h)) (sym is) (tasks_read old new read)
 
 -- nothing else was done
 only_read : (old new : Shown) → IsAsItWas old new → IsOnlyRead old new
@@ -189,7 +189,7 @@ module _ {P O : Type 0} (heeded : O → Account × Reads) (told : O → Option (
       came = none_come waiting;
       begun = All-nil is_new;
       there = All-nil (IsCallThere heeded told heard written);
-      through = turns_read (shown s) (shown t) read;
+      through = tasks_read (shown s) (shown t) read;
       reads = λ h w stands. tt;
       tally = refl;
       tallies = tt;
@@ -211,7 +211,7 @@ module _ {P O : Type 0} (heeded : O → Account × Reads) (told : O → Option (
           begun = subst (All is_new) (sym (callers_append xs ys))
               (All-append is_new (callers_of xs) (callers_of ys) one.begun two.begun);
           there = All-append (IsCallThere heeded told heard written) xs ys one.there two.there;
-          through = subst (λ steps. GoesThroughTurns (shown s) (shown u) (turns_in steps) (read || has_read steps))
+          through = subst (λ steps. GoesThroughTasks (shown s) (shown u) (tasks_in steps) (read || has_read steps))
               (sym (steps_append xs ys))
               (through_append read (shown s) (shown t) (shown u) (steps_with xs) (steps_with ys) one.through
               two.through);
@@ -244,9 +244,9 @@ module _ {P O : Type 0} (heeded : O → Account × Reads) (told : O → Option (
         begun = fresh;
         there = All-cons (IsCallThere heeded told heard written) call [] there
             (All-nil (IsCallThere heeded told heard written));
-        through = subst (λ steps. GoesThroughTurns (shown s) (shown t) (turns_in steps) (read || has_read steps))
+        through = subst (λ steps. GoesThroughTasks (shown s) (shown t) (tasks_in steps) (read || has_read steps))
             (sym (append-nil (steps_of call)))
-            (read_or read (has_read (steps_of call)) (shown s) (shown t) (turns_in (steps_of call)) through);
+            (read_or read (has_read (steps_of call)) (shown s) (shown t) (tasks_in (steps_of call)) through);
         reads = λ h w stands.
             subst (AllRead shown made counted w) (sym (append-nil (steps_of call))) (reads h w stands);
         tally = tally;
@@ -280,7 +280,7 @@ module _ {P O : Type 0} (heeded : O → Account × Reads) (told : O → Option (
       unfolding serves_one
       serves_untaken comes going tally left taken stops same =
           serves_one Untaken comes (All-nil is_new) tt
-          (subst (λ x. GoesThroughSteps (shown s) (shown x) []) same (turns_none (shown s)))
+          (subst (λ x. GoesThroughSteps (shown s) (shown x) []) same (tasks_none (shown s)))
           (λ h w stands. tt) tally tt left taken
           (goes_on p.stops q.stops going stops Untaken (λ never. never))
 
@@ -340,7 +340,7 @@ module _ {P O : Type 0} (heeded : O → Account × Reads) (told : O → Option (
           came = then_come waiting left rest (Operator before ∷ []) (callers_of ys) comes next.came;
           begun = All-cons is_new (Operator before) (callers_of ys) fresh next.begun;
           there = All-cons (IsCallThere heeded told heard written) call ys there next.there;
-          through = through_read (shown s) (shown mid) (shown t) (turns_in (steps_with ys)) next.through read;
+          through = through_read (shown s) (shown mid) (shown t) (tasks_in (steps_with ys)) next.through read;
           reads = λ h w stands. (
             record { source = s; source_new = t; honest = h; stands = stands; came = came },
             next.reads (read.honest h) w stands,

@@ -7,12 +7,12 @@ use Rattle.std.proofs.lemmas.List.Elements.{All-append, All-cons, All-nil}
 use Rattle.std.proofs.lemmas.List.Sums.{sum_by_push, count_by-le-length}
 use Rattle.engine.specs.Exchange.{Exchange}
 use Rattle.socket.specs.Connections.{exchanges_of}
-use Rattle.control.specs.Copying.{Making, Step, Turned, Counted, LookedUp, TellsSince}
+use Rattle.control.specs.Copying.{Making, Step, OfTask, Counted, LookedUp, TellsSince}
 use Rattle.control.specs.Health.{Answered, AreBelow, IsPinged, is_of_class, is_unanswered, one_if, tally_of, with_one}
 use Rattle.control.specs.Hearing.{Heard, Carried, Made, Listed, Pinged, Named, Stop, NoOrder, NoMemory}
 use Rattle.control.specs.Visits.{Call, OfPeer, OfOperator, Untaken, AllTallied, CameIf, IsTallied, TellsTally}
 use Rattle.control.specs.Naming.{NamesOne, NamesNone, Unread}
-use Rattle.control.specs.Turns.{Asked, Ordered}
+use Rattle.control.specs.Tasks.{Asked, Ordered}
 use Rattle.control.specs.Visits.{answered_with, peers, steps_if, steps_with}
 use Rattle.control.specs.declared.registry_command.RegistryCommand.TheVariants.{KeyRevoke}
 use Rattle.control.specs.declared.tally.Tally.{Tally}
@@ -109,17 +109,17 @@ since_if since tally (Some (Pinged (Ok health))) is told =
 since_if since tally (Some (Pinged (Err fault))) is told = one_step since _ tt
 since_if since tally (Some (Listed listing done)) is told = one_step since _ tt
 since_if since tally (Some (Named f (NamesOne key done))) is told =
-    All-cons (TellsSince since) (LookedUp f (Ok (Some key.now))) (Turned (Ordered (KeyRevoke key) done) ∷ []) tt
-    (one_step since (Turned (Ordered (KeyRevoke key) done)) tt)
+    All-cons (TellsSince since) (LookedUp f (Ok (Some key.now))) (OfTask (Ordered (KeyRevoke key) done) ∷ []) tt
+    (one_step since (OfTask (Ordered (KeyRevoke key) done)) tt)
 since_if since tally (Some (Named f NamesNone)) is told = one_step since _ tt
 since_if since tally (Some (Named f (Unread fault))) is told = one_step since _ tt
 since_if since tally (Some Stop) is told = All-nil (TellsSince since)
 since_if since tally (Some NoOrder) is told = All-nil (TellsSince since)
 since_if since tally (Some NoMemory) is told = All-nil (TellsSince since)
 
-since_asked : (since : List ℕ) (xs : List Exchange) → All (TellsSince since) (map (λ x. Turned (Asked x)) xs)
+since_asked : (since : List ℕ) (xs : List Exchange) → All (TellsSince since) (map (λ x. OfTask (Asked x)) xs)
 since_asked since [] = All-nil (TellsSince since)
-since_asked since (x ∷ xs) = All-cons (TellsSince since) (Turned (Asked x)) _ tt (since_asked since xs)
+since_asked since (x ∷ xs) = All-cons (TellsSince since) (OfTask (Asked x)) _ tt (since_asked since xs)
 
 module _ {P O : Type 0} where
   -- so was each ping

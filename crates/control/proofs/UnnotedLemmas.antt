@@ -9,9 +9,9 @@ use Rattle.world.specs.Store.{Shown}
 use Rattle.world.specs.World.{World, place_cmp}
 use Rattle.meanwhile.specs.Meanwhile.{IsSince, Notes}
 use Rattle.meanwhile.specs.Noted.{IsNoted, with_said}
-use Rattle.control.specs.Copying.{Making, Step, Turned, Made, Counted, Listed, LookedUp, AllRead}
+use Rattle.control.specs.Copying.{Making, Step, OfTask, Made, Counted, Listed, LookedUp, AllRead}
 use Rattle.control.specs.Serving.{Serves}
-use Rattle.control.specs.Turns.{Turn, GoesThroughTurns, StandsIf, world_at}
+use Rattle.control.specs.Tasks.{Task, GoesThroughTasks, StandsIf, world_at}
 use Rattle.control.specs.Visits.{steps_with}
 use Rattle.control.specs.declared.callers.Caller.{Caller}
 use Rattle.control.specs.declared.progress.Progress.{Progress}
@@ -23,10 +23,10 @@ stands_with : (read : Bool) (old : Shown) (said : World → Type 0) → ((w : Wo
 stands_with false old said all some = tt
 stands_with true old said all some = (some.0, (some.1, all some.0 some.1))
 
-goes_unnoted : (old new : Shown) (said said_new : World → Type 0) (ts : List Turn) (read : Bool)
+goes_unnoted : (old new : Shown) (said said_new : World → Type 0) (ts : List Task) (read : Bool)
     → ((w : World) → old.stands w → said w)
-    → GoesThroughTurns (with_said old said) (with_said new said_new) ts read
-    → GoesThroughTurns old new ts read
+    → GoesThroughTasks (with_said old said) (with_said new said_new) ts read
+    → GoesThroughTasks old new ts read
 goes_unnoted old new said said_new ts read all through = record {
   runs = record {
     honest = through.runs.honest;
@@ -62,7 +62,7 @@ module _ {S T : Type 0} (shown : S → Shown) (made : S → S → Making → Typ
   read_unnoted : (w : World) (steps : List Step) → AllRead Shown_too Made_too Counted_too w steps
       → AllRead shown made counted w steps
   read_unnoted w [] all = tt
-  read_unnoted w (Turned t ∷ steps) all = read_unnoted (world_at w (t ∷ [])) steps all
+  read_unnoted w (OfTask t ∷ steps) all = read_unnoted (world_at w (t ∷ [])) steps all
   read_unnoted w (Made making ∷ steps) all = (
     record {
       source = inside all.0.source;
@@ -122,9 +122,9 @@ noted_first was before news false same w stood =
 
 -- what came of the worlds of before is what the newcomers tell, if no place was lost
 pub newcomers_noted : (old new : Shown) (said was : World → Type 0) (before first after : set.FinSet place_cmp)
-    (lost : Bool) (ts : List Turn) (read : Bool) → ((w : World) → old.stands w → said w)
+    (lost : Bool) (ts : List Task) (read : Bool) → ((w : World) → old.stands w → said w)
     → ((w : World) → was w → old.stands w) → first ≡ before
-    → GoesThroughTurns (with_said old said) (with_said new (IsNoted lost was first after)) ts read → lost ≡ false
+    → GoesThroughTasks (with_said old said) (with_said new (IsNoted lost was first after)) ts read → lost ≡ false
     → Notes old new before after
 newcomers_noted old new said was before first after true ts read all stood same through kept =
     absurd (false≢true (sym kept))

@@ -6,7 +6,7 @@ use Rattle.world.specs.World.{World}
 use Rattle.world.specs.Store.{Shown}
 use Rattle.world.specs.declared.registry.StoreFault.{StoreFault}
 use Rattle.control.specs.Listing.{IsList}
-use Rattle.control.specs.Turns.{Turn, GoesThroughTurns, messages, world_at}
+use Rattle.control.specs.Tasks.{Task, GoesThroughTasks, messages, world_at}
 use Rattle.control.specs.declared.copies.CatalogRefusal.{CatalogRefusal}
 use Rattle.control.specs.declared.copies.CopyRefusal.{CopyRefusal}
 use Rattle.control.specs.declared.health.Health.{Health}
@@ -26,28 +26,28 @@ pub data Making : Type 0 where
   ToPath : List ℕ → Result (Unit {0}) CopyRefusal → Making
   OfKey : List ℕ → List ℕ → Result (Unit {0}) CatalogRefusal → Making
 
--- what happened to a store that is served: a turn of the machine; or something that was made of it, a ping, a list, or
+-- what happened to a store that is served: a task of the machine; or something that was made of it, a ping, a list, or
 -- a look for the key with a fingerprint, which is none
 pub data Step : Type 0 where
-  Turned : Turn → Step
+  OfTask : Task → Step
   Made : Making → Step
   Counted : Result Health StoreFault → Step
   Listed : Listing → Result (List ℕ) StoreFault → Step
   LookedUp : List ℕ → Result (Option (List ℕ)) StoreFault → Step
 
--- the turns among them
-abbrev pub turns_in : List Step → List Turn
-turns_in [] = []
-turns_in (Turned t ∷ steps) = t ∷ turns_in steps
-turns_in (Made making ∷ steps) = turns_in steps
-turns_in (Counted told ∷ steps) = turns_in steps
-turns_in (Listed listing told ∷ steps) = turns_in steps
-turns_in (LookedUp f found ∷ steps) = turns_in steps
+-- the tasks among them
+abbrev pub tasks_in : List Step → List Task
+tasks_in [] = []
+tasks_in (OfTask t ∷ steps) = t ∷ tasks_in steps
+tasks_in (Made making ∷ steps) = tasks_in steps
+tasks_in (Counted told ∷ steps) = tasks_in steps
+tasks_in (Listed listing told ∷ steps) = tasks_in steps
+tasks_in (LookedUp f found ∷ steps) = tasks_in steps
 
 -- whether the store was read in one of them
 abbrev pub has_read : List Step → Bool
 has_read [] = false
-has_read (Turned t ∷ steps) = has_read steps
+has_read (OfTask t ∷ steps) = has_read steps
 has_read (Made making ∷ steps) = true
 has_read (Counted told ∷ steps) = true
 has_read (Listed listing told ∷ steps) = true
@@ -58,9 +58,9 @@ abbrev pub TellsSince : List ℕ → Step → Type 0
 TellsSince since (Counted (Ok health)) = health.tally.since ≡ since
 TellsSince since other = Unit {0}
 
--- from old to new the store went through the turns among the steps, and was read if one of them reads it
+-- from old to new the store went through the tasks among the steps, and was read if one of them reads it
 abbrev pub GoesThroughSteps : Shown → Shown → List Step → Type 0
-GoesThroughSteps old new steps = GoesThroughTurns old new (turns_in steps) (has_read steps)
+GoesThroughSteps old new steps = GoesThroughTasks old new (tasks_in steps) (has_read steps)
 
 module _ {S : Type 0} (shown : S → Shown) (made : S → S → Making → Type 0)
     (counted : S → S → ℕ → Type 0) where
@@ -84,7 +84,7 @@ module _ {S : Type 0} (shown : S → Shown) (made : S → S → Making → Type 
   -- so it is of all that was made, each ping, each list and each look for a key, with the machine's world at its moment
   abbrev pub AllRead : World → List Step → Type 0
   AllRead w [] = Unit {0}
-  AllRead w (Turned t ∷ steps) = AllRead (world_at w (t ∷ [])) steps
+  AllRead w (OfTask t ∷ steps) = AllRead (world_at w (t ∷ [])) steps
   AllRead w (Made making ∷ steps) = IsMade w making × AllRead w steps
   AllRead w (Counted (Ok health) ∷ steps) = IsCounted w health × AllRead w steps
   AllRead w (Counted (Err fault) ∷ steps) = AllRead w steps
@@ -97,7 +97,7 @@ module _ {S : Type 0} (shown : S → Shown) (made : S → S → Making → Type 
   -- this time.
   pub record GoesOnRead (old new : S) (since : List ℕ) (most : ℕ) : Type 0 where
     pub steps : List Step
-    pub few : messages (turns_in steps) ≤ most
+    pub few : messages (tasks_in steps) ≤ most
     pub through : GoesThroughSteps (shown old) (shown new) steps
     pub reads : (shown new).is_honest → (w : World) → (shown old).stands w → AllRead w steps
     pub begun : All (TellsSince since) steps

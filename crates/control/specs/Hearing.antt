@@ -9,7 +9,7 @@ use Rattle.world.specs.declared.registry.StoreFault.TheVariants.{Memory}
 use Rattle.engine.specs.Written.{WritesBeginning}
 use Rattle.engine.specs.declared.fault.Io.{Io}
 use Rattle.engine.specs.declared.fault.Io.TheVariants as io
-use Rattle.control.specs.Copying.{Making, OfKey, ToPath, Step, Turned, Counted, GoesThroughSteps}
+use Rattle.control.specs.Copying.{Making, OfKey, ToPath, Step, OfTask, Counted, GoesThroughSteps}
 use Rattle.control.specs.Copying as copying
 use Rattle.control.specs.Health.{IsPinged, line_of}
 use Rattle.control.specs.Line.{ReadsLine, IsCatalogOf, IsNoCatalog, IsNaming, IsSent, IsCopyTo, ping_line, stop_line}
@@ -18,7 +18,7 @@ use Rattle.control.specs.Naming.{Finds, Naming, named_result, named_steps}
 use Rattle.control.specs.Order.{AreNoOrder}
 use Rattle.control.specs.Outcome.{outcome_of, outcome_of_catalog, outcome_of_copy}
 use Rattle.control.specs.Told.{bytes_told}
-use Rattle.control.specs.Turns.{Ordered}
+use Rattle.control.specs.Tasks.{Ordered}
 use Rattle.control.specs.declared.health.Health.{Health}
 use Rattle.control.specs.declared.listing.Listing.{Listing}
 use Rattle.control.specs.declared.registry_command.RegistryCommand.{RegistryCommand}
@@ -88,7 +88,7 @@ bytes_heard heard = printed_heard heard ++ bytes_told (told_heard heard)
 -- the steps of it: one for a registry command, a copy, a ping or a list, one or two for a fingerprint, and otherwise
 -- none
 abbrev pub steps_heard : Heard → List Step
-steps_heard (Carried command told) = Turned (Ordered command told) ∷ []
+steps_heard (Carried command told) = OfTask (Ordered command told) ∷ []
 steps_heard (Made making) = copying.Made making ∷ []
 steps_heard (Pinged told) = Counted told ∷ []
 steps_heard (Listed listing told) = copying.Listed listing told ∷ []

@@ -19,6 +19,6 @@ pub mod Progress
 pub mod Serving
 pub mod Told
 pub mod Traffic
-pub mod Turns
+pub mod Tasks
 pub mod Visits
 pub mod Words

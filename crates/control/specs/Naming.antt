@@ -8,9 +8,9 @@ use Rattle.world.specs.World.{World}
 use Rattle.world.specs.declared.registry.RegistryReply.{RegistryReply}
 use Rattle.world.specs.declared.registry.RegistryReply.TheVariants.{NoKey}
 use Rattle.world.specs.declared.registry.StoreFault.{StoreFault}
-use Rattle.control.specs.Copying.{Step, LookedUp, Turned, GoesThroughSteps}
+use Rattle.control.specs.Copying.{Step, LookedUp, OfTask, GoesThroughSteps}
 use Rattle.control.specs.Outcome.{outcome_of}
-use Rattle.control.specs.Turns.{Ordered}
+use Rattle.control.specs.Tasks.{Ordered}
 use Rattle.control.specs.declared.registry_command.RegistryCommand.TheVariants.{KeyRevoke}
 use Rattle.control.specs.declared.outcome.Outcome.{Outcome}
 
@@ -31,7 +31,7 @@ named_result (Unread fault) = Err fault
 
 -- the steps of it: the look, which only reads, and the registry command if one key was found
 abbrev pub named_steps : List ℕ → Naming → List Step
-named_steps f (NamesOne key told) = LookedUp f (Ok (Some key.now)) ∷ Turned (Ordered (KeyRevoke key) told) ∷ []
+named_steps f (NamesOne key told) = LookedUp f (Ok (Some key.now)) ∷ OfTask (Ordered (KeyRevoke key) told) ∷ []
 named_steps f NamesNone = LookedUp f (Ok None) ∷ []
 named_steps f (Unread fault) = LookedUp f (Err fault) ∷ []
 

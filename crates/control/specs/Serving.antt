@@ -9,11 +9,11 @@ use Rattle.world.specs.World.{World}
 use Rattle.socket.specs.Connections.{Come}
 use Rattle.meanwhile.specs.Meanwhile.{IsAsItWas}
 use Rattle.meanwhile.specs.declared.between.HowFar.{HowFar}
-use Rattle.control.specs.Copying.{Making, AllRead, IsOnlyRead, turns_in, has_read}
+use Rattle.control.specs.Copying.{Making, AllRead, IsOnlyRead, tasks_in, has_read}
 use Rattle.control.specs.Health.{Answered, IsPinged, with_one}
 use Rattle.control.specs.Notices.{WritesNotices}
 use Rattle.control.specs.Pinging.{TellsHowFar}
-use Rattle.control.specs.Turns.{GoesThroughTurns}
+use Rattle.control.specs.Tasks.{GoesThroughTasks}
 use Rattle.control.specs.Visits.{Call, OfPeer, OfOperator, Untaken, AnswersOne, IsCallThere, IsNoStop, IsStop, ObeysOne}
 use Rattle.control.specs.Visits.{TellsTally}
 use Rattle.control.specs.Visits.{answered_with, callers_of, connections_of, steps_with}
@@ -88,7 +88,7 @@ module _ {P O : Type 0} (heeded : O → Account × Reads) (told : O → Option (
     pub came : Come waiting rest (callers_of calls)
     pub begun : All is_new (callers_of calls)
     pub there : All (IsCallThere heeded told heard written) calls
-    pub through : GoesThroughTurns (shown old) (shown new) (turns_in (steps_with calls))
+    pub through : GoesThroughTasks (shown old) (shown new) (tasks_in (steps_with calls))
         (read || has_read (steps_with calls))
     pub reads : (shown new).is_honest → (w : World) → (shown old).stands w
         → AllRead shown made counted w (steps_with calls)

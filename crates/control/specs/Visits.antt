@@ -13,12 +13,12 @@ use Rattle.engine.specs.declared.fault.Io.{Io}
 use Rattle.engine.specs.declared.fault.Io.TheVariants as io
 use Rattle.socket.specs.Connections.{Visit, Come, exchanges_of}
 use Rattle.socket.specs.Connections as socket
-use Rattle.control.specs.Copying.{Making, Step, Turned, AllRead, GoesThroughSteps}
+use Rattle.control.specs.Copying.{Making, Step, OfTask, AllRead, GoesThroughSteps}
 use Rattle.control.specs.Health.{Answered, IsPinged, tally_of}
 use Rattle.control.specs.Hearing.{Heard, Pinged, CameOf, GoesAs, IsHeard, ListsBy, WritesSome}
 use Rattle.control.specs.Hearing.{bytes_heard, steps_heard, told_heard}
 use Rattle.control.specs.Line.{most_tries}
-use Rattle.control.specs.Turns.{Asked}
+use Rattle.control.specs.Tasks.{Asked}
 use Rattle.control.specs.declared.callers.Caller.{Caller}
 use Rattle.control.specs.declared.callers.Caller.TheVariants.{Peer, Operator}
 use Rattle.control.specs.declared.health.Health.{Health}
@@ -67,7 +67,7 @@ GoesIf idle meanwhile old new (Some heard) = GoesAs idle meanwhile old new heard
 
 -- the steps of one caller: at most two
 abbrev pub steps_of : {P O : Type 0} → Call P O → List Step
-steps_of (OfPeer visit answered) = map (λ x. Turned (Asked x)) (exchanges_of visit.first)
+steps_of (OfPeer visit answered) = map (λ x. OfTask (Asked x)) (exchanges_of visit.first)
 steps_of (OfOperator audience) = steps_if audience.heard
 steps_of Untaken = []
 

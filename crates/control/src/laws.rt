@@ -1,5 +1,5 @@
 //! What lines mean, and what the callers of one run learn about each other.
-ghost use Rattle.control.specs.Isolated.{TurnsAreAnsweredAlike};
+ghost use Rattle.control.specs.Isolated.{TasksAreAnsweredAlike};
 ghost use Rattle.control.specs.Laws.{OneEventALine, OneOutcomeALine};
 ghost use Rattle.control.specs.Notices.{NoneIsRefusal};
 
@@ -21,11 +21,11 @@ pub fn no_notice_is_a_refusal()
 {}
 
 /// Isolation also holds between two calls of [`serve_both`](crate::serve_both), over any two stores whose worlds agree
-/// on the registry and on what a shelf sees, on honest disks: if the second goes through the turns of the first without
+/// on the registry and on what a shelf sees, on honest disks: if the second goes through the tasks of the first without
 /// the messages of other teams, it writes the same bytes for each remaining message, and the same line for each
 /// registry command. The messages that a call answered 503 and the commands that met a fault are left out of it. The
 /// worlds after both agree again.
-pub fn isolation_of_turns<S: Shelves, T: Shelves>()
+pub fn isolation_of_tasks<S: Shelves, T: Shelves>()
     ensures { (old new : S) (old_too new_too : T)
-        → TurnsAreAnsweredAlike (S.shown old) (S.shown new) (T.shown old_too) (T.shown new_too) }
+        → TasksAreAnsweredAlike (S.shown old) (S.shown new) (T.shown old_too) (T.shown new_too) }
 {}

@@ -4,7 +4,7 @@ ghost use Rattle.socket.specs.Connections.{Come, both};
 ghost use Rattle.control.specs.Notices.{WritesNotices};
 ghost use Rattle.control.specs.Progress.{IsGoing, IsOver};
 ghost use Rattle.control.specs.Serving.{Serves};
-ghost use Rattle.control.specs.Turns.{GoesOn};
+ghost use Rattle.control.specs.Tasks.{GoesOn};
 ghost use Rattle.control.specs.Visits.{EndsEach, ReadsEach, ServesEach};
 ghost use Rattle.control.specs.declared.callers.Caller.{Caller};
 ghost use Rattle.control.specs.declared.callers.Caller.TheVariants.{Operator};

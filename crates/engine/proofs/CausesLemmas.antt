@@ -6,11 +6,11 @@ use Rattle.histories.specs.Calls.{Reads, Writes}
 use Rattle.histories.proofs.AccountLemmas.{Gives-none, Gives-trans, Gives-kept}
 use Rattle.framing.specs.Framing.{Framing, IsUnfinished}
 use Rattle.engine.specs.Causes.{AsksWhileUnfinished, FailsWith, GivesNone, IsCausedIn, IsUnreadable, Spends}
-use Rattle.engine.specs.Turn.{EndsBy, ReadSoFar}
+use Rattle.engine.specs.Session.{EndsBy, ReadSoFar}
 use Rattle.engine.specs.Written.{Writes as Written}
 use Rattle.engine.specs.declared.fault.Io.{Io}
 use Rattle.engine.specs.declared.fault.Io.TheVariants as io
-use Rattle.engine.specs.declared.session.Turn.{Turn}
+use Rattle.engine.specs.declared.session.Handled.{Handled}
 
 -- at first no read began
 pub asks_none : (held : List ℕ) (u : Account) (r : Reads) → AsksWhileUnfinished held u u r r
@@ -40,12 +40,12 @@ module _
   )
 
 module _ (left : ℕ) (r₀ r₁ : Reads) (w₀ w₁ : Writes) where
-  -- a turn whose read failed has a cause
+  -- a read that failed has a cause
   pub caused_unread : (e : Io) → e ≡ io.Read → IsUnreadable left r₀ r₁ → IsCausedIn left r₀ r₁ w₀ w₁ e
   caused_unread io.Read is cause = cause
   caused_unread io.Write is cause = cc
 
-  -- a turn whose write failed has a cause
+  -- a write that failed has a cause
   pub caused_unwritten : {T : Type 0} (out out' : Option (List ℕ)) (text : List ℕ) (result : Result T Io)
       → Written out out' text result → FailsWith w₀.failed w₁.failed result → IfErr result (IsCausedIn left r₀ r₁ w₀ w₁)
   caused_unwritten out out' text (Ok x) writes fails = tt
@@ -55,7 +55,7 @@ module _ (left : ℕ) (r₀ r₁ : Reads) (w₀ w₁ : Writes) where
       wrong is = cc
   caused_unwritten out out' text (Err io.Write) writes fails = fails
 
--- what a turn failed of is a cause for the stream
+-- what the session failed of is a cause for the stream
 pub caused_later : (most left : ℕ) (r₀ r₁ r₂ : Reads) (w₀ w₁ w₂ : Writes) (e : Io) → Spends most left r₀ r₁
     → r₀.failed ≤ r₁.failed
     → w₀.failed ≤ w₁.failed → IsCausedIn left r₁ r₂ w₁ w₂ e → IsCausedIn most r₀ r₂ w₀ w₂ e
@@ -72,13 +72,13 @@ caused_unflushed most r₀ r₁ w₀ w₁ w₂ (Ok x) writes which fails = tt
 caused_unflushed most r₀ r₁ w₀ w₁ w₂ (Err e) writes which fails =
     subst (IsCausedIn most r₀ r₁ w₀ w₂) (sym which) (omega (arith, writes, fails))
 
--- what a turn failed of is a cause for the stream, and so is a flush that failed after it
-pub caused_ended : (most : ℕ) (r₀ r₁ : Reads) (w₀ w₁ w₂ : Writes) (turned : Result Turn Io)
+-- what the session failed of is a cause for the stream, and so is a flush that failed after it
+pub caused_ended : (most : ℕ) (r₀ r₁ : Reads) (w₀ w₁ w₂ : Writes) (handled : Result Handled Io)
     (result : Result (Option ℕ) Io)
-    → IfErr turned (IsCausedIn most r₀ r₁ w₀ w₁) → w₀.failed ≤ w₁.failed → w₁.failed ≤ w₂.failed → EndsBy turned result
-    → IfOk turned (λ _. FailsWith w₁.failed w₂.failed result) → IfErr result (IsCausedIn most r₀ r₁ w₀ w₂)
-caused_ended most r₀ r₁ w₀ w₁ w₂ (Ok turn) (Ok status) cause before after ends fails = tt
-caused_ended most r₀ r₁ w₀ w₁ w₂ (Ok turn) (Err e) cause before after ends fails =
+    → IfErr handled (IsCausedIn most r₀ r₁ w₀ w₁) → w₀.failed ≤ w₁.failed → w₁.failed ≤ w₂.failed → EndsBy handled result
+    → IfOk handled (λ _. FailsWith w₁.failed w₂.failed result) → IfErr result (IsCausedIn most r₀ r₁ w₀ w₂)
+caused_ended most r₀ r₁ w₀ w₁ w₂ (Ok handled) (Ok status) cause before after ends fails = tt
+caused_ended most r₀ r₁ w₀ w₁ w₂ (Ok handled) (Err e) cause before after ends fails =
     subst (IsCausedIn most r₀ r₁ w₀ w₂) (sym ends) (omega (arith, before, fails))
 caused_ended most r₀ r₁ w₀ w₁ w₂ (Err e) result cause before after ends fails =
     subst (λ (x : Result (Option ℕ) Io). IfErr x (IsCausedIn most r₀ r₁ w₀ w₂)) (sym ends) (still e cause)

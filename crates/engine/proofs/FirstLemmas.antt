@@ -1,4 +1,4 @@
--- The first turn of a stream.
+-- The first message of a stream.
 use Rattle.std.proofs.Common.{◌≡◌, ℕ, List, [], ◌++◌, Option, Result, Ok, Err, inl, inr, refl, sym, ap, ◌∙◌, subst}
 use Rattle.std.specs.Io.KnownBytes.{Keeps}
 use Rattle.std.proofs.KnownBytes.{Appends-kept, Keeps-trans}
@@ -9,10 +9,10 @@ use Rattle.framing.proofs.StreamLemmas.{unfinished_nothing}
 use Rattle.world.specs.Store.{Shown}
 use Rattle.engine.specs.First.{First, Answers, Closes, IsFirstHeard, HearsFirst, ServesHeard, first_bytes, first_status}
 use Rattle.engine.specs.Served.{IsClosing}
-use Rattle.engine.specs.Turn.{IsNext, TakesNext, Turns, EndsBy, turn_of, turn_status}
+use Rattle.engine.specs.Session.{IsNext, TakesNext, AnswersNext, EndsBy, handled_of, handled_status}
 use Rattle.engine.specs.declared.fault.Io.{Io}
 use Rattle.engine.specs.declared.fault.Io.TheVariants as io
-use Rattle.engine.specs.declared.session.Turn.{Turn}
+use Rattle.engine.specs.declared.session.Handled.{Handled}
 
 -- what comes next comes first if nothing is held
 pub first_next : (old new : Framing) (u u' : Account) (first : First) → old.held ≡ [] → TakesNext old new u u' first
@@ -36,34 +36,34 @@ first_next old new u u' first none next =
     by_first (Closes closing) closes = λ more may.
         subst (λ (held : List ℕ). IsClosing (held ++ (next.bytes ++ more)) closing) none (closes more may)
 
-status_of_turn : (first : First) → turn_status (turn_of first) ≡ first_status first
-status_of_turn (Answers x) = refl
-status_of_turn (Closes closing) = refl
+status_of_handled : (first : First) → handled_status (handled_of first) ≡ first_status first
+status_of_handled (Answers x) = refl
+status_of_handled (Closes closing) = refl
 
--- the first turn of a stream and `end_turn` make what `answer_one` promises
-pub first_turned : (old new : Shown) (u u' : Account) (w w' w'' : Option (List ℕ)) (held held_new : Framing)
-    (turned : Result Turn Io)
-    (result : Result (Option ℕ) Io) → held.held ≡ [] → Turns old new u u' w w' held held_new turned → Keeps w' w''
-    → EndsBy turned result
+-- the first `answer_next` of a stream and `finish` make what `answer_one` promises
+pub first_handled : (old new : Shown) (u u' : Account) (w w' w'' : Option (List ℕ)) (held held_new : Framing)
+    (handled : Result Handled Io)
+    (result : Result (Option ℕ) Io) → held.held ≡ [] → AnswersNext old new u u' w w' held held_new handled → Keeps w' w''
+    → EndsBy handled result
     → ServesHeard old new u u' w w'' result
-first_turned old new u u' w w' w'' held held_new (Ok turned) (Ok status) none (first, next, through, is, appends) keeps
+first_handled old new u u' w w' w'' held held_new (Ok handled) (Ok status) none (first, next, through, is, appends) keeps
     ends = (
       first,
       first_next held held_new u u' first none next,
       through,
-      ends ∙ ap turn_status is
-          ∙ status_of_turn first,
+      ends ∙ ap handled_status is
+          ∙ status_of_handled first,
       Appends-kept w w' w'' (first_bytes first) appends keeps,
     )
-first_turned old new u u' w w' w'' held held_new (Ok turned) (Err io.Read) none turns keeps ends = cc
-first_turned old new u u' w w' w'' held held_new (Ok turned) (Err io.Write) none (first, next, through, is, appends)
+first_handled old new u u' w w' w'' held held_new (Ok handled) (Err io.Read) none answers keeps ends = cc
+first_handled old new u u' w w' w'' held held_new (Ok handled) (Err io.Write) none (first, next, through, is, appends)
     keeps ends = (
       first,
       first_next held held_new u u' first none next,
       through,
       inr (Appends-kept w w' w'' (first_bytes first) appends keeps),
     )
-first_turned old new u u' w w' w'' held held_new (Err io.Read) result none (bytes, consumed, waits, through, unwritten)
+first_handled old new u u' w w' w'' held held_new (Err io.Read) result none (bytes, consumed, waits, through, unwritten)
     keeps ends =
     subst (ServesHeard old new u u' w w'') (sym ends) (
       bytes,
@@ -72,7 +72,7 @@ first_turned old new u u' w w' w'' held held_new (Err io.Read) result none (byte
       through,
       Keeps-trans w w' w'' unwritten keeps,
     )
-first_turned old new u u' w w' w'' held held_new (Err io.Write) result none
+first_handled old new u u' w w' w'' held held_new (Err io.Write) result none
     (first, next, through, (begun, begins, appends)) keeps ends =
     subst (ServesHeard old new u u' w w'') (sym ends) (
       first,

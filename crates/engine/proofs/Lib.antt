@@ -18,4 +18,4 @@ pub mod RunLemmas
 pub mod ServedLemmas
 pub mod SessionLemmas
 pub mod StoreLemmas
-pub mod TurnLemmas
+pub mod AnsweredLemmas

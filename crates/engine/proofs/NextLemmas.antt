@@ -10,7 +10,7 @@ use Rattle.wire.specs.declared.reply.Fixed.{Fixed}
 use Rattle.engine.specs.First.{Answers}
 use Rattle.engine.specs.Served.{body_read_limit, IsClosing}
 use Rattle.engine.specs.Exchange.{Exchange}
-use Rattle.engine.specs.Turn.{StaysNear, ReadsOn, Takes, ReadSoFar, TakesNext, Comes}
+use Rattle.engine.specs.Session.{StaysNear, ReadsOn, Takes, ReadSoFar, TakesNext, Comes}
 use Rattle.engine.specs.declared.fault.Io.{Io}
 use Rattle.engine.specs.declared.fault.Io.TheVariants as io
 use Rattle.engine.specs.declared.next.MessageOrEnd.{MessageOrEnd}

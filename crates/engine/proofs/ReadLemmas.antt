@@ -6,7 +6,7 @@ use Rattle.framing.specs.Message.{Ends, clean, bad}
 use Rattle.framing.specs.Framing.{Framing, HasMessage, IsUnfinished}
 use Rattle.framing.proofs.StreamLemmas.{ReadsMessage-append, no_message_at_end}
 use Rattle.engine.specs.Served.{read_limit}
-use Rattle.engine.specs.Turn.{StaysNear}
+use Rattle.engine.specs.Session.{StaysNear}
 
 -- if the input ends while the bytes held are unfinished and not empty, it ends badly
 pub ends_badly : (held : List ℕ) → IsUnfinished held → held ≢ [] → Ends (held ++ []) bad

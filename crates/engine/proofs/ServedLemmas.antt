@@ -11,12 +11,12 @@ use Rattle.world.specs.Store.{Shown}
 use Rattle.engine.specs.First.{Answers, Closes}
 use Rattle.engine.specs.Served.{IsClosing, ClosesAfter, closing_bytes, texts_of, ServesAllHeard}
 use Rattle.engine.specs.Store.{GoesThrough}
-use Rattle.engine.specs.Turn.{Answered, CutShort, SoFar, Delivers, TakesNext, Turns}
+use Rattle.engine.specs.Session.{Answered, CutShort, SoFar, Delivers, TakesNext, AnswersNext}
 use Rattle.engine.specs.declared.fault.Io.{Io}
 use Rattle.engine.specs.declared.fault.Io.TheVariants as io
-use Rattle.engine.specs.declared.session.Turn.TheVariants as turn
-use Rattle.engine.proofs.TurnLemmas.{answered_none, answered_nothing, answered_before, answered_one, answered_more}
-use Rattle.engine.proofs.TurnLemmas.{cut_one, cut_more}
+use Rattle.engine.specs.declared.session.Handled.TheVariants as handled
+use Rattle.engine.proofs.AnsweredLemmas.{answered_none, answered_nothing, answered_before, answered_one, answered_more}
+use Rattle.engine.proofs.AnsweredLemmas.{cut_one, cut_more}
 
 module _ (old new : Shown) (u u' : Account) (w₀ w₁ w₂ : Option (List ℕ)) (input rest : List ℕ) where
   -- a call that answered the messages at the front and wrote what closes the stream, or failed at it, does as
@@ -105,8 +105,8 @@ module _
       old mid new w₀ w₁ w₁ (far.got ++ more) (framing.held ++ more) (framing.held ++ more)
       (with_more more) (answered_nothing mid new w₁ (framing.held ++ more) through)
 
-  -- after a turn that answered a message, one more is answered
-  pub went_on : (status : ℕ) → Turns mid new u₁ u₂ w₁ w₂ framing next (Ok (turn.Answered status))
+  -- once a message was answered, one more is answered
+  pub went_on : (status : ℕ) → AnswersNext mid new u₁ u₂ w₁ w₂ framing next (Ok (handled.Answered status))
       → SoFar old new u₀ u₂ w₀ w₂ next
   went_on status (Closes closing, takes, through, is, appends) = cc
   went_on status (Answers x, takes, through, is, appends) = record {
@@ -129,17 +129,17 @@ module _
       (λ more may. subst (λ (l : List ℕ). IsClosing l closing) (sym (append_assoc framing.held takes.bytes more))
       (takes.stands more may)) delivers
 
-  -- a call does as `ServesAllHeard` says if its last turn closed the stream and it flushed, or failed at it
+  -- a call does as `ServesAllHeard` says if its session closed the stream at last and it flushed, or failed at it
   pub closed : (closing : Option Fixed) (w₃ : Option (List ℕ)) (result : Result (Unit {0}) Io)
-      → Turns mid new u₁ u₂ w₁ w₂ framing next (Ok (turn.Closed closing)) → Keeps w₂ w₃
+      → AnswersNext mid new u₁ u₂ w₁ w₂ framing next (Ok (handled.Closed closing)) → Keeps w₂ w₃
       → IfErr result (λ e. e ≡ io.Write)
       → ServesAllHeard old new u₀ u₂ w₀ w₃ result
   closed closing w₃ result (Answers x, takes, through, is, appends) keeps which = cc
   closed closing w₃ result (Closes by, takes, through, is, appends) keeps which =
       closed_by by w₃ result takes through (delivered w₁ w₂ w₃ (closing_bytes by) result appends keeps which)
 
-  -- a call whose last turn failed does as `ServesAllHeard` says
-  pub failed : (e : Io) → Turns mid new u₁ u₂ w₁ w₂ framing next (Err e) → ServesAllHeard old new u₀ u₂ w₀ w₂ (Err e)
+  -- a call whose session failed at last does as `ServesAllHeard` says
+  pub failed : (e : Io) → AnswersNext mid new u₁ u₂ w₁ w₂ framing next (Err e) → ServesAllHeard old new u₀ u₂ w₀ w₂ (Err e)
   failed io.Read (bytes, consumed, waits, through, keeps) =
       let all = with_nothing bytes through in
       record {

@@ -29,7 +29,7 @@ Spends left left_new reads reads_new = left + reads.begun ≤ left_new + reads_n
 abbrev pub IsUnreadable : ℕ → Reads → Reads → Type 0
 IsUnreadable left reads reads_new = (reads.failed < reads_new.failed) ⊎ (left + reads.begun ≤ reads_new.begun)
 
--- why a turn failed that had so many reads left: a call of the reader failed or all of them began, or a call of the
+-- why a session failed that had so many reads left: a call of the reader failed or all of them began, or a call of the
 -- writer failed
 abbrev pub IsCausedIn : ℕ → Reads → Reads → Writes → Writes → Io → Type 0
 IsCausedIn left reads reads_new writes writes_new io.Read = IsUnreadable left reads reads_new

@@ -11,6 +11,6 @@ pub mod Reply
 pub mod Request
 pub mod Served
 pub mod Store
-pub mod Turn
+pub mod Session
 pub mod TwoStores
 pub mod Written

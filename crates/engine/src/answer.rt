@@ -6,7 +6,7 @@ ghost use Rattle.engine.specs.Isolated.{AnswersByItsShelf, AnswersHeardByItsShel
 ghost use Rattle.engine.specs.Served.{Serves, ServesAllHeard};
 
 use crate::fault::Io;
-use crate::session::{Session, Turn, end_turn};
+use crate::session::{Handled, Session, finish};
 use crate::write::flush;
 use histories::{Hear, Tell};
 use std::alloc::Global;
@@ -29,7 +29,7 @@ fn answer_each<R: Hear, W: Tell, S: Shelves>(
     let mut routes = RouteTable::new(alloc);
     let mut session = Session::new(alloc);
     loop {
-        if let Turn::Closed(_) = session.turn(&mut routes, reader, writer, shelves)? {
+        if let Handled::Closed(_) = session.answer_next(&mut routes, reader, writer, shelves)? {
             return flush(writer);
         }
     }
@@ -98,6 +98,6 @@ pub fn answer_one<R: Hear, W: Tell, S: Shelves>(
         (R.remaining reader.old) (W.contents writer.old) (W.contents writer.new) result }
 {
     let mut session = Session::new(alloc);
-    let turned = session.turn(routes, reader, writer, shelves);
-    end_turn(writer, turned)
+    let handled = session.answer_next(routes, reader, writer, shelves);
+    finish(writer, handled)
 }

@@ -44,7 +44,7 @@
 //! An interrupted read or write is tried at most 1,000 times. If the reader or the writer fails, the call fails with
 //! [`Io`]: what was done before stays, and the contracts of [`answer_all`] and [`answer_one`] say what was written.
 //!
-//! A stream is a `Session`, and each message one turn of it: [`answer_all`] takes all turns of its stream, and
+//! A stream is a `Session`, which answers one message after another: [`answer_all`] answers all of its stream, and
 //! [`answer_one`] the first. A router reads the targets. [`answer_all`] makes one for its stream; a caller of
 //! [`answer_one`] with many streams lends one to all.
 #![tactic(auto)]

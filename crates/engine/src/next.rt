@@ -1,7 +1,7 @@
 //! Taking the next message of a stream.
 ghost use Rattle.std.specs.Prelude.{◌≡◌, ◌≤◌, None, IfOk, IfErr};
 ghost use Rattle.engine.specs.Causes.{AsksWhileUnfinished, IsUnreadable, Spends};
-ghost use Rattle.engine.specs.Turn.{Comes, Takes};
+ghost use Rattle.engine.specs.Session.{Comes, Takes};
 
 use crate::fault::Io;
 use crate::read::{AfterRead, read_more};

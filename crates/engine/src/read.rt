@@ -5,7 +5,7 @@ ghost use Rattle.histories.specs.Account.{Gives};
 ghost use Rattle.framing.specs.Framing.{IsUnfinished};
 ghost use Rattle.engine.specs.Causes.{FailsWith, GivesNone};
 ghost use Rattle.engine.specs.Served.{body_read_limit, read_limit};
-ghost use Rattle.engine.specs.Turn.{ReadsOn, StaysNear};
+ghost use Rattle.engine.specs.Session.{ReadsOn, StaysNear};
 
 use crate::fault::Io;
 use histories::Hear;

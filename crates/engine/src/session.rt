@@ -1,10 +1,10 @@
-//! Answering a stream of messages, turn by turn.
+//! Answering a stream of messages, one after another.
 ghost use Rattle.std.specs.Prelude.{◌≡◌, ◌<◌, ◌≤◌, ◌-◌, ◌^◌, [], None, IfOk, IfErr, OnOk};
 ghost use Rattle.std.specs.Io.KnownBytes.{Keeps};
 ghost use Rattle.engine.specs.Causes.{AsksWhileUnfinished, FailsWith, IsCausedIn, Spends};
 ghost use Rattle.engine.specs.Reply.{page_bytes, page_status};
 ghost use Rattle.engine.specs.Served.{closing_bytes};
-ghost use Rattle.engine.specs.Turn.{EndsBy, IsAnswered, IsClosed, Turns, turn_status, work};
+ghost use Rattle.engine.specs.Session.{AnswersNext, EndsBy, IsAnswered, IsClosed, handled_status, work};
 ghost use Rattle.engine.specs.Written.{Writes};
 
 use crate::fault::Io;
@@ -19,63 +19,66 @@ use wire::reply::Fixed;
 use wire::{Framer, RouteTable};
 use world::shelves::Shelves;
 
-/// What a turn did.
+/// What was done with what came next on a stream.
 #[derive(Clone, Copy, Drop)]
-pub(crate) enum Turn {
-    /// It answered a message, with this status.
+pub(crate) enum Handled {
+    /// A message was answered, with this status.
     Answered(u16),
-    /// It closed the stream: by this reply, or by nothing at a good end.
+    /// The stream was closed: by this reply, or by nothing at a good end.
     Closed(Option<Fixed>),
 }
 
-impl Turn {
+impl Handled {
     /// Returns the status that was written, or None if nothing was.
     fn status(self) -> Option<u16>
-        ensures { result ≡ turn_status self }
+        ensures { result ≡ handled_status self }
     {
         match self {
-            Turn::Answered(status) => Some(status),
-            Turn::Closed(Some(closing)) => Some(closing.status().as_u16()),
-            Turn::Closed(None) => None,
+            Handled::Answered(status) => Some(status),
+            Handled::Closed(Some(closing)) => Some(closing.status().as_u16()),
+            Handled::Closed(None) => None,
         }
     }
 }
 
-/// Writes the reply to a message and returns the turn. `Io::Write` if a write fails.
-fn answer_with<W: Tell>(alloc: Global, writer: &mut W, page: Page) -> Result<Turn, Io>
+/// Writes the reply to a message, and returns its status as `Handled::Answered`. `Io::Write` if a write fails.
+fn answer_with<W: Tell>(alloc: Global, writer: &mut W, page: Page) -> Result<Handled, Io>
     ensures bytes { Writes (W.contents writer.old) (W.contents writer.new) (page_bytes page) result }
-    ensures turn { IfOk result (λ turn. turn ≡ Turn.Answered (page_status page)) }
+    ensures handled { IfOk result (λ handled. handled ≡ Handled.Answered (page_status page)) }
     ensures fails { FailsWith (W.writes writer.old).failed (W.writes writer.new).failed result }
 {
     let status = write_page(alloc, writer, &page)?;
-    Ok(Turn::Answered(status.as_u16()))
+    Ok(Handled::Answered(status.as_u16()))
 }
 
-/// Closes a stream by a fixed reply or by nothing, and returns the turn. `Io::Write` if a write fails.
-fn close_by<W: Tell>(writer: &mut W, closing: Option<Fixed>) -> Result<Turn, Io>
+/// Closes a stream by a fixed reply or by nothing. `Io::Write` if a write fails.
+fn close_by<W: Tell>(writer: &mut W, closing: Option<Fixed>) -> Result<Handled, Io>
     ensures bytes { Writes (W.contents writer.old) (W.contents writer.new) (closing_bytes closing) result }
-    ensures turn { IfOk result (λ turn. turn ≡ Turn.Closed closing) }
+    ensures handled { IfOk result (λ handled. handled ≡ Handled.Closed closing) }
     ensures fails { FailsWith (W.writes writer.old).failed (W.writes writer.new).failed result }
 {
     if let Some(closing) = closing {
         write_fixed(writer, closing)?;
     }
-    Ok(Turn::Closed(closing))
+    Ok(Handled::Closed(closing))
 }
 
-/// Flushes what a turn wrote and returns its status, or None if it wrote nothing. `Io::Write` if the flush fails. If
-/// the turn failed, it returns the turn's error and does not flush.
-pub(crate) fn end_turn<W: Tell>(writer: &mut W, turned: Result<Turn, Io>) -> Result<Option<u16>, Io>
+/// Flushes what was written and returns its status, or None if nothing was. `Io::Write` if the flush fails. If
+/// answering failed, it returns that error and does not flush.
+pub(crate) fn finish<W: Tell>(
+    writer: &mut W,
+    handled: Result<Handled, Io>,
+) -> Result<Option<u16>, Io>
     ensures bytes { Keeps (W.contents writer.old) (W.contents writer.new) }
-    ensures ends { EndsBy turned result }
+    ensures ends { EndsBy handled result }
     // What was written is flushed.
     ensures flushed { OnOk result ((W.writes writer.new).unflushed ≡ []) }
-    ensures fails { IfOk turned (λ _. FailsWith (W.writes writer.old).failed (W.writes writer.new).failed result) }
+    ensures fails { IfOk handled (λ _. FailsWith (W.writes writer.old).failed (W.writes writer.new).failed result) }
     ensures later { (W.writes writer.old).failed ≤ (W.writes writer.new).failed }
 {
-    let turn = turned?;
+    let handled = handled?;
     flush(writer)?;
-    Ok(turn.status())
+    Ok(handled.status())
 }
 
 /// A stream of messages that is being answered. It holds the bytes that were read after the answered messages.
@@ -100,21 +103,21 @@ impl Session {
         }
     }
 
-    /// Takes one turn: answers the next message of the stream, or closes the stream if none comes. It reads at most
-    /// 4,096 bytes after that message, or after the point at which the stream can't go on. It does not flush. The
-    /// caller lends the router, so that it makes one for many streams.
+    /// Answers the next message of the stream, or closes the stream if none comes. It reads at most 4,096 bytes after
+    /// that message, or after the point at which the stream can't go on. It does not flush. The caller lends the
+    /// router, so that it makes one for many streams.
     ///
     /// `Io::Read`: a read failed, nothing was done, and nothing is written. `Io::Write`: a write failed; a beginning of
     /// the text is written, and the shelves are as after the message.
-    pub(crate) fn turn<R: Hear, W: Tell, S: Shelves>(
+    pub(crate) fn answer_next<R: Hear, W: Tell, S: Shelves>(
         &mut self,
         routes: &mut RouteTable,
         reader: &mut R,
         writer: &mut W,
         shelves: &mut S,
-    ) -> Result<Turn, Io>
+    ) -> Result<Handled, Io>
         requires { self.old.framer.failure ≡ None }
-        ensures turns { Turns (S.shown shelves.old) (S.shown shelves.new)
+        ensures answers { AnswersNext (S.shown shelves.old) (S.shown shelves.new)
             (R.account reader.old) (R.account reader.new) (W.contents writer.old) (W.contents writer.new)
             self.old.framer self.new.framer result }
         // No read began once the bytes that came say what is to be answered.
@@ -127,10 +130,10 @@ impl Session {
             (λ _. Spends self.old.reads self.new.reads (R.reads reader.old) (R.reads reader.new)) }
         ensures later_reads { (R.reads reader.old).failed ≤ (R.reads reader.new).failed }
         ensures later_writes { (W.writes writer.old).failed ≤ (W.writes writer.new).failed }
-        // A turn that closed the stream and a failed read leave the shelves untouched.
-        ensures empty { IfOk result (λ turn. IsClosed turn → shelves.new ≡ shelves.old) }
+        // If the stream was closed, or a read failed, it leaves the shelves untouched.
+        ensures empty { IfOk result (λ handled. IsClosed handled → shelves.new ≡ shelves.old) }
         ensures unread { IfErr result (λ e. e ≡ Io.Read → shelves.new ≡ shelves.old) }
-        ensures falls { IfOk result (λ turn. IsAnswered turn
+        ensures falls { IfOk result (λ handled. IsAnswered handled
             → work self.new.reads self.new.framer.held < work self.old.reads self.old.framer.held) }
     {
         match next_message(reader, &mut self.framer, &mut self.reads)? {

@@ -2,7 +2,7 @@ use Rattle.std.proofs.Common.{[], Some, inl, refl}
 use Rattle.std.proofs.KnownBytes.{Appends-nil}
 use Rattle.control.proofs.HearingLemmas.{hears_no_memory, obeys_told}
 use Rattle.control.proofs.PaceLemmas.{answered_in_time, unwritten_in_time}
-use Rattle.control.proofs.TurnLemmas.{turns_none}
+use Rattle.control.proofs.TaskLemmas.{tasks_none}
 use Rattle.control.proofs.callers.obey_since.Goals as goal
 use Rattle.control.proofs.callers.obey_since.Goals.{in-Ok, in-Err-Io, in-Err-Memory}
 
@@ -10,13 +10,13 @@ pub returns-clause-obeys : goal.returns-clause-obeys
 returns-clause-obeys g c = elim c.match-got.branch [
   | in-Ok w ↦ rw (w.writer-is, w.shelves-is, w.copies-is, c.into_inner-reader.ensures.same)
       ((rw w.deref.ensures.value at w.answer_since.ensures.obeys) _ _ (rw c.new-line.ensures at w.in-Ok.ensures.reads))
-  | in-Err-Io w ↦ rw (w.writer-is, w.shelves-is, w.copies-is) (refl, turns_none (g.S.Shelves.shown c.args.shelves.now), refl)
+  | in-Err-Io w ↦ rw (w.writer-is, w.shelves-is, w.copies-is) (refl, tasks_none (g.S.Shelves.shown c.args.shelves.now), refl)
   | in-Err-Memory w ↦
       let before = Some c.args.operator.writer.noted.bytes in
       let after = Some w.tell_since.result.0.noted.bytes in
       rw (w.writer-is, w.shelves-is, w.copies-is)
       (obeys_told _ _ _ _ _ _ _ _ before before after [] (Appends-nil before) _ w.tell_since.result.1
-      (hears_no_memory _ _ _ _ _ _ _ _ refl (turns_none _)) w.tell_since.ensures.same w.tell_since.ensures.tells)
+      (hears_no_memory _ _ _ _ _ _ _ _ refl (tasks_none _)) w.tell_since.ensures.same w.tell_since.ensures.tells)
 ]
 
 pub returns-clause-writes_in_time : goal.returns-clause-writes_in_time

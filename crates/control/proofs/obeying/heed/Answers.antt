@@ -5,7 +5,7 @@ use Rattle.control.specs.Hearing.{Carried, Made, Listed, Pinged, Named, Stop, No
 use Rattle.control.specs.declared.told.Told.TheVariants as spoken
 use Rattle.control.proofs.ListingLemmas.{list_only_reads}
 use Rattle.control.proofs.PingLemmas.{tells_no_ping}
-use Rattle.control.proofs.TurnLemmas.{turns_none, turns_read, turns_ordered}
+use Rattle.control.proofs.TaskLemmas.{tasks_none, tasks_read, tasks_ordered}
 use Rattle.control.proofs.obeying.heed.Goals as goal
 
 pub returns-in-Some-Stop-clause-heeds : goal.returns-in-Some-Stop-clause-heeds
@@ -14,7 +14,7 @@ returns-in-Some-Stop-clause-heeds g c = λ none. record {
   from = rw c.in-Some-Stop.field-0-is at c.in-Some-Stop.ensures;
   prints = refl;
   tells = refl;
-  through = (refl, turns_none _);
+  through = (refl, tasks_none _);
   came = tt;
   lists = tt;
 }
@@ -25,7 +25,7 @@ returns-in-Some-Ping-clause-heeds g c = λ none. record {
   from = rw c.in-Some-Ping.field-0-is at c.in-Some-Ping.ensures;
   prints = refl;
   tells = c.ping.ensures.pings.tells;
-  through = (refl, turns_read _ _ c.ping.ensures.pings.reads);
+  through = (refl, tasks_read _ _ c.ping.ensures.pings.reads);
   came = c.ping.ensures.pings.came;
   lists = tt;
 }
@@ -47,7 +47,7 @@ returns-in-Some-List-clause-heeds g c = λ none. record {
   from = rw c.in-Some-List.field-0-is at c.in-Some-List.ensures;
   prints = refl;
   tells = c.list.ensures.tells;
-  through = (refl, turns_read _ _ (list_only_reads _ _ _ _ c.list.ensures.reads));
+  through = (refl, tasks_read _ _ (list_only_reads _ _ _ _ c.list.ensures.reads));
   came = tt;
   lists = c.list.ensures.reads;
 }
@@ -69,7 +69,7 @@ returns-in-Some-Registry-clause-heeds g c = λ none. record {
   from = rw c.in-Some-Registry.field-0-is at c.in-Some-Registry.ensures;
   prints = refl;
   tells = ap spoken.Outcome c.outcome_of.ensures;
-  through = (refl, turns_ordered _ _ _ _ c.carry_out.ensures.does);
+  through = (refl, tasks_ordered _ _ _ _ c.carry_out.ensures.does);
   came = tt;
   lists = tt;
 }
@@ -80,7 +80,7 @@ returns-in-None-clause-heeds g c = λ none. record {
   from = (c.in-None.ensures, none);
   prints = refl;
   tells = refl;
-  through = (refl, turns_none _);
+  through = (refl, tasks_none _);
   came = tt;
   lists = tt;
 }

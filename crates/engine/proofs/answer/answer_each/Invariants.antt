@@ -1,6 +1,6 @@
 use Rattle.std.proofs.Common.{◌≤◌}
 use Rattle.engine.specs.Causes.{Spends, most_reads}
-use Rattle.engine.specs.Turn.{SoFar, work}
+use Rattle.engine.specs.Session.{SoFar, work}
 use Rattle.engine.proofs.answer.answer_each.Given as goal
 
 abbrev pub invariant-loop-session : goal.invariant-loop-session

@@ -1,6 +1,6 @@
 use Rattle.std.proofs.Common.{◌≤◌}
 use Rattle.engine.specs.Causes.{AsksWhileUnfinished, Spends}
-use Rattle.engine.specs.Turn.{ReadSoFar}
+use Rattle.engine.specs.Session.{ReadSoFar}
 use Rattle.engine.proofs.next.next_message.Given as goal
 
 abbrev pub invariant-loop-next : goal.invariant-loop-next

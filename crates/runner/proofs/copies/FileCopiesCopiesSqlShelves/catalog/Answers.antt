@@ -1,6 +1,6 @@
 use Rattle.std.proofs.Common.{◌∙◌, inl, sym}
 use Rattle.sqlite.specs.Held.{state}
-use Rattle.control.proofs.TurnLemmas.{read_none}
+use Rattle.control.proofs.TaskLemmas.{read_none}
 use Rattle.store.specs.Shown.{shown_with}
 use Rattle.runner.proofs.CopyLemmas.{output_told, prints_alone}
 use Rattle.runner.proofs.copies.FileCopiesCopiesSqlShelves.catalog.Goals as goal

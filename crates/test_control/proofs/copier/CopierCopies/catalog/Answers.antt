@@ -1,6 +1,6 @@
 use Rattle.std.proofs.Common.{[]}
 use Rattle.std.proofs.KnownBytes.{Appends-nil}
-use Rattle.control.proofs.TurnLemmas.{read_none}
+use Rattle.control.proofs.TaskLemmas.{read_none}
 use Rattle.test_control.proofs.copier.CopierCopies.catalog.Goals as goal
 
 pub returns-then-not-turn-clause-turns : goal.returns-then-not-turn-clause-turns

@@ -1,4 +1,4 @@
-use Rattle.control.proofs.TurnLemmas.{read_none}
+use Rattle.control.proofs.TaskLemmas.{read_none}
 use Rattle.test_control.proofs.copier.CopierCopies.copy.Goals as goal
 
 -- it was told how far the copy is, and took a turn

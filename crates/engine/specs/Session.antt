@@ -1,4 +1,4 @@
--- What one turn of reading or answering does.
+-- What is read of a stream, and how what comes next is answered.
 use Rattle.std.specs.Prelude.{◌≡◌, ◌≢◌, ℕ, ◌≤◌, ◌<◌, ◌+◌, ◌*◌, ◌⊎◌, List, [], ◌∷◌, ◌++◌}
 use Rattle.std.specs.Prelude.{Option, Some, None, length, map, Result, Ok, Err, MatchResult}
 use Rattle.std.specs.Io.KnownBytes.{Appends, Keeps}
@@ -19,8 +19,8 @@ use Rattle.engine.specs.declared.next.MessageOrEnd.{MessageOrEnd}
 use Rattle.engine.specs.declared.next.MessageOrEnd.TheVariants as came
 use Rattle.engine.specs.declared.read.AfterRead.{AfterRead}
 use Rattle.engine.specs.declared.read.AfterRead.TheVariants as after_read
-use Rattle.engine.specs.declared.session.Turn.{Turn}
-use Rattle.engine.specs.declared.session.Turn.TheVariants as turn
+use Rattle.engine.specs.declared.session.Handled.{Handled}
+use Rattle.engine.specs.declared.session.Handled.TheVariants as handled
 
 -- what is taken from the front of the held bytes, or nothing if more are needed; memory runs out only for a whole
 -- message
@@ -89,43 +89,43 @@ Comes old new reads reads_new unread unread_new (Ok (came.End closing)) =
 Comes old new reads reads_new unread unread_new (Err e) =
     (e ≡ io.Read) × ((bytes : List ℕ) × Gives unread unread_new bytes × IsUnfinished (old.held ++ bytes))
 
--- the turn that takes what comes next
-abbrev pub turn_of : First → Turn
-turn_of (Answers x) = turn.Answered (status_of x)
-turn_of (Closes closing) = turn.Closed closing
+-- how what comes next is handled
+abbrev pub handled_of : First → Handled
+handled_of (Answers x) = handled.Answered (status_of x)
+handled_of (Closes closing) = handled.Closed closing
 
--- the status that a turn wrote, if it wrote one
-abbrev pub turn_status : Turn → Option ℕ
-turn_status (turn.Answered status) = Some status
-turn_status (turn.Closed closing) = closing_status closing
+-- the status that was written, if one was
+abbrev pub handled_status : Handled → Option ℕ
+handled_status (handled.Answered status) = Some status
+handled_status (handled.Closed closing) = closing_status closing
 
-abbrev pub IsAnswered : Turn → Type 0
-IsAnswered (turn.Answered status) = Unit {0}
-IsAnswered (turn.Closed closing) = ⊥
+abbrev pub IsAnswered : Handled → Type 0
+IsAnswered (handled.Answered status) = Unit {0}
+IsAnswered (handled.Closed closing) = ⊥
 
-abbrev pub IsClosed : Turn → Type 0
-IsClosed (turn.Answered status) = ⊥
-IsClosed (turn.Closed closing) = Unit {0}
+abbrev pub IsClosed : Handled → Type 0
+IsClosed (handled.Answered status) = ⊥
+IsClosed (handled.Closed closing) = Unit {0}
 
 -- The next message was answered as the machine answers it, or the stream was closed without one. Or a read failed
 -- before, and nothing was done; or a write failed, and a beginning was written.
-abbrev pub Turns :
+abbrev pub AnswersNext :
     Shown → Shown → Account → Account → Option (List ℕ) → Option (List ℕ) → Framing → Framing
-    → Result Turn Io → Type 0
-Turns old new unread unread_new written written_new held held_new (Ok turn) =
+    → Result Handled Io → Type 0
+AnswersNext old new unread unread_new written written_new held held_new (Ok handled) =
     (first : First) × TakesNext held held_new unread unread_new first × GoesThrough old new (first_exchanges first)
-    × (turn ≡ turn_of first) × Appends written written_new (first_bytes first)
-Turns old new unread unread_new written written_new held held_new (Err io.Read) =
+    × (handled ≡ handled_of first) × Appends written written_new (first_bytes first)
+AnswersNext old new unread unread_new written written_new held held_new (Err io.Read) =
     (bytes : List ℕ) × Gives unread unread_new bytes × IsUnfinished (held.held ++ bytes) × GoesThrough old new []
     × Keeps written written_new
-Turns old new unread unread_new written written_new held held_new (Err io.Write) =
+AnswersNext old new unread unread_new written written_new held held_new (Err io.Write) =
     (first : First) × TakesNext held held_new unread unread_new first × GoesThrough old new (first_exchanges first)
     × WritesBeginning written written_new (first_bytes first)
 
--- the result of `end_turn`: the status of the turn, `Io::Write` if the flush failed, or the error of the turn
-abbrev pub EndsBy : Result Turn Io → Result (Option ℕ) Io → Type 0
-EndsBy (Ok turn) (Ok status) = status ≡ turn_status turn
-EndsBy (Ok turn) (Err e) = e ≡ io.Write
+-- the result of `finish`: the status, `Io::Write` if the flush failed, or the error of answering
+abbrev pub EndsBy : Result Handled Io → Result (Option ℕ) Io → Type 0
+EndsBy (Ok handled) (Ok status) = status ≡ handled_status handled
+EndsBy (Ok handled) (Err e) = e ≡ io.Write
 EndsBy (Err e) result = result ≡ Err e
 
 -- the messages at the front of the input were answered, and rest follows them

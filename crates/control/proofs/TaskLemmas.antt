@@ -1,4 +1,4 @@
--- A store goes through turns: none, one, and more after others.
+-- A store goes through tasks: none, one, and more after others.
 use Rattle.std.specs.Prelude.{◌||◌}
 use Rattle.std.proofs.Common.{◌≡◌, ◌+◌, ◌≤◌, Bool, true, false, List, [], ◌∷◌, ◌++◌, length, map, refl, sym, subst, ap}
 use Rattle.std.proofs.Common.{◌∙◌, inl, inr, Result, Ok, Err, arith, append-nil}
@@ -17,8 +17,8 @@ use Rattle.engine.specs.Store.{GoesThrough}
 use Rattle.engine.proofs.RunLemmas.{world_more, met_either}
 use Rattle.control.specs.Copying.{IsOnlyRead}
 use Rattle.control.specs.RegistryCommand.{event_of, outcome_in}
-use Rattle.control.specs.Turns.{Turn, Asked, Ordered, turn_event, turn_answer, messages, AllCalm, LeavesTwo, StandsIf}
-use Rattle.control.specs.Turns.{world_at, GoesThroughTurns}
+use Rattle.control.specs.Tasks.{Task, Asked, Ordered, task_event, task_answer, messages, AllCalm, LeavesTwo, StandsIf}
+use Rattle.control.specs.Tasks.{world_at, GoesThroughTasks}
 use Rattle.control.specs.declared.registry_command.RegistryCommand.{RegistryCommand}
 use Rattle.control.specs.declared.registry_command.RegistryCommand.TheVariants.{TeamAdd, GroupAdd, KeyAdd}
 use Rattle.control.specs.declared.registry_command.RegistryCommand.TheVariants.{KeyRevoke, KeysRevoke}
@@ -26,9 +26,9 @@ use Rattle.control.proofs.CrashLemmas.{leaves_still, leaves_more, world_step}
 
 -- ---- none
 
--- an unchanged store goes through no turns
-pub turns_none : (shown : Shown) → GoesThroughTurns shown shown [] false
-turns_none shown = record {
+-- an unchanged store goes through no tasks
+pub tasks_none : (shown : Shown) → GoesThroughTasks shown shown [] false
+tasks_none shown = record {
   runs = record {
     honest = λ h. h;
     at = λ h w stands. runs_none shown w stands;
@@ -59,9 +59,9 @@ read_runs old new w stands left = record {
   beside = λ x was. (x, left w x was, inr (inr (refl, tt)));
 }
 
--- a store that was only read goes through no turns
-pub turns_read : (old new : Shown) → IsOnlyRead old new → GoesThroughTurns old new [] true
-turns_read old new read = record {
+-- a store that was only read goes through no tasks
+pub tasks_read : (old new : Shown) → IsOnlyRead old new → GoesThroughTasks old new [] true
+tasks_read old new read = record {
   runs = record {
     honest = read.honest;
     at = λ h w stands. read_runs old new w (read.stays h w stands) (λ x y was. read.left h w x y stands was);
@@ -91,10 +91,10 @@ stands_next true true old mid on some = on some.0 some.1
 
 -- ---- one
 
--- a store that goes through the messages of one connection goes through their turns
-pub turns_asked : (old new : Shown) (xs : List Exchange) → length xs ≤ 1 → GoesThrough old new xs
-    → GoesThroughTurns old new (map Asked xs) false
-turns_asked old new [] few through = record {
+-- a store that goes through the messages of one connection goes through their tasks
+pub tasks_asked : (old new : Shown) (xs : List Exchange) → length xs ≤ 1 → GoesThrough old new xs
+    → GoesThroughTasks old new (map Asked xs) false
+tasks_asked old new [] few through = record {
   runs = through.runs;
   left = through.left;
   settled = λ h w stands calm was. through.settled h w stands tt was;
@@ -102,7 +102,7 @@ turns_asked old new [] few through = record {
   no_fewer = through.no_fewer;
   device = through.device;
 }
-turns_asked old new (x ∷ []) few through = record {
+tasks_asked old new (x ∷ []) few through = record {
   runs = through.runs;
   left = through.left;
   settled = λ h w stands calm was. through.settled h w stands calm was;
@@ -110,7 +110,7 @@ turns_asked old new (x ∷ []) few through = record {
   no_fewer = through.no_fewer;
   device = through.device;
 }
-turns_asked old new (x ∷ y ∷ more) few through = absurd (omega (arith, few))
+tasks_asked old new (x ∷ y ∷ more) few through = absurd (omega (arith, few))
 
 module _ (old new : Shown) (w : World) where
   -- what was done for a registry command is what the machine does for its event
@@ -135,11 +135,11 @@ module _ (old new : Shown) (w : World) where
     crash = record { either = does.crash.either; alone = does.crash.alone; settled = does.crash.settled; failed = tt };
   }
 
--- a store that carried out a registry command goes through one turn
-pub turns_ordered : (old new : Shown) (o : RegistryCommand) (told : Result RegistryReply StoreFault)
+-- a store that carried out a registry command goes through one task
+pub tasks_ordered : (old new : Shown) (o : RegistryCommand) (told : Result RegistryReply StoreFault)
     → Does old new told (λ w. outcome_in w o) (λ w. after w (event_of o))
-    → GoesThroughTurns old new (Ordered o told ∷ []) false
-turns_ordered old new o (Ok r) does = record {
+    → GoesThroughTasks old new (Ordered o told ∷ []) false
+tasks_ordered old new o (Ok r) does = record {
   runs = record {
     honest = λ h. does.honest h;
     at = λ h w stands. runs_replied old new w (event_of o) (Registry r) (replied old new w o r (does.at h w stands tt));
@@ -150,7 +150,7 @@ turns_ordered old new o (Ok r) does = record {
   no_fewer = does.cause.no_fewer;
   device = λ met. elim met [ inl same ↦ cc | inr never ↦ absurd never ];
 }
-turns_ordered old new o (Err fault) does = record {
+tasks_ordered old new o (Err fault) does = record {
   runs = record {
     honest = λ h. does.honest h;
     at = λ h w stands. runs_failed old new w (event_of o) fault (outcome_in w o) (does.at h w stands tt);
@@ -167,24 +167,24 @@ turns_ordered old new o (Err fault) does = record {
 
 -- ---- more after others
 
-calm_both : (w : World) (ts us : List Turn) → AllCalm w (ts ++ us) → AllCalm w ts × AllCalm (world_at w ts) us
+calm_both : (w : World) (ts us : List Task) → AllCalm w (ts ++ us) → AllCalm w ts × AllCalm (world_at w ts) us
 calm_both w [] us all = (tt, all)
 calm_both w (t ∷ ts) us all =
     let both = calm_both (world_at w (t ∷ [])) ts us all.1 in
     ((all.0, both.0), subst (λ v. AllCalm v us) (world_step w t ts) both.1)
 
-none_of : (ts us : List Turn) → ts ++ us ≡ [] → (ts ≡ []) × (us ≡ [])
+none_of : (ts us : List Task) → ts ++ us ≡ [] → (ts ≡ []) × (us ≡ [])
 none_of [] us e = (refl, e)
 none_of (t ∷ ts) us e = cc
 
-pub messages_append : (ts us : List Turn) → messages (ts ++ us) ≡ messages ts + messages us
+pub messages_append : (ts us : List Task) → messages (ts ++ us) ≡ messages ts + messages us
 messages_append [] us = omega arith
 messages_append (Asked x ∷ ts) us = let e = messages_append ts us in omega (arith, e)
 messages_append (Ordered o told ∷ ts) us = messages_append ts us
 
-module _ (old mid new : Shown) (ts : List Turn) (b : Bool) (first : GoesThroughTurns old mid ts b) where
-  -- a crash after more turns leaves one of two worlds
-  leaves_after : (us : List Turn) (c : Bool) → GoesThroughTurns mid new us c → new.is_honest → (w : World)
+module _ (old mid new : Shown) (ts : List Task) (b : Bool) (first : GoesThroughTasks old mid ts b) where
+  -- a crash after more tasks leaves one of two worlds
+  leaves_after : (us : List Task) (c : Bool) → GoesThroughTasks mid new us c → new.is_honest → (w : World)
       → old.stands w → old.leaves w w
       → LeavesTwo new w (ts ++ us)
   leaves_after [] c next h w stands was =
@@ -197,18 +197,18 @@ module _ (old mid new : Shown) (ts : List Turn) (b : Bool) (first : GoesThroughT
       leaves_more new w ts u us
       (λ all. next.left h _ (first.runs.at honest w stands).ends (first.settled honest w stands all was))
 
-  module _ (us : List Turn) (c : Bool) where
+  module _ (us : List Task) (c : Bool) where
     same_world : mid.is_honest → (w : World) → old.stands w → world_at (world_at w ts) us ≡ world_at w (ts ++ us)
     same_world h w stands =
-        rw (map-append turn_event ts us, map-append turn_answer ts us)
-        (world_more w _ (map turn_event ts) (map turn_event us) (map turn_answer ts) (map turn_answer us)
+        rw (map-append task_event ts us, map-append task_answer ts us)
+        (world_more w _ (map task_event ts) (map task_event us) (map task_answer ts) (map task_answer us)
         (first.runs.at h w stands).run)
 
-    -- a store that goes through some turns and then through more goes through all of them
-    pub turns_more : GoesThroughTurns mid new us c → GoesThroughTurns old new (ts ++ us) (b || c)
-    turns_more next = record {
-      runs = rw (map-append turn_event ts us, map-append turn_answer ts us)
-          (runs_joined old mid new (map turn_event ts) (map turn_event us) (map turn_answer ts) (map turn_answer us)
+    -- a store that goes through some tasks and then through more goes through all of them
+    pub tasks_more : GoesThroughTasks mid new us c → GoesThroughTasks old new (ts ++ us) (b || c)
+    tasks_more next = record {
+      runs = rw (map-append task_event ts us, map-append task_answer ts us)
+          (runs_joined old mid new (map task_event ts) (map task_event us) (map task_answer ts) (map task_answer us)
           first.runs next.runs);
       left = leaves_after us c next;
       settled = λ h w stands calm was.
@@ -224,8 +224,8 @@ module _ (old mid new : Shown) (ts : List Turn) (b : Bool) (first : GoesThroughT
           next.untouched both.1 there h w x (first.untouched both.0 (stands_first b c old some) honest w x was);
       no_fewer = omega (arith, first.no_fewer, next.no_fewer);
       device = λ met.
-          let either = met_either (map turn_answer ts) (map turn_answer us)
-          (rw (map-append turn_answer ts us) at met) in
+          let either = met_either (map task_answer ts) (map task_answer us)
+          (rw (map-append task_answer ts us) at met) in
           elim either [
             | inl earlier ↦ grown_more _ _ _ (first.device earlier) next.no_fewer
             | inr later ↦ grown_before _ _ _ first.no_fewer (next.device later)

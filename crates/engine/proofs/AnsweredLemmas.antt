@@ -11,7 +11,7 @@ use Rattle.engine.specs.Exchange.{Exchange, message_of}
 use Rattle.engine.specs.Reply.{text_of}
 use Rattle.engine.specs.Served.{texts_of}
 use Rattle.engine.specs.Store.{GoesThrough}
-use Rattle.engine.specs.Turn.{Answered, CutShort}
+use Rattle.engine.specs.Session.{Answered, CutShort}
 use Rattle.engine.specs.Written.{WritesBeginning}
 use Rattle.framing.proofs.PieceLemmas.{ReadsMessages-append, ReadsMessages-join}
 use Rattle.engine.proofs.StoreLemmas.{through_none, through_more}

@@ -6,27 +6,27 @@ use Rattle.engine.specs.Exchange.{Exchange, Unserved, answer_to}
 use Rattle.engine.specs.Reply.{answer_page, IsOutcome}
 use Rattle.engine.proofs.RequestLemmas.{sum_asked}
 use Rattle.engine.proofs.CausesLemmas.{caused_unread, caused_unwritten}
-use Rattle.engine.proofs.SessionLemmas.{turned_message, turned_page, turned_end, turned_unread}
+use Rattle.engine.proofs.SessionLemmas.{handled_message, handled_page, handled_end, handled_unread}
 use Rattle.engine.proofs.StoreLemmas.{through_asked, through_unasked}
-use Rattle.engine.proofs.session.Session.turn.Goals as goal
+use Rattle.engine.proofs.session.Session.answer_next.Goals as goal
 
-pub returns-in_err-message-clause-turns : goal.returns-in_err-message-clause-turns
-returns-in_err-message-clause-turns g c =
+pub returns-in_err-message-clause-answers : goal.returns-in_err-message-clause-answers
+returns-in_err-message-clause-answers g c =
     let returned = err_from_is_err_and c.from_residual.result c.from_residual.ensures.1 in
     rw (returned.1, returned.2)
-    (turned_unread _ _ _ _ _ _ c.args.self.now.reads c.next_message.new.reads _ _ c.in_err-message.ensures.comes
+    (handled_unread _ _ _ _ _ _ c.args.self.now.reads c.next_message.new.reads _ _ c.in_err-message.ensures.comes
     refl)
 
-pub returns-in_default-clause-turns : goal.returns-in_default-clause-turns
-returns-in_default-clause-turns g c =
+pub returns-in_default-clause-answers : goal.returns-in_default-clause-answers
+returns-in_default-clause-answers g c =
     let x : Exchange = record { message = view c.in-Message.message; outcome = Unserved } in
-    turned_message _ _ _ _ _ _ _ _ _ _ c.in-Message.message x _ refl
+    handled_message _ _ _ _ _ _ _ _ _ _ c.in-Message.message x _ refl
     (rw c.in-Message.is at c.in_ok-message.ensures.comes)
     (through_unasked _ _ (g.met.S.Shelves.wider c.args.shelves.now)) c.answer_with.ensures.bytes
-    c.answer_with.ensures.turn
+    c.answer_with.ensures.handled
 
-pub returns-in-Ok-clause-turns : goal.returns-in-Ok-clause-turns
-returns-in-Ok-clause-turns g c =
+pub returns-in-Ok-clause-answers : goal.returns-in-Ok-clause-answers
+returns-in-Ok-clause-answers g c =
     let m = view c.in-Message.message in
     let asked = c.in-Ok.asked in
     let request : asked.request ≡ request_of m = ap (λ a. a.request) c.in-Ok.ensures in
@@ -34,16 +34,16 @@ returns-in-Ok-clause-turns g c =
     let (outcome, is, shown) = c.page_of_answer-page.ensures in
     let x : Exchange = record { message = m; outcome = outcome } in
     let is_one = subst (λ at. IsOutcome at c.step-answer.result outcome) sum is in
-    turned_page _ _ _ _ _ _ _ _ _ _ c.in-Message.message x c.page_of_answer-page.result _ refl
+    handled_page _ _ _ _ _ _ _ _ _ _ c.in-Message.message x c.page_of_answer-page.result _ refl
     (rw c.in-Message.is at c.in_ok-message.ensures.comes)
     (through_asked _ _ m asked.request request c.step-answer.result outcome is_one c.step-answer.ensures.does)
     (shown ∙ ap (λ at. answer_page at (answer_to outcome)) sum) c.answer_with-in-Message.ensures.bytes
-    c.answer_with-in-Message.ensures.turn
+    c.answer_with-in-Message.ensures.handled
 
-pub returns-in-End-clause-turns : goal.returns-in-End-clause-turns
-returns-in-End-clause-turns g c = turned_end
+pub returns-in-End-clause-answers : goal.returns-in-End-clause-answers
+returns-in-End-clause-answers g c = handled_end
     _ _ _ _ _ _ c.args.self.now.reads c.next_message.new.reads _ c.in-End.closing _
-    (rw c.in-End.is at c.in_ok-message.ensures.comes) c.close_by.ensures.bytes c.close_by.ensures.turn
+    (rw c.in-End.is at c.in_ok-message.ensures.comes) c.close_by.ensures.bytes c.close_by.ensures.handled
 
 pub returns-in_err-message-clause-cause : goal.returns-in_err-message-clause-cause
 returns-in_err-message-clause-cause g c =

@@ -1,5 +1,0 @@
-use Rattle.control.proofs.IsolatedLemmas.{turns_are_answered_alike}
-use Rattle.control.proofs.laws.isolation_of_turns.Goals as goal
-
-pub returns : goal.returns
-returns g c = λ old new old_too new_too. turns_are_answered_alike _ _ _ _ (g.met.S.Shelves.sound old)

@@ -11,9 +11,9 @@ ghost use Rattle.runner.specs.Opened.{HasBegun};
 ghost use Rattle.world.specs.Store.{HasCause};
 
 use crate::beside::real_name;
+use crate::file_checks::FileChecks;
 use crate::found::{AsFound, ClosedFile, Found, OpenedStore};
 use crate::host::SystemHost;
-use crate::looks::Looks;
 use crate::slice_pace::SlicePace;
 use crate::system::SystemStoreFiles;
 use catalog::Unprinted;
@@ -143,7 +143,7 @@ impl<'a, S: Alter> Copies<SqlShelves<S>> for FileCopies<'a> {
 /// with `Device`, and otherwise as `Copies::copy` does. The clock says when a slice of the copy is to end.
 fn copy_to<C, L, S, G, B>(
     clock: &C,
-    looks: &L,
+    checks: &L,
     targets: &mut G,
     db: &str,
     source: &mut SqlShelves<S>,
@@ -152,7 +152,7 @@ fn copy_to<C, L, S, G, B>(
 ) -> Result<(), CopyRefusal>
 where
     C: Clock,
-    L: Looks,
+    L: FileChecks,
     S: Alter,
     G: StoreFiles<OpenedStore, ClosedFile, StoreRefusal>,
     B: Between<SqlShelves<S>>,
@@ -163,17 +163,17 @@ where
         source.old source.new to.now result }
     ensures begun { IfErr result (λ why. why ≢ Busy) }
 {
-    if let Err(refusal) = looks.check_name(db, to) {
+    if let Err(refusal) = checks.check_name(db, to) {
         return Err(uncopied(refusal));
     }
-    if looks.is_same(db, to) {
+    if checks.is_same(db, to) {
         return Err(CopyRefusal::NotEmpty);
     }
     let mut fresh = match targets.open(to, Use::Writing) {
         Ok(file) => file,
         Err(unopened) => return Err(uncopied(unopened)),
     };
-    let mut pace = SlicePace::new(clock, looks, to);
+    let mut pace = SlicePace::new(clock, checks, to);
     let told = copy_into(&mut pace, source, &mut fresh.store, between);
     targets.close(fresh);
     told

@@ -6,8 +6,8 @@ ghost use Rattle.store.specs.Extracted.{HasCauseInEither};
 ghost use Rattle.store.specs.Parts.{ExtractsTeams};
 
 use crate::copy_line::CopyLine;
+use crate::file_checks::FileChecks;
 use crate::found::{ClosedFile, Found, OpenedStore};
-use crate::looks::Looks;
 use commands::refusal::CommandRefusal;
 use file_action::refusal::{command_refusal, unmade};
 use files::files::{StoreFiles, Use};
@@ -24,7 +24,7 @@ use world::shelves::Shelves;
 /// the first, because opening the second would meet the first one's lock and fail with `Device`. If a file with bytes
 /// has two names, it fails with `Device`, because sqlite refuses hard links.
 pub(crate) fn extract_file<L, F, G>(
-    looks: &L,
+    checks: &L,
     files: &mut F,
     targets: &mut G,
     db: &str,
@@ -32,7 +32,7 @@ pub(crate) fn extract_file<L, F, G>(
     to: &str,
 ) -> Result<(), CommandRefusal>
 where
-    L: Looks,
+    L: FileChecks,
     F: StoreFiles<OpenedStore, ClosedFile, StoreRefusal>,
     G: StoreFiles<OpenedStore, ClosedFile, StoreRefusal>,
     ensures { ExtractsFile (λ s. ⟦<Found as Shelves>⟧.shown s.shelves) (λ s. ⟦<Found as Shelves>⟧.shown s.shelves)
@@ -40,17 +40,17 @@ where
         (record { begins = G.begins; left = G.left; before = G.history targets.old; after = G.history targets.new })
         db.now (each (λ team. team.now) teams.now) to.now result }
 {
-    if let Err(refusal) = looks.check_name(db, to) {
+    if let Err(refusal) = checks.check_name(db, to) {
         return Err(command_refusal(refusal));
     }
-    if looks.is_empty(db) && looks.is_same(db, to) {
+    if checks.is_empty(db) && checks.is_same(db, to) {
         return Err(CommandRefusal::NotEmpty);
     }
     let mut source = match files.open(db, Use::Writing) {
         Ok(file) => file,
         Err(unopened) => return Err(command_refusal(unopened)),
     };
-    let told = extract_to(looks, targets, db, &mut source.store, teams, to);
+    let told = extract_to(checks, targets, db, &mut source.store, teams, to);
     files.close(source);
     told
 }
@@ -58,7 +58,7 @@ where
 /// Opens the store of a file and puts some teams' part of an open store into it. It does not open the file of the open
 /// store again, which is at `db`: it fails with `NotEmpty`.
 fn extract_to<L, G>(
-    looks: &L,
+    checks: &L,
     targets: &mut G,
     db: &str,
     source: &mut OpenedStore,
@@ -66,20 +66,20 @@ fn extract_to<L, G>(
     to: &str,
 ) -> Result<(), CommandRefusal>
 where
-    L: Looks,
+    L: FileChecks,
     G: StoreFiles<OpenedStore, ClosedFile, StoreRefusal>,
     ensures { Fills (λ s. ⟦<Found as Shelves>⟧.shown s.shelves) (λ s. ⟦<Found as Shelves>⟧.shown s.shelves)
         (record { begins = G.begins; left = G.left; before = G.history targets.old; after = G.history targets.new })
         (each (λ team. team.now) teams.now) to.now source.old source.new result }
 {
-    if looks.is_same(db, to) {
+    if checks.is_same(db, to) {
         return Err(CommandRefusal::NotEmpty);
     }
     let mut fresh = match targets.open(to, Use::Writing) {
         Ok(file) => file,
         Err(unopened) => return Err(unmade(command_refusal(unopened))),
     };
-    let line = CopyLine::new(looks.line("extract"));
+    let line = CopyLine::new(checks.line("extract"));
     let told = extract_part(source, teams, &mut fresh.store, &line);
     line.clear();
     targets.close(fresh);

@@ -7,8 +7,8 @@ ghost use Rattle.runner.specs.Opened.{HasBegun};
 use crate::beside::{check_name, sync_log};
 use crate::copies::FileCopies;
 use crate::extract::extract_file;
+use crate::file_checks::FileChecks;
 use crate::found::{AsFound, ClosedFile, Found, FoundTables, OpenedStore};
-use crate::looks::Looks;
 use crate::migrate::migrate_file;
 use crate::older_files::OlderFiles;
 use commands::action::{Action, act_on};
@@ -35,7 +35,7 @@ use world::shelves::Shelves;
 
 /// The system, as a command sees it whose stores are `S`. A closed store leaves a `C`, and an older store is opened as
 /// one.
-pub trait Host<S, C>: ActionHost<S> + Looks {
+pub trait Host<S, C>: ActionHost<S> + FileChecks {
     ghost use Rattle.std.specs.Prelude.{map as each};
     ghost use Rattle.sqlite.specs.State.{State};
     ghost use Rattle.commands.specs.Order.{CopiesThere, OrdersThere, RevokesThere, StopsThere};
@@ -140,7 +140,7 @@ pub struct SystemHost<'a> {
     pub rt: &'a HostRuntime,
 }
 
-impl<'a> Looks for SystemHost<'a> {
+impl<'a> FileChecks for SystemHost<'a> {
     fn is_empty(&self, name: &str) -> bool {
         is_empty_file(self.rt, name)
     }

@@ -28,10 +28,10 @@ mod beside;
 mod copies;
 mod copy_line;
 mod extract;
+pub mod file_checks;
 pub mod found;
 pub mod host;
 pub mod laws;
-pub mod looks;
 mod migrate;
 mod old_file;
 pub mod older_files;
@@ -133,7 +133,7 @@ pub enum Command<'a> {
 /// By `files` it opens the store of a command, by `targets` the new store of an `extract` or a `migrate`, and by
 /// `older` a copy of an older store: each file of the command once, and it closes a store in the state that the command
 /// left it in. Neither this function nor `host` does anything else by them. An action is done by `host`, and so are
-/// looks and orders.
+/// checks and orders.
 pub fn run<S, C, H, F, G, Q, I, W>(
     host: &mut H,
     files: &mut F,

@@ -7,8 +7,8 @@ ghost use Rattle.sqlite.specs.Held.{state};
 ghost use Rattle.store.specs.Migrated.{HasCauseInOne, Migrates};
 
 use crate::copy_line::CopyLine;
+use crate::file_checks::FileChecks;
 use crate::found::{ClosedFile, Found, FoundTables, OpenedStore};
-use crate::looks::Looks;
 use crate::older_files::OlderFiles;
 use crate::unnamed::Unnamed;
 use commands::refusal::CommandRefusal;
@@ -102,14 +102,14 @@ fn command_result(migrated: Result<(), StoreRefusal>) -> Result<(), CommandRefus
 /// how far it is.
 pub(crate) fn migrate_file<L, Q, G>(
     alloc: Global,
-    looks: &L,
+    checks: &L,
     older: &mut Q,
     targets: &mut G,
     from: &str,
     to: &str,
 ) -> Result<(), CommandRefusal>
 where
-    L: Looks,
+    L: FileChecks,
     Q: OlderFiles<ClosedFile>,
     G: StoreFiles<OpenedStore, ClosedFile, StoreRefusal>,
     ensures { MigratesFile ⟦<ClosedFile as OlderStore>⟧.state_of (λ s. ⟦<Found as Shelves>⟧.shown s.shelves)
@@ -117,27 +117,27 @@ where
         (record { begins = G.begins; left = G.left; before = G.history targets.old; after = G.history targets.new })
         from.now to.now result }
 {
-    if let Err(refusal) = looks.check_name(from, to) {
+    if let Err(refusal) = checks.check_name(from, to) {
         return Err(command_refusal(refusal));
     }
     if names_no_file(from) {
         return Err(command_refusal(StoreRefusal::Device));
     }
-    if looks.is_missing_or_empty(from) {
-        return migrate_nothing(alloc, looks, targets, from, to);
+    if checks.is_missing_or_empty(from) {
+        return migrate_nothing(alloc, checks, targets, from, to);
     }
     let copy = match older.copy(from, to) {
         Ok(copy) => copy,
         // no copy can be made beside it, because it is the new store
-        Err(_) if is_one_file(looks, from, to) => return Err(CommandRefusal::NotEmpty),
+        Err(_) if is_one_file(checks, from, to) => return Err(CommandRefusal::NotEmpty),
         Err(unread) => return Err(command_refusal(unread)),
     };
-    migrate_copy(looks, older, targets, &copy, from, to)
+    migrate_copy(checks, older, targets, &copy, from, to)
 }
 
 /// Migrates a copy of the older file at `from`, as `migrate_file` does, and takes its names away as soon as it is open.
 fn migrate_copy<L, Q, G>(
-    looks: &L,
+    checks: &L,
     older: &mut Q,
     targets: &mut G,
     copy: &Unnamed,
@@ -145,7 +145,7 @@ fn migrate_copy<L, Q, G>(
     to: &str,
 ) -> Result<(), CommandRefusal>
 where
-    L: Looks,
+    L: FileChecks,
     Q: OlderFiles<ClosedFile>,
     G: StoreFiles<OpenedStore, ClosedFile, StoreRefusal>,
     ensures { MigratesCopy ⟦<ClosedFile as OlderStore>⟧.state_of (λ s. ⟦<Found as Shelves>⟧.shown s.shelves)
@@ -160,27 +160,27 @@ where
         Ok(file) => file,
         Err(unopened) => return Err(command_refusal(unopened)),
     };
-    let told = migrate_to(looks, targets, from, &mut old.store, to);
+    let told = migrate_to(checks, targets, from, &mut old.store, to);
     older.close(old);
     told
 }
 
 /// Whether both names are equal or lead to one file.
-fn is_one_file<L: Looks>(looks: &L, path: &str, other: &str) -> bool {
-    path == other || looks.is_same(path, other)
+fn is_one_file<L: FileChecks>(checks: &L, path: &str, other: &str) -> bool {
+    path == other || checks.is_same(path, other)
 }
 
 /// Opens the store of a file, and then fails: with `NotEmpty` if it has more than `common`, and otherwise because there
 /// are no older tables.
 fn migrate_nothing<L, G>(
     alloc: Global,
-    looks: &L,
+    checks: &L,
     targets: &mut G,
     from: &str,
     to: &str,
 ) -> Result<(), CommandRefusal>
 where
-    L: Looks,
+    L: FileChecks,
     G: StoreFiles<OpenedStore, ClosedFile, StoreRefusal>,
     ensures { MigratesEmpty (λ s. ⟦<Found as Shelves>⟧.shown s.shelves)
         (record { begins = G.begins; left = G.left; before = G.history targets.old; after = G.history targets.new })
@@ -189,34 +189,34 @@ where
     let Ok(mut none) = Connection::open_in_memory(alloc) else {
         return Err(command_refusal(StoreRefusal::Memory));
     };
-    migrate_to(looks, targets, from, &mut none, to)
+    migrate_to(checks, targets, from, &mut none, to)
 }
 
 /// Opens the store of a file and puts what an open older store has, whose file is at `from`, into it. Fails with the
 /// refusals of the store, and with `NotEmpty` if both names lead to one file.
 fn migrate_to<L, O, G>(
-    looks: &L,
+    checks: &L,
     targets: &mut G,
     from: &str,
     old: &mut O,
     to: &str,
 ) -> Result<(), CommandRefusal>
 where
-    L: Looks,
+    L: FileChecks,
     O: OlderStore,
     G: StoreFiles<OpenedStore, ClosedFile, StoreRefusal>,
     ensures { MigratesTo O.state_of (λ s. ⟦<Found as Shelves>⟧.shown s.shelves)
         (record { begins = G.begins; left = G.left; before = G.history targets.old; after = G.history targets.new })
         to.now old.old old.new result }
 {
-    if is_one_file(looks, from, to) {
+    if is_one_file(checks, from, to) {
         return Err(CommandRefusal::NotEmpty);
     }
     let mut fresh = match targets.open(to, Use::Writing) {
         Ok(file) => file,
         Err(unopened) => return Err(unmade(command_refusal(unopened))),
     };
-    let line = CopyLine::new(looks.line("migrate 2/2"));
+    let line = CopyLine::new(checks.line("migrate 2/2"));
     let told = old.migrate_into(&mut fresh.store, &line);
     line.clear();
     targets.close(fresh);

@@ -1,5 +1,5 @@
 //! How long a slice of a copy takes.
-use crate::looks::Looks;
+use crate::file_checks::FileChecks;
 use slices::pace::Pace;
 use std::time::{Clock, Duration, Instant};
 
@@ -23,9 +23,9 @@ const SLOW_MILLIS: u64 = 20;
 /// The log is written to the disk as it grows. Where that takes more than 20 ms, the next time comes after twice as
 /// many bytes: on a slow disk or a busy one, those who wait meet it a few times and no more.
 #[derive(Drop)]
-pub(crate) struct SlicePace<'a, C: Clock, L: Looks> {
+pub(crate) struct SlicePace<'a, C: Clock, L: FileChecks> {
     clock: &'a C,
-    looks: &'a L,
+    checks: &'a L,
     /// The file that is copied to.
     to: &'a str,
     begun: Option<Instant>,
@@ -35,11 +35,11 @@ pub(crate) struct SlicePace<'a, C: Clock, L: Looks> {
     settled_at: usize,
 }
 
-impl<'a, C: Clock, L: Looks> SlicePace<'a, C, L> {
-    pub(crate) fn new(clock: &'a C, looks: &'a L, to: &'a str) -> SlicePace<'a, C, L> {
+impl<'a, C: Clock, L: FileChecks> SlicePace<'a, C, L> {
+    pub(crate) fn new(clock: &'a C, checks: &'a L, to: &'a str) -> SlicePace<'a, C, L> {
         SlicePace {
             clock,
-            looks,
+            checks,
             to,
             begun: None,
             bytes: 0,
@@ -50,7 +50,7 @@ impl<'a, C: Clock, L: Looks> SlicePace<'a, C, L> {
 
     /// Writes the log to the disk, and puts the next time off if that took long.
     fn settle(&mut self) {
-        self.looks.settle_log(self.to);
+        self.checks.settle_log(self.to);
         self.unsettled = 0;
         if self.has_taken(SLOW_MILLIS) {
             self.settled_at = self.settled_at.saturating_mul(2).min(LAST_SETTLED);
@@ -69,7 +69,7 @@ impl<'a, C: Clock, L: Looks> SlicePace<'a, C, L> {
     }
 }
 
-impl<'a, C: Clock, L: Looks> Pace for SlicePace<'a, C, L> {
+impl<'a, C: Clock, L: FileChecks> Pace for SlicePace<'a, C, L> {
     fn begin(&mut self) {
         self.begun = Instant::now(self.clock).ok();
         self.bytes = 0;

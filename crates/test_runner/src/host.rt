@@ -8,8 +8,8 @@ use file_action::host::ActionHost;
 use files::files::StoreFiles;
 use histories::{Hear, Tell};
 use memory_store::map_shelves::MapShelves;
+use runner::file_checks::FileChecks;
 use runner::host::Host;
-use runner::looks::Looks;
 use runner::older_files::OlderFiles;
 use std::alloc::Global;
 use std::rt::HostRuntime;
@@ -24,7 +24,7 @@ pub struct MemoryHost<'a> {
     pub rt: &'a HostRuntime,
 }
 
-impl<'a> Looks for MemoryHost<'a> {
+impl<'a> FileChecks for MemoryHost<'a> {
     fn is_empty(&self, _name: &str) -> bool {
         false
     }

@@ -2,8 +2,8 @@
 use commands::progress::StderrLine;
 use store::refusal::StoreRefusal;
 
-/// Looks at files. They change none, so no history has them.
-pub trait Looks {
+/// Checks of files. They change none, so no history has them.
+pub trait FileChecks {
     /// Whether there is a file with this name that has no bytes. Folders and devices do not count.
     fn is_empty(&self, name: &str) -> bool;
 

@@ -13,7 +13,8 @@ use Rattle.control.specs.declared.listing.Listing.TheVariants.{Keys, Shelves}
 use Rattle.control.specs.declared.registry_command.RegistryCommand.{RegistryCommand}
 use Rattle.runner.specs.declared.Command.{Command}
 use Rattle.runner.specs.declared.Command.TheVariants as command
-use Rattle.cli.specs.Asks.{AsksAction, AsksCommand, AsksConnections, AsksEntrance, AsksOrder, AsksUnordered}
+use Rattle.cli.specs.Asks.{AsksAction, AsksCommand, AsksConnections, AsksEntrance, AsksOtherCommand}
+use Rattle.cli.specs.Asks.{AsksRegistryCommand}
 use Rattle.cli.specs.Asks.{Finds, Is, Lacks, ReadsNumber}
 use Rattle.std.specs.Str.{bytes_eq}
 use Rattle.clap.specs.Words.{Row, Text, matched_of, rows_of}
@@ -97,7 +98,7 @@ no_port rows o r none is h = rw is (go (rw none at h))
 pub no_serve : (rows : List Row) → ((n : ℕ) → AsksConnections rows n → ⊥) → (a : Action)
     → AsksAction rows (codes "serve") a → ⊥
 no_serve rows none action.Open asks = asks
-no_serve rows none (action.Register order) asks = asks
+no_serve rows none (action.Register command) asks = asks
 no_serve rows none action.Answer asks = asks
 no_serve rows none (action.AddNew shelf right) asks = cc
 no_serve rows none (action.RevokeNamed fingerprint) asks = cc
@@ -111,27 +112,27 @@ no_serve rows none action.ShelfList asks = asks
 no_serve rows none (action.Serve entrance connections control) asks = none connections asks.2
 
 -- where a file is named, only an action is asked for
-pub no_unordered : (rows : List Row) (word db : Text) → Is rows (codes "db") db
-    → ((a : Action) → AsksAction rows word a → ⊥) → (asked : Command) → AsksUnordered rows word asked → ⊥
-no_unordered rows word db is acts (command.OnStore name a) asks = acts a asks.1
-no_unordered rows word db is acts (command.OrderNew control shelf right) asks =
+pub no_other_command : (rows : List Row) (word db : Text) → Is rows (codes "db") db
+    → ((a : Action) → AsksAction rows word a → ⊥) → (asked : Command) → AsksOtherCommand rows word asked → ⊥
+no_other_command rows word db is acts (command.OnStore name a) asks = acts a asks.1
+no_other_command rows word db is acts (command.OrderNew control shelf right) asks =
     let bad : None ≡ Some db = sym asks.1 ∙ is in cc
-no_unordered rows word db is acts (command.OrderNamed control fingerprint) asks =
+no_other_command rows word db is acts (command.OrderNamed control fingerprint) asks =
     let bad : None ≡ Some db = sym asks.1 ∙ is in cc
-no_unordered rows word db is acts (command.Init name) asks = asks
-no_unordered rows word db is acts (command.AnswerInMemory team key) asks = asks
-no_unordered rows word db is acts (command.Extract name teams to) asks = asks
-no_unordered rows word db is acts (command.Migrate from to) asks = asks
-no_unordered rows word db is acts (command.Order control o) asks = asks
-no_unordered rows word db is acts (command.Copy control to) asks = asks
-no_unordered rows word db is acts (command.Ping control) asks = asks
-no_unordered rows word db is acts (command.List control listing) asks = asks
-no_unordered rows word db is acts (command.Catalog control key) asks = asks
-no_unordered rows word db is acts (command.Stop control) asks = asks
+no_other_command rows word db is acts (command.Init name) asks = asks
+no_other_command rows word db is acts (command.AnswerInMemory team key) asks = asks
+no_other_command rows word db is acts (command.Extract name teams to) asks = asks
+no_other_command rows word db is acts (command.Migrate from to) asks = asks
+no_other_command rows word db is acts (command.Order control o) asks = asks
+no_other_command rows word db is acts (command.Copy control to) asks = asks
+no_other_command rows word db is acts (command.Ping control) asks = asks
+no_other_command rows word db is acts (command.List control listing) asks = asks
+no_other_command rows word db is acts (command.Catalog control key) asks = asks
+no_other_command rows word db is acts (command.Stop control) asks = asks
 
 -- where no file is named, these two words alone ask for a command that names no registry command
 pub no_sent : (rows : List Row) (word : Text) → Lacks rows (codes "db") → (word ≡ codes "key-add" → ⊥)
-    → (word ≡ codes "key-revoke" → ⊥) → (asked : Command) → AsksUnordered rows word asked → ⊥
+    → (word ≡ codes "key-revoke" → ⊥) → (asked : Command) → AsksOtherCommand rows word asked → ⊥
 no_sent rows word lacks add revoke (command.OnStore db a) asks = let bad : None ≡ Some db.now = sym lacks ∙ asks.0 in cc
 no_sent rows word lacks add revoke (command.OrderNew control shelf right) asks = add asks.0
 no_sent rows word lacks add revoke (command.OrderNamed control fingerprint) asks = revoke asks.0
@@ -152,7 +153,8 @@ pub no_command : (rows : List Row) (word : Text) → (word ≡ codes "init" → 
     → (word ≡ codes "migrate" → ⊥) → (word ≡ codes "copy" → ⊥) → (word ≡ codes "ping" → ⊥)
     → (word ≡ codes "key-list" → ⊥) → (word ≡ codes "shelf-list" → ⊥) → (word ≡ codes "catalog" → ⊥)
     → (word ≡ codes "stop" → ⊥)
-    → ((o : RegistryCommand) → AsksOrder rows word o → ⊥) → ((c : Command) → AsksUnordered rows word c → ⊥)
+    → ((o : RegistryCommand) → AsksRegistryCommand rows word o → ⊥)
+    → ((c : Command) → AsksOtherCommand rows word c → ⊥)
     → (asked : Command) → AsksCommand rows word asked → ⊥
 no_command rows word init answer extract migrate copy ping keys shelves catalog stop order acts = go
   where
@@ -189,7 +191,7 @@ no_command rows word init answer extract migrate copy ping keys shelves catalog 
     go (command.Stop control) asks = stop asks.0
 
 -- a command that names no registry command is a command
-is_command : (rows : List Row) (word : Text) (c : Command) → AsksUnordered rows word c → AsksCommand rows word c
+is_command : (rows : List Row) (word : Text) (c : Command) → AsksOtherCommand rows word c → AsksCommand rows word c
 is_command rows word (command.OnStore db action.Open) asks = absurd asks.1
 is_command rows word (command.OnStore db (action.Register o)) asks = absurd asks.1
 is_command rows word (command.OnStore db action.Answer) asks = absurd asks.1
@@ -217,8 +219,8 @@ is_command rows word (command.Catalog control key) asks = absurd asks
 is_command rows word (command.Stop control) asks = absurd asks
 
 -- where a word asks for nothing else, what is found among the commands that name no registry command is asked for
-pub unordered : (rows : List Row) (word : Text) (o : Option Command)
-    → (((c : Command) → AsksUnordered rows word c → ⊥) → (c : Command) → AsksCommand rows word c → ⊥)
-    → Finds o (AsksUnordered rows word) → Finds o (AsksCommand rows word)
-unordered rows word None others none = others none
-unordered rows word (Some c) others asks = is_command rows word c asks
+pub other_command : (rows : List Row) (word : Text) (o : Option Command)
+    → (((c : Command) → AsksOtherCommand rows word c → ⊥) → (c : Command) → AsksCommand rows word c → ⊥)
+    → Finds o (AsksOtherCommand rows word) → Finds o (AsksCommand rows word)
+other_command rows word None others none = others none
+other_command rows word (Some c) others asks = is_command rows word c asks

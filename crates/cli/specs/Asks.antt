@@ -74,17 +74,17 @@ module _ (rows : List Row) where
 
   -- ---- which command is asked for by its word
 
-  abbrev pub AsksOrder : Text → RegistryCommand → Type 0
-  AsksOrder word (TeamAdd name group) = (word ≡ codes "team-add") × Is (codes "team") name.now
+  abbrev pub AsksRegistryCommand : Text → RegistryCommand → Type 0
+  AsksRegistryCommand word (TeamAdd name group) = (word ≡ codes "team-add") × Is (codes "team") name.now
       × MayBe (codes "group") group
-  AsksOrder word (GroupAdd name) = (word ≡ codes "group-add") × Is (codes "group") name.now
-  AsksOrder word (KeyAdd shelf key right) = (word ≡ codes "key-add") × Is (codes "shelf") shelf.now
+  AsksRegistryCommand word (GroupAdd name) = (word ≡ codes "group-add") × Is (codes "group") name.now
+  AsksRegistryCommand word (KeyAdd shelf key right) = (word ≡ codes "key-add") × Is (codes "shelf") shelf.now
       × Is (codes "key") key.now
       × (is_flagged (codes "new") ≡ false) × (right ≡ (if is_flagged (codes "read-only") then Reads else Publishes))
-  AsksOrder word (KeyRevoke key) = (word ≡ codes "key-revoke") × Is (codes "key") key.now × Lacks (codes "fingerprint")
-      × Lacks (codes "shelf") × (is_flagged (codes "all") ≡ false)
-  AsksOrder word (KeysRevoke shelf) = (word ≡ codes "key-revoke") × Lacks (codes "key") × Lacks (codes "fingerprint")
-      × Is (codes "shelf") shelf.now × (is_flagged (codes "all") ≡ true)
+  AsksRegistryCommand word (KeyRevoke key) = (word ≡ codes "key-revoke") × Is (codes "key") key.now
+      × Lacks (codes "fingerprint") × Lacks (codes "shelf") × (is_flagged (codes "all") ≡ false)
+  AsksRegistryCommand word (KeysRevoke shelf) = (word ≡ codes "key-revoke") × Lacks (codes "key")
+      × Lacks (codes "fingerprint") × Is (codes "shelf") shelf.now × (is_flagged (codes "all") ≡ true)
 
   -- where the connections of `serve` come in: at the port, or at standard input in its place
   abbrev pub AsksEntrance : Entrance → Type 0
@@ -99,7 +99,7 @@ module _ (rows : List Row) where
   -- an action of a command, or of a form of one, that only the store of a file can do
   abbrev pub AsksAction : Text → Action → Type 0
   AsksAction word action.Open = ⊥
-  AsksAction word (action.Register order) = ⊥
+  AsksAction word (action.Register command) = ⊥
   AsksAction word (action.Catalog key) = ⊥
   AsksAction word action.KeyList = ⊥
   AsksAction word action.ShelfList = ⊥
@@ -124,15 +124,15 @@ module _ (rows : List Row) where
 
   -- a command that names no registry command: an action on the store of a file, a key that is made for a running
   -- server, or a fingerprint whose key that server is to revoke
-  abbrev pub AsksUnordered : Text → Command → Type 0
-  AsksUnordered word (command.OnStore db action) = Is (codes "db") db.now × AsksAction word action
-  AsksUnordered word (command.OrderNew control shelf right) = (word ≡ codes "key-add") × Lacks (codes "db")
+  abbrev pub AsksOtherCommand : Text → Command → Type 0
+  AsksOtherCommand word (command.OnStore db action) = Is (codes "db") db.now × AsksAction word action
+  AsksOtherCommand word (command.OrderNew control shelf right) = (word ≡ codes "key-add") × Lacks (codes "db")
       × Is (codes "control") control.now × Is (codes "shelf") shelf.now × (is_flagged (codes "new") ≡ true)
       × Lacks (codes "key") × (right ≡ (if is_flagged (codes "read-only") then Reads else Publishes))
-  AsksUnordered word (command.OrderNamed control fingerprint) = (word ≡ codes "key-revoke") × Lacks (codes "db")
+  AsksOtherCommand word (command.OrderNamed control fingerprint) = (word ≡ codes "key-revoke") × Lacks (codes "db")
       × Is (codes "control") control.now × Is (codes "fingerprint") fingerprint.now × Lacks (codes "shelf")
       × (is_flagged (codes "all") ≡ false) × Lacks (codes "key")
-  AsksUnordered word other = ⊥
+  AsksOtherCommand word other = ⊥
 
   abbrev pub AsksListing : Text → Listing → Type 0
   AsksListing word Keys = word ≡ codes "key-list"
@@ -142,8 +142,8 @@ module _ (rows : List Row) where
   AsksCommand word (command.Init db) = (word ≡ codes "init") × Is (codes "db") db.now
   AsksCommand word (command.AnswerInMemory team key) = (word ≡ codes "answer")
       × Lacks (codes "db") × (is_flagged (codes "mem") ≡ true) × Is (codes "team") team.now × Is (codes "key") key.now
-  AsksCommand word (command.OnStore db (action.Register order)) = Is (codes "db") db.now × Lacks (codes "control")
-      × AsksOrder word order
+  AsksCommand word (command.OnStore db (action.Register command)) = Is (codes "db") db.now × Lacks (codes "control")
+      × AsksRegistryCommand word command
   AsksCommand word (command.OnStore db action.Answer) = (word ≡ codes "answer")
       × Is (codes "db") db.now × (is_flagged (codes "mem") ≡ false) × Lacks (codes "team") × Lacks (codes "key")
   AsksCommand word (command.OnStore db action.KeyList) = AsksListing word Keys
@@ -152,16 +152,16 @@ module _ (rows : List Row) where
       × Is (codes "db") db.now × Lacks (codes "control")
   AsksCommand word (command.OnStore db (action.Catalog key)) = (word ≡ codes "catalog") × Is (codes "key") key.now
       × Is (codes "db") db.now × Lacks (codes "control")
-  AsksCommand word (command.OnStore db action) = AsksUnordered word (command.OnStore db action)
-  AsksCommand word (command.OrderNew control shelf right) = AsksUnordered word (command.OrderNew control shelf right)
+  AsksCommand word (command.OnStore db action) = AsksOtherCommand word (command.OnStore db action)
+  AsksCommand word (command.OrderNew control shelf right) = AsksOtherCommand word (command.OrderNew control shelf right)
   AsksCommand word (command.OrderNamed control fingerprint) =
-      AsksUnordered word (command.OrderNamed control fingerprint)
+      AsksOtherCommand word (command.OrderNamed control fingerprint)
   AsksCommand word (command.Extract db teams to) = (word ≡ codes "extract")
       × Is (codes "db") db.now × Are (codes "team") teams.now × Is (codes "to") to.now
   AsksCommand word (command.Migrate from to) = (word ≡ codes "migrate") × Is (codes "from") from.now
       × Is (codes "to") to.now
-  AsksCommand word (command.Order control order) = Is (codes "control") control.now × Lacks (codes "db")
-      × AsksOrder word order
+  AsksCommand word (command.Order control command) = Is (codes "control") control.now × Lacks (codes "db")
+      × AsksRegistryCommand word command
   AsksCommand word (command.Copy control to) = (word ≡ codes "copy") × Is (codes "control") control.now
       × Is (codes "to") to.now
   AsksCommand word (command.Ping control) = (word ≡ codes "ping") × Is (codes "control") control.now

@@ -50,7 +50,7 @@ MayPrint errors errors_new line = (errors_new ≡ errors) ⊎ PrintsFront errors
 -- store, or if it carries out a registry command, publishes or imports.
 abbrev pub MayWarn : Option (List ℕ) → Option (List ℕ) → Command → Type 0
 MayWarn errors errors_new (OnStore db (Serve entrance connections control)) = MayPrint errors errors_new new_store_line
-MayWarn errors errors_new (OnStore db (Register order)) = MayPrint errors errors_new new_file_line
+MayWarn errors errors_new (OnStore db (Register command)) = MayPrint errors errors_new new_file_line
 MayWarn errors errors_new (OnStore db (AddNew shelf right)) = MayPrint errors errors_new new_file_line
 MayWarn errors errors_new (OnStore db (RevokeNamed fingerprint)) = MayPrint errors errors_new new_file_line
 MayWarn errors errors_new (OnStore db (Publish words files)) = MayPrint errors errors_new new_file_line

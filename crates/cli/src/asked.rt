@@ -2,7 +2,8 @@
 ghost use Rattle.std.specs.Prelude.{◌≡◌, ℕ, List, codes, if◌then◌else◌, option_map, map};
 ghost use Rattle.clap.specs.Words.{all_of, found_of, first_of, rows_of, subcommand_rows_of};
 ghost use Rattle.control.specs.declared.registry_command.RegistryCommand.{RegistryCommand};
-ghost use Rattle.cli.specs.Asks.{AsksAction, AsksCommand, AsksConnections, AsksEntrance, AsksOrder, AsksUnordered};
+ghost use Rattle.cli.specs.Asks.{AsksAction, AsksCommand, AsksConnections, AsksEntrance, AsksOtherCommand};
+ghost use Rattle.cli.specs.Asks.{AsksRegistryCommand};
 ghost use Rattle.cli.specs.Asks.{Finds, Lacks};
 ghost use Rattle.cli.specs.Asks.{GivenAsks, ReadsNumber, is_by_words, is_flagged};
 
@@ -56,17 +57,17 @@ fn command_of_word<'m, 'a>(word: &str, options: &'m ArgMatches<'a>) -> Option<Co
         "stop" => Some(Command::Stop {
             control: text(options, "control")?,
         }),
-        _ => match order_of(word, options) {
-            Some(order) => registry_command(order, options),
-            None => unordered_command(word, options),
+        _ => match registry_command_of(word, options) {
+            Some(command) => registering_command(command, options),
+            None => other_command(word, options),
         },
     }
 }
 
 /// Returns the command of a word and options that name no registry command: an action on the store of a file, a key
 /// that is made and sent to a running server, or a fingerprint that is.
-fn unordered_command<'a>(word: &str, options: &ArgMatches<'a>) -> Option<Command<'a>>
-    ensures { Finds result (AsksUnordered (rows_of (found_of options.now)) word.now) }
+fn other_command<'a>(word: &str, options: &ArgMatches<'a>) -> Option<Command<'a>>
+    ensures { Finds result (AsksOtherCommand (rows_of (found_of options.now)) word.now) }
 {
     match text(options, "db") {
         Some(db) => Some(Command::OnStore {
@@ -74,17 +75,17 @@ fn unordered_command<'a>(word: &str, options: &ArgMatches<'a>) -> Option<Command
             action: action_of(word, options)?,
         }),
         None => match word {
-            "key-add" => new_order_of(options),
-            "key-revoke" => named_order_of(options),
+            "key-add" => order_new_of(options),
+            "key-revoke" => order_named_of(options),
             _ => None,
         },
     }
 }
 
 /// Returns the command `key-revoke --control S --fingerprint X`, or None if the options are those of another form.
-fn named_order_of<'a>(options: &ArgMatches<'a>) -> Option<Command<'a>>
+fn order_named_of<'a>(options: &ArgMatches<'a>) -> Option<Command<'a>>
     requires { Lacks (rows_of (found_of options.now)) (codes "db") }
-    ensures { Finds result (AsksUnordered (rows_of (found_of options.now)) (codes "key-revoke")) }
+    ensures { Finds result (AsksOtherCommand (rows_of (found_of options.now)) (codes "key-revoke")) }
 {
     match (
         text(options, "control"),
@@ -102,9 +103,9 @@ fn named_order_of<'a>(options: &ArgMatches<'a>) -> Option<Command<'a>>
 }
 
 /// Returns the command `key-add --control S --new`, or None if the options are those of another form.
-fn new_order_of<'a>(options: &ArgMatches<'a>) -> Option<Command<'a>>
+fn order_new_of<'a>(options: &ArgMatches<'a>) -> Option<Command<'a>>
     requires { Lacks (rows_of (found_of options.now)) (codes "db") }
-    ensures { Finds result (AsksUnordered (rows_of (found_of options.now)) (codes "key-add")) }
+    ensures { Finds result (AsksOtherCommand (rows_of (found_of options.now)) (codes "key-add")) }
 {
     match (
         text(options, "control"),
@@ -199,25 +200,28 @@ fn catalog_of<'a>(options: &ArgMatches<'a>) -> Option<Command<'a>>
     }
 }
 
-/// Returns a registry command: on the running server whose socket the words name, or on the store of a file. None if
-/// they name both or neither.
-fn registry_command<'a>(order: RegistryCommand<'a>, options: &ArgMatches<'a>) -> Option<Command<'a>>
-    ensures { (word : List ℕ) → AsksOrder (rows_of (found_of options.now)) word order.entry
+/// Returns the command that carries out a registry command: on the running server whose socket the words name, or on
+/// the store of a file. None if they name both or neither.
+fn registering_command<'a>(
+    command: RegistryCommand<'a>,
+    options: &ArgMatches<'a>,
+) -> Option<Command<'a>>
+    ensures { (word : List ℕ) → AsksRegistryCommand (rows_of (found_of options.now)) word command.entry
         → Finds result (AsksCommand (rows_of (found_of options.now)) word) }
 {
     match (text(options, "db"), text(options, "control")) {
         (Some(db), None) => Some(Command::OnStore {
             db,
-            action: Action::Register { order },
+            action: Action::Register { command },
         }),
-        (None, Some(control)) => Some(Command::Order { control, order }),
+        (None, Some(control)) => Some(Command::Order { control, command }),
         _ => None,
     }
 }
 
 /// Returns the registry command of a word and options, or None for another command.
-fn order_of<'a>(word: &str, options: &ArgMatches<'a>) -> Option<RegistryCommand<'a>>
-    ensures { Finds result (AsksOrder (rows_of (found_of options.now)) word.now) }
+fn registry_command_of<'a>(word: &str, options: &ArgMatches<'a>) -> Option<RegistryCommand<'a>>
+    ensures { Finds result (AsksRegistryCommand (rows_of (found_of options.now)) word.now) }
 {
     match word {
         "team-add" => Some(RegistryCommand::TeamAdd {
@@ -235,7 +239,7 @@ fn order_of<'a>(word: &str, options: &ArgMatches<'a>) -> Option<RegistryCommand<
 
 /// Returns the registry command of `key-add` with a key, or None if a key is to be made or none is named.
 fn key_add_of<'a>(options: &ArgMatches<'a>) -> Option<RegistryCommand<'a>>
-    ensures { Finds result (AsksOrder (rows_of (found_of options.now)) (codes "key-add")) }
+    ensures { Finds result (AsksRegistryCommand (rows_of (found_of options.now)) (codes "key-add")) }
 {
     match (
         text(options, "shelf"),
@@ -254,7 +258,7 @@ fn key_add_of<'a>(options: &ArgMatches<'a>) -> Option<RegistryCommand<'a>>
 /// Returns the registry command of `key-revoke` with a key, or with a shelf whose keys are all revoked, or None if a
 /// fingerprint is named in their place, or nothing.
 fn key_revoke_of<'a>(options: &ArgMatches<'a>) -> Option<RegistryCommand<'a>>
-    ensures { Finds result (AsksOrder (rows_of (found_of options.now)) (codes "key-revoke")) }
+    ensures { Finds result (AsksRegistryCommand (rows_of (found_of options.now)) (codes "key-revoke")) }
 {
     match (
         text(options, "key"),

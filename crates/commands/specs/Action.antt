@@ -36,9 +36,9 @@ acceptance (Err refusal) = Err refusal
 
 module _ {S : Type 0} (shown : S → Shown) (made : Made S) (counted : Counted S) (old new : Moment S) where
   -- the registry command was carried out on the store, and nothing was read or written
-  pub record RegistersAlone (order : RegistryCommand) (result : Result Bool CommandRefusal) : Type 0 where
+  pub record RegistersAlone (command : RegistryCommand) (result : Result Bool CommandRefusal) : Type 0 where
     pub ended : Result (Unit {0}) CommandRefusal
-    pub registers : Registers (shown old.store) (shown new.store) order ended
+    pub registers : Registers (shown old.store) (shown new.store) command ended
     pub told : result ≡ acceptance ended
     pub streams : KeepsStreams old new
 
@@ -80,7 +80,7 @@ module _ {S : Type 0} (shown : S → Shown) (made : Made S) (counted : Counted S
   -- there are connections, and orders, copies and pings between them.
   abbrev pub Acts : Result Bool CommandRefusal → Action → Type 0
   Acts result action.Open = (new ≡ old) × (result ≡ Ok true)
-  Acts result (action.Register order) = RegistersAlone order result
+  Acts result (action.Register command) = RegistersAlone command result
   Acts result (action.AddNew shelf right) = AddsNewAlone shelf right result
   Acts result (action.RevokeNamed fingerprint) = RevokesNamedAlone fingerprint.now result
   Acts result (action.Publish words files) =

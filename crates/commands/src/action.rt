@@ -28,7 +28,7 @@ pub enum Action<'a> {
     Open,
     /// `team-add`, `group-add`, `key-add` or `key-revoke`: carries out a registry command.
     Register {
-        order: RegistryCommand<'a>,
+        command: RegistryCommand<'a>,
     },
     /// `key-add --new`: makes a key, prints it, and adds it to a shelf.
     AddNew {
@@ -95,7 +95,7 @@ pub fn act_on<S: Outlines + Keyring, K: Copies<S>, I: Hear, O: Tell>(
 {
     match action {
         Action::Open => Ok(true),
-        Action::Register { order } => acceptance(register(shelves, order)),
+        Action::Register { command } => acceptance(register(shelves, command)),
         Action::AddNew { shelf, right } => acceptance(add_new(
             rt.alloc(),
             &mut SystemRandomBytes::new(rt),

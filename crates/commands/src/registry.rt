@@ -11,10 +11,13 @@ use world::shelves::Shelves;
 /// Carries out a registry command as the machine does. Adding a team fails with `Name`, `Taken` or `NoGroup`, a group
 /// with `Name` or `Taken`, and a key with `Name`, `NoTeam` or `Taken`; revoking a key fails with `NoKey`, and all keys
 /// of a shelf with `NoTeam`; and each with a fault of the store. A command that fails changes nothing.
-pub fn register<S: Shelves>(shelves: &mut S, order: &RegistryCommand) -> Result<(), CommandRefusal>
-    ensures { Registers (S.shown shelves.old) (S.shown shelves.new) order.now result }
+pub fn register<S: Shelves>(
+    shelves: &mut S,
+    command: &RegistryCommand,
+) -> Result<(), CommandRefusal>
+    ensures { Registers (S.shown shelves.old) (S.shown shelves.new) command.now result }
 {
-    let told = carry_out(shelves, order);
+    let told = carry_out(shelves, command);
     ending(told)
 }
 

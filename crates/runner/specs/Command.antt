@@ -82,7 +82,7 @@ module _ {S C : Type 0} (acts : Deeds S) (state_of : C → State) (shown : S →
   Runs (command.Extract db teams to) =
       Alone (ExtractsFile shown shown files targets db.now (each (λ team. team.now) teams.now) to.now) × IsIdle older
   Runs (command.Migrate from to) = Alone (MigratesFile state_of shown older targets from.now to.now) × IsIdle files
-  Runs (command.Order control order) = Alone (OrdersThere order) × IsOnNone
+  Runs (command.Order control command) = Alone (OrdersThere command) × IsOnNone
   Runs (command.OrderNew control shelf right) =
       OrdersNewAlone came came_new written written_new result shelf right × IsOnNone
   Runs (command.OrderNamed control fingerprint) = Alone (RevokesThere fingerprint.now) × IsOnNone

@@ -86,8 +86,8 @@ pub trait Host<S, C>: ActionHost<S> + FileChecks {
             from.now to.now result };
 
     /// Sends an order to a running `serve`. Fails as [`order_at`] does.
-    fn order(&mut self, control: &str, order: &RegistryCommand) -> Result<(), CommandRefusal>
-        ensures { OrdersThere order.now result };
+    fn order(&mut self, control: &str, command: &RegistryCommand) -> Result<(), CommandRefusal>
+        ensures { OrdersThere command.now result };
 
     /// Makes a key, prints it, and sends an order to add it to a running `serve`. Fails as [`order_new_at`] does.
     fn order_new<O: Tell>(
@@ -236,8 +236,8 @@ impl<'a> Host<OpenedStore, ClosedFile> for SystemHost<'a> {
         migrate_file(self.rt.alloc(), self, older, targets, from, to)
     }
 
-    fn order(&mut self, control: &str, order: &RegistryCommand) -> Result<(), CommandRefusal> {
-        order_at(self.rt, control, order)
+    fn order(&mut self, control: &str, command: &RegistryCommand) -> Result<(), CommandRefusal> {
+        order_at(self.rt, control, command)
     }
 
     fn order_new<O: Tell>(

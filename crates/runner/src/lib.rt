@@ -84,7 +84,7 @@ pub enum Command<'a> {
     /// A registry command with `--control S`: orders the `serve` that listens at the socket S to carry it out.
     Order {
         control: &'a str,
-        order: RegistryCommand<'a>,
+        command: RegistryCommand<'a>,
     },
     /// `key-add --control S --new`: makes a key, prints it, and orders the `serve` that listens at the socket S to add
     /// it.
@@ -168,7 +168,7 @@ where
             acceptance(host.extract(files, targets, db, teams, to))
         }
         Command::Migrate { from, to } => acceptance(host.migrate(older, targets, from, to)),
-        Command::Order { control, order } => acceptance(host.order(control, order)),
+        Command::Order { control, command } => acceptance(host.order(control, command)),
         Command::OrderNew {
             control,
             shelf,

@@ -58,16 +58,20 @@ fn answered<S: Outlines, F: Sources>(
         "import" => import_file(alloc, shelves, files, key, asked),
         "inventory" => seen_by(alloc, shelves, key),
         "requires" => required(alloc, shelves, key, asked),
-        command => match order_of(command, key, asked) {
-            Some(order) => ended(alloc, register(shelves, &order)),
+        word => match registry_command_of(word, key, asked) {
+            Some(command) => ended(alloc, register(shelves, &command)),
             None => Ok(String::from_str(alloc, "no such command")?),
         },
     }
 }
 
-/// Returns the order of a row, or None if it has no registry command.
-fn order_of<'a>(command: &str, key: &'a str, asked: &'a str) -> Option<RegistryCommand<'a>> {
-    match command {
+/// Returns the registry command of a row, or None if it has none.
+fn registry_command_of<'a>(
+    word: &str,
+    key: &'a str,
+    asked: &'a str,
+) -> Option<RegistryCommand<'a>> {
+    match word {
         "team-add" => Some(RegistryCommand::TeamAdd {
             name: asked,
             group: None,

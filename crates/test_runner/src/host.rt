@@ -61,7 +61,7 @@ impl<'a> ActionHost<MapShelves> for MemoryHost<'a> {
         output: &mut O,
     ) -> Result<bool, CommandRefusal> {
         match action {
-            Action::Register { order } => acceptance(register(shelves, order)),
+            Action::Register { command } => acceptance(register(shelves, command)),
             Action::Inventory { key } => print_inventory(self.rt.alloc(), shelves, key, output),
             _ => Ok(true),
         }
@@ -108,7 +108,7 @@ impl<'a> Host<MapShelves, MapShelves> for MemoryHost<'a> {
         Err(CommandRefusal::NotEmpty)
     }
 
-    fn order(&mut self, _control: &str, _order: &RegistryCommand) -> Result<(), CommandRefusal> {
+    fn order(&mut self, _control: &str, _command: &RegistryCommand) -> Result<(), CommandRefusal> {
         Err(CommandRefusal::Device)
     }
 

@@ -47,7 +47,7 @@ inventory | shelves.db | | alphakey00000001 | done
 /// Returns the command of a row.
 fn command_of<'a>(row: &'a str, teams: &'a [&'a str]) -> Command<'a> {
     let (db, name, key) = (cell(row, 1), cell(row, 2), cell(row, 3));
-    let order = RegistryCommand::TeamAdd { name, group: None };
+    let command = RegistryCommand::TeamAdd { name, group: None };
     let action = match cell(row, 0) {
         "init" => return Command::Init { db },
         "extract" => return Command::Extract {
@@ -59,7 +59,10 @@ fn command_of<'a>(row: &'a str, teams: &'a [&'a str]) -> Command<'a> {
             from: db,
             to: "new.db",
         },
-        "order" => return Command::Order { control: db, order },
+        "order" => return Command::Order {
+            control: db,
+            command,
+        },
         "copy" => return Command::Copy {
             control: db,
             to: "new.db",
@@ -71,9 +74,9 @@ fn command_of<'a>(row: &'a str, teams: &'a [&'a str]) -> Command<'a> {
         },
         "catalog" => return Command::Catalog { control: db, key },
         "stop" => return Command::Stop { control: db },
-        "team-add" => Action::Register { order },
+        "team-add" => Action::Register { command },
         "key-add" => Action::Register {
-            order: RegistryCommand::KeyAdd {
+            command: RegistryCommand::KeyAdd {
                 shelf: name,
                 key,
                 right: Right::Publishes,

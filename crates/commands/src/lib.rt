@@ -15,7 +15,7 @@
 //! | `serve` | prints where it listens, answers each connection's message, and obeys orders between them | [`serve`] |
 //! | with `--control`; `copy`, `stop` | sends an order to a running `serve`, and ends by its outcome | [`order`] |
 //! | `key-list`, `shelf-list` with `--control` | asks a running `serve` for the list, and prints it | [`listing`] |
-//! | `catalog` with `--control` | asks a running `serve` for the catalog, and prints it as it comes | [`served_catalog`] |
+//! | `catalog` with `--control` | prints the catalog of a running `serve` as it comes | [`served_catalog`] |
 //! | `ping` | asks a running `serve` for its health, and prints the line | [`ping`] |
 //! | `copy`, `import` | show on a terminal how far they are | [`progress`], [`copy_progress`], `import_progress` |
 //!

@@ -19,7 +19,8 @@
 //! One function opens each store and closes it before it returns: `on_file` for an action, `extract_file` for the store
 //! that is extracted from, `migrate_copy` for the copy of an older file, and `extract_to`, `migrate_to` and `copy_to`
 //! for a new store. These and [`run`] have no handle of the system: a history has each file that they opened, and the
-//! state in which they closed it. `host` and `system` hold one and lend it. Nothing here reads the words of a command line.
+//! state in which they closed it. `host` and `system` hold one and lend it. Nothing here reads the words of a command
+//! line.
 #![tactic(auto)]
 
 ghost use Rattle.runner.specs.Command.{Runs};
@@ -115,8 +116,8 @@ pub enum Command<'a> {
         control: &'a str,
         listing: Listing,
     },
-    /// `catalog --control S --key K`: asks the `serve` that listens at the socket S for the catalog of a key, and prints
-    /// it.
+    /// `catalog --control S --key K`: asks the `serve` that listens at the socket S for the catalog of a key, and
+    /// prints it.
     Catalog {
         control: &'a str,
         key: &'a str,

@@ -6,6 +6,7 @@ Instructions are valgrind's count, reads strace's; peak memory is measured too. 
 alone, with --changes what opens, changes or misses in a file alone.
 """
 
+import argparse
 import fcntl
 import os
 import re
@@ -159,10 +160,20 @@ def changes(program, folder):
     )
 
 
+def options():
+    parser = argparse.ArgumentParser(description=__doc__, formatter_class=argparse.RawDescriptionHelpFormatter)
+    parser.add_argument("--program", default=PROGRAM)
+    alone = parser.add_mutually_exclusive_group()
+    alone.add_argument("--gets", action="store_true")
+    alone.add_argument("--changes", action="store_true")
+    return parser.parse_args()
+
+
 def main():
-    program = sys.argv[sys.argv.index("--program") + 1] if "--program" in sys.argv else PROGRAM
+    words = options()
+    program = words.program
     with tempfile.TemporaryDirectory() as folder:
-        if "--changes" in sys.argv:
+        if words.changes:
             for name, count in changes(program, folder):
                 print(f"{name}: {count:,} instructions")
             return
@@ -172,7 +183,7 @@ def main():
             print(f"a GET of {name}: {memory:,} instructions in memory, {file:,} in a file")
         counts = [served(program, folder, n) for n in (100, 300)]
     print(f"a GET of a .mod by serve, on a connection of its own: {(counts[1] - counts[0]) // 200:,} instructions")
-    if "--gets" in sys.argv:
+    if words.gets:
         return
     nothing = instructions(program, stream_of())
     for name, head in long_heads():

@@ -1,8 +1,9 @@
 #!/usr/bin/env python3
-"""The scripts that users and operators run, and tests/all: each prints its usage, and refuses an unknown option.
+"""The scripts of users and operators, tests/all, .ci/run and benches print their usage and refuse unknown words.
 
 Those in sh pass shellcheck, as the package's own do, and all files in Python pyflakes and black, which lays them out
-by pyproject.toml. The registry lists each suite, as docs/TESTING.md does, and no suite imports another.
+by pyproject.toml. No line in Rattle has more than 120 characters, and none of a proof 200. The registry lists each
+suite, as docs/TESTING.md does, and no suite imports another.
 """
 
 import ast
@@ -19,12 +20,16 @@ from lib.suite import Suite
 
 SUITE = Suite()
 COMMANDS = sorted(glob.glob("deploy/**/goshelf-*", root_dir=ROOT, recursive=True))
-SCRIPTS = ["tools/adopt", "tools/catalog", "tools/publish", "tools/release", "tools/shards", "tests/all", *COMMANDS]
+TOOLS = ["tools/adopt", "tools/catalog", "tools/publish", "tools/release", "tools/shards"]
+SCRIPTS = [*TOOLS, ".ci/run", "tests/all", *COMMANDS]
 # what several of the commands source
 COMMON = "deploy/common.sh"
 # folders with files in Python
 FOLDERS = ("tests", "tools", "bench", "deploy")
+SHELLS = ("#!/bin/sh\n", "#!/usr/bin/env bash\n")
 LONGEST_LINE, LONGEST_FILE, LONGEST_FUNCTION = 120, 500, 40
+# of the code in Rattle, and of its specs and proofs
+LONGEST_IN_RATTLE = {".rt": 120, ".antt": 200}
 # the black of Debian 12: another may lay files out otherwise
 BLACK = "black, 23."
 
@@ -79,11 +84,21 @@ def python(files):
         SUITE.skip("black", f"the machine has no {BLACK}")
 
 
+def rattle():
+    """The lines of the crates are short. Only one that is a single text in quotes may be longer."""
+    names = subprocess.run(["git", "ls-files", "crates"], cwd=ROOT, capture_output=True, text=True).stdout.splitlines()
+    for kind, most in LONGEST_IN_RATTLE.items():
+        files = [it for it in names if it.endswith(kind) and os.path.exists(os.path.join(ROOT, it))]
+        lines = [(f"{it}:{at}", line) for it in files for at, line in enumerate(read(it).split("\n"), 1)]
+        long_lines = [at for at, line in lines if len(line) > most and not re.fullmatch(r' *"[^"]*"[;,)]*', line)]
+        SUITE.equal(f"no line of a {kind} has more than {most} characters", (len(files) > 100, long_lines), (True, []))
+
+
 def shell():
     """The files in sh pass shellcheck, and what several commands of deploy/ do alike stands in one of them."""
     installed = [f"deploy/debian/{it}" for it in ("postinst", "prerm", "postrm")]
     for script in (COMMON, *SCRIPTS, *installed):
-        if script == COMMON or read(script).startswith("#!/bin/sh\n"):
+        if script == COMMON or read(script).startswith(SHELLS):
             SUITE.equal(f"shellcheck {script}", ran("shellcheck", "-x", "--source-path=.", script), (0, "", ""))
     homes = {}
     for script in (COMMON, *COMMANDS):
@@ -118,6 +133,14 @@ def settings():
     SUITE.equal("scripts that ask sqlite3 read no ~/.sqliterc", (len(asking) > 4, careless), (True, []))
 
 
+def benches():
+    """Each bench that reads its words by argparse does so before it measures anything."""
+    names = [f"bench/{it}" for it in sorted(os.listdir(os.path.join(ROOT, "bench"))) if it.endswith(".py")]
+    for it in [it for it in names if "argparse.ArgumentParser(" in read(it)]:
+        status, output, errors = told = ran(sys.executable, it, "--nosuch")
+        SUITE.holds(f"{it} --nosuch", (status, output) == (2, "") and "usage: " in errors, told)
+
+
 def main():
     for script in SCRIPTS:
         # (an installed command is on the path)
@@ -128,9 +151,11 @@ def main():
         status, output, errors = told = ran(os.path.join(ROOT, script), "--nosuch")
         SUITE.holds(f"{script} --nosuch", (status, output) == (2, "") and usage in errors, told)
     SUITE.holds("the commands of deploy/ are found", len(COMMANDS) > 10, COMMANDS)
+    benches()
     shell()
     settings()
     python(in_python())
+    rattle()
     suites()
     return SUITE.end()
 

@@ -1,5 +1,5 @@
 -- A catalog of a running `serve`, printed as it comes.
-use Rattle.std.specs.Prelude.{ℕ, ◌≡◌, ◌⊎◌, ◌++◌, List, Bool, true, Option, Result, Ok, Err}
+use Rattle.std.specs.Prelude.{ℕ, ◌≡◌, ◌⊎◌, ◌++◌, List, Option, Result, Ok, Err}
 use Rattle.std.specs.Io.KnownBytes.{Appends, Consumes}
 use Rattle.world.specs.declared.registry.RegistryReply.TheVariants as registered
 use Rattle.world.specs.declared.registry.StoreFault.TheVariants as fault
@@ -15,8 +15,8 @@ use Rattle.commands.specs.declared.refusal.CommandRefusal.{CommandRefusal}
 use Rattle.commands.specs.declared.refusal.CommandRefusal.TheVariants.{NoKey, Busy, Ended, Device, Memory, Io}
 
 -- how the command ends, by what was told; a key that no line can carry is nobody's
-abbrev pub catalog_ending : Result Outcome Untold → Result Bool CommandRefusal
-catalog_ending (Ok (outcome.RegistryReply registered.Done)) = Ok true
+abbrev pub catalog_ending : Result Outcome Untold → Result (Unit {0}) CommandRefusal
+catalog_ending (Ok (outcome.RegistryReply registered.Done)) = Ok tt
 catalog_ending (Ok (outcome.RegistryReply registered.NoKey)) = Err NoKey
 catalog_ending (Ok (outcome.RegistryReply other)) = Err Io
 catalog_ending (Ok (outcome.Failed fault.Device)) = Err Device
@@ -58,7 +58,7 @@ PrintsServed unread unread_new printed printed_new told (Err why) = (told ≡ Er
 
 -- the catalog of the key was asked for, and what came was printed but for its last line, by which the command ends
 pub record CatalogsOver (unread unread_new written written_new : Option (List ℕ)) (key : List ℕ)
-    (printed printed_new : Option (List ℕ)) (result : Result Bool CommandRefusal) : Type 0 where
+    (printed printed_new : Option (List ℕ)) (result : Result (Unit {0}) CommandRefusal) : Type 0 where
   pub asked : Result (Unit {0}) Untold
   pub asks : AsksForCatalog written written_new key asked
   pub told : Result Outcome Untold
@@ -66,7 +66,7 @@ pub record CatalogsOver (unread unread_new written written_new : Option (List �
   pub ends : result ≡ catalog_ending told
 
 -- so it was over a connection, or there was none
-abbrev pub CatalogsThere : List ℕ → Option (List ℕ) → Option (List ℕ) → Result Bool CommandRefusal → Type 0
+abbrev pub CatalogsThere : List ℕ → Option (List ℕ) → Option (List ℕ) → Result (Unit {0}) CommandRefusal → Type 0
 CatalogsThere key printed printed_new result =
     ((unread unread_new written written_new : Option (List ℕ))
     × CatalogsOver unread unread_new written written_new key printed printed_new result)

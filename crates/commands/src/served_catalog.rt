@@ -12,8 +12,8 @@ use std::os::unix::net::UnixStream;
 use std::rt::HostRuntime;
 use world::registry::{RegistryReply, StoreFault};
 
-/// Asks the `serve` that listens at a socket for the catalog of a key, prints its lines as they come, and returns true
-/// once all came. `NoKey` if there is no such key, or no line can carry it: then nothing is printed. `Device` if nobody
+/// Asks the `serve` that listens at a socket for the catalog of a key, and prints its lines as they come, until all
+/// came. `NoKey` if there is no such key, or no line can carry it: then nothing is printed. `Device` if nobody
 /// listens there, the system refuses the connection, or the store of that server met a fault; `Memory` if memory ran
 /// out there, or here for the line that asks; `Busy` if the server makes a copy or another catalog, and `Ended` if it
 /// ended this one; `Io` if what came does not end with the word of an outcome, or the output failed. Then a beginning
@@ -23,7 +23,7 @@ pub fn catalog_at<O: Tell>(
     path: &str,
     key: &str,
     output: &mut O,
-) -> Result<bool, CommandRefusal>
+) -> Result<(), CommandRefusal>
     ensures { spec.CatalogsThere key.now (O.contents output.old) (O.contents output.new) result }
 {
     match waiting_server_at(rt, path) {
@@ -53,7 +53,7 @@ pub fn catalog_over<R: Hear, W: Tell, O: Tell>(
     writer: &mut W,
     key: &str,
     output: &mut O,
-) -> Result<bool, CommandRefusal>
+) -> Result<(), CommandRefusal>
     ensures catalogs { spec.CatalogsOver (R.remaining reader.old) (R.remaining reader.new)
         (W.contents writer.old) (W.contents writer.new) key.now
         (O.contents output.old) (O.contents output.new) result }
@@ -103,11 +103,11 @@ fn print_told<R: Hear, O: Tell>(
 }
 
 /// How the command ends, by what was told.
-fn catalog_ending(told: Result<Outcome, Untold>) -> Result<bool, CommandRefusal>
+fn catalog_ending(told: Result<Outcome, Untold>) -> Result<(), CommandRefusal>
     ensures { result ≡ spec.catalog_ending told }
 {
     match told {
-        Ok(Outcome::RegistryReply(RegistryReply::Done)) => Ok(true),
+        Ok(Outcome::RegistryReply(RegistryReply::Done)) => Ok(()),
         Ok(Outcome::RegistryReply(RegistryReply::NoKey)) | Err(Untold::Words) => {
             Err(CommandRefusal::NoKey)
         }

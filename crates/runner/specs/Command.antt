@@ -53,7 +53,9 @@ module _ (came came_new : Account) (written written_new : Option (List ℕ)) (re
 
   -- a running `serve` was asked for the catalog of a key, which was printed, no store was opened, and nothing was read
   pub record CatalogsAlone (key : List ℕ) : Type 0 where
-    pub catalogs : CatalogsThere key written written_new result
+    pub ended : Result (Unit {0}) CommandRefusal
+    pub catalogs : CatalogsThere key written written_new ended
+    pub tells : result ≡ acceptance ended
     pub input : came_new ≡ came
 
 module _ {S C : Type 0} (acts : Deeds S) (state_of : C → State) (shown : S → Shown)

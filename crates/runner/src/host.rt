@@ -126,7 +126,7 @@ pub trait Host<S, C>: ActionHost<S> + FileChecks {
         control: &str,
         key: &str,
         output: &mut O,
-    ) -> Result<bool, CommandRefusal>
+    ) -> Result<(), CommandRefusal>
         ensures { CatalogsThere key.now (O.contents output.old) (O.contents output.new) result };
 
     /// Has a running `serve` end. Fails as [`stop_at`] does.
@@ -276,7 +276,7 @@ impl<'a> Host<OpenedStore, ClosedFile> for SystemHost<'a> {
         control: &str,
         key: &str,
         output: &mut O,
-    ) -> Result<bool, CommandRefusal> {
+    ) -> Result<(), CommandRefusal> {
         catalog_at(self.rt, control, key, output)
     }
 

@@ -144,7 +144,7 @@ impl<'a> Host<MapShelves, MapShelves> for MemoryHost<'a> {
         _control: &str,
         _key: &str,
         _output: &mut O,
-    ) -> Result<bool, CommandRefusal> {
+    ) -> Result<(), CommandRefusal> {
         Err(CommandRefusal::Device)
     }
 

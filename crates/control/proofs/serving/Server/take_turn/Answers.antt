@@ -3,7 +3,7 @@ use Rattle.world.specs.World.{World}
 use Rattle.meanwhile.specs.Meanwhile.{Notes}
 use Rattle.meanwhile.specs.Noted.{IsNoted}
 use Rattle.control.proofs.UnnotedLemmas.{newcomers_noted, noted_first, serves_unnoted}
-use Rattle.control.proofs.turn.Server+C+P+O+L+K+D+E.take_turn.Goals as goal
+use Rattle.control.proofs.serving.Server.take_turn.Goals as goal
 
 pub returns-clause-serves : goal.returns-clause-serves
 returns-clause-serves g c =

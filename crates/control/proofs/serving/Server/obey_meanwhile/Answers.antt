@@ -6,7 +6,7 @@ use Rattle.control.specs.Pinging.{TellsHowFar}
 use Rattle.control.proofs.FarLemmas.{obeys_meanwhile, tells_how_far}
 use Rattle.control.proofs.ServeLemmas.{obeyed_one, obeyed_told}
 use Rattle.control.proofs.ServingLemmas.{obeys_unsaid, unsaid_told}
-use Rattle.control.proofs.turn.Server+C+P+O+L+K+D+E.obey_meanwhile.Goals as goal
+use Rattle.control.proofs.serving.Server.obey_meanwhile.Goals as goal
 
 pub returns-clause-obeys : goal.returns-clause-obeys
 returns-clause-obeys g c =

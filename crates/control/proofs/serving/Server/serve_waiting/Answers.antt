@@ -1,7 +1,7 @@
 use Rattle.std.proofs.Common.{refl, true, ◌∙◌}
 use Rattle.control.proofs.NoticeLemmas.{notices_more, notices_none}
 use Rattle.control.proofs.ServingLemmas.{serves_more, serves_none}
-use Rattle.control.proofs.turn.Server+C+P+O+L+K+D+E.serve_waiting.Goals as goal
+use Rattle.control.proofs.serving.Server.serve_waiting.Goals as goal
 
 pub loop-init : goal.loop-init
 loop-init g c = record {

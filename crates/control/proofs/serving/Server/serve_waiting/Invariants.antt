@@ -3,7 +3,7 @@ use Rattle.socket.specs.Connections.{both}
 use Rattle.meanwhile.specs.Noted.{IsNoted, with_said}
 use Rattle.control.specs.Notices.{WritesNotices}
 use Rattle.control.specs.Serving.{Serves}
-use Rattle.control.proofs.turn.Server+C+P+O+L+K+D+E.serve_waiting.Given as goal
+use Rattle.control.proofs.serving.Server.serve_waiting.Given as goal
 
 -- the callers so far were served
 abbrev pub invariant-loop : goal.invariant-loop

@@ -1,7 +1,7 @@
 use Rattle.std.proofs.Common.{refl, true}
 use Rattle.control.proofs.NoticeLemmas.{notices_none}
 use Rattle.control.proofs.ServingLemmas.{serves_peer, serves_told, serves_untaken}
-use Rattle.control.proofs.turn.Server+C+P+O+L+K+D+E.serve_next.Goals as goal
+use Rattle.control.proofs.serving.Server.serve_next.Goals as goal
 
 pub returns-in-Ok-Operator-clause-serves : goal.returns-in-Ok-Operator-clause-serves
 returns-in-Ok-Operator-clause-serves g c = λ waiting takes fresh.

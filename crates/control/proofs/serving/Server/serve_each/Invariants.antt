@@ -2,7 +2,7 @@ use Rattle.std.proofs.Common.{◌≤◌, ◌≡◌, false}
 use Rattle.socket.specs.Connections.{both}
 use Rattle.control.specs.Notices.{WritesNotices}
 use Rattle.control.specs.Serving.{Serves}
-use Rattle.control.proofs.serve.Server+C+P+O+L+K+D+E.serve_each.Given as goal
+use Rattle.control.proofs.serving.Server.serve_each.Given as goal
 
 -- the callers so far were served, and are as many as the rounds at least
 abbrev pub invariant-loop : goal.invariant-loop

@@ -3,7 +3,7 @@ use Rattle.socket.specs.Connections.{both}
 use Rattle.control.proofs.NoticeLemmas.{notices_more, notices_none}
 use Rattle.control.proofs.ServeLemmas.{obeyed_one}
 use Rattle.control.proofs.ServingLemmas.{all_turns, either_way, obey_serves, ordered_if}
-use Rattle.control.proofs.serve.Server+C+P+O+L+K+D+E.obey_on.Goals as goal
+use Rattle.control.proofs.serving.Server.obey_on.Goals as goal
 
 pub returns-clause-serves : goal.returns-clause-serves
 returns-clause-serves g c = λ waiting comes fresh.

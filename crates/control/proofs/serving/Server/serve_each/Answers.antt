@@ -1,8 +1,8 @@
 use Rattle.std.proofs.Common.{arith, false, inr, refl, ◌∙◌}
 use Rattle.control.proofs.NoticeLemmas.{notices_more, notices_none}
 use Rattle.control.proofs.ServingLemmas.{serves_more, serves_none, serves_peer, serves_untaken}
-use Rattle.control.proofs.serve.Server+C+P+O+L+K+D+E.serve_each.Goals as goal
-use Rattle.control.proofs.serve.Server+C+P+O+L+K+D+E.serve_each.Goals.{in-Ok-Operator, in-Ok-Peer, in-Err}
+use Rattle.control.proofs.serving.Server.serve_each.Goals as goal
+use Rattle.control.proofs.serving.Server.serve_each.Goals.{in-Ok-Operator, in-Ok-Peer, in-Err}
 
 pub loop-init : goal.loop-init
 loop-init g c = record {

@@ -18,8 +18,10 @@ from lib.stores import new_store
 from lib.suite import Suite
 from lib.tables import connected, put_versions, settled
 
-# the zips of the store, of 1 MiB each
-ZIPS = 96
+# the zips of a store, of 1 MiB each, and those of another, of 1 KiB each
+ZIPS, SMALL_ZIPS = 96, 3_000
+# what goes to the disk where all is written at once, mostly as the file is made, takes some 20 orders
+FEW = 32
 WRITE = re.compile(rb"pwrite64\(.*= (\d+)$", re.M)
 CALLS = re.compile(rb"(?:pwrite64|fdatasync|fsync)\(.*", re.M)
 
@@ -36,30 +38,42 @@ def steps(trace):
     return found
 
 
-def large_store(file):
+def filled_store(file, zips, length):
     new_store(file, ("alpha", KEY))
     conn = connected(file)
-    put_versions(conn, "alpha", "example.com/large", range(1, ZIPS + 1), bytes(1 << 20))
+    put_versions(conn, "alpha", "example.com/lib", range(1, zips + 1), bytes(length))
     settled(conn)
 
 
-def watched(suite):
-    """At most two thirds of what a copy writes is handed to the disk at once, on a slow disk too."""
-    large_store("served.db")
-    server = Server("served.db", CONTROL)
+def copied(suite, file):
+    """What a copy of this file writes, step by step."""
+    server = Server(file, CONTROL)
     words = ["strace", "-f", "-qq", "-e", "trace=pwrite64,fdatasync,fsync", "-o", "trace", "-p", str(server.child.pid)]
     watch = subprocess.Popen(words)
     while not os.path.exists("trace"):
         time.sleep(0.01)
     time.sleep(0.5)
-    suite.equal("a copy", run(["copy", "--control", CONTROL, "--to", "one.db"]), (0, b"", ""))
+    suite.equal("a copy", run(["copy", "--control", CONTROL, "--to", f"of-{file}"]), (0, b"", ""))
     server.stop()
     watch.wait(60)
-    wrote = steps(read("trace"))
+    return steps(read("trace"))
+
+
+def watched(suite):
+    """At most two thirds of what a copy writes is handed to the disk at once, on a slow disk too."""
+    filled_store("large.db", ZIPS, 1 << 20)
+    wrote = copied(suite, "large.db")
     suite.holds("it writes the zips", sum(wrote) > ZIPS << 20, sum(wrote))
     suite.holds("it hands them to the disk piece by piece", max(wrote) <= 2 * sum(wrote) // 3, max(wrote))
     suite.holds("four pieces or more have over 1 MiB", len([it for it in wrote if it > 1 << 20]) >= 4, wrote)
 
 
+def small(suite):
+    """The log of small zips goes to the disk by what it has, not by how many they are."""
+    filled_store("small.db", SMALL_ZIPS, 1 << 10)
+    wrote = copied(suite, "small.db")
+    suite.holds("small zips are not handed to the disk a few at a time", len(wrote) <= FEW, wrote)
+
+
 if __name__ == "__main__":
-    sys.exit(in_new_folders(Suite(), watched))
+    sys.exit(in_new_folders(Suite(), watched, small))

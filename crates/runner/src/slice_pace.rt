@@ -9,6 +9,9 @@ const MILLIS: u64 = 5;
 /// The bytes of a slice. The last piece or go.mod in it may exceed them.
 const BYTES: usize = 1 << 20;
 
+/// What a row takes beside the bytes that are noted: its other columns, and its places in the indexes.
+const ROW: usize = 256;
+
 /// After how many bytes the log of the copy is first written to the disk, so that the commit has little to wait for.
 const FIRST_SETTLED: usize = 4 << 20;
 
@@ -79,6 +82,7 @@ impl<'a, C: Clock, L: FileChecks> Pace for SlicePace<'a, C, L> {
     }
 
     fn note(&mut self, bytes: usize) {
+        let bytes = bytes.saturating_add(ROW);
         self.bytes = self.bytes.saturating_add(bytes);
         self.unsettled = self.unsettled.saturating_add(bytes);
     }

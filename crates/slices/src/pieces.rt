@@ -13,6 +13,7 @@ use crate::pace::Pace;
 use sqlite::types::ValueRef;
 use sqlite::{Alter, Connection, Error, ErrorCode, Row, Transaction, params};
 use statements::extract_rows::{CopyError, Pieces, RowSink};
+use statements::meter::len_at;
 use statements::query::find_row;
 use tables::pieces::PIECE_SIZE;
 
@@ -84,7 +85,7 @@ pub(crate) fn copy_pieces<S: Alter, F: Alter, P: Pace>(
             return Ok(None);
         };
         match put_piece(tx, id, &row) {
-            Ok(()) => pace.note(PIECE_SIZE),
+            Ok(()) => pace.note(len_at(&row, 2)),
             Err(error) => return Err(CopyError::Fresh(error)),
         }
         if is_short(&row) {

@@ -13,6 +13,7 @@ use crate::versions::{Version, find_version, put_version};
 use meanwhile::newcomers::Newcomers;
 use sqlite::{Alter, Connection, Error, ErrorCode, Transaction};
 use statements::extract_rows::CopyError;
+use statements::meter::len_at;
 
 /// Returns the error of a source whose rows are not those that the walk counted on.
 fn astray() -> CopyError {
@@ -88,7 +89,10 @@ fn copy_whole<S: Alter, F: Alter, P: Pace>(
         });
     }
     match put_version(tx, &version) {
-        Ok(()) => copy_rest(source, version, 0, left, tx, pace),
+        Ok(()) => {
+            pace.note(len_at(&version.row, 5));
+            copy_rest(source, version, 0, left, tx, pace)
+        }
         Err(error) => Err(CopyError::Fresh(error)),
     }
 }

@@ -21,7 +21,7 @@ from lib.tables import connected, put_versions, settled
 # the zips of a store, of 1 MiB each, and those of another, of 1 KiB each
 ZIPS, SMALL_ZIPS = 96, 3_000
 # what goes to the disk where all is written at once, mostly as the file is made, takes some 20 orders
-FEW = 32
+FEW = 40
 WRITE = re.compile(rb"pwrite64\(.*= (\d+)$", re.M)
 CALLS = re.compile(rb"(?:pwrite64|fdatasync|fsync)\(.*", re.M)
 

@@ -9,8 +9,9 @@ const MILLIS: u64 = 5;
 /// The bytes of a slice. The last piece or go.mod in it may exceed them.
 const BYTES: usize = 1 << 20;
 
-/// What a row takes beside the bytes that are noted: its other columns, and its places in the indexes.
-const ROW: usize = 256;
+/// What a row counts for beside the bytes that are noted: a page, since the pages of its table and of the indexes go to
+/// the log whole, and are several where rows lie apart. With less, those who wait meet the disk for longer.
+const ROW: usize = 4_096;
 
 /// After how many bytes the log of the copy is first written to the disk, so that the commit has little to wait for.
 const FIRST_SETTLED: usize = 4 << 20;

@@ -88,13 +88,14 @@ module _ (a b c : Shown) (before after : set.FinSet place_cmp) (s : List ℕ) (r
     device = λ failed. absurd (let e = failed in cc);
   }
 
-  -- a turn may end it
-  pub turn_ends : StaysOn {T = Unit {0}} (past a before s) (past c after s) (Err end.Ended)
-  turn_ends = record {
+  -- a turn may end it, or memory runs out for it
+  pub turn_halts : (e : CatalogEnd) → (IsErrOf {T = Unit {0}} (Err e) (end.Unprinted why.Device) → ⊥)
+      → StaysOn {T = Unit {0}} (past a before s) (past c after s) (Err e)
+  turn_halts e never = record {
     honest = λ h. read.honest (honest h);
     at = λ h w been. tt;
     no_fewer = let first = read.cause.no_fewer in omega (arith, first, no_fewer);
-    device = λ failed. absurd (let e = failed in cc);
+    device = λ failed. absurd (never failed);
   }
 
 -- ---- a line

@@ -1,5 +1,5 @@
 //! A catalog that is printed a line at a time, while others have turns with the store.
-ghost use Rattle.std.specs.Prelude.{◌≡◌, [], true, List, Option, ℕ, IfOk, MatchResult, OnOk, map};
+ghost use Rattle.std.specs.Prelude.{◌≡◌, [], true, List, Option, ℕ, IfOk, IsErrOf, MatchResult, OnOk, map};
 ghost use Rattle.std.specs.FinSet as set;
 ghost use Rattle.std.specs.Io.KnownBytes.{Keeps};
 ghost use Rattle.gomod.specs.Module.{GoModule};
@@ -16,7 +16,7 @@ use crate::print::{Unprinted, finish, put, unread};
 use crate::sight::Then;
 use histories::{Restart, Tell};
 use keyring::Keyring;
-use meanwhile::between::Between;
+use meanwhile::between::{Between, Halt};
 use meanwhile::definite::Definite;
 use meanwhile::newcomers::Newcomers;
 use modpath::ModulePath;
@@ -52,6 +52,7 @@ pub fn print_between<S: Outlines + Keyring + Definite, O: Restart, B: Between<S>
         (O.contents output.old) (O.contents output.new) result }
     // The store was read and had turns.
     ensures went { B.went between.old between.new shelves.old shelves.new }
+    ensures ended { IsErrOf result CatalogEnd.Ended → B.ended between.new }
     ensures fails { spec.FailsOn (O.writes output.old) (O.writes output.new) result }
     // What was printed is flushed.
     ensures flushed { IfOk result (λ is. is ≡ true → (O.writes output.new).unflushed ≡ []) }
@@ -79,6 +80,7 @@ fn print_all<S: Outlines + Keyring + Definite, O: Restart, B: Between<S>>(
         (spec.past (S.shown shelves.new) news shelf.now) (O.contents output.old) (O.contents output.new) result
         (λ w. lines_seen w shelf.now) }
     ensures went { B.went between.old between.new shelves.old shelves.new }
+    ensures ended { IsErrOf result CatalogEnd.Ended → B.ended between.new }
     ensures fails { spec.FailsOn (O.writes output.old) (O.writes output.new) result }
 {
     let paths = match shelves.paths(shelf) {
@@ -114,6 +116,7 @@ fn print_text<S: Outlines + Keyring + Definite, O: Restart, B: Between<S>>(
         (spec.past (S.shown shelves.new) news.new shelf.now) (O.contents output.old) (O.contents output.new) result
         (λ w. lines_of_text w shelf.now text.now) }
     ensures went { B.went between.old between.new shelves.old shelves.new }
+    ensures ended { IsErrOf result CatalogEnd.Ended → B.ended between.new }
     ensures fails { spec.FailsOn (O.writes output.old) (O.writes output.new) result }
 {
     match path_of(alloc, text) {
@@ -137,6 +140,7 @@ fn print_path<S: Outlines + Keyring + Definite, O: Restart, B: Between<S>>(
         (spec.past (S.shown shelves.new) news.new shelf.now) (O.contents output.old) (O.contents output.new) result
         (λ w. lines_of_path w shelf.now path.now) }
     ensures went { B.went between.old between.new shelves.old shelves.new }
+    ensures ended { IsErrOf result CatalogEnd.Ended → B.ended between.new }
     ensures fails { spec.FailsOn (O.writes output.old) (O.writes output.new) result }
 {
     match read_account(alloc, shelves, shelf, path, news) {
@@ -167,6 +171,7 @@ fn print_account<S: Outlines + Keyring + Definite, O: Restart, B: Between<S>>(
         (spec.past (S.shown shelves.new) news.new shelf.now) (O.contents output.old) (O.contents output.new) result
         (λ w. lines_by w shelf.now path.now m account.now.latest versions.now) }
     ensures went { B.went between.old between.new shelves.old shelves.new }
+    ensures ended { IsErrOf result CatalogEnd.Ended → B.ended between.new }
     ensures fails { spec.FailsOn (O.writes output.old) (O.writes output.new) result }
 {
     match take_turn(shelves, news, between) {
@@ -194,6 +199,7 @@ fn print_versions<S: Outlines + Keyring + Definite, O: Restart, B: Between<S>>(
         (spec.past (S.shown shelves.new) news.new shelf.now) (O.contents output.old) (O.contents output.new) result
         (λ w. lines_by w shelf.now path.now m account.now.latest versions.now) }
     ensures went { B.went between.old between.new shelves.old shelves.new }
+    ensures ended { IsErrOf result CatalogEnd.Ended → B.ended between.new }
     ensures fails { spec.FailsOn (O.writes output.old) (O.writes output.new) result }
 {
     let mut index = 0;
@@ -223,6 +229,7 @@ fn print_version<S: Outlines + Keyring + Definite, O: Restart, B: Between<S>>(
         (spec.past (S.shown shelves.new) news.new shelf.now) (O.contents output.old) (O.contents output.new) result
         (λ w. line_at w shelf.now path.now version.now marks) }
     ensures went { B.went between.old between.new shelves.old shelves.new }
+    ensures ended { IsErrOf result CatalogEnd.Ended → B.ended between.new }
     ensures fails { spec.FailsOn (O.writes output.old) (O.writes output.new) result }
 {
     match read_line(alloc, shelves, shelf, path, version, marks, news) {
@@ -243,6 +250,7 @@ fn print_line<S: Definite, O: Restart, B: Between<S>>(
         (spec.past (S.shown shelves.new) news.new s) (O.contents output.old) (O.contents output.new) result
         (λ _. line.now) }
     ensures went { B.went between.old between.new shelves.old shelves.new }
+    ensures ended { IsErrOf result CatalogEnd.Ended → B.ended between.new }
     ensures fails { spec.FailsOn (O.writes output.old) (O.writes output.new) result }
 {
     match put(output, line) {
@@ -263,16 +271,15 @@ fn take_turn<S: Definite, B: Between<S>>(
     ensures stays { (s : List ℕ) → spec.StaysOn (spec.past (S.shown shelves.old) news.old s)
         (spec.past (S.shown shelves.new) news.new s) result }
     ensures went { B.went between.old between.new shelves.old shelves.new }
+    ensures ended { IsErrOf result CatalogEnd.Ended → B.ended between.new }
     ensures output { spec.IsNotOutput result }
 {
     match shelves.settle() {
-        Ok(()) => {
-            if between.turn(shelves, news) {
-                Ok(())
-            } else {
-                Err(CatalogEnd::Ended)
-            }
-        }
+        Ok(()) => match between.turn(shelves, news) {
+            Ok(()) => Ok(()),
+            Err(Halt::Ended) => Err(CatalogEnd::Ended),
+            Err(Halt::Memory) => Err(CatalogEnd::Unprinted(Unprinted::Memory)),
+        },
         Err(fault) => Err(unread_on(fault)),
     }
 }

@@ -121,7 +121,7 @@ outcome_in_told (spoken.Outcome outcome) = outcome
 outcome_in_told (spoken.Health line) = outcome.Bad
 outcome_in_told (spoken.List lines) = outcome.Bad
 
-module _ (idle meanwhile : Type 0) (old new : Shown) (sent : List ℕ) (order asked : RegistryCommand)
+module _ (idle : Type 0) (meanwhile : Making → Type 0) (old new : Shown) (sent : List ℕ) (order asked : RegistryCommand)
     (result : Result (Unit {0}) CommandRefusal) (w : World) where
   carried : new.is_honest → old.stands w → IsWorld w → ComeToTheSame asked order → IsSent sent asked
       → (other : RegistryCommand) → IsSent sent other
@@ -165,7 +165,7 @@ module _ (idle meanwhile : Type 0) (old new : Shown) (sent : List ℕ) (order as
   heard_so honest stands is same asks NoMemory from outcome tells ends through = absurd from
 
 pub ends_as_on_the_store : (made : Making → Type 0)
-    (pinged : Result Health StoreFault → Type 0) (idle meanwhile : Type 0) (old new : Shown)
+    (pinged : Result Health StoreFault → Type 0) (idle : Type 0) (meanwhile : Making → Type 0) (old new : Shown)
     → ((w : World) → old.stands w → IsWorld w) → EndsAsOnTheStore made pinged idle meanwhile old new
 ends_as_on_the_store made pinged idle meanwhile old new sound order result w two honest stands =
     let asked = two.command.asked in

@@ -42,7 +42,7 @@ ends_so : (told : Result RegistryReply StoreFault) → told_ending NoKey (Ok (ou
 ends_so (Ok r) = refl
 ends_so (Err fault) = refl
 
-module _ (idle meanwhile : Type 0) (old new : Shown) (f : List ℕ) (result : Result (Unit {0}) CommandRefusal)
+module _ (idle : Type 0) (meanwhile : Making → Type 0) (old new : Shown) (f : List ℕ) (result : Result (Unit {0}) CommandRefusal)
     (w : World) where
   named : new.is_honest → old.stands w → (naming : Naming) → Finds old new f naming
       → GoesThroughSteps old new (named_steps f naming) → result ≡ ending (named_result naming)
@@ -92,7 +92,7 @@ module _ (idle meanwhile : Type 0) (old new : Shown) (f : List ℕ) (result : Re
   heard_so sent honest stands asks NoMemory from outcome tells ends through lists = absurd from
 
 pub revokes_as_on_the_store : (made : Making → Type 0)
-    (pinged : Result Health StoreFault → Type 0) (idle meanwhile : Type 0) (old new : Shown)
+    (pinged : Result Health StoreFault → Type 0) (idle : Type 0) (meanwhile : Making → Type 0) (old new : Shown)
     → RevokesAsOnTheStore made pinged idle meanwhile old new
 revokes_as_on_the_store made pinged idle meanwhile old new f result w two honest stands =
     let asks = subst (λ told. AsksToRevoke two.unread two.unread_new (Some []) (Some two.sent) f told) two.heard

@@ -18,7 +18,7 @@ use Rattle.commands.specs.declared.refusal.CommandRefusal.{CommandRefusal}
 
 -- The command wrote these bytes, the server did what they order, and the command got its outcome.
 pub record AreConnected (made : Making → Type 0)
-    (pinged : Result Health StoreFault → Type 0) (idle meanwhile : Type 0)
+    (pinged : Result Health StoreFault → Type 0) (idle : Type 0) (meanwhile : Making → Type 0)
     (old new : Shown) (order : RegistryCommand) (result : Result (Unit {0}) CommandRefusal) : Type 0 where
   pub unread : Option (List ℕ)
   pub unread_new : Option (List ℕ)
@@ -38,7 +38,7 @@ EndsAt new w order result =
 -- On an honest disk, the command ends so in each world that the store stood for.
 abbrev pub EndsAsOnTheStore :
     (Making → Type 0) → (Result Health StoreFault → Type 0)
-    → (idle meanwhile : Type 0) → Shown → Shown → Type 0
+    → (idle : Type 0) (meanwhile : Making → Type 0) → Shown → Shown → Type 0
 EndsAsOnTheStore made pinged idle meanwhile old new =
     (order : RegistryCommand) (result : Result (Unit {0}) CommandRefusal) (w : World)
     → AreConnected made pinged idle meanwhile old new order result → new.is_honest → old.stands w
@@ -49,7 +49,7 @@ EndsAsOnTheStore made pinged idle meanwhile old new =
 -- The command wrote these bytes, the server did what they order, and the command got its outcome.
 pub record AreConnectedToRevoke
     (made : Making → Type 0) (pinged : Result Health StoreFault → Type 0)
-    (idle meanwhile : Type 0) (old new : Shown) (f : List ℕ) (result : Result (Unit {0}) CommandRefusal) : Type 0 where
+    (idle : Type 0) (meanwhile : Making → Type 0) (old new : Shown) (f : List ℕ) (result : Result (Unit {0}) CommandRefusal) : Type 0 where
   pub unread : Option (List ℕ)
   pub unread_new : Option (List ℕ)
   pub sent : List ℕ
@@ -68,7 +68,7 @@ RevokesAt new w f result =
 -- On an honest disk, the command ends so in each world that the store stood for.
 abbrev pub RevokesAsOnTheStore :
     (Making → Type 0) → (Result Health StoreFault → Type 0)
-    → (idle meanwhile : Type 0) → Shown → Shown → Type 0
+    → (idle : Type 0) (meanwhile : Making → Type 0) → Shown → Shown → Type 0
 RevokesAsOnTheStore made pinged idle meanwhile old new =
     (f : List ℕ) (result : Result (Unit {0}) CommandRefusal) (w : World)
     → AreConnectedToRevoke made pinged idle meanwhile old new f result → new.is_honest → old.stands w

@@ -33,8 +33,7 @@ pub enum CommandRefusal {
     NotEmpty,
     /// For `copy` and `catalog`, the server makes another copy or prints another catalog.
     Busy,
-    /// For `copy` and `catalog`, the server ended it, because the server ends or memory ran out there for what was
-    /// published meanwhile.
+    /// For `copy` and `catalog`, the server ended it, because the server ends.
     Ended,
     /// The path or the version is invalid, there is no such key, or its shelf does not see the version.
     NotFound,

@@ -7,7 +7,7 @@ use Rattle.meanwhile.specs.declared.between.HowFar.{HowFar}
 use Rattle.world.specs.Store.{Shown}
 use Rattle.world.specs.declared.registry.StoreFault.{StoreFault}
 use Rattle.engine.specs.declared.fault.Io.{Io}
-use Rattle.control.specs.Copying.{Making, IsOnlyRead}
+use Rattle.control.specs.Copying.{Making, IsBusy, IsOnlyRead}
 use Rattle.control.specs.Figures.{TellsKept}
 use Rattle.control.specs.Health.{IsPinged}
 use Rattle.control.specs.Pinging.{TellsHowFar, TellsPing}
@@ -36,7 +36,7 @@ module _ {O : Type 0} (heeded : O → Account × Reads) (told : O → Option (Li
   abbrev Obeyed : Tally → O → Bool → S → S → Type 0
   Obeyed tally operator stops s t = ObeysOne heeded told (made s t)
       (IsPinged tally (shown s).failures (shown t).failures (counted s t)) (Unit {0})
-      (IsOnlyRead (shown s) (shown t)) operator stops (shown s) (shown t)
+      (λ making. IsOnlyRead (shown s) (shown t) × IsBusy making) operator stops (shown s) (shown t)
 
   -- an operator was obeyed while a copy is made, with a tally that is that of the moment
   pub obeys_meanwhile : (far : Option HowFar) (tally : Tally) (operator : O) (stops : Bool) (p q : Progress) (s t : S)

@@ -26,7 +26,7 @@ has_end [] is = cc
 has_end (b ∷ bs) is = cc
 
 module _ (made : Making → Type 0) (pinged : Result Health StoreFault → Type 0)
-    (idle meanwhile : Type 0) (old new : Shown) (u u' : Account) where
+    (idle : Type 0) (meanwhile : Making → Type 0) (old new : Shown) (u u' : Account) where
   was_heard : (got : List ℕ) → ReadsLine u u' got → (heard : Heard) → IsHeardIn got heard → IsHeard u u' heard
   was_heard got reads NoMemory never = absurd never
   was_heard got reads heard from = (got, reads, from)
@@ -47,7 +47,8 @@ module _ (made : Making → Type 0) (pinged : Result Health StoreFault → Type 
 
   -- the catalog that it asks for
   pub hears_catalog : (got key printed : List ℕ) (told : Result (Unit {0}) CatalogRefusal) (outcome : Outcome)
-      → outcome ≡ outcome_of_catalog told → ReadsLine u u' got → IsCatalogOf got key → meanwhile
+      → outcome ≡ outcome_of_catalog told → ReadsLine u u' got → IsCatalogOf got key
+      → meanwhile (OfKey key printed told)
       → made (OfKey key printed told)
       → Hears made pinged idle meanwhile old new u u' printed (spoken.Outcome outcome)
   hears_catalog got key printed told outcome is reads asks through came = record {

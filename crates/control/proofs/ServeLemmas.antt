@@ -70,7 +70,7 @@ written_so writes printed told heard prints tells so =
 
 module _ {O : Type 0} (heeded : O → Account × Reads) (told : O → Option (List ℕ) × Writes)
     (made : Making → Type 0)
-    (pinged : Result Health StoreFault → Type 0) (idle meanwhile : Type 0) (old new : Shown) where
+    (pinged : Result Health StoreFault → Type 0) (idle : Type 0) (meanwhile : Making → Type 0) (old new : Shown) where
   -- an operator was obeyed, where a failure has its cause
   pub obeyed_one : (operator after : O) (stops : Bool) (result : Result Told Io)
       → Obeys made pinged idle meanwhile old new (heeded operator).0 (heeded after).0 (told operator).0

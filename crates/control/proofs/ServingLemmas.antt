@@ -15,7 +15,7 @@ use Rattle.meanwhile.specs.Meanwhile.{IsAsItWas}
 use Rattle.meanwhile.specs.declared.between.HowFar.{HowFar}
 use Rattle.engine.specs.declared.fault.Io.{Io}
 use Rattle.socket.specs.Connections.{Come, exchanges_of}
-use Rattle.control.specs.Copying.{Making, OfKey, ToPath, tasks_in, has_read, AllRead, GoesThroughSteps, IsOnlyRead}
+use Rattle.control.specs.Copying.{Making, OfKey, ToPath, tasks_in, has_read, AllRead, GoesThroughSteps, IsBusy, IsOnlyRead}
 use Rattle.control.specs.Health.{IsPinged, tally_of}
 use Rattle.control.specs.Hearing.{Heard, Carried, Pinged, Listed, Named, Stop, NoOrder, NoMemory}
 use Rattle.control.specs.Hearing.{told_of_making}
@@ -50,12 +50,12 @@ use Rattle.control.proofs.CallsLemmas.{steps_append, tally_append, through_appen
 -- ---- what an operator's line ordered
 
 -- an order was carried out that has nothing made, or one that has this made
-pub data Ordered (idle meanwhile : Type 0) (old new : Shown) (heard : Option Heard) : Type 0 where
+pub data Ordered (idle : Type 0) (meanwhile : Making → Type 0) (old new : Shown) (heard : Option Heard) : Type 0 where
   Other : idle → GoesThroughSteps old new (steps_if heard) → Ordered idle meanwhile old new heard
-  ToMake : (making : Making) → heard ≡ Some (hearing.Made making) → meanwhile
+  ToMake : (making : Making) → heard ≡ Some (hearing.Made making) → meanwhile making
       → Ordered idle meanwhile old new heard
 
-pub ordered_if : (idle meanwhile : Type 0) (old new : Shown) (heard : Option Heard)
+pub ordered_if : (idle : Type 0) (meanwhile : Making → Type 0) (old new : Shown) (heard : Option Heard)
     → GoesIf idle meanwhile old new heard → Ordered idle meanwhile old new heard
 ordered_if idle meanwhile old new None goes = Other goes.0 goes.1
 ordered_if idle meanwhile old new (Some (Carried command told)) goes = Other goes.0 goes.1
@@ -69,10 +69,11 @@ ordered_if idle meanwhile old new (Some NoMemory) goes = Other goes.0 goes.1
 
 -- where the store was only read for it, it went through the steps of what was ordered
 through_told : (idle : Type 0) (old new : Shown) (heard : Option Heard)
-    → Ordered idle (IsOnlyRead old new) old new heard → GoesThroughSteps old new (steps_if heard)
+    → Ordered idle (λ making. IsOnlyRead old new × IsBusy making) old new heard
+    → GoesThroughSteps old new (steps_if heard)
 through_told idle old new heard (Other still through) = through
 through_told idle old new heard (ToMake making is read) =
-    subst (λ h. GoesThroughSteps old new (steps_if h)) (sym is) (tasks_read old new read)
+    subst (λ h. GoesThroughSteps old new (steps_if h)) (sym is) (tasks_read old new read.0)
 
 -- nothing else was done
 only_read : (old new : Shown) → IsAsItWas old new → IsOnlyRead old new
@@ -109,13 +110,13 @@ or_not false true off = absurd (off refl)
 or_not false false off = refl
 
 -- either way this holds
-pub either_way : (R idle meanwhile : Type 0) (old new : Shown) (heard : Option Heard) → (idle → R) → (meanwhile → R)
-    → Ordered idle meanwhile old new heard → R
+pub either_way : (R idle : Type 0) (meanwhile : Making → Type 0) (old new : Shown) (heard : Option Heard) → (idle → R)
+    → ((making : Making) → meanwhile making → R) → Ordered idle meanwhile old new heard → R
 either_way R idle meanwhile old new heard one two (Other rests through) = one rests
-either_way R idle meanwhile old new heard one two (ToMake making is done) = two done
+either_way R idle meanwhile old new heard one two (ToMake making is done) = two making done
 
 -- what is unsaid of those who make copies
-goes_unsaid : (idle meanwhile : Type 0) (old new : Shown) (heard : Option Heard) → GoesIf idle meanwhile old new heard
+goes_unsaid : (idle : Type 0) (meanwhile : Making → Type 0) (old new : Shown) (heard : Option Heard) → GoesIf idle meanwhile old new heard
     → GoesIf (Unit {0}) meanwhile old new heard
 goes_unsaid idle meanwhile old new None goes = (tt, goes.1)
 goes_unsaid idle meanwhile old new (Some (Carried command told)) goes = (tt, goes.1)
@@ -129,7 +130,7 @@ goes_unsaid idle meanwhile old new (Some NoMemory) goes = (tt, goes.1)
 
 pub obeys_unsaid : {O : Type 0} (heeded : O → Account × Reads) (told : O → Option (List ℕ) × Writes)
     (made : Making → Type 0) (pinged : Result Health StoreFault → Type 0)
-    (idle meanwhile : Type 0) (old new : Shown) (operator : O) (stops : Bool)
+    (idle : Type 0) (meanwhile : Making → Type 0) (old new : Shown) (operator : O) (stops : Bool)
     → ObeysOne heeded told made pinged idle meanwhile operator stops old new
     → ObeysOne heeded told made pinged (Unit {0}) meanwhile operator stops old new
 obeys_unsaid heeded told made pinged idle meanwhile old new operator stops next = record {
@@ -145,7 +146,7 @@ obeys_unsaid heeded told made pinged idle meanwhile old new operator stops next 
 -- that changes nothing of what was told
 pub unsaid_told : {O : Type 0} (heeded : O → Account × Reads) (told : O → Option (List ℕ) × Writes)
     (made : Making → Type 0) (pinged : Result Health StoreFault → Type 0)
-    (idle meanwhile : Type 0) (old new : Shown) (operator : O) (stops : Bool)
+    (idle : Type 0) (meanwhile : Making → Type 0) (old new : Shown) (operator : O) (stops : Bool)
     → (next : ObeysOne heeded told made pinged idle meanwhile operator stops old new)
     → (obeys_unsaid heeded told made pinged idle meanwhile old new operator stops next).audience.told
     ≡ next.audience.told
@@ -285,7 +286,7 @@ module _ {P O : Type 0} (heeded : O → Account × Reads) (told : O → Option (
           (goes_on p.stops q.stops going stops Untaken (λ never. never))
 
       -- an operator, who ordered no copy
-      pub serves_operator : (idle meanwhile : Type 0) (tally_now : Tally) (operator : O) (stops : Bool)
+      pub serves_operator : (idle : Type 0) (meanwhile : Making → Type 0) (tally_now : Tally) (operator : O) (stops : Bool)
           → Come waiting rest (Operator operator ∷ []) → is_new (Operator operator) → p.stops ≡ false
           → tally_now ≡ p.tally
           → (next : ObeysOne heeded told (made s t)
@@ -426,15 +427,17 @@ module _ {P O : Type 0} (heeded : O → Account × Reads) (told : O → Option (
         → ObeysMeanwhile heeded told shown made counted operator far p q s t → From true waiting rest p q s t
     unfolding serves_operator
     serves_told waiting rest p q s t operator far comes fresh going next =
-        serves_operator true waiting rest p q s t (Unit {0}) (IsOnlyRead (shown s) (shown t)) p.tally operator
+        serves_operator true waiting rest p q s t (Unit {0}) (λ making. IsOnlyRead (shown s) (shown t) × IsBusy making)
+        p.tally operator
         next.stops comes fresh going refl next.obeys
         (through_told (Unit {0}) (shown s) (shown t) next.obeys.audience.heard
         (ordered_if _ _ (shown s) (shown t) next.obeys.audience.heard next.obeys.through))
         next.tally next.left next.taken next.ends
 
-    module _ (waiting w v : Option (List (Caller P O))) (p a b q : Progress) (s t : S) (idle meanwhile : Type 0)
+    module _ (waiting w v : Option (List (Caller P O))) (p a b q : Progress) (s t : S) (idle : Type 0) (meanwhile : Making → Type 0)
         (still : idle → (v ≡ w) × (b ≡ a))
-        (turns : meanwhile → (mid : S) × From true w v a b s mid × IsOnlyRead (shown mid) (shown t))
+        (turns : (making : Making) → meanwhile making
+        → (mid : S) × From true w v a b s mid × IsOnlyRead (shown mid) (shown t))
         (operator : O) (stops : Bool) (comes : Come waiting w (Operator operator ∷ []))
         (fresh : is_new (Operator operator)) (going : p.stops ≡ false)
         (next : ObeysOne heeded told (made s t)
@@ -455,11 +458,11 @@ module _ {P O : Type 0} (heeded : O → Account × Reads) (told : O → Option (
           (stops_q ∙ ap (λ x. x.stops || stops) both.1 ∙ ap (λ x. x || stops) same))
 
       made_served : (making : Making)
-          → next.audience.heard ≡ Some (hearing.Made making) → meanwhile → From false waiting v p q s t
+          → next.audience.heard ≡ Some (hearing.Made making) → meanwhile making → From false waiting v p q s t
       unfolding serves_made
       made_served making is done =
           let x = next.audience in
-          let went = turns done in
+          let went = turns making done in
           let there : IsToldThere heeded told x.before x.after (Some (hearing.Made making)) x.told =
           subst (λ h. IsToldThere heeded told x.before x.after h x.told) is next.there in
           let never = no_stop_told x.before x.after making x.told there in

@@ -1,5 +1,5 @@
 -- What is read of a store that is served: copies, counts of its versions, lists, and keys by fingerprints.
-use Rattle.std.specs.Prelude.{ℕ, ◌≡◌, ◌≤◌, Bool, true, false, List, [], ◌∷◌, All, Option, Result, Ok, Err}
+use Rattle.std.specs.Prelude.{ℕ, ◌≡◌, ◌≤◌, Bool, true, false, List, [], ◌∷◌, All, Option, Result, Ok, Err, IsErrOf}
 use Rattle.keyring.specs.Named.{keys_in}
 use Rattle.keyring.specs.Revoke.{only_with}
 use Rattle.world.specs.World.{World}
@@ -8,7 +8,9 @@ use Rattle.world.specs.declared.registry.StoreFault.{StoreFault}
 use Rattle.control.specs.Listing.{IsList}
 use Rattle.control.specs.Tasks.{Task, GoesThroughTasks, messages, world_at}
 use Rattle.control.specs.declared.copies.CatalogRefusal.{CatalogRefusal}
+use Rattle.control.specs.declared.copies.CatalogRefusal.TheVariants as catalog
 use Rattle.control.specs.declared.copies.CopyRefusal.{CopyRefusal}
+use Rattle.control.specs.declared.copies.CopyRefusal.TheVariants as copy
 use Rattle.control.specs.declared.health.Health.{Health}
 use Rattle.control.specs.declared.listing.Listing.{Listing}
 
@@ -25,6 +27,21 @@ pub record IsOnlyRead (old new : Shown) : Type 0 where
 pub data Making : Type 0 where
   ToPath : List ℕ → Result (Unit {0}) CopyRefusal → Making
   OfKey : List ℕ → List ℕ → Result (Unit {0}) CatalogRefusal → Making
+
+-- it was not begun, since another one is being made
+abbrev pub IsBusy : Making → Type 0
+IsBusy (ToPath path told) = IsErrOf told copy.Busy
+IsBusy (OfKey key printed told) = IsErrOf told catalog.Busy
+
+-- it was begun, and ended before all of it was made
+abbrev pub IsEnded : Making → Type 0
+IsEnded (ToPath path told) = IsErrOf told copy.Ended
+IsEnded (OfKey key printed told) = IsErrOf told catalog.Ended
+
+-- it was begun, and ended early only for this cause
+pub record IsBegun (cause : Type 0) (making : Making) : Type 0 where
+  pub begun : ¬ IsBusy making
+  pub ended : IsEnded making → cause
 
 -- what happened to a store that is served: a task of the machine; or something that was made of it, a ping, a list, or
 -- a look for the key with a fingerprint, which is none

@@ -135,8 +135,8 @@ ListsBy old new other = Unit {0}
 
 -- The store went through the steps of what was ordered, and the copies were idle; where something was to be made, this
 -- happened meanwhile.
-abbrev pub GoesAs : (idle meanwhile : Type 0) → Shown → Shown → Heard → Type 0
-GoesAs idle meanwhile old new (Made making) = meanwhile
+abbrev pub GoesAs : (idle : Type 0) (meanwhile : Making → Type 0) → Shown → Shown → Heard → Type 0
+GoesAs idle meanwhile old new (Made making) = meanwhile making
 GoesAs idle meanwhile old new heard = idle × GoesThroughSteps old new (steps_heard heard)
 
 module _ (made : Making → Type 0) (pinged : Result Health StoreFault → Type 0) where
@@ -151,7 +151,7 @@ module _ (made : Making → Type 0) (pinged : Result Health StoreFault → Type 
   CameOf NoOrder = Unit {0}
   CameOf NoMemory = Unit {0}
 
-  module _ (idle meanwhile : Type 0) where
+  module _ (idle : Type 0) (meanwhile : Making → Type 0) where
     -- What was ordered was done, these lines of a catalog were printed, and this came of it. `is_from` says where the
     -- order came from.
     pub record Follows (is_from : Heard → Type 0) (old new : Shown) (printed : List ℕ) (told : Told) : Type 0 where
@@ -191,7 +191,7 @@ module _ (made : Making → Type 0) (pinged : Result Health StoreFault → Type 
 
 -- So it was between two stores, by what is known of copies and counts, with the tally of the moment.
 module _ {S K : Type 0} (shown : S → Shown) (made : S → S → Making → Type 0)
-    (counted : S → S → ℕ → Type 0) (meanwhile : K → K → S → S → Type 0) (tally : Tally) (copies copies_new : K)
+    (counted : S → S → ℕ → Type 0) (meanwhile : K → K → S → S → Making → Type 0) (tally : Tally) (copies copies_new : K)
     (old new : S) where
   abbrev pub HeedsBy : List ℕ → List ℕ → Told → Type 0
   HeedsBy = Heeds (made old new) (IsPinged tally (shown old).failures (shown new).failures (counted old new))

@@ -9,7 +9,7 @@ use Rattle.world.specs.World.{World}
 use Rattle.socket.specs.Connections.{Come}
 use Rattle.meanwhile.specs.Meanwhile.{IsAsItWas}
 use Rattle.meanwhile.specs.declared.between.HowFar.{HowFar}
-use Rattle.control.specs.Copying.{Making, AllRead, IsOnlyRead, tasks_in, has_read}
+use Rattle.control.specs.Copying.{Making, AllRead, IsBusy, IsOnlyRead, tasks_in, has_read}
 use Rattle.control.specs.Health.{Answered, IsPinged, with_one}
 use Rattle.control.specs.Notices.{WritesNotices}
 use Rattle.control.specs.Pinging.{TellsHowFar}
@@ -50,7 +50,7 @@ pub record ObeysMeanwhile {O : Type 0} (heeded : O → Account × Reads) (told :
     pub stops : Bool
     pub obeys : ObeysOne heeded told (made old new)
         (IsPinged before.tally (shown old).failures (shown new).failures (counted old new)) (Unit {0})
-        (IsOnlyRead (shown old) (shown new)) operator stops (shown old) (shown new)
+        (λ making. IsOnlyRead (shown old) (shown new) × IsBusy making) operator stops (shown old) (shown new)
     pub tally : after.tally ≡ before.tally
     pub left : after.left ≡ before.left
     pub taken : after.taken ≡ before.taken + 1

@@ -61,7 +61,7 @@ steps_if None = []
 steps_if (Some heard) = steps_heard heard
 
 -- the store went through what a line ordered, or nothing happened if no line was read
-abbrev pub GoesIf : (idle meanwhile : Type 0) → Shown → Shown → Option Heard → Type 0
+abbrev pub GoesIf : (idle : Type 0) (meanwhile : Making → Type 0) → Shown → Shown → Option Heard → Type 0
 GoesIf idle meanwhile old new None = idle × GoesThroughSteps old new []
 GoesIf idle meanwhile old new (Some heard) = GoesAs idle meanwhile old new heard
 
@@ -173,7 +173,7 @@ module _ {O : Type 0} (heeded : O → Account × Reads) (told : O → Option (Li
   -- This operator was obeyed, and the store went through its order. The flag says whether it was told that the server
   -- ends.
   pub record ObeysOne (made : Making → Type 0)
-      (pinged : Result Health StoreFault → Type 0) (idle meanwhile : Type 0)
+      (pinged : Result Health StoreFault → Type 0) (idle : Type 0) (meanwhile : Making → Type 0)
       (operator : O) (stops : Bool) (old new : Shown) : Type 0 where
     pub audience : Audience O
     pub begins : audience.before ≡ operator
@@ -186,7 +186,7 @@ module _ {O : Type 0} (heeded : O → Account × Reads) (told : O → Option (Li
   -- so it was between two stores, by what is known of copies and counts, with the tally of the moment
   abbrev pub ObeysOneBy : {S K : Type 0} (shown : S → Shown)
       (made : S → S → Making → Type 0) (counted : S → S → ℕ → Type 0)
-      (meanwhile : K → K → S → S → Type 0) (tally : Tally) (operator : O) (stops : Bool) (copies copies_new : K)
+      (meanwhile : K → K → S → S → Making → Type 0) (tally : Tally) (operator : O) (stops : Bool) (copies copies_new : K)
       (old new : S) → Type 0
   ObeysOneBy shown made counted meanwhile tally operator stops copies copies_new old new =
       ObeysOne (made old new)

@@ -272,7 +272,7 @@ fn tell_since<C: Clock, J: Start, W: BoundWrite + Drop>(
 
 /// A source of peers and operators.
 pub trait Callers<P, O> {
-    ghost use Rattle.std.specs.Prelude.{◌≡◌, Bool, List, Option, IfOk, IfSome, MatchOption};
+    ghost use Rattle.std.specs.Prelude.{◌≡◌, Bool, false, List, Option, IfOk, IfSome, MatchOption};
     ghost use Rattle.socket.specs.Connections.{Accepts};
     ghost use Rattle.control.specs.declared.callers.Caller.{Caller};
 
@@ -300,7 +300,8 @@ pub trait Callers<P, O> {
 
     /// Watches the operator who was taken last, so that `has_left` can tell of it.
     fn watch_operator(&mut self)
-        ensures same { waiting self.new ≡ waiting self.old };
+        ensures same { waiting self.new ≡ waiting self.old }
+        ensures here { left self.new ≡ false };
 
     /// Whether the operator who is watched was seen to close its connection.
     fn has_left(&self) -> bool

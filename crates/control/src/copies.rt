@@ -17,7 +17,7 @@ pub enum CopyRefusal {
     Memory,
     /// Another copy is being made, or a catalog is printed.
     Busy,
-    /// The server ends, the operator has left, or memory ran out for what was published meanwhile.
+    /// The server ends, or the operator has left.
     Ended,
 }
 
@@ -32,7 +32,7 @@ pub enum CatalogRefusal {
     Memory,
     /// A copy is being made, or another catalog is printed.
     Busy,
-    /// The server ends, the operator has left, or memory ran out for what was published meanwhile.
+    /// The server ends, or the operator has left.
     Ended,
     /// The output failed.
     Output,
@@ -40,11 +40,11 @@ pub enum CatalogRefusal {
 
 /// What copies a store while it is served, prints the catalogs of its keys, and counts what it keeps.
 pub trait Copies<S: Shelves> {
-    ghost use Rattle.std.specs.Prelude.{ℕ, ◌≡◌, ◌≢◌, ◌<◌, ◌≤◌, List, [], Err, IfErr, IfOk};
+    ghost use Rattle.std.specs.Prelude.{ℕ, ◌≡◌, ◌≢◌, ◌<◌, ◌≤◌, List, [], Err, IfErr, IfOk, IsErrOf};
     ghost use Rattle.std.specs.Io.KnownBytes.{Appends};
     ghost use Rattle.control.specs.Copying.{IsOnlyRead, Making, OfKey, ToPath};
     ghost use Rattle.control.specs.declared.copies.CatalogRefusal.TheVariants as catalog;
-    ghost use Rattle.control.specs.declared.copies.CopyRefusal.TheVariants.{Busy};
+    ghost use Rattle.control.specs.declared.copies.CopyRefusal.TheVariants.{Busy, Ended};
     ghost use Rattle.control.specs.declared.health.Figures.{Figures};
     ghost use Rattle.world.specs.Store.{HasCause};
 
@@ -76,7 +76,8 @@ pub trait Copies<S: Shelves> {
             × IsOnlyRead (S.shown mid) (S.shown shelves.new) }
         ensures came { made shelves.old shelves.new (ToPath path.now result) }
         // It is begun, so none that is being made is why it fails.
-        ensures begun { IfErr result (λ why. why ≢ Busy) };
+        ensures begun { IfErr result (λ why. why ≢ Busy) }
+        ensures ended { IsErrOf result Ended → B.ended between.new };
 
     /// Prints the catalog of a key, as the served store is at this moment, a line at a time, and has `between` take a
     /// turn after each line. Beside these turns, the served store is only read.
@@ -99,7 +100,8 @@ pub trait Copies<S: Shelves> {
         ensures fewer { (O.writes output.old).failed ≤ (O.writes output.new).failed }
         ensures output { result ≡ Err catalog.Output → (O.writes output.old).failed < (O.writes output.new).failed }
         // It is begun, so none that is being printed is why it fails.
-        ensures begun { IfErr result (λ why. why ≢ catalog.Busy) };
+        ensures begun { IfErr result (λ why. why ≢ catalog.Busy) }
+        ensures ended { IsErrOf result catalog.Ended → B.ended between.new };
 
     /// Returns how many versions the served store keeps at this moment. The served store is only read. Fails with
     /// `Device` if a disk failed, and with `Memory` if memory ran out.
@@ -137,14 +139,14 @@ pub trait CopyOrders<S: Shelves> {
     ghost figured: { Self → S → Figures → Type 0 };
 
     /// What happens while an order to copy or to print a catalog is carried out: relates this value before and after
-    /// it to the store before and after it.
-    ghost meanwhile: { Self → Self → S → S → Type 0 };
+    /// it to the store before and after it, and to what was made.
+    ghost meanwhile: { Self → Self → S → S → Making → Type 0 };
 
     /// Makes the store of a file, with this path, one of the store as it is at this moment. Fails as `Copies::copy`
     /// does, and with `Busy` if another copy is being made or a catalog is
     /// printed.
     fn copy_to(&mut self, shelves: &mut S, path: &str) -> Result<(), CopyRefusal>
-        ensures meanwhile { meanwhile self.old self.new shelves.old shelves.new }
+        ensures meanwhile { meanwhile self.old self.new shelves.old shelves.new (ToPath path.now result) }
         ensures came { made shelves.old shelves.new (ToPath path.now result) };
 
     /// Prints the catalog of a key, as the store is at this moment. Fails as `Copies::catalog` does, and with `Busy` if
@@ -156,7 +158,8 @@ pub trait CopyOrders<S: Shelves> {
         key: &str,
         output: &mut O,
     ) -> Result<(), CatalogRefusal>
-        ensures meanwhile { meanwhile self.old self.new shelves.old shelves.new }
+        ensures meanwhile { (printed : List ℕ)
+            → meanwhile self.old self.new shelves.old shelves.new (OfKey key.now printed result) }
         ensures came { (printed : List ℕ) × Appends (O.contents output.old) (O.contents output.new) printed
             × made shelves.old shelves.new (OfKey key.now printed result) }
         ensures fewer { (O.writes output.old).failed ≤ (O.writes output.new).failed }

@@ -18,8 +18,7 @@ pub enum Outcome {
     NotEmpty,
     /// No copy was made and no catalog printed: another one of these is not over.
     Busy,
-    /// No copy was made, or not all of a catalog was printed: the server ends, the operator has left, or memory ran out
-    /// for what was published meanwhile.
+    /// No copy was made, or not all of a catalog was printed: the server ends, or the operator has left.
     Ended,
     /// The server ends.
     Stopping,

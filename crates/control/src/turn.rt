@@ -1,11 +1,11 @@
 //! A turn between two slices of a copy, or two lines of a catalog: those who wait are served.
-ghost use Rattle.std.specs.Prelude.{◌≡◌, List, Option, IfOk, IsTrue, true, false};
+ghost use Rattle.std.specs.Prelude.{◌≡◌, ◌⊎◌, List, Option, IfOk, IsErrOf, OnOk, true, false};
 ghost use Rattle.socket.specs.Connections.{Accepts, both};
 ghost use Rattle.meanwhile.specs.Meanwhile.{Notes};
 ghost use Rattle.meanwhile.specs.Noted.{IsNoted, with_said};
 ghost use Rattle.world.specs.Store.{HasCause};
 ghost use Rattle.world.specs.World.{World};
-ghost use Rattle.control.specs.Copying.{IsOnlyRead};
+ghost use Rattle.control.specs.Copying.{IsBegun, IsOnlyRead};
 ghost use Rattle.control.specs.Figures.{NotesTime};
 ghost use Rattle.control.specs.Notices.{WritesNotices};
 ghost use Rattle.control.specs.Progress.{IsGoing};
@@ -20,7 +20,7 @@ use crate::serving::{Server, is_stopping};
 use crate::watched::{Loan, Watched};
 use histories::{Restart, Tell};
 use keyring::Keyring;
-use meanwhile::between::{Between, HowFar};
+use meanwhile::between::{Between, Halt, HowFar};
 use meanwhile::newcomers::Newcomers;
 use meanwhile::noting::{Moment, Noting};
 use socket::Peer;
@@ -47,7 +47,7 @@ impl<'a, 'b, 'c, N: Loan, M: Moment, S: Shelves, K: Copies<S>> CopyOrders<
 > for BusyCopies<'b, K> {
     ghost use Rattle.std.specs.Prelude.{Some};
     ghost use Rattle.meanwhile.specs.Noted.{IsNoted, with_said};
-    ghost use Rattle.control.specs.Copying.{IsOnlyRead};
+    ghost use Rattle.control.specs.Copying.{IsBusy, IsOnlyRead};
     ghost use Rattle.control.specs.Figures.{TellsKept};
 
     ghost made = { λ old new making. K.made old.inner.now.inner.now new.inner.now.inner.now making };
@@ -57,12 +57,12 @@ impl<'a, 'b, 'c, N: Loan, M: Moment, S: Shelves, K: Copies<S>> CopyOrders<
     /// They tell how far the copy is, or of none while a catalog is printed.
     ghost figured = { λ b w f. TellsKept (K.figured w.inner.now.inner.now) w.traffic w.copied b.how_far f };
 
-    /// The store is only read.
-    ghost meanwhile = { λ _ _ old new. IsOnlyRead
+    /// The store is only read, and nothing is made of it, since that which is being made is not over.
+    ghost meanwhile = { λ _ _ old new making. IsOnlyRead
         (with_said (S.shown old.inner.now.inner.now)
         (IsNoted old.inner.now.lost M.was M.before old.inner.now.news))
         (with_said (S.shown new.inner.now.inner.now)
-        (IsNoted new.inner.now.lost M.was M.before new.inner.now.news)) };
+        (IsNoted new.inner.now.lost M.was M.before new.inner.now.news)) × IsBusy making };
 
     /// Makes no copy, and fails with `Busy`.
     fn copy_to(
@@ -327,18 +327,28 @@ impl<
           store = t;
         }) };
 
-    /// Serves at most `MOST_SERVED` callers. The copy can't go on once an operator was told that the server ends, or
-    /// once the one who ordered it has left.
-    fn turn(&mut self, shelves: &mut S, news: &mut Newcomers) -> bool
+    /// The one who ordered it has left, or an operator was told that the server ends.
+    ghost ended = { λ s. (L.left s.callers.now ≡ true) ⊎ (s.progress.stops ≡ true) };
+
+    /// Serves at most `MOST_SERVED` callers.
+    fn turn(&mut self, shelves: &mut S, news: &mut Newcomers) -> Result<(), Halt>
         ensures went { ⟦<Server<'x, C, P, O, L, K, D, E> as Between<S>>⟧.went self.old self.new
             shelves.old shelves.new }
         ensures honest { (S.shown shelves.new).is_honest → (S.shown shelves.old).is_honest }
-        ensures notes { IsTrue result → Notes (S.shown shelves.old) (S.shown shelves.new) news.old news.new }
-        ensures stays { IsTrue result → L.left self.new.callers.now ≡ false }
-        ensures goes { IsTrue result → self.new.progress.stops ≡ false }
+        ensures notes { OnOk result (Notes (S.shown shelves.old) (S.shown shelves.new) news.old news.new) }
+        ensures cause { IsErrOf result Halt.Ended
+            → (L.left self.new.callers.now ≡ true) ⊎ (self.new.progress.stops ≡ true) }
+        ensures stays { OnOk result (L.left self.new.callers.now ≡ false) }
+        ensures goes { OnOk result (self.new.progress.stops ≡ false) }
     {
         let after = self.take_turn::<Brand, S>(shelves, news);
-        !after.lost && !self.progress.stops && !self.callers.has_left()
+        if after.lost {
+            return Err(Halt::Memory);
+        }
+        if self.progress.stops || self.callers.has_left() {
+            return Err(Halt::Ended);
+        }
+        Ok(())
     }
 
     fn note_how_far(&mut self, how_far: HowFar)
@@ -371,7 +381,7 @@ impl<
 > CopyOrders<Watched<'a, N, S>> for Server<'x, C, P, O, L, K, D, E> {
     ghost use Rattle.std.specs.Prelude.{None};
     ghost use Rattle.socket.specs.Connections.{both};
-    ghost use Rattle.control.specs.Copying.{IsOnlyRead, ToPath};
+    ghost use Rattle.control.specs.Copying.{IsBegun, IsOnlyRead, ToPath};
     ghost use Rattle.control.specs.Figures.{TellsKept};
     ghost use Rattle.control.specs.Serving.{TakesTurns};
 
@@ -382,15 +392,17 @@ impl<
     /// No copy is being made.
     ghost figured = { λ _ w f. TellsKept (K.figured w.inner.now) w.traffic w.copied None f };
 
-    ghost meanwhile = { λ old new s t. (mid : S)
+    ghost meanwhile = { λ old new s t making. (mid : S)
         × ⟦<Server<'x, C, P, O, L, K, D, E> as Between<S>>⟧.went old new s.inner.now mid
-        × IsOnlyRead (S.shown mid) (S.shown t.inner.now) };
+        × IsOnlyRead (S.shown mid) (S.shown t.inner.now)
+        × IsBegun (⟦<Server<'x, C, P, O, L, K, D, E> as Between<S>>⟧.ended new) making };
 
     /// Also notes when the copy was made, if it was.
     fn copy_to(&mut self, shelves: &mut Watched<'a, N, S>, path: &str) -> Result<(), CopyRefusal>
         ensures meanwhile { (mid : S)
             × ⟦<Server<'x, C, P, O, L, K, D, E> as Between<S>>⟧.went self.old self.new shelves.old.inner.now mid
-            × IsOnlyRead (S.shown mid) (S.shown shelves.new.inner.now) }
+            × IsOnlyRead (S.shown mid) (S.shown shelves.new.inner.now)
+            × IsBegun (⟦<Server<'x, C, P, O, L, K, D, E> as Between<S>>⟧.ended self.new) (ToPath path.now result) }
         ensures came { K.made shelves.old.inner.now shelves.new.inner.now (ToPath path.now result) }
         ensures time { NotesTime (D.shown self.new.calendar) shelves.old.copied shelves.new.copied result }
     {

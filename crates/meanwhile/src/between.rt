@@ -9,21 +9,35 @@ pub struct HowFar {
     pub all: u64,
 }
 
+/// Why a copy can't go on after a turn.
+#[derive(Clone, Copy, Debug, Drop, PartialEq, Eq)]
+pub enum Halt {
+    /// It was ended.
+    Ended,
+    /// Memory ran out for the place of a version.
+    Memory,
+}
+
 /// What is done with the served store between two slices of a copy of it.
 pub trait Between<S: Shelves> {
-    ghost use Rattle.std.specs.Prelude.{◌≤◌, IsTrue};
+    ghost use Rattle.std.specs.Prelude.{◌≤◌, IsErrOf, OnOk};
     ghost use Rattle.meanwhile.specs.Meanwhile.{IsAsItWas, Notes};
+    ghost use Rattle.meanwhile.specs.declared.between.Halt.TheVariants.{Ended};
 
     /// What turns do, one after another, with reads of the store between them: relates this value before and after them
     /// to the store before and after them.
     ghost went: { Self → Self → S → S → Type 0 };
 
-    /// Takes a turn with the store, and notes the place of each version that it publishes. Returns whether the copy is
-    /// to go on, which it can't if a place was not noted for want of memory.
-    fn turn(&mut self, shelves: &mut S, news: &mut Newcomers) -> bool
+    /// Why it ends a copy: what is so of this value when it does.
+    ghost ended: { Self → Type 0 };
+
+    /// Takes a turn with the store, and notes the place of each version that it publishes. Fails if the copy can't go
+    /// on: with `Memory` if a place was not noted, and with `Ended` if the copy is ended.
+    fn turn(&mut self, shelves: &mut S, news: &mut Newcomers) -> Result<(), Halt>
         ensures went { went self.old self.new shelves.old shelves.new }
         ensures honest { (S.shown shelves.new).is_honest → (S.shown shelves.old).is_honest }
-        ensures notes { IsTrue result → Notes (S.shown shelves.old) (S.shown shelves.new) news.old news.new };
+        ensures notes { OnOk result (Notes (S.shown shelves.old) (S.shown shelves.new) news.old news.new) }
+        ensures cause { IsErrOf result Ended → ended self.new };
 
     /// Notes how far a copy has come. It is no turn.
     fn note_how_far(&mut self, how_far: HowFar)

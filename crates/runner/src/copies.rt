@@ -1,6 +1,6 @@
 //! Copies of the store of a file while it is served, catalogs of it, counts of its versions, and its size.
 
-ghost use Rattle.std.specs.Prelude.{◌≡◌, ◌≢◌, IfErr, IfOk};
+ghost use Rattle.std.specs.Prelude.{◌≡◌, ◌≢◌, Err, IfErr, IfOk, IsErrOf};
 ghost use Rattle.control.specs.Copying.{IsOnlyRead};
 ghost use Rattle.control.specs.declared.copies.CatalogRefusal.TheVariants as catalog;
 ghost use Rattle.control.specs.declared.copies.CopyRefusal.TheVariants.{Busy};
@@ -162,6 +162,7 @@ where
         (record { begins = G.begins; left = G.left; before = G.history targets.old; after = G.history targets.new })
         source.old source.new to.now result }
     ensures begun { IfErr result (λ why. why ≢ Busy) }
+    ensures ended { IsErrOf result CopyRefusal.Ended → B.ended between.new }
 {
     if let Err(refusal) = checks.check_name(db, to) {
         return Err(uncopied(refusal));
@@ -193,6 +194,7 @@ fn copy_into<P: Pace, S: Alter, B: Between<SqlShelves<S>>>(
     ensures came { CopiesInto ⟦<SqlShelves<S> as Shelves>⟧.shown (λ s. ⟦<Found as Shelves>⟧.shown s.shelves)
         source.old source.new fresh.old fresh.new result }
     ensures begun { IfErr result (λ why. why ≢ Busy) }
+    ensures ended { IsErrOf result CopyRefusal.Ended → B.ended between.new }
 {
     copied(source.copy_between(&mut fresh.shelves, pace, between))
 }
@@ -201,6 +203,7 @@ fn copy_into<P: Pace, S: Alter, B: Between<SqlShelves<S>>>(
 fn copied(told: Result<(), CopyEnd>) -> Result<(), CopyRefusal>
     ensures value { result ≡ spec.copied told }
     ensures begun { IfErr result (λ why. why ≢ Busy) }
+    ensures ended { IsErrOf result CopyRefusal.Ended → told ≡ Err CopyEnd.Ended }
 {
     match told {
         Ok(()) => Ok(()),
@@ -213,6 +216,7 @@ fn copied(told: Result<(), CopyEnd>) -> Result<(), CopyRefusal>
 fn uncopied(refusal: StoreRefusal) -> CopyRefusal
     ensures value { result ≡ spec.uncopied refusal }
     ensures begun { result ≢ Busy }
+    ensures goes_on { result ≢ CopyRefusal.Ended }
 {
     match refusal {
         StoreRefusal::Device => CopyRefusal::Device,
@@ -238,6 +242,7 @@ fn count_in<S: Alter>(served: &mut SqlShelves<S>) -> Result<u64, StoreFault>
 fn catalogued(end: Result<bool, CatalogEnd>) -> Result<(), CatalogRefusal>
     ensures value { result ≡ spec.catalogued end }
     ensures begun { IfErr result (λ why. why ≢ catalog.Busy) }
+    ensures ended { IsErrOf result CatalogRefusal.Ended → end ≡ Err CatalogEnd.Ended }
 {
     match end {
         Ok(true) => Ok(()),

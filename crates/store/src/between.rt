@@ -1,6 +1,6 @@
 //! Copies a store into a fresh one a slice at a time, and has others served between two slices.
 
-ghost use Rattle.std.specs.Prelude.{◌≡◌, ◌≤◌, ⊤, IfOk, IfSome, is_ok, IsTrue};
+ghost use Rattle.std.specs.Prelude.{◌≡◌, ◌≤◌, ⊤, IfOk, IfSome, is_ok, IsErrOf, IsTrue, false, None, Ok};
 ghost use Rattle.sqlite.specs.Held.{state};
 ghost use Rattle.sqlite.specs.State.{HasCleanDisk};
 ghost use Rattle.sqlite_trees.specs.View.{doubt};
@@ -17,7 +17,7 @@ ghost use Rattle.store.specs.Shown.{shown_of, shown_with};
 use crate::extract::refusal_of;
 use crate::store::{SqlShelves, fault};
 use kept::kept::Kept;
-use meanwhile::between::{Between, HowFar};
+use meanwhile::between::{Between, Halt, HowFar};
 use meanwhile::newcomers::Newcomers;
 use setup::copy::copy_registry;
 use setup::judge::is_blank;
@@ -57,6 +57,7 @@ impl<S: Alter> SqlShelves<S> {
         // The store was read and had turns; then a fault was counted, if there was one.
         ensures went { (n : _) × B.went between.old between.new self.old (record self.new { failures = n })
             × HasCauseInEither n self.new.failures fresh.old.failures fresh.new.failures (told result) }
+        ensures ended { IsErrOf result CopyEnd.Ended → B.ended between.new }
         ensures honest { HasCleanDisk (state S.Store self.new.conn) → HasCleanDisk (state S.Store self.old.conn) }
         ensures honest_too { HasCleanDisk (state F.Store fresh.new.conn) → HasCleanDisk (state F.Store fresh.old.conn) }
         ensures spares { IsUnfit (told result)
@@ -83,6 +84,7 @@ impl<S: Alter> SqlShelves<S> {
     ) -> Result<(), CopyEnd>
         ensures went { (n : _) × B.went between.old between.new self.old (record self.new { failures = n })
             × HasCauseInEither n self.new.failures fresh.old.failures fresh.new.failures (told result) }
+        ensures ended { IsErrOf result CopyEnd.Ended → B.ended between.new }
         ensures honest { HasCleanDisk (state S.Store self.new.conn) → HasCleanDisk (state S.Store self.old.conn) }
         ensures honest_too { HasCleanDisk (state F.Store fresh.new.conn) → HasCleanDisk (state F.Store fresh.old.conn) }
         ensures same { fresh.new.kept ≡ fresh.old.kept }
@@ -125,6 +127,7 @@ impl<S: Alter> SqlShelves<S> {
         between: &mut B,
     ) -> Result<bool, CopyError>
         ensures went { B.went between.old between.new self.old self.new }
+        ensures ended { result ≡ Ok false → B.ended between.new }
         ensures honest { HasCleanDisk (state S.Store self.new.conn) → HasCleanDisk (state S.Store self.old.conn) }
         ensures clean { doubt (state F.Store fresh.old).is_clean ≤ doubt (state F.Store fresh.new).is_clean }
         ensures changes { HasCleanDisk (state S.Store self.new.conn) → IsOpenIfHonest (state F.Store fresh.old)
@@ -150,6 +153,7 @@ impl<S: Alter> SqlShelves<S> {
         between: &mut B,
     ) -> Result<bool, CopyError>
         ensures went { B.went between.old between.new self.old self.new }
+        ensures ended { result ≡ Ok false → B.ended between.new }
         ensures honest { HasCleanDisk (state S.Store self.new.conn) → HasCleanDisk (state S.Store self.old.conn) }
         ensures same_reference { tx.new.conn.ghost_name ≡ tx.old.conn.ghost_name }
         ensures goes_on { GoesOn (state F.Store tx.old.conn.now) (state F.Store tx.new.conn.now) (is_ok result) }
@@ -174,6 +178,7 @@ impl<S: Alter> SqlShelves<S> {
         between: &mut B,
     ) -> Result<bool, CopyError>
         ensures went { B.went between.old between.new self.old self.new }
+        ensures ended { result ≡ Ok false → B.ended between.new }
         ensures honest { HasCleanDisk (state S.Store self.new.conn) → HasCleanDisk (state S.Store self.old.conn) }
         ensures same_reference { tx.new.conn.ghost_name ≡ tx.old.conn.ghost_name }
         ensures goes_on { GoesOn (state F.Store tx.old.conn.now) (state F.Store tx.new.conn.now) (is_ok result) }
@@ -208,6 +213,7 @@ impl<S: Alter> SqlShelves<S> {
         between: &mut B,
     ) -> Result<Option<Cursor>, CopyError>
         ensures went { B.went between.old between.new self.old self.new }
+        ensures ended { result ≡ Ok None → B.ended between.new }
         ensures honest { HasCleanDisk (state S.Store self.new.conn) → HasCleanDisk (state S.Store self.old.conn) }
         ensures same_reference { tx.new.conn.ghost_name ≡ tx.old.conn.ghost_name }
         ensures goes_on { GoesOn (state F.Store tx.old.conn.now) (state F.Store tx.new.conn.now) (is_ok result) }
@@ -221,10 +227,12 @@ impl<S: Alter> SqlShelves<S> {
         let next = copy_slice(&mut self.conn, tx, news, at, pace)?;
         let done = all.saturating_sub(next.left);
         between.note_how_far(HowFar { done, all });
-        if between.turn(self, news) {
-            Ok(Some(next))
-        } else {
-            Ok(None)
+        match between.turn(self, news) {
+            Ok(()) => Ok(Some(next)),
+            Err(Halt::Ended) => Ok(None),
+            Err(Halt::Memory) => Err(CopyError::Source(Error::SqliteFailure(
+                ErrorCode::OutOfMemory,
+            ))),
         }
     }
 }

@@ -1,11 +1,11 @@
 //! A double of what copies a store and counts its versions.
 ghost use Rattle.std.specs.Prelude.{◌≢◌, IfErr};
 ghost use Rattle.control.specs.declared.copies.CatalogRefusal.TheVariants as catalog;
-ghost use Rattle.control.specs.declared.copies.CopyRefusal.TheVariants.{Busy};
+ghost use Rattle.control.specs.declared.copies.CopyRefusal.TheVariants.{Busy, Ended};
 
 use control::{CatalogRefusal, Copies, CopyOrders, CopyRefusal, Figures};
 use histories::Restart;
-use meanwhile::between::{Between, HowFar};
+use meanwhile::between::{Between, Halt, HowFar};
 use meanwhile::newcomers::Newcomers;
 use std::alloc::Global;
 use world::registry::StoreFault;
@@ -30,7 +30,8 @@ impl Copier {
 
 /// Returns what comes of a copy to a path.
 fn copied_to(path: &str) -> Result<(), CopyRefusal>
-    ensures { IfErr result (λ why. why ≢ Busy) }
+    ensures begun { IfErr result (λ why. why ≢ Busy) }
+    ensures goes_on { IfErr result (λ why. why ≢ Ended) }
 {
     match path {
         "full" => Err(CopyRefusal::NotEmpty),
@@ -43,6 +44,7 @@ fn copied_to(path: &str) -> Result<(), CopyRefusal>
 /// Returns what comes of the catalog of a key.
 fn printed_for(key: &str) -> Result<(), CatalogRefusal>
     ensures begun { IfErr result (λ why. why ≢ catalog.Busy) }
+    ensures goes_on { IfErr result (λ why. why ≢ catalog.Ended) }
     ensures output { IfErr result (λ why. why ≢ catalog.Output) }
 {
     match key {
@@ -97,10 +99,11 @@ impl<S: Shelves> Copies<S> for Copier {
             done: 1_200,
             all: 50_000,
         });
-        if !between.turn(shelves, &mut Newcomers::new(self.alloc)) {
-            return Err(CopyRefusal::Ended);
+        match between.turn(shelves, &mut Newcomers::new(self.alloc)) {
+            Ok(()) => copied_to(path),
+            Err(Halt::Ended) => Err(CopyRefusal::Ended),
+            Err(Halt::Memory) => Err(CopyRefusal::Memory),
         }
-        copied_to(path)
     }
 
     /// Has `between` take one turn. Fails with `Ended` if that ended the catalog.
@@ -112,10 +115,11 @@ impl<S: Shelves> Copies<S> for Copier {
         _output: &mut O,
         between: &mut B,
     ) -> Result<(), CatalogRefusal> {
-        if !between.turn(shelves, &mut Newcomers::new(alloc)) {
-            return Err(CatalogRefusal::Ended);
+        match between.turn(shelves, &mut Newcomers::new(alloc)) {
+            Ok(()) => printed_for(key),
+            Err(Halt::Ended) => Err(CatalogRefusal::Ended),
+            Err(Halt::Memory) => Err(CatalogRefusal::Memory),
         }
-        printed_for(key)
     }
 
     fn versions(&self, _shelves: &mut S) -> Result<u64, StoreFault> {
@@ -139,7 +143,7 @@ impl<S: Shelves> CopyOrders<S> for Copier {
 
     ghost figured = { λ _ _ _. Unit {0} };
 
-    ghost meanwhile = { λ _ _ _ _. Unit {0} };
+    ghost meanwhile = { λ _ _ _ _ _. Unit {0} };
 
     /// Also fails with `Busy` for `second`, and with `Ended` for `last`.
     fn copy_to(&mut self, _shelves: &mut S, path: &str) -> Result<(), CopyRefusal> {

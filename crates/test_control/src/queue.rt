@@ -74,8 +74,10 @@ struct Queue<P, O> {
     callers: LinkedList<Caller<P, O>>,
     /// How many of them wait to be taken while a copy is made.
     at_once: u32,
-    /// Whether the operator who orders a copy leaves.
+    /// Whether the operator who orders a copy leaves once others are looked for.
     leaves: bool,
+    /// Whether it has.
+    left: bool,
 }
 
 /// The callers are known.
@@ -86,7 +88,7 @@ impl<P, O> Callers<P, O> for Queue<P, O> {
 
     ghost is_new = { λ _. Unit {0} };
 
-    ghost left = { λ q. q.leaves };
+    ghost left = { λ q. q.left };
 
     fn next(&mut self) -> io::Result<Caller<P, O>> {
         self.callers
@@ -95,6 +97,7 @@ impl<P, O> Callers<P, O> for Queue<P, O> {
     }
 
     fn next_waiting(&mut self) -> Option<io::Result<Caller<P, O>>> {
+        self.left = self.leaves;
         if self.at_once == 0 {
             return None;
         }
@@ -103,10 +106,12 @@ impl<P, O> Callers<P, O> for Queue<P, O> {
         Some(Ok(caller))
     }
 
-    fn watch_operator(&mut self) {}
+    fn watch_operator(&mut self) {
+        self.left = false;
+    }
 
     fn has_left(&self) -> bool {
-        self.leaves
+        self.left
     }
 }
 
@@ -147,6 +152,7 @@ fn queue_of<'a>(
         callers,
         at_once,
         leaves: false,
+        left: false,
     }
 }
 
@@ -274,6 +280,7 @@ fn a_copy_ends_once_its_operator_has_left(rt: HostRuntime) -> Result<(), Fail> {
         callers,
         at_once: 1,
         leaves: true,
+        left: false,
     };
     let mut errors = Vec::new(rt.alloc());
     assert!(rt; serve(&rt, leaving, &mut shelves(&rt)?, &mut errors)? == 0);

@@ -1,5 +1,5 @@
 //! A copy while nobody is served.
-use meanwhile::between::{Between, HowFar};
+use meanwhile::between::{Between, Halt, HowFar};
 use meanwhile::newcomers::Newcomers;
 use slices::pace::Pace;
 use world::shelves::Shelves;
@@ -14,8 +14,11 @@ impl<S: Shelves> Between<S> for Alone {
 
     ghost went = { λ _ _ s t. (S.shown s).failures ≤ (S.shown t).failures };
 
-    fn turn(&mut self, _shelves: &mut S, _news: &mut Newcomers) -> bool {
-        true
+    /// It never ends a copy.
+    ghost ended = { λ _. ⊥ };
+
+    fn turn(&mut self, _shelves: &mut S, _news: &mut Newcomers) -> Result<(), Halt> {
+        Ok(())
     }
 
     fn note_how_far(&mut self, _how_far: HowFar) {}

@@ -11,7 +11,7 @@ returns-then-eq-clause-obeys g c = λ tally got came came_new reads asks.
     (outcome_of_catalog c.catalog_to-told.result) c.catalog_to-told.ensures.came.1
     (hears_catalog _ _ _ _ _ _ came came_new got c.args.key.now c.catalog_to-told.ensures.came.0
     c.catalog_to-told.result (outcome_of_catalog c.catalog_to-told.result) refl reads asks
-    c.catalog_to-told.ensures.meanwhile c.catalog_to-told.ensures.came.2)
+    (c.catalog_to-told.ensures.meanwhile c.catalog_to-told.ensures.came.0) c.catalog_to-told.ensures.came.2)
 
 pub returns-clause-obeys : goal.returns-clause-obeys
 returns-clause-obeys g c = λ tally got came came_new reads asks.
@@ -22,4 +22,4 @@ returns-clause-obeys g c = λ tally got came came_new reads asks.
     c.tell.result
     (hears_catalog _ _ _ _ _ _ came came_new got c.args.key.now c.catalog_to-told.ensures.came.0
     c.catalog_to-told.result c.outcome_of_catalog.result c.outcome_of_catalog.ensures reads asks
-    c.catalog_to-told.ensures.meanwhile c.catalog_to-told.ensures.came.2) c.tell.ensures.same c.tell.ensures.tells
+    (c.catalog_to-told.ensures.meanwhile c.catalog_to-told.ensures.came.0) c.catalog_to-told.ensures.came.2) c.tell.ensures.same c.tell.ensures.tells

@@ -13,7 +13,7 @@ returns-clause-serves g c = λ waiting comes fresh.
     rw (c.tell.ensures.store, c.note_told.ensures.same, c.tell.ensures.same, c.tell.ensures.progress)
     (obey_serves _ _ _ _ _ _ _ _ waiting _ _ _ _ _ _ _ _ _ _
     (λ same. (ap (λ x. g.L.Callers.waiting x.callers.now) same, ap (λ x. x.progress) same))
-    (λ made. (made.0, (all_turns _ _ _ _ _ _ _ _ _ _ made.1).serves, made.2))
+    (λ making made. (made.0, (all_turns _ _ _ _ _ _ _ _ _ _ made.1).serves, made.2))
     c.args.operator c.is_stopping.result comes fresh c.requires.0 next
     c.count_operator.ensures.tally c.count_operator.ensures.left c.count_operator.ensures.taken
     c.count_operator.ensures.stops c.end_if.ensures.tally c.end_if.ensures.left c.end_if.ensures.taken
@@ -27,7 +27,7 @@ returns-clause-taken g c =
     let more : c.count_operator.new.self.taken ≤ c.obeyed-after.new.copies.progress.taken =
     either_way _ _ _ _ _ next.audience.heard
     (λ same. let e = ap (λ x. x.progress.taken) same in omega (arith, e))
-    (λ made. let e = (all_turns _ _ _ _ _ _ _ _ _ _ made.1).serves.taken in omega (arith, e))
+    (λ making made. let e = (all_turns _ _ _ _ _ _ _ _ _ _ made.1).serves.taken in omega (arith, e))
     (ordered_if _ _ _ _ next.audience.heard next.through) in
     rw c.tell.ensures.progress (omega (arith, more, c.count_operator.ensures.taken, c.end_if.ensures.taken))
 
@@ -39,7 +39,7 @@ returns-clause-same g c =
     rw c.tell.ensures.same
     (either_way _ _ _ _ _ next.audience.heard
     (λ same. ap (λ x. x.callers.ghost_name) same)
-    (λ made. ap (λ l. l.0) (all_turns _ _ _ _ _ _ _ _ _ _ made.1).same)
+    (λ making made. ap (λ l. l.0) (all_turns _ _ _ _ _ _ _ _ _ _ made.1).same)
     (ordered_if _ _ _ _ next.audience.heard next.through))
 
 pub returns-clause-same_errors : goal.returns-clause-same_errors
@@ -50,7 +50,7 @@ returns-clause-same_errors g c =
     c.tell.ensures.same_errors
     ∙ either_way _ _ _ _ _ next.audience.heard
     (λ same. ap (λ x. x.errors.ghost_name) same)
-    (λ made. ap (λ l. l.1) (all_turns _ _ _ _ _ _ _ _ _ _ made.1).same)
+    (λ making made. ap (λ l. l.1) (all_turns _ _ _ _ _ _ _ _ _ _ made.1).same)
     (ordered_if _ _ _ _ next.audience.heard next.through)
 
 pub returns-clause-notes : goal.returns-clause-notes
@@ -64,6 +64,6 @@ returns-clause-notes g c =
     ≡ g.E.Write.contents c.args.self.now.errors.now =
     ap (λ x. g.E.Write.contents x.errors.now) same in
     rw e (notices_none _))
-    (λ made. (all_turns _ _ _ _ _ _ _ _ _ _ made.1).notes)
+    (λ making made. (all_turns _ _ _ _ _ _ _ _ _ _ made.1).notes)
     (ordered_if _ _ _ _ next.audience.heard next.through))
     c.tell.ensures.notes

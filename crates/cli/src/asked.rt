@@ -76,14 +76,14 @@ fn other_command<'a>(word: &str, options: &ArgMatches<'a>) -> Option<Command<'a>
         }),
         None => match word {
             "key-add" => order_new_of(options),
-            "key-revoke" => order_named_of(options),
+            "key-revoke" => order_revoke_named_of(options),
             _ => None,
         },
     }
 }
 
 /// Returns the command `key-revoke --control S --fingerprint X`, or None if the options are those of another form.
-fn order_named_of<'a>(options: &ArgMatches<'a>) -> Option<Command<'a>>
+fn order_revoke_named_of<'a>(options: &ArgMatches<'a>) -> Option<Command<'a>>
     requires { Lacks (rows_of (found_of options.now)) (codes "db") }
     ensures { Finds result (AsksOtherCommand (rows_of (found_of options.now)) (codes "key-revoke")) }
 {
@@ -289,7 +289,7 @@ fn action_of<'a>(word: &str, options: &ArgMatches<'a>) -> Option<Action<'a>>
 {
     match word {
         "key-add" => add_new_of(options),
-        "key-revoke" => revoke_of(options),
+        "key-revoke" => revoke_named_of(options),
         "publish" => publish_of(options),
         "import" => Some(Action::Import {
             key: text(options, "key")?,
@@ -323,7 +323,7 @@ fn add_new_of<'a>(options: &ArgMatches<'a>) -> Option<Action<'a>>
 }
 
 /// Returns the action of `key-revoke` with a fingerprint, or None if the options are those of another form.
-fn revoke_of<'a>(options: &ArgMatches<'a>) -> Option<Action<'a>>
+fn revoke_named_of<'a>(options: &ArgMatches<'a>) -> Option<Action<'a>>
     ensures { Finds result (AsksAction (rows_of (found_of options.now)) (codes "key-revoke")) }
 {
     match (

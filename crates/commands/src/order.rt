@@ -44,13 +44,13 @@ pub fn order_over<R: Hear, W: Tell>(
     ensures { spec.OrdersOver (R.remaining reader.old) (R.remaining reader.new)
         (W.contents writer.old) (W.contents writer.new) order.now result }
 {
-    let asked = order_to_send(order);
+    let asked = with_sendable_group(order);
     let told = ask(alloc, reader, writer, &asked);
     told_ending(told, unsayable(&asked))
 }
 
 /// Returns the order to send for another: one that is equivalent in every world, and whose group can stand in a line.
-fn order_to_send<'a>(order: &RegistryCommand<'a>) -> RegistryCommand<'a>
+fn with_sendable_group<'a>(order: &RegistryCommand<'a>) -> RegistryCommand<'a>
     ensures { spec.IsSentFor order.now result }
 {
     match order {

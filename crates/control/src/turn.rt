@@ -229,7 +229,7 @@ impl<
 
     /// Serves as `serve_waiting` does, with the counts of shelves that the server has, and returns the loan of the
     /// store.
-    fn serve_noting<'a, 'b, N: Loan, M: Moment, S: Keyring>(
+    fn serve_watched<'a, 'b, N: Loan, M: Moment, S: Keyring>(
         &mut self,
         noting: &'a mut Noting<'b, M, S>,
     ) -> &'a mut Noting<'b, M, S>
@@ -280,7 +280,7 @@ impl<
     {
         let before = mem::replace(news, Newcomers::new(self.alloc));
         let mut noting: Noting<'a, M, S> = Noting::new(self.alloc, shelves, before);
-        let _lent = self.serve_noting::<Brand, M, S>(&mut noting);
+        let _lent = self.serve_watched::<Brand, M, S>(&mut noting);
         let Noting {
             inner,
             news: now,

@@ -227,7 +227,7 @@ impl<'a, N: Loan, S: Shelves> Shelves for Watched<'a, N, S> {
         ensures counts { CountsIf (was_found result) Transfer.Fetch shelf.now self.old.traffic self.new.traffic }
     {
         let told = self.inner.entry(shelf, path, version);
-        self.note_fault(&fetch_of(path, version), &told);
+        self.note_fault(&fetch_errand(path, version), &told);
         self.count_fetch(shelf, &told);
         told
     }
@@ -243,7 +243,7 @@ impl<'a, N: Loan, S: Shelves> Shelves for Watched<'a, N, S> {
         ensures counts { self.new.traffic ≡ self.old.traffic }
     {
         let told = self.inner.heading(shelf, path, version);
-        self.note_fault(&fetch_of(path, version), &told);
+        self.note_fault(&fetch_errand(path, version), &told);
         told
     }
 
@@ -259,7 +259,7 @@ impl<'a, N: Loan, S: Shelves> Shelves for Watched<'a, N, S> {
         ensures counts { self.new.traffic ≡ self.old.traffic }
     {
         let told = self.inner.compare(shelf, path, version, entry);
-        self.note_fault(&publish_of(path, version), &told);
+        self.note_fault(&publish_errand(path, version), &told);
         told
     }
 
@@ -319,7 +319,7 @@ impl<'a, N: Loan, S: Shelves> Shelves for Watched<'a, N, S> {
         ensures counts { CountsIf (was_published result) Transfer.Publish shelf.now self.old.traffic self.new.traffic }
     {
         let told = self.inner.insert(shelf, path, version, entry);
-        self.note_fault(&publish_of(path, version), &told);
+        self.note_fault(&publish_errand(path, version), &told);
         self.count_publish(shelf, &told);
         told
     }
@@ -399,14 +399,14 @@ impl<'a, N: Loan, S: Keyring> Keyring for Watched<'a, N, S> {
     }
 }
 
-fn fetch_of<'b>(path: &'b ModulePath, version: &'b Version) -> Errand<'b> {
+fn fetch_errand<'b>(path: &'b ModulePath, version: &'b Version) -> Errand<'b> {
     Errand::FetchVersion {
         path: path.as_str(),
         version: version.as_str(),
     }
 }
 
-fn publish_of<'b>(path: &'b ModulePath, version: &'b Version) -> Errand<'b> {
+fn publish_errand<'b>(path: &'b ModulePath, version: &'b Version) -> Errand<'b> {
     Errand::PublishVersion {
         path: path.as_str(),
         version: version.as_str(),

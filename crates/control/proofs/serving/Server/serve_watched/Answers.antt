@@ -1,4 +1,4 @@
-use Rattle.control.proofs.serving.Server.serve_noting.Goals as goal
+use Rattle.control.proofs.serving.Server.serve_watched.Goals as goal
 
 pub returns-clause-serves : goal.returns-clause-serves
 returns-clause-serves g c =

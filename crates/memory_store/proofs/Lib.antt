@@ -2,5 +2,4 @@ pub mod MapsDone
 pub mod MapsPlaces
 pub mod MapsCounts
 pub mod MapsSeen
-pub mod KeptListLemmas
 mod Outlined

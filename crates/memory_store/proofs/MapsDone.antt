@@ -1,5 +1,5 @@
 -- A change of a store in memory, which stands for one world.
-use Rattle.std.proofs.Common.{◌≡◌, ◌⊎◌, ◌∙◌, ℕ, List, true, false, refl, Ok, inl, inr, Option, arith}
+use Rattle.std.proofs.Common.{◌≡◌, ℕ, List, true, false, refl, Ok, inl, inr, Option, arith}
 use Rattle.std.specs.FinMap as map
 use Rattle.world.specs.declared.registry.RegistryReply.TheVariants.{Done}
 use Rattle.world.specs.World.{World, IsWorld, is_team_name, is_key}
@@ -7,11 +7,6 @@ use Rattle.world.specs.Registry.{lacks_group, team_added, group_added, key_added
 use Rattle.world.specs.Store.{DoesAt, ReadsAt, HasCause}
 use Rattle.world.proofs.Causes.{answers}
 use Rattle.memory_store.specs.InMemory.{in_memory}
-
--- what a crash leaves is of the same world
-still : {old new x y : World} → new ≡ old → (old ≡ x) ⊎ (old ≡ y) → (new ≡ x) ⊎ (new ≡ y)
-still same (inl e) = inl (same ∙ e)
-still same (inr e) = inr (same ∙ e)
 
 -- no device fails
 pub no_fault : {T : Type 0} (old new : World) (x : T) → HasCause (in_memory old) (in_memory new) (Ok x)
@@ -31,12 +26,6 @@ done old new w x value next answer same is = record {
 pub read : {T : Type 0} (m w : World) (x value : T) → ((m ≡ w) × IsWorld w) → x ≡ value
     → ReadsAt (in_memory m) (in_memory m) w (Ok x) value
 read m w x value is answer = record { answer = answer; stays = is; left = λ x y left. left }
-
--- the answer is the value, and no world changes, though what the store keeps beside the world may
-pub read_beside : {T : Type 0} (old new w : World) (x value : T) → new ≡ old → ((old ≡ w) × IsWorld w) → x ≡ value
-    → ReadsAt (in_memory old) (in_memory new) w (Ok x) value
-read_beside old new w x value same is answer =
-    record { answer = answer; stays = (same ∙ is.0, is.1); left = λ x y left. still same left }
 
 pub team_done : (w : World) (t : List ℕ) (group : Option (List ℕ)) → is_team_name t ≡ true
     → map.contains_key w.shelves t ≡ false → lacks_group w group ≡ false → team_added w t group ≡ Done

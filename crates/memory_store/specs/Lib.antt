@@ -1,3 +1,2 @@
 pub mod InMemory
-pub mod KeptLists
 pub mod NestedMaps

@@ -3,14 +3,12 @@
 //! It implements the trait of a store, `world::shelves::Shelves`, and both traits over it,
 //! `outline::outlines::Outlines` and `keyring::Keyring`. Nothing of it is left when the program ends.
 //!
-//! - [`map_shelves`]: the store, which contracts see as its world. It keeps the lists of versions that it was asked
-//!   for.
+//! - [`map_shelves`]: the store, which contracts see as its world.
 //! - [`outlines`], [`named`]: the two traits over that of a store.
 #![tactic(auto)]
 
 mod definite;
 mod entry_map;
-mod kept_lists;
 pub mod map_shelves;
 pub mod named;
 pub mod outlines;

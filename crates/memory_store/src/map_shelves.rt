@@ -13,7 +13,6 @@ ghost use Rattle.world.specs.World.{IsWorld, common, only_common, place, group_o
 ghost use Rattle.world.specs.World.{seen_at, first_on, view, heading, count, with_shelf};
 
 use crate::entry_map::EntryMap;
-use crate::kept_lists::KeptLists;
 use modpath::ModulePath;
 use modver::Version;
 use std::alloc::{AllocError, Global};
@@ -30,28 +29,24 @@ use world::text_set::TextSet;
 use world::version_list::Versions;
 use world::versions::{highest, latest_left, sorted};
 
-/// Shelves in ordered maps, with the lists of versions that they were asked for. Contracts see the world.
+/// Shelves in ordered maps. Contracts see the world.
 #[derive(Drop)]
 pub struct MapShelves {
     alloc: Global,
     keys: TextMap<Holder>,
     shelves: TextMap<Option<Text>>,
     entries: EntryMap,
-    lists: KeptLists,
 }
 
 impl Model for MapShelves {
     ghost use Rattle.world.specs.World.{World};
     ghost use Rattle.world.specs.Code.{world_code};
-    ghost use Rattle.memory_store.specs.KeptLists.{AreLists};
 
     ghost Value = { World };
 
     ghost coded = { world_code };
 
     ghost view = { λ m. record { keys = m.keys; shelves = m.shelves; entries = m.entries } };
-
-    ghost invariant = { λ m. AreLists (record { keys = m.keys; shelves = m.shelves; entries = m.entries }) m.lists };
 }
 
 impl MapShelves {
@@ -66,7 +61,6 @@ impl MapShelves {
             keys: TextMap::new(alloc),
             shelves,
             entries: EntryMap::new(alloc),
-            lists: KeptLists::new(alloc),
         })
     }
 
@@ -203,15 +197,10 @@ impl MapShelves {
         self.entries.add_paths(self.alloc, COMMON, paths)
     }
 
-    /// Returns the versions of a path that a shelf sees, in ascending precedence. Takes the kept list out if there is
-    /// one, and looks the versions up otherwise. Fails only if memory runs out.
-    fn take_versions(&mut self, shelf: &str, path: &str) -> Result<Versions, AllocError>
-        ensures stays { self.new ≡ self.old }
-        ensures found { IfOk result (λ vs. vs ≡ versions_of self.old shelf.now path.now) }
+    /// Returns the versions of a path that a shelf sees, in ascending precedence. Fails only if memory runs out.
+    fn sorted_versions(&self, shelf: &str, path: &str) -> Result<Versions, AllocError>
+        ensures { IfOk result (λ vs. vs ≡ versions_of self.now shelf.now path.now) }
     {
-        if let Some(versions) = self.lists.take(shelf, path) {
-            return Ok(versions);
-        }
         sorted(self.alloc, self.versions_seen(shelf, path)?)
     }
 
@@ -272,13 +261,11 @@ impl MapShelves {
         }
     }
 
-    /// Adds a shelf that does not exist yet. It forgets all kept lists, because one that was kept under this name lacks
-    /// what the shelf's group has. Fails only if memory runs out, and then adds nothing.
+    /// Adds a shelf that does not exist yet. Fails only if memory runs out, and then adds nothing.
     fn add_shelf(&mut self, name: &str, parent: Option<Text>) -> Result<(), AllocError>
         ensures ok { OnOk result (self.new ≡ with_shelf self.old name.now parent) }
         ensures err { OnErr result (self.new ≡ self.old) }
     {
-        self.lists = KeptLists::new(self.alloc);
         self.shelves
             .insert(String::from_str(self.alloc, name)?, parent)
     }
@@ -358,17 +345,12 @@ impl Shelves for MapShelves {
     }
 
     fn versions(&mut self, shelf: &str, path: &ModulePath) -> Result<Versions, StoreFault> {
-        let found = self.take_versions(shelf, path.as_str())?;
-        self.lists
-            .keep_copy(self.alloc, shelf, path.as_str(), found.as_slice());
-        Ok(found)
+        Ok(self.sorted_versions(shelf, path.as_str())?)
     }
 
     fn latest(&mut self, shelf: &str, path: &ModulePath) -> Result<Option<Version>, StoreFault> {
-        let list = self.take_versions(shelf, path.as_str())?;
-        let latest = self.latest_among(shelf, path, list.as_slice())?;
-        self.lists.keep(self.alloc, shelf, path.as_str(), list);
-        Ok(latest)
+        let versions = self.sorted_versions(shelf, path.as_str())?;
+        Ok(self.latest_among(shelf, path, versions.as_slice())?)
     }
 
     fn paths(&mut self, shelf: &str) -> Result<TextSet, StoreFault> {
@@ -397,7 +379,6 @@ impl Shelves for MapShelves {
         let (path, version) = (path.as_str(), version.as_str());
         self.entries
             .insert(self.alloc, shelf, path, version, entry)?;
-        self.lists.forget(path);
         Ok(())
     }
 

@@ -3,19 +3,10 @@ use Rattle.std.specs.FinMap as map
 use Rattle.modver.specs.SemanticVersion.{version_text}
 use Rattle.world.specs.declared.entry.Place.{Place}
 use Rattle.world.specs.declared.entry.Entry.{Entry}
-use Rattle.memory_store.specs.KeptLists.{AreLists}
 use Rattle.world.specs.World.{World, place_cmp, place, with_entry}
 use Rattle.world.proofs.Sound.{entry_added}
 use Rattle.memory_store.proofs.MapsDone.{done, no_fault}
 use Rattle.memory_store.proofs.map_shelves.MapShelvesShelves.insert.Goals as goal
-
-pub invariant_of-self-2 : goal.invariant_of-self-2
-invariant_of-self-2 c =
-    let inside : map.FinMap place_cmp Entry
-    → World = λ m. record { keys = c.self.inside.keys; shelves = c.self.inside.shelves; entries = m } in
-    subst (λ (m : map.FinMap place_cmp Entry). AreLists (inside m) c.forget.new.self) (sym c.in_ok-insert.ensures.ok)
-    (c.forget.ensures (inside c.self.inside.entries) c.args.shelf.now c.as_str-version.result.now c.in_ok-entry.entry
-    c.self.invariant)
 
 pub returns : goal.returns
 returns c = record {

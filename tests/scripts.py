@@ -30,6 +30,8 @@ SHELLS = ("#!/bin/sh\n", "#!/usr/bin/env bash\n")
 LONGEST_LINE, LONGEST_FILE, LONGEST_FUNCTION = 120, 500, 40
 # of the code in Rattle, and of its specs and proofs
 LONGEST_IN_RATTLE = {".rt": 120, ".antt": 200}
+# how many lines of these may be longer than a line of code
+MOST_WIDE = {".rt": 0, ".antt": 200}
 # the black of Debian 12: another may lay files out otherwise
 BLACK = "black, 23."
 
@@ -85,19 +87,22 @@ def python(files):
 
 
 def rattle():
-    """The lines of the crates are short. Only one that is a single text in quotes may be longer."""
+    """Lines of the crates are short, most of those of proofs too. Only a single text in quotes may be longer."""
     names = subprocess.run(["git", "ls-files", "crates"], cwd=ROOT, capture_output=True, text=True).stdout.splitlines()
     for kind, most in LONGEST_IN_RATTLE.items():
         files = [it for it in names if it.endswith(kind) and os.path.exists(os.path.join(ROOT, it))]
         lines = [(f"{it}:{at}", line) for it in files for at, line in enumerate(read(it).split("\n"), 1)]
-        long_lines = [at for at, line in lines if len(line) > most and not re.fullmatch(r' *"[^"]*"[;,)]*', line)]
+        lines = [(at, line) for at, line in lines if not re.fullmatch(r' *"[^"]*"[;,)]*', line)]
+        long_lines = [at for at, line in lines if len(line) > most]
         SUITE.equal(f"no line of a {kind} has more than {most} characters", (len(files) > 100, long_lines), (True, []))
+        wide = [at for at, line in lines if len(line) > LONGEST_LINE]
+        SUITE.equal(f"few of a {kind} have more than {LONGEST_LINE}", len(wide) <= MOST_WIDE[kind], True)
 
 
 def shell():
     """The files in sh pass shellcheck, and what several commands of deploy/ do alike stands in one of them."""
     installed = [f"deploy/debian/{it}" for it in ("postinst", "prerm", "postrm")]
-    for script in (COMMON, *SCRIPTS, *installed):
+    for script in ("goshelf", COMMON, *SCRIPTS, *installed):
         if script == COMMON or read(script).startswith(SHELLS):
             SUITE.equal(f"shellcheck {script}", ran("shellcheck", "-x", "--source-path=.", script), (0, "", ""))
     homes = {}
@@ -123,6 +128,9 @@ def suites():
     above = [f"tests/{it}" for it in os.listdir(os.path.join(ROOT, "tests")) if it.endswith(".py")]
     within = [f"tests/lib/{it}" for it in os.listdir(os.path.join(ROOT, "tests", "lib")) if it.endswith(".py")]
     SUITE.equal("no suite is imported", [it for it in sorted([*above, *within]) if imported(it) & {*names}], [])
+    shared = [os.path.basename(it).removesuffix(".py") for it in within if not it.endswith("/__init__.py")]
+    told = ast.get_docstring(ast.parse(read("tests/lib/__init__.py")))
+    SUITE.equal("tests/lib/__init__.py has each module once", sorted(re.findall(r"`(\w+)`", told)), sorted(shared))
 
 
 def settings():

@@ -15,7 +15,7 @@ import tempfile
 
 from lib.program import PROGRAM, ROOT
 from lib.releases import RELEASE, lines_of, packed, release
-from lib.scratch import read, write
+from lib.scratch import read, unpack, write
 from lib.suite import Suite
 
 VERSION = os.path.join(ROOT, "crates", "cli", "src", "version.rt")
@@ -62,7 +62,7 @@ def unpacked(suite, tar, folder):
     """Looks at the files of a release, and returns what it says of itself."""
     with tarfile.open(tar) as held:
         members = held.getmembers()
-        held.extractall(f"{folder}/tar", filter="tar")
+        unpack(held, f"{folder}/tar")
     top = os.path.basename(tar).removesuffix(".tar.gz")
     at = f"{folder}/tar/{top}"
     suite.equal("it unpacks into one folder", [it.name for it in members if it.name.split("/")[0] != top], [])
@@ -174,7 +174,7 @@ def passed(suite, clone, folder):
     """Looks at the release of what passed the gate, and at the checkout that it was made of."""
     tar = next(it for it in os.listdir(f"{clone}/out") if it.endswith(".tar.gz"))
     with tarfile.open(f"{clone}/out/{tar}") as held:
-        held.extractall(folder, filter="tar")
+        unpack(held, folder)
     at = f"{folder}/{tar.removesuffix('.tar.gz')}"
     about = lines_of(read(f"{at}/BUILD").decode())
     found = about["kit"], about["gate"], about["suites"], about["version"].endswith("~ungated")

@@ -17,7 +17,7 @@ import threading
 from lib.company import FIRST, equal
 from lib.ports import wait_until
 from lib.program import PROGRAM, done, run
-from lib.scratch import fill, mounted, play, read, write
+from lib.scratch import fill, mounted, play, read, unpack, write
 from lib.suite import Suite
 from lib.warm import COPY, HOME, NOT_WHOLE, SAMPLE, WARM, Warm, publishes, tried
 
@@ -144,7 +144,7 @@ def keep_older(suite, company):
     """Sets a copy aside."""
     _, whole, _ = company.wire.copied("store")
     with tarfile.open(fileobj=io.BytesIO(whole)) as tar:
-        tar.extractall(f"{company.warm.folder}/root/older", filter="tar")
+        unpack(tar, f"{company.warm.folder}/root/older")
     suite.equal(
         "the files of a copy are their owner's alone",
         {os.stat(f"{company.warm.folder}/root/older/{it}").st_mode & 0o77 for it in COPY},

@@ -3,6 +3,7 @@
 import contextlib
 import os
 import subprocess
+import tarfile
 import tempfile
 
 
@@ -24,6 +25,12 @@ def small_disk(at, size):
     finally:
         if is_there:
             subprocess.run(["umount", at], check=True)
+
+
+def unpack(archive, folder):
+    """Unpacks an open archive of a suite's own into a folder. The Python of Debian 12 knows no filter for that."""
+    archive.extraction_filter = getattr(tarfile, "tar_filter", None)
+    archive.extractall(folder)
 
 
 def in_new_folders(suite, *parts):

@@ -45,7 +45,7 @@ impl Model for Absences {
 }
 
 impl Absences {
-    /// Returns an empty cache, which takes no memory.
+    /// Returns an empty one, which takes no memory.
     pub fn new(alloc: Global) -> Absences
         ensures { result ≡ map.empty }
     {

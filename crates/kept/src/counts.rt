@@ -42,7 +42,7 @@ impl Model for KeptCounts {
 }
 
 impl KeptCounts {
-    /// Returns an empty cache, which takes no memory.
+    /// Returns an empty one, which takes no memory.
     pub fn new(alloc: Global) -> KeptCounts
         ensures { result ≡ map.empty }
     {

@@ -44,7 +44,7 @@ impl Model for Groups {
 }
 
 impl Groups {
-    /// Returns an empty cache, which takes no memory.
+    /// Returns an empty one, which takes no memory.
     pub fn new(alloc: Global) -> Groups
         ensures { result ≡ map.empty }
     {

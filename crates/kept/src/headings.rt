@@ -74,12 +74,12 @@ impl Weighed for KeptHeading {
     }
 }
 
-/// Kept headings. The cache makes room by dropping those that were asked for longest ago. A publish or a new team can
-/// change what a shelf sees of a version, so each empties the cache.
+/// Kept headings. Those that were asked for longest ago make room for new ones. A publish or a new team can change what
+/// a shelf sees of a version, so each drops all of them.
 pub type Headings = Recent<KeptHeading>;
 
 impl Recent<KeptHeading> {
-    /// Returns an empty cache, which takes no memory.
+    /// Returns an empty one, which takes no memory.
     pub fn no_headings() -> Headings
         ensures { result ≡ [] }
     {

@@ -37,7 +37,7 @@ pub struct Kept {
 }
 
 impl Kept {
-    /// Returns an empty cache, which takes no memory.
+    /// Returns an empty one, which takes no memory.
     pub fn new(alloc: Global) -> Kept
         ensures { IsNothing result }
     {

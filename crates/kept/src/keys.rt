@@ -33,11 +33,11 @@ impl Weighed for KeptKey {
     }
 }
 
-/// Kept keys. The cache makes room by dropping the key that was used longest ago.
+/// Kept keys. The key that was used longest ago makes room for a new one.
 pub type Keys = Recent<KeptKey>;
 
 impl Recent<KeptKey> {
-    /// Returns an empty cache, which takes no memory.
+    /// Returns an empty one, which takes no memory.
     pub fn no_keys() -> Keys
         ensures { result ≡ [] }
     {

@@ -92,12 +92,12 @@ impl Weighed for KeptList {
     }
 }
 
-/// Kept lists of the versions of paths that a shelf sees, in ascending precedence, and the latest of them. The cache
-/// makes room by dropping the lists that were asked for longest ago.
+/// Kept lists of the versions of paths that a shelf sees, in ascending precedence, and the latest of them. The lists
+/// that were asked for longest ago make room for new ones.
 pub type Lists = Recent<KeptList>;
 
 impl Recent<KeptList> {
-    /// Returns an empty cache, which takes no memory.
+    /// Returns an empty one, which takes no memory.
     pub fn no_lists() -> Lists
         ensures { result ≡ [] }
     {
@@ -151,7 +151,7 @@ impl Recent<KeptList> {
         }
     }
 
-    /// Takes the versions of a path that a shelf sees out of the cache, and returns them. Returns None if they are not
+    /// Returns the kept versions of a path that a shelf sees, and keeps them no longer. Returns None if they are not
     /// kept.
     pub fn take_versions(&mut self, shelf: &str, path: &str) -> Option<Versions>
         ensures others { (list : _) → Holds self.new list → Holds self.old list }

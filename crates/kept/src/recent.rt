@@ -1,4 +1,4 @@
-//! A cache that drops the values that were asked for longest ago.
+//! Kept values, of which those that were asked for longest ago make room for new ones.
 
 ghost use Rattle.std.specs.Prelude.{◌≡◌, ◌≤◌, ◌⊎◌, [], IfOk, IfSome};
 ghost use Rattle.std.specs.Option.{option_map_or};
@@ -54,7 +54,7 @@ impl<V: Weighed> Model for Recent<V> {
 }
 
 impl<V: Weighed> Recent<V> {
-    /// Returns an empty cache. It takes no memory.
+    /// Returns an empty one. It takes no memory.
     pub(crate) fn new() -> Recent<V>
         ensures { result ≡ [] }
     {
@@ -90,7 +90,7 @@ impl<V: Weighed> Recent<V> {
         cache.promote(&hash);
     }
 
-    /// Takes the value under a hash out of the cache and returns it, or returns None if there is none.
+    /// Returns the value under a hash and keeps it no longer, or returns None if there is none.
     pub(crate) fn take(&mut self, hash: u64) -> Option<V>
         ensures others { (v : _) → Holds self.new v → Holds self.old v }
         ensures taken { IfSome result (Holds self.old) }

@@ -58,20 +58,19 @@ impl Weighed for KeptZip {
     }
 }
 
-/// Kept zips of entries. An entry never changes, so a kept zip is never wrong. The cache makes room by dropping the
-/// zips that were asked for longest ago. It finds a zip by the place of its entry, so all shelves that see the entry
-/// share the zip.
+/// Kept zips of entries. An entry never changes, so a kept zip is never wrong. The zips that were asked for longest ago
+/// make room for new ones. A zip is found by the place of its entry, so all shelves that see the entry share the zip.
 pub type Zips = Recent<KeptZip>;
 
 impl Recent<KeptZip> {
-    /// Returns an empty cache, which takes no memory.
+    /// Returns an empty one, which takes no memory.
     pub fn no_zips() -> Zips
         ensures { result ≡ [] }
     {
         Recent::new()
     }
 
-    /// Returns the zip of the entry at a place, which shares its memory with the cache, or None if it is not kept.
+    /// Returns the zip of the entry at a place, which shares its memory with the kept one, or None if it is not kept.
     pub fn zip(&mut self, shelf: &str, path: &str, version: &str) -> Option<Bytes>
         ensures others { (it : _) → Holds self.new it → Holds self.old it }
         ensures found { IfSome result (λ zip. (w : World) → AreZips w self.old
@@ -83,7 +82,7 @@ impl Recent<KeptZip> {
     }
 
     /// Keeps the zip of what is seen of a version, if anything is, and returns what is seen, whose zip then shares its
-    /// memory with the cache. If memory runs out, it is not kept.
+    /// memory with the kept one. If memory runs out, it is not kept.
     pub fn keep_seen(
         &mut self,
         alloc: Global,
@@ -106,7 +105,7 @@ impl Recent<KeptZip> {
         })
     }
 
-    /// Keeps the zip of the entry at a place, and returns the zip, which then shares its memory with the cache.
+    /// Keeps the zip of the entry at a place, and returns the zip, which then shares its memory with the kept one.
     fn keep_shared(
         &mut self,
         alloc: Global,

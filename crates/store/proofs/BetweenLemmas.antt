@@ -32,7 +32,7 @@ use Rattle.store.specs.Shown.{shown_of, shown_with}
 use Rattle.store.proofs.CountedLemmas.{counts_once, counts_same}
 use Rattle.store.proofs.ExtractedLemmas.{fills_at}
 
--- a connection that was only read, under the same cache and count, is a store that is as it was
+-- a connection that was only read, with the same kept and count, is a store that is as it was
 pub only_read : (a b : State) (kept kept_new : Kept) (n n_new : ℕ) → Spares a b → kept_new ≡ kept → n_new ≡ n
     → IsAsItWas (shown_with a kept n) (shown_with b kept_new n_new)
 only_read a b kept kept_new n n_new spares same count = record {

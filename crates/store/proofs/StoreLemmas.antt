@@ -202,7 +202,7 @@ reads_kept old kept after count x value found = record {
   cause = answers _ _ x (omega arith);
 }
 
--- a read stays one if the cache then changes and is still right
+-- a read stays one if what is kept then changes and is still right
 pub reads_then : {T : Type 0} (start : Shown) (new : State) (kept after : Kept) (count : ℕ) (r : Result T StoreFault)
     (value : World → T) → Reads start (shown_with new kept count) r value
     → (HasCleanDisk new → (w : World) → start.stands w → AreKept w kept → AreKept w after)
@@ -288,7 +288,7 @@ reads_no_memory start mid end x y s value next other failed read then = record {
       (handed_on {T = ℕ} mid end Memory s failed.1 (lacks_memory mid end then.cause.no_fewer));
 }
 
--- a read with less in the cache is a read, if what remains in it is right
+-- a read that keeps less is a read, if what is still kept is right
 pub reads_with_less : {T : Type 0} (old : State) (kept less : Kept) (count : ℕ) (end : Shown) (r : Result T StoreFault)
     (value : World → T) → ((w : World) → AreKept w kept → AreKept w less)
     → Reads (shown_with old less count) end r value → Reads (shown_with old kept count) end r value
@@ -342,7 +342,7 @@ refused old kept count x value next same = record {
   cause = answers _ _ x (omega arith);
 }
 
--- ---- the commands of the registry leave the cache as it is, except for lists, headings and absences when a team is
+-- ---- the commands of the registry leave what is kept as it is, except for lists, headings and absences when a team is
 -- added, and for keys when one is revoked or all of a shelf are
 
 module _ (w : World) (kept : Kept) (right : AreKept w kept) where

@@ -51,7 +51,7 @@ use world::versions::{highest, latest_left};
 
 /// Shelves whose entries and keys are rows of SQL tables. Once a fault has closed the connection, a call still returns
 /// what is kept, and fails with `Device` if it needs the tables. The store then stands for every world that agrees
-/// with its cache.
+/// with what is kept.
 #[derive(Drop)]
 pub struct SqlShelves<S: Alter> {
     pub(crate) conn: Connection<S>,
@@ -427,8 +427,8 @@ impl<S: Alter> SqlShelves<S> {
         counted(&mut self.failures, found)
     }
 
-    /// Returns the versions of a path that a shelf sees, in ascending precedence. Takes the list out of the cache if it
-    /// is there, so the caller keeps it again, and queries the tables otherwise. Fails as `group_of` does.
+    /// Returns the versions of a path that a shelf sees, in ascending precedence. Takes the kept list if there
+    /// is one, so the caller keeps it again, and queries the tables otherwise. Fails as `group_of` does.
     fn take_versions(&mut self, shelf: &str, path: &str) -> Result<Versions, StoreFault>
         ensures reads { Reads (shown_with (state S.Store self.old.conn) self.old.kept self.old.failures)
             (shown_with (state S.Store self.new.conn) self.new.kept self.new.failures) result

@@ -25,6 +25,18 @@ from lib.suite import Suite
 LISTED = b"path,version,shelf,class,time,mod_bytes,zip_bytes\nexample.com/lib,v1.0.0,alpha,release,,23,0\n"
 REVOKE = ["key-revoke", "--key", KEY, "--control"]
 SERVE = ["serve", "--db", "served.db", "--stdin"]
+# all that a server may tell of orders, and two words that tell nothing
+OUTCOMES = "done name taken no-team no-key no-group device memory not-empty busy ended stopping bad".split()
+OUTCOMES += ["word", ""]
+# those that may come of a registry command
+REPLIES = {"done", "name", "taken", "no-team", "no-key", "no-group", "device", "memory"}
+# orders, their lines, and what may come of each: where anything else is told, the command ends with `io`
+ORDERS = (
+    (["team-add", "--team", "gamma"], b"team-add gamma\n", REPLIES),
+    (["key-revoke", "--fingerprint", "ccaaf6d99f2c8ac7"], b"revoke-fingerprint ccaaf6d99f2c8ac7\n", REPLIES),
+    (["copy", "--to", "one.db"], b"copy one.db\n", {"done", "device", "memory", "not-empty", "busy", "ended"}),
+    (["stop"], b"stop\n", {"stopping", "device", "memory"}),
+)
 
 
 def refused(suite):
@@ -97,9 +109,17 @@ def untold(suite):
             by_false_server(REVOKE, told),
             ((1, b"", "goshelf: io\n"), f"key-revoke {KEY}\n".encode()),
         )
-    suite.equal(
-        "one that tells done", by_false_server(REVOKE, b"done\n"), ((0, b"", ""), f"key-revoke {KEY}\n".encode())
-    )
+
+
+def told_of(suite):
+    """How a command ends by each outcome that a server tells of its order."""
+    for words, sent, own in ORDERS:
+        for outcome in OUTCOMES:
+            ended = (1, b"", f"goshelf: {outcome if outcome in own else 'io'}\n")
+            if outcome in own & {"done", "stopping"}:
+                ended = (0, b"", "")
+            told = by_false_server([*words, "--control"], f"{outcome}\n".encode())
+            suite.equal(f"{words[0]} of a server that tells {outcome!r}", told, (ended, sent))
 
 
 def cut_lists(suite):
@@ -146,14 +166,8 @@ def stopped(suite):
     new_store("served.db", ("alpha", KEY))
     words = ["stop", "--control", CONTROL]
     suite.equal("stop where nobody listens", run(words), (1, b"", "goshelf: device\n"))
-    for told, wanted in (
-        (b"done\n", (1, b"", "goshelf: io\n")),
-        (b"", (1, b"", "goshelf: io\n")),
-        (b"stopping\n", (0, b"", "")),
-    ):
-        suite.equal(
-            f"stop of a server that tells {told}", by_false_server(["stop", "--control"], told), (wanted, b"stop\n")
-        )
+    told = by_false_server(["stop", "--control"], b"")
+    suite.equal("stop of a server that tells nothing", told, ((1, b"", "goshelf: io\n"), b"stop\n"))
     server = Server("served.db", CONTROL)
     with server.connected() as held:
         held.sendall(put("example.com/lib", "v1.0.0", GOMOD)[:-5])
@@ -324,5 +338,5 @@ def restarted(suite):
 
 
 if __name__ == "__main__":
-    parts = (refused, untold, cut_lists, strange, stopped, same_bytes, from_input, from_ipv6, restarted)
+    parts = (refused, untold, told_of, cut_lists, strange, stopped, same_bytes, from_input, from_ipv6, restarted)
     sys.exit(in_new_folders(Suite(), *parts))

@@ -68,17 +68,6 @@ LINES = (
     (b"copy one.db\n\n", b"bad\n"),
     (b"copy " + b"p" * (SAID + 1) + b"\n", b"bad\n"),
 )
-# what a server tells, and the word by which the copy ends
-ANSWERS = (
-    (b"", "io"),
-    (b"bad\n", "io"),
-    (b"stopping\n", "io"),
-    (b"not-empty\n", "not-empty"),
-    (b"device\n", "device"),
-    (b"memory\n", "memory"),
-    (b"busy\n", "busy"),
-    (b"ended\n", "ended"),
-)
 
 
 def copy(to, control=CONTROL):
@@ -245,11 +234,9 @@ def beside(suite):
 
 
 def told(suite):
-    """How a copy ends by what a server tells, and the words that are refused."""
-    words = ["copy", "--to", "one.db", "--control"]
-    for answer, word in ANSWERS:
-        suite.equal(f"a server that tells {answer}", by_false_server(words, answer), (refusal(word), b"copy one.db\n"))
-    suite.equal("one that tells done", by_false_server(words, b"done\n"), (DONE, b"copy one.db\n"))
+    """How a copy ends by a server that tells nothing, and the words that are refused."""
+    untold = by_false_server(["copy", "--to", "one.db", "--control"], b"")
+    suite.equal("a server that tells nothing", untold, (refusal("io"), b"copy one.db\n"))
     for words in (
         ["copy"],
         ["copy", "--control", "S"],

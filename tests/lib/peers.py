@@ -105,6 +105,8 @@ def by_false_server(words, told):
     with socket.socket(socket.AF_UNIX) as listener:
         listener.bind("false")
         listener.listen()
+        # (a command that does not connect)
+        listener.settimeout(60)
         thread = threading.Thread(target=tell)
         thread.start()
         ran = run([*words, "false"])

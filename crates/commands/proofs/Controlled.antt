@@ -34,8 +34,10 @@ use Rattle.control.proofs.LineLemmas.{one_line}
 use Rattle.control.proofs.RegistryCommandLemmas.{one_event}
 use Rattle.control.proofs.WordLemmas.{false_after, one_saying}
 use Rattle.commands.specs.Controlled.{EndsAt, EndsAsOnTheStore}
-use Rattle.commands.specs.Order.{ComeToTheSame, told_ending, unsayable}
+use Rattle.commands.specs.Order.{ComeToTheSame, unsayable}
+use Rattle.commands.specs.SentOrder.{order_ending}
 use Rattle.commands.specs.declared.refusal.CommandRefusal.{CommandRefusal}
+use Rattle.commands.specs.declared.sent_order.SentOrder.TheVariants as which
 
 -- ---- the line of two words or three is not one word, as that which ends a server, or asks for its health
 
@@ -125,14 +127,14 @@ module _ (idle : Type 0) (meanwhile : Making → Type 0) (old new : Shown) (sent
     (result : Result (Unit {0}) CommandRefusal) (w : World) where
   carried : new.is_honest → old.stands w → IsWorld w → ComeToTheSame asked order → IsSent sent asked
       → (other : RegistryCommand) → IsSent sent other
-      → (told : Result RegistryReply StoreFault) → result ≡ told_ending (unsayable asked) (Ok (outcome_of told))
+      → (told : Result RegistryReply StoreFault) → result ≡ order_ending which.Registry (unsayable asked) (Ok (outcome_of told))
       → GoesThroughSteps old new (steps_heard (Carried other told)) → EndsAt new w order result
   carried honest stands is same asks other heard (Ok r) ends through =
       let run = through.runs.at honest w stands in
       let event = same_event sent asked other asks heard in
       let outcome = ap registered_in (run.run.0 ∙ ap (reply_to w) (sym event)) ∙ replied w asked ∙ (same w is).0 in
       inl (
-        ends ∙ ap (λ r. told_ending (unsayable asked) (Ok (outcome_of (Ok r)))) outcome,
+        ends ∙ ap (λ r. order_ending which.Registry (unsayable asked) (Ok (outcome_of (Ok r)))) outcome,
         subst new.stands (ap (after w) (sym event) ∙ (same w is).1) run.ends,
       )
   carried honest stands is same asks other heard (Err fault) ends through =
@@ -141,12 +143,12 @@ module _ (idle : Type 0) (meanwhile : Making → Type 0) (old new : Shown) (sent
   heard_so : new.is_honest → old.stands w → IsWorld w → ComeToTheSame asked order → IsSent sent asked
       → (heard : Heard) → IsHeardIn sent heard
       → (outcome : Outcome) → spoken.Outcome outcome ≡ told_heard heard
-      → result ≡ told_ending (unsayable asked) (Ok outcome)
+      → result ≡ order_ending which.Registry (unsayable asked) (Ok outcome)
       → GoesAs idle meanwhile old new heard
       → EndsAt new w order result
   heard_so honest stands is same asks (Carried other told) from outcome tells ends through =
       carried honest stands is same asks other from told
-      (ends ∙ ap (λ o. told_ending (unsayable asked) (Ok o)) (ap outcome_in_told tells)) through.1
+      (ends ∙ ap (λ o. order_ending which.Registry (unsayable asked) (Ok o)) (ap outcome_in_told tells)) through.1
   heard_so honest stands is same asks (Made (ToPath path told)) from outcome tells ends through =
       absurd (no_copy sent path asked asks from)
   heard_so honest stands is same asks (Made (OfKey key printed told)) from outcome tells ends through =
@@ -174,4 +176,4 @@ ends_as_on_the_store made pinged idle meanwhile old new sound order result w two
     let sends : IsSent two.sent asked = subst (λ got. IsSent got asked) (sym asks.2) asks.1 in
     heard_so idle meanwhile old new two.sent order asked result w honest stands (sound w stands) two.command.same
     sends two.server.heard two.server.from
-    two.told two.server.tells (two.command.ends ∙ ap (told_ending (unsayable asked)) two.heard) two.server.through
+    two.told two.server.tells (two.command.ends ∙ ap (order_ending which.Registry (unsayable asked)) two.heard) two.server.through

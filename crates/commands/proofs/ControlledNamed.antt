@@ -23,9 +23,10 @@ use Rattle.control.specs.declared.outcome.Outcome.{Outcome}
 use Rattle.control.specs.declared.told.Told.TheVariants as spoken
 use Rattle.commands.specs.Controlled.{RevokesAt, RevokesAsOnTheStore}
 use Rattle.commands.specs.Ending.{ending}
-use Rattle.commands.specs.Order.{told_ending}
+use Rattle.commands.specs.SentOrder.{order_ending}
 use Rattle.commands.specs.declared.refusal.CommandRefusal.{CommandRefusal}
 use Rattle.commands.specs.declared.refusal.CommandRefusal.TheVariants.{NoKey}
+use Rattle.commands.specs.declared.sent_order.SentOrder.TheVariants as which
 use Rattle.commands.proofs.Controlled.{no_named_words, no_word, outcome_in_told, registered_in, replied, same_said}
 
 -- ---- a line that names a key is no other line
@@ -38,7 +39,7 @@ no_catalog_words f key e = true≢false (ap (λ (s : Said). bytes_eq s.verb (cod
 
 -- ---- how the command ends
 
-ends_so : (told : Result RegistryReply StoreFault) → told_ending NoKey (Ok (outcome_of told)) ≡ ending told
+ends_so : (told : Result RegistryReply StoreFault) → order_ending which.Registry NoKey (Ok (outcome_of told)) ≡ ending told
 ends_so (Ok r) = refl
 ends_so (Err fault) = refl
 
@@ -66,14 +67,14 @@ module _ (idle : Type 0) (meanwhile : Making → Type 0) (old new : Shown) (f : 
   named honest stands (Unread fault) finds through ends = inr (fault, ends, (through.runs.at honest w stands).ends)
 
   heard_so : (sent : List ℕ) → new.is_honest → old.stands w → IsNaming sent f → (heard : Heard) → IsHeardIn sent heard
-      → (outcome : Outcome) → spoken.Outcome outcome ≡ told_heard heard → result ≡ told_ending NoKey (Ok outcome)
+      → (outcome : Outcome) → spoken.Outcome outcome ≡ told_heard heard → result ≡ order_ending which.Registry NoKey (Ok outcome)
       → GoesAs idle meanwhile old new heard → ListsBy old new heard → RevokesAt new w f result
   heard_so sent honest stands asks (Named g naming) from outcome tells ends through finds =
       let same = ap (λ (s : Said). s.first) (same_said sent (named_words g) (named_words f) from asks) in
       let both = subst (λ (x : List ℕ). Finds old new x naming × GoesThroughSteps old new (named_steps x naming)) same
       (finds, through.1) in
       named honest stands naming both.0 both.1
-      (ends ∙ ap (λ o. told_ending NoKey (Ok o)) (ap outcome_in_told tells) ∙ ends_so (named_result naming))
+      (ends ∙ ap (λ o. order_ending which.Registry NoKey (Ok o)) (ap outcome_in_told tells) ∙ ends_so (named_result naming))
   heard_so sent honest stands asks (Carried order told) from outcome tells ends through lists =
       absurd (no_named_words f order (same_said sent (named_words f) (said_in order) asks from))
   heard_so sent honest stands asks (Made (ToPath path told)) from outcome tells ends through lists =
@@ -99,4 +100,4 @@ revokes_as_on_the_store made pinged idle meanwhile old new f result w two honest
     two.command.asks in
     let sends : IsNaming two.sent f = subst (λ got. IsNaming got f) (sym asks.2) asks.1 in
     heard_so idle meanwhile old new f result w two.sent honest stands sends two.server.heard two.server.from two.told
-    two.server.tells (two.command.ends ∙ ap (told_ending NoKey) two.heard) two.server.through two.server.lists
+    two.server.tells (two.command.ends ∙ ap (order_ending which.Registry NoKey) two.heard) two.server.through two.server.lists

@@ -14,9 +14,11 @@ use Rattle.control.specs.Line.{IsNaming, named_words}
 use Rattle.control.specs.declared.client.Untold.{Untold}
 use Rattle.control.specs.declared.outcome.Outcome.{Outcome}
 use Rattle.commands.specs.Ending.{ending}
-use Rattle.commands.specs.Order.{RevokesOver, told_ending}
+use Rattle.commands.specs.Order.{RevokesOver}
+use Rattle.commands.specs.SentOrder.{order_ending}
 use Rattle.commands.specs.declared.refusal.CommandRefusal.{CommandRefusal}
 use Rattle.commands.specs.declared.refusal.CommandRefusal.TheVariants.{NoKey}
+use Rattle.commands.specs.declared.sent_order.SentOrder.TheVariants as which
 use Rattle.commands.proofs.Sayable.{carried, word_fits}
 
 -- the fingerprint of a key has a line
@@ -47,7 +49,7 @@ module _ (f : List ℕ) (unsaid : (sent : List ℕ) → ¬ IsNaming sent f) wher
 -- a command that sends the line of its fingerprint, and ends by the result, does as `RevokesOver` says
 pub revokes_over : (unread unread_new written written_new : Option (List ℕ)) (f : List ℕ) (told : Result Outcome Untold)
     (result : Result (Unit {0}) CommandRefusal)
-    → AsksToRevoke unread unread_new written written_new f told → result ≡ told_ending NoKey told
+    → AsksToRevoke unread unread_new written written_new f told → result ≡ order_ending which.Registry NoKey told
     → RevokesOver unread unread_new written written_new f result
 revokes_over unread unread_new written written_new f told result asks ends = record {
   told = told;
@@ -55,5 +57,5 @@ revokes_over unread unread_new written written_new f told result asks ends = rec
   ends = ends;
   unsent = λ is w.
       let unsaid = (subst (AsksToRevoke unread unread_new written written_new f) is asks).0 in
-      ends ∙ ap (told_ending NoKey) is ∙ none_revoked f unsaid w;
+      ends ∙ ap (order_ending which.Registry NoKey) is ∙ none_revoked f unsaid w;
 }

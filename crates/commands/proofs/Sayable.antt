@@ -33,9 +33,11 @@ use Rattle.control.specs.declared.registry_command.RegistryCommand.TheVariants.{
 use Rattle.control.specs.declared.registry_command.RegistryCommand.TheVariants.{KeyRevoke, KeysRevoke}
 use Rattle.control.specs.declared.outcome.Outcome.{Outcome}
 use Rattle.commands.specs.Ending.{ending}
-use Rattle.commands.specs.Order.{group_sent, IsSentFor, ComeToTheSame, refusal_by, unsayable, told_ending, OrdersOver}
+use Rattle.commands.specs.Order.{group_sent, IsSentFor, ComeToTheSame, refusal_by, unsayable, OrdersOver}
+use Rattle.commands.specs.SentOrder.{order_ending}
 use Rattle.commands.specs.declared.refusal.CommandRefusal.{CommandRefusal}
 use Rattle.commands.specs.declared.refusal.CommandRefusal.TheVariants.{NoTeam}
+use Rattle.commands.specs.declared.sent_order.SentOrder.TheVariants as which
 
 -- ---- words that a line can carry
 
@@ -337,7 +339,7 @@ unsent_ends (KeysRevoke shelf) sent is unsaid w world = ap (λ o. Err (unsayable
 pub orders_over : (unread unread_new written written_new : Option (List ℕ)) (order asked : RegistryCommand)
     (told : Result Outcome Untold) (result : Result (Unit {0}) CommandRefusal)
     → IsSentFor order asked → Asks unread unread_new written written_new asked told
-    → result ≡ told_ending (unsayable asked) told
+    → result ≡ order_ending which.Registry (unsayable asked) told
     → OrdersOver unread unread_new written written_new order result
 orders_over unread unread_new written written_new order asked told result sends asks ends = record {
   asked = asked;
@@ -347,5 +349,5 @@ orders_over unread unread_new written written_new order asked told result sends 
   ends = ends;
   unsent = λ is w world.
       let unsaid = (subst (Asks unread unread_new written written_new asked) is asks).0 in
-      ends ∙ ap (told_ending (unsayable asked)) is ∙ unsent_ends order asked sends unsaid w world;
+      ends ∙ ap (order_ending which.Registry (unsayable asked)) is ∙ unsent_ends order asked sends unsaid w world;
 }

@@ -21,6 +21,7 @@ pub mod RandomBytes
 pub mod Repetition
 pub mod Report
 pub mod Requirements
+pub mod SentOrder
 pub mod Serve
 pub mod ServedCatalog
 pub mod Sources

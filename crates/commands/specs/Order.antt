@@ -13,11 +13,11 @@ use Rattle.control.specs.declared.registry_command.RegistryCommand.TheVariants.{
 use Rattle.control.specs.declared.registry_command.RegistryCommand.TheVariants.{KeyRevoke, KeysRevoke}
 use Rattle.control.specs.RegistryCommand.{event_of, outcome_in}
 use Rattle.control.specs.declared.outcome.Outcome.{Outcome}
-use Rattle.control.specs.declared.outcome.Outcome.TheVariants as outcome
 use Rattle.commands.specs.Ending.{ending}
+use Rattle.commands.specs.SentOrder.{order_ending}
 use Rattle.commands.specs.declared.refusal.CommandRefusal.{CommandRefusal}
-use Rattle.commands.specs.declared.refusal.CommandRefusal.TheVariants.{Name, NoTeam, NoKey, NotEmpty, Busy, Ended}
-use Rattle.commands.specs.declared.refusal.CommandRefusal.TheVariants.{Device, Memory, Io}
+use Rattle.commands.specs.declared.refusal.CommandRefusal.TheVariants.{Name, NoTeam, NoKey, Device, Io}
+use Rattle.commands.specs.declared.sent_order.SentOrder.TheVariants.{Registry, Copy, Stop}
 
 -- ---- what is sent
 
@@ -53,19 +53,6 @@ unsayable (KeyAdd shelf key right) = refusal_by (is_key key.now) NoTeam
 unsayable (KeyRevoke key) = NoKey
 unsayable (KeysRevoke shelf) = NoTeam
 
--- how a command ends, by the result of sending its order, and by why an order is refused that no line can carry
-abbrev pub told_ending : CommandRefusal → Result Outcome Untold → Result (Unit {0}) CommandRefusal
-told_ending unsaid (Ok (outcome.RegistryReply registered)) = ending (Ok registered)
-told_ending unsaid (Ok (outcome.Failed fault)) = ending (Err fault)
-told_ending unsaid (Ok outcome.NotEmpty) = Err Io
-told_ending unsaid (Ok outcome.Busy) = Err Io
-told_ending unsaid (Ok outcome.Ended) = Err Io
-told_ending unsaid (Ok outcome.Stopping) = Err Io
-told_ending unsaid (Ok outcome.Bad) = Err Io
-told_ending unsaid (Err untold.Words) = Err unsaid
-told_ending unsaid (Err untold.Memory) = Err Memory
-told_ending unsaid (Err untold.Io) = Err Io
-
 -- in each world, the command ends as the order does there
 abbrev pub EndsInEach : RegistryCommand → Result (Unit {0}) CommandRefusal → Type 0
 EndsInEach order result = (w : World) → IsWorld w → result ≡ ending (Ok (outcome_in w order))
@@ -79,7 +66,7 @@ pub record OrdersOver
   pub same : ComeToTheSame asked order
   pub told : Result Outcome Untold
   pub asks : Asks unread unread_new written written_new asked told
-  pub ends : result ≡ told_ending (unsayable asked) told
+  pub ends : result ≡ order_ending Registry (unsayable asked) told
   pub unsent : told ≡ Err untold.Words → EndsInEach order result
 
 -- so it was over a connection, or there was none
@@ -99,7 +86,7 @@ pub record RevokesOver (unread unread_new written written_new : Option (List ℕ
     (result : Result (Unit {0}) CommandRefusal) : Type 0 where
   pub told : Result Outcome Untold
   pub asks : AsksToRevoke unread unread_new written written_new f told
-  pub ends : result ≡ told_ending NoKey told
+  pub ends : result ≡ order_ending Registry NoKey told
   pub unsent : told ≡ Err untold.Words → EndsNamedInEach f result
 
 -- so it was over a connection, or there was none
@@ -109,26 +96,13 @@ RevokesThere f result =
     × RevokesOver unread unread_new written written_new f result)
     ⊎ (result ≡ Err Device)
 
--- how `copy` ends, by the result of sending its order; a path that no line can carry counts as a name that breaks its
--- rule
-abbrev pub copy_ending : Result Outcome Untold → Result (Unit {0}) CommandRefusal
-copy_ending (Ok (outcome.RegistryReply registered)) = ending (Ok registered)
-copy_ending (Ok (outcome.Failed fault)) = ending (Err fault)
-copy_ending (Ok outcome.NotEmpty) = Err NotEmpty
-copy_ending (Ok outcome.Busy) = Err Busy
-copy_ending (Ok outcome.Ended) = Err Ended
-copy_ending (Ok outcome.Stopping) = Err Io
-copy_ending (Ok outcome.Bad) = Err Io
-copy_ending (Err untold.Words) = Err Name
-copy_ending (Err untold.Memory) = Err Memory
-copy_ending (Err untold.Io) = Err Io
-
--- the line that orders a copy to the path was sent as `AsksToCopy` says, and the command ends by the result
+-- The line that orders a copy to the path was sent as `AsksToCopy` says, and the command ends by the result. A path that
+-- no line can carry counts as a name that breaks its rule.
 pub record CopiesOver (unread unread_new written written_new : Option (List ℕ)) (path : List ℕ)
     (result : Result (Unit {0}) CommandRefusal) : Type 0 where
   pub told : Result Outcome Untold
   pub asks : AsksToCopy unread unread_new written written_new path told
-  pub ends : result ≡ copy_ending told
+  pub ends : result ≡ order_ending Copy Name told
 
 -- so it was over a connection, or there was none
 abbrev pub CopiesThere : List ℕ → Result (Unit {0}) CommandRefusal → Type 0
@@ -137,23 +111,12 @@ CopiesThere path result =
     × CopiesOver unread unread_new written written_new path result)
     ⊎ (result ≡ Err Device)
 
--- how `stop` ends, by the result of sending its order
-abbrev pub stop_ending : Result Outcome Untold → Result (Unit {0}) CommandRefusal
-stop_ending (Ok outcome.Stopping) = Ok tt
-stop_ending (Ok (outcome.Failed fault)) = ending (Err fault)
-stop_ending (Ok (outcome.RegistryReply registered)) = Err Io
-stop_ending (Ok outcome.NotEmpty) = Err Io
-stop_ending (Ok outcome.Busy) = Err Io
-stop_ending (Ok outcome.Ended) = Err Io
-stop_ending (Ok outcome.Bad) = Err Io
-stop_ending (Err why) = Err Io
-
 -- the line that ends a server was sent as `AsksToStop` says, and the command ends by the result
 pub record StopsOver (unread unread_new written written_new : Option (List ℕ))
     (result : Result (Unit {0}) CommandRefusal) : Type 0 where
   pub told : Result Outcome Untold
   pub asks : AsksToStop unread unread_new written written_new told
-  pub ends : result ≡ stop_ending told
+  pub ends : result ≡ order_ending Stop Io told
 
 -- so it was over a connection, or there was none
 abbrev pub StopsThere : Result (Unit {0}) CommandRefusal → Type 0

@@ -1,34 +1,17 @@
 -- A catalog of a running `serve`, printed as it comes.
 use Rattle.std.specs.Prelude.{ℕ, ◌≡◌, ◌⊎◌, ◌++◌, List, Option, Result, Ok, Err}
 use Rattle.std.specs.Io.KnownBytes.{Appends, Consumes}
-use Rattle.world.specs.declared.registry.RegistryReply.TheVariants as registered
-use Rattle.world.specs.declared.registry.StoreFault.TheVariants as fault
 use Rattle.control.specs.Asking.{AsksForCatalog}
 use Rattle.control.specs.Listing.{AreLines}
 use Rattle.control.specs.Outcome.{line_of}
 use Rattle.control.specs.declared.client.Untold.{Untold}
 use Rattle.control.specs.declared.client.Untold.TheVariants as untold
 use Rattle.control.specs.declared.outcome.Outcome.{Outcome}
-use Rattle.control.specs.declared.outcome.Outcome.TheVariants as outcome
 use Rattle.commands.specs.Printed.{PrintsFront}
+use Rattle.commands.specs.SentOrder.{order_ending}
 use Rattle.commands.specs.declared.refusal.CommandRefusal.{CommandRefusal}
-use Rattle.commands.specs.declared.refusal.CommandRefusal.TheVariants.{NoKey, Busy, Ended, Device, Memory, Io}
-
--- how the command ends, by what was told; a key that no line can carry is nobody's
-abbrev pub catalog_ending : Result Outcome Untold → Result (Unit {0}) CommandRefusal
-catalog_ending (Ok (outcome.RegistryReply registered.Done)) = Ok tt
-catalog_ending (Ok (outcome.RegistryReply registered.NoKey)) = Err NoKey
-catalog_ending (Ok (outcome.RegistryReply other)) = Err Io
-catalog_ending (Ok (outcome.Failed fault.Device)) = Err Device
-catalog_ending (Ok (outcome.Failed fault.Memory)) = Err Memory
-catalog_ending (Ok outcome.NotEmpty) = Err Io
-catalog_ending (Ok outcome.Busy) = Err Busy
-catalog_ending (Ok outcome.Ended) = Err Ended
-catalog_ending (Ok outcome.Stopping) = Err Io
-catalog_ending (Ok outcome.Bad) = Err Io
-catalog_ending (Err untold.Words) = Err NoKey
-catalog_ending (Err untold.Memory) = Err Memory
-catalog_ending (Err untold.Io) = Err Io
+use Rattle.commands.specs.declared.refusal.CommandRefusal.TheVariants.{NoKey, Device}
+use Rattle.commands.specs.declared.sent_order.SentOrder.TheVariants.{Catalog}
 
 module _ (unread unread_new printed printed_new : Option (List ℕ)) where
   -- lines came and were printed, each whole, and the line of this outcome came behind them
@@ -56,14 +39,15 @@ abbrev pub PrintsServed : Option (List ℕ) → Option (List ℕ) → Option (Li
 PrintsServed unread unread_new printed printed_new told (Ok u) = TellsCatalog unread unread_new printed printed_new told
 PrintsServed unread unread_new printed printed_new told (Err why) = (told ≡ Err why) × (printed_new ≡ printed)
 
--- the catalog of the key was asked for, and what came was printed but for its last line, by which the command ends
+-- The catalog of the key was asked for, and what came was printed but for its last line, by which the command ends. A
+-- key that no line can carry is nobody's.
 pub record CatalogsOver (unread unread_new written written_new : Option (List ℕ)) (key : List ℕ)
     (printed printed_new : Option (List ℕ)) (result : Result (Unit {0}) CommandRefusal) : Type 0 where
   pub asked : Result (Unit {0}) Untold
   pub asks : AsksForCatalog written written_new key asked
   pub told : Result Outcome Untold
   pub prints : PrintsServed unread unread_new printed printed_new told asked
-  pub ends : result ≡ catalog_ending told
+  pub ends : result ≡ order_ending Catalog NoKey told
 
 -- so it was over a connection, or there was none
 abbrev pub CatalogsThere : List ℕ → Option (List ℕ) → Option (List ℕ) → Result (Unit {0}) CommandRefusal → Type 0

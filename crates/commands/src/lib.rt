@@ -13,7 +13,7 @@
 //! | `key-list`, `shelf-list` | prints a line for each key, or for each shelf | [`report`] |
 //! | `answer` | answers the requests of a reader from a store, or from shelves in memory | [`answer`], [`memory`] |
 //! | `serve` | prints where it listens, answers each connection's message, and obeys orders between them | [`serve`] |
-//! | with `--control`; `copy`, `stop` | sends an order to a running `serve`, and ends by its outcome | [`order`] |
+//! | with `--control`; `copy`, `stop` | sends an order to `serve`, and ends by its outcome | [`order`], `sent_order` |
 //! | `key-list`, `shelf-list` with `--control` | asks a running `serve` for the list, and prints it | [`listing`] |
 //! | `catalog` with `--control` | prints the catalog of a running `serve` as it comes | [`served_catalog`] |
 //! | `ping` | asks a running `serve` for its health, and prints the line | [`ping`] |
@@ -56,6 +56,7 @@ pub mod refusal;
 pub mod registry;
 pub mod report;
 pub mod requirements;
+mod sent_order;
 pub mod serve;
 pub mod served_catalog;
 pub mod sources;

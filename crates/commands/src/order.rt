@@ -4,10 +4,9 @@ ghost use Rattle.commands.specs.Order as spec;
 
 use crate::copy_progress::{AwaitedCopy, patient_server_at};
 use crate::progress::StderrLine;
-use crate::refusal::{CommandRefusal, ending};
-use control::{
-    Outcome, RegistryCommand, Untold, ask, ask_to_copy, ask_to_revoke, ask_to_stop, server_at,
-};
+use crate::refusal::CommandRefusal;
+use crate::sent_order::{SentOrder, order_ending};
+use control::{RegistryCommand, ask, ask_to_copy, ask_to_revoke, ask_to_stop, server_at};
 use histories::{Hear, Hearing, Tell, Telling};
 use std::alloc::Global;
 use std::io::Write;
@@ -46,7 +45,7 @@ pub fn order_over<R: Hear, W: Tell>(
 {
     let asked = with_sendable_group(order);
     let told = ask(alloc, reader, writer, &asked);
-    told_ending(told, unsayable(&asked))
+    order_ending(SentOrder::Registry, unsayable(&asked), told)
 }
 
 /// Returns the order to send for another: one that is equivalent in every world, and whose group can stand in a line.
@@ -69,24 +68,6 @@ fn group_to_send<'a>(group: Option<&'a str>) -> Option<&'a str>
     match group {
         Some(name) => Some(if is_team_name(name) { name } else { COMMON }),
         None => None,
-    }
-}
-
-/// How a command ends, by what was told of its order, or by this refusal if no line can carry that.
-fn told_ending(
-    told: Result<Outcome, Untold>,
-    unsayable: CommandRefusal,
-) -> Result<(), CommandRefusal>
-    ensures { result ≡ spec.told_ending unsayable told }
-{
-    match told {
-        Ok(Outcome::RegistryReply(registered)) => ending(Ok(registered)),
-        Ok(Outcome::Failed(fault)) => ending(Err(fault)),
-        Ok(Outcome::NotEmpty | Outcome::Busy | Outcome::Ended) => Err(CommandRefusal::Io),
-        Ok(Outcome::Stopping | Outcome::Bad) => Err(CommandRefusal::Io),
-        Err(Untold::Words) => Err(unsayable),
-        Err(Untold::Memory) => Err(CommandRefusal::Memory),
-        Err(Untold::Io) => Err(CommandRefusal::Io),
     }
 }
 
@@ -139,7 +120,7 @@ pub fn revoke_over<R: Hear, W: Tell>(
         (W.contents writer.old) (W.contents writer.new) fingerprint.now result }
 {
     let told = ask_to_revoke(alloc, reader, writer, fingerprint);
-    told_ending(told, CommandRefusal::NoKey)
+    order_ending(SentOrder::Registry, CommandRefusal::NoKey, told)
 }
 
 /// Has the `serve` that listens at a socket copy its store into the file of a path, as that server sees it, and waits
@@ -174,23 +155,7 @@ pub fn copy_over<R: Hear, W: Tell>(
         (W.contents writer.old) (W.contents writer.new) path.now result }
 {
     let told = ask_to_copy(alloc, reader, writer, path);
-    copy_ending(told)
-}
-
-/// How `copy` ends, by what was told.
-fn copy_ending(told: Result<Outcome, Untold>) -> Result<(), CommandRefusal>
-    ensures { result ≡ spec.copy_ending told }
-{
-    match told {
-        Ok(Outcome::RegistryReply(registered)) => ending(Ok(registered)),
-        Ok(Outcome::Failed(fault)) => ending(Err(fault)),
-        Ok(Outcome::NotEmpty) => Err(CommandRefusal::NotEmpty),
-        Ok(Outcome::Busy) => Err(CommandRefusal::Busy),
-        Ok(Outcome::Ended) => Err(CommandRefusal::Ended),
-        Ok(Outcome::Stopping | Outcome::Bad) | Err(Untold::Io) => Err(CommandRefusal::Io),
-        Err(Untold::Words) => Err(CommandRefusal::Name),
-        Err(Untold::Memory) => Err(CommandRefusal::Memory),
-    }
+    order_ending(SentOrder::Copy, CommandRefusal::Name, told)
 }
 
 /// Ends the `serve` that listens at a socket, after the current request. `Device` if nobody listens there or the system
@@ -219,19 +184,5 @@ pub fn stop_over<R: Hear, W: Tell>(
         (W.contents writer.old) (W.contents writer.new) result }
 {
     let told = ask_to_stop(alloc, reader, writer);
-    stop_ending(told)
-}
-
-/// How the command ends, by what was told.
-fn stop_ending(told: Result<Outcome, Untold>) -> Result<(), CommandRefusal>
-    ensures { result ≡ spec.stop_ending told }
-{
-    match told {
-        Ok(Outcome::Stopping) => Ok(()),
-        Ok(Outcome::Failed(fault)) => ending(Err(fault)),
-        Ok(Outcome::RegistryReply(_)) => Err(CommandRefusal::Io),
-        Ok(Outcome::NotEmpty | Outcome::Busy | Outcome::Ended) => Err(CommandRefusal::Io),
-        Ok(Outcome::Bad) => Err(CommandRefusal::Io),
-        Err(_) => Err(CommandRefusal::Io),
-    }
+    order_ending(SentOrder::Stop, CommandRefusal::Io, told)
 }

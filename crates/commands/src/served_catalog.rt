@@ -4,13 +4,13 @@ ghost use Rattle.commands.specs.ServedCatalog as spec;
 
 use crate::last_line::print_but_last;
 use crate::refusal::CommandRefusal;
+use crate::sent_order::{SentOrder, order_ending};
 use control::{Outcome, Untold, ask_for_catalog, outcome_in, server_at};
 use histories::{Hear, Hearing, Tell, Telling};
 use std::alloc::Global;
 use std::io;
 use std::os::unix::net::UnixStream;
 use std::rt::HostRuntime;
-use world::registry::{RegistryReply, StoreFault};
 
 /// Asks the `serve` that listens at a socket for the catalog of a key, and prints its lines as they come, until all
 /// came. `NoKey` if there is no such key, or no line can carry it: then nothing is printed. `Device` if nobody
@@ -62,7 +62,7 @@ pub fn catalog_over<R: Hear, W: Tell, O: Tell>(
 {
     let asked = ask_for_catalog(alloc, writer, key);
     let told = print_asked(alloc, asked, reader, output);
-    catalog_ending(told)
+    order_ending(SentOrder::Catalog, CommandRefusal::NoKey, told)
 }
 
 /// Prints what comes as `print_told` does, if it was asked for. Otherwise returns why it was not.
@@ -99,27 +99,5 @@ fn print_told<R: Hear, O: Tell>(
     match outcome_in(&last) {
         Some(told) => Ok(told),
         None => Err(Untold::Io),
-    }
-}
-
-/// How the command ends, by what was told.
-fn catalog_ending(told: Result<Outcome, Untold>) -> Result<(), CommandRefusal>
-    ensures { result ≡ spec.catalog_ending told }
-{
-    match told {
-        Ok(Outcome::RegistryReply(RegistryReply::Done)) => Ok(()),
-        Ok(Outcome::RegistryReply(RegistryReply::NoKey)) | Err(Untold::Words) => {
-            Err(CommandRefusal::NoKey)
-        }
-        Ok(Outcome::Failed(StoreFault::Device)) => Err(CommandRefusal::Device),
-        Ok(Outcome::Failed(StoreFault::Memory)) | Err(Untold::Memory) => {
-            Err(CommandRefusal::Memory)
-        }
-        Ok(Outcome::Busy) => Err(CommandRefusal::Busy),
-        Ok(Outcome::Ended) => Err(CommandRefusal::Ended),
-        Ok(Outcome::RegistryReply(_) | Outcome::NotEmpty | Outcome::Stopping | Outcome::Bad) => {
-            Err(CommandRefusal::Io)
-        }
-        Err(Untold::Io) => Err(CommandRefusal::Io),
     }
 }

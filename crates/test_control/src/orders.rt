@@ -107,7 +107,7 @@ const COPIES: &str = "\
 one.db|not-empty|copy one.db|NotEmpty
 one.db|device|copy one.db|Device
 one.db|memory|copy one.db|Memory
-one.db|taken|copy one.db|Taken
+one.db|taken|copy one.db|Io
 one.db|busy|copy one.db|Busy
 one.db|ended|copy one.db|Ended
 one.db|stopping|copy one.db|Io

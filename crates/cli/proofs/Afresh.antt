@@ -1,6 +1,6 @@
 -- A command that ran over new histories ran afresh.
 use Rattle.std.proofs.Common.{ℕ, ◌≡◌, List, [], Bool, Option, Result, subst}
-use Rattle.files.specs.History.{Done, Span}
+use Rattle.store_files.specs.History.{Done, Span}
 use Rattle.histories.specs.Account.{Account}
 use Rattle.sqlite.specs.State.{State}
 use Rattle.world.specs.Store.{Shown}

@@ -1,6 +1,6 @@
 -- A command that ran over files to which nothing was done before.
 use Rattle.std.specs.Prelude.{ℕ, List, [], Bool, Option, Result}
-use Rattle.files.specs.History.{Done, Span}
+use Rattle.store_files.specs.History.{Done, Span}
 use Rattle.histories.specs.Account.{Account}
 use Rattle.sqlite.specs.State.{State}
 use Rattle.world.specs.Store.{Shown}

@@ -1,7 +1,6 @@
 //! What runs a command: the files of the system, or any other `Runner`.
 use commands::refusal::CommandRefusal;
 use file_action::host::ActionHost;
-use files::files::StoreFiles;
 use histories::{Hear, Tell};
 use runner::found::{ClosedFile, OpenedStore};
 use runner::host::{Host, SystemHost};
@@ -10,7 +9,7 @@ use runner::{Command, run};
 use std::io::IsTerminal;
 use std::rt::HostRuntime;
 use store::files::{PageRoom, is_new_store};
-use store::refusal::StoreRefusal;
+use store_files::files::StoreFiles;
 
 /// Runs commands. A run of the program reaches the files of stores only by it.
 pub trait Runner {
@@ -49,10 +48,10 @@ impl<'a> Runner for SystemStores<'a> {
         RunsAfresh ⟦<SystemHost<'a> as ActionHost<OpenedStore>>⟧.acts
         ⟦<SystemHost<'a> as Host<OpenedStore, ClosedFile>>⟧.state_of
         ⟦<SystemHost<'a> as Host<OpenedStore, ClosedFile>>⟧.shown
-        ⟦<SystemStoreFiles<'a> as StoreFiles<OpenedStore, ClosedFile, StoreRefusal>>⟧.begins
-        ⟦<SystemStoreFiles<'a> as StoreFiles<OpenedStore, ClosedFile, StoreRefusal>>⟧.left
-        ⟦<SystemOlderFiles<'a> as StoreFiles<ClosedFile, ClosedFile, StoreRefusal>>⟧.begins
-        ⟦<SystemOlderFiles<'a> as StoreFiles<ClosedFile, ClosedFile, StoreRefusal>>⟧.left };
+        ⟦<SystemStoreFiles<'a> as StoreFiles<OpenedStore, ClosedFile>>⟧.begins
+        ⟦<SystemStoreFiles<'a> as StoreFiles<OpenedStore, ClosedFile>>⟧.left
+        ⟦<SystemOlderFiles<'a> as StoreFiles<ClosedFile, ClosedFile>>⟧.begins
+        ⟦<SystemOlderFiles<'a> as StoreFiles<ClosedFile, ClosedFile>>⟧.left };
 
     fn is_new(&self, db: &str) -> bool {
         is_new_store(self.rt, db)

@@ -1,5 +1,7 @@
 -- How a command ends, by the result of the store.
 use Rattle.std.specs.Prelude.{ℕ, ◌≡◌, List, codes, Result, Ok, Err}
+use Rattle.store_files.specs.declared.refusal.StoreRefusal.{StoreRefusal}
+use Rattle.store_files.specs.declared.refusal.StoreRefusal.TheVariants as store
 use Rattle.world.specs.Store.{Shown, Does}
 use Rattle.world.specs.declared.registry.RegistryReply.{RegistryReply}
 use Rattle.world.specs.declared.registry.RegistryReply.TheVariants as registered
@@ -39,6 +41,14 @@ ending (Ok registered.NoKey) = Err refusal.NoKey
 ending (Ok registered.NoGroup) = Err refusal.NoGroup
 ending (Err fault.Device) = Err refusal.Device
 ending (Err fault.Memory) = Err refusal.Memory
+
+-- the refusal of a command, by that of the store
+abbrev pub unopened : StoreRefusal → CommandRefusal
+unopened store.Device = refusal.Device
+unopened store.Memory = refusal.Memory
+unopened store.BadSchema = refusal.BadSchema
+unopened store.NotEmpty = refusal.NotEmpty
+unopened store.NoTeam = refusal.NoTeam
 
 -- From old to new the registry command was carried out: in each world that the store stood for, it gave the machine's
 -- reply and made the world after its event, or met a fault and changed nothing; and the program's command ends by that.

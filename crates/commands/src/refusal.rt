@@ -5,6 +5,7 @@ ghost use Rattle.commands.specs.Ending as spec;
 use engine::Io;
 use std::alloc::AllocError;
 use std::io;
+use store_files::refusal::StoreRefusal;
 use world::registry::{RegistryReply, StoreFault};
 
 /// Why a command was refused, with exit status 1.
@@ -83,6 +84,22 @@ impl From<Io> for CommandRefusal {
 impl From<AllocError> for CommandRefusal {
     fn from(_: AllocError) -> CommandRefusal {
         CommandRefusal::Memory
+    }
+}
+
+impl From<StoreRefusal> for CommandRefusal {
+    ghost use Rattle.commands.specs.Ending.{unopened};
+
+    ghost from_gives = { λ why refusal. refusal ≡ unopened why };
+
+    fn from(why: StoreRefusal) -> CommandRefusal {
+        match why {
+            StoreRefusal::Device => CommandRefusal::Device,
+            StoreRefusal::Memory => CommandRefusal::Memory,
+            StoreRefusal::BadSchema => CommandRefusal::BadSchema,
+            StoreRefusal::NotEmpty => CommandRefusal::NotEmpty,
+            StoreRefusal::NoTeam => CommandRefusal::NoTeam,
+        }
     }
 }
 

@@ -1,19 +1,20 @@
 -- What an action on the store of a file does.
 use Rattle.std.specs.Prelude.{ℕ, List, ◌≡◌, ◌⊎◌, Bool, Option, Result, Ok, Err}
-use Rattle.files.specs.History.{Span, IsIdle, Refuses, Opens}
+use Rattle.store_files.specs.History.{Span, IsIdle, Refuses, Opens}
 use Rattle.histories.specs.Account.{Account}
-use Rattle.setup.specs.declared.refusal.StoreRefusal.{StoreRefusal}
+use Rattle.store_files.specs.declared.refusal.StoreRefusal.{StoreRefusal}
 use Rattle.commands.specs.Action.{Moment}
 use Rattle.commands.specs.declared.refusal.CommandRefusal.{CommandRefusal}
 use Rattle.commands.specs.declared.refusal.CommandRefusal.TheVariants.{NotEmpty}
 use Rattle.commands.specs.declared.action.Action.{Action}
 use Rattle.commands.specs.declared.action.Action.TheVariants.{Open}
-use Rattle.file_action.specs.Refusal.{unopened, unmade}
+use Rattle.commands.specs.Ending.{unopened}
+use Rattle.file_action.specs.Refusal.{new_store_refusal}
 
 -- the result of `init`, by that of the action on its store
 abbrev pub made : Result Bool CommandRefusal → Result Bool CommandRefusal
 made (Ok accepted) = Ok accepted
-made (Err refusal) = Err (unmade refusal)
+made (Err refusal) = Err (new_store_refusal refusal)
 
 module _ (came came_new : Account) (written written_new : Option (List ℕ)) (result : Result Bool CommandRefusal) where
   -- this is the result, and nothing was read or written

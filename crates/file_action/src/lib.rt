@@ -1,7 +1,7 @@
 //! An action on the store of a file: the store is opened, acted on, and closed as the action left it.
 //!
-//! This is code over [`files::files::StoreFiles`] and [`host::ActionHost`], and has no handle of the system. So the
-//! history of the files has all that it did to them.
+//! This is code over [`store_files::files::StoreFiles`] and [`host::ActionHost`], and has no handle of the system. So
+//! the history of the files has all that it did to them.
 #![tactic(auto)]
 
 ghost use Rattle.file_action.specs.OnFile.{Inits, ActsOnFile};
@@ -10,12 +10,11 @@ pub mod host;
 pub mod refusal;
 
 use crate::host::ActionHost;
-use crate::refusal::{command_refusal, unmade};
+use crate::refusal::new_store_refusal;
 use commands::action::Action;
 use commands::refusal::CommandRefusal;
-use files::files::{StoreFiles, Use};
 use histories::{Hear, Tell};
-use setup::refusal::StoreRefusal;
+use store_files::files::{StoreFiles, Use};
 
 /// Makes a store with the shelf `common` alone, and returns true. Fails with `NotEmpty` if the file has bytes, and
 /// otherwise as `on_file` does. It reads one byte. If the file can't be read, opening the store says what is wrong.
@@ -28,7 +27,7 @@ pub fn init<S, C, H, F, I, W>(
 ) -> Result<bool, CommandRefusal>
 where
     H: ActionHost<S>,
-    F: StoreFiles<S, C, StoreRefusal>,
+    F: StoreFiles<S, C>,
     I: Hear,
     W: Tell,
     ensures { Inits H.acts
@@ -41,7 +40,7 @@ where
     }
     match on_file(host, files, name, &Action::Open, input, output) {
         Ok(done) => Ok(done),
-        Err(refusal) => Err(unmade(refusal)),
+        Err(refusal) => Err(new_store_refusal(refusal)),
     }
 }
 
@@ -71,7 +70,7 @@ pub fn on_file<S, C, H, F, I, W>(
 ) -> Result<bool, CommandRefusal>
 where
     H: ActionHost<S>,
-    F: StoreFiles<S, C, StoreRefusal>,
+    F: StoreFiles<S, C>,
     I: Hear,
     W: Tell,
     ensures { ActsOnFile H.acts
@@ -79,10 +78,7 @@ where
         name.now (I.account input.old) (I.account input.new) (W.contents output.old) (W.contents output.new)
         action.now result }
 {
-    let mut file = match files.open(name, use_of(action)) {
-        Ok(file) => file,
-        Err(unopened) => return Err(command_refusal(unopened)),
-    };
+    let mut file = files.open(name, use_of(action))?;
     let told = host.act(name, &mut file.store, action, input, output);
     files.close(file);
     told

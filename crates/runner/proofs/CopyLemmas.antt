@@ -2,7 +2,7 @@
 use Rattle.std.proofs.Common.{ℕ, List, [], ◌≡◌, ◌≤◌, Bool, true, false, Option, Some, inl, inr, refl}
 use Rattle.std.proofs.Common.{Result, Ok, Err, IfOk}
 use Rattle.std.specs.Prelude.{IsErrOf}
-use Rattle.files.specs.History.{Span}
+use Rattle.store_files.specs.History.{Span}
 use Rattle.world.specs.Store.{Shown, Reads}
 use Rattle.world.specs.World.{World}
 use Rattle.world.specs.declared.registry.StoreFault.{StoreFault}

@@ -1,9 +1,9 @@
 -- Tables of no schema are those of no older one, and a migration goes on from the copy of an older file.
 use Rattle.std.proofs.Common.{ℕ, ◌≡◌, List, [], ◌∷◌, ◌++◌, Result, sym, ap, subst, ◌∙◌}
 use Rattle.std.proofs.lemmas.List.{append_assoc}
-use Rattle.files.specs.History.{Done, Span}
-use Rattle.files.specs.declared.files.Deed.{Deed}
-use Rattle.files.specs.declared.files.Deed.TheVariants.{Closed, Copied, Made, Opened, Unlinked}
+use Rattle.store_files.specs.History.{Done, Span}
+use Rattle.store_files.specs.declared.files.Deed.{Deed}
+use Rattle.store_files.specs.declared.files.Deed.TheVariants.{Closed, Copied, Made, Opened, Unlinked}
 use Rattle.sqlite.specs.State.{State}
 use Rattle.world.specs.Store.{Shown}
 use Rattle.commands.specs.declared.refusal.CommandRefusal.{CommandRefusal}

@@ -1,6 +1,6 @@
 -- What running a command did, running an equal one did.
 use Rattle.std.proofs.Common.{◌≡◌, ℕ, List, Bool, Option, Result, refl, sym, subst}
-use Rattle.files.specs.History.{Span}
+use Rattle.store_files.specs.History.{Span}
 use Rattle.sqlite.specs.State.{State}
 use Rattle.histories.specs.Account.{Account}
 use Rattle.world.specs.Store.{Shown}

@@ -1,7 +1,7 @@
 -- What running a command does.
 use Rattle.std.specs.Prelude.{ℕ, map as each, List, ◌≡◌, Bool, Option, Result}
 use Rattle.std.specs.Borrow.{Bor}
-use Rattle.files.specs.History.{Span, IsIdle}
+use Rattle.store_files.specs.History.{Span, IsIdle}
 use Rattle.sqlite.specs.State.{State}
 use Rattle.histories.specs.Account.{Account}
 use Rattle.world.specs.Store.{Shown}

@@ -1,7 +1,7 @@
 -- What a copy of the store of a served file into that of another file does, what is printed of a catalog of it, and
 -- what a count of its versions tells.
 use Rattle.std.specs.Prelude.{ℕ, List, [], ◌≡◌, ◌≤◌, ◌⊎◌, ⊤, Bool, true, false, Some, Result, Ok, Err}
-use Rattle.files.specs.History.{Span, IsIdle, Refuses, Opens}
+use Rattle.store_files.specs.History.{Span, IsIdle, Refuses, Opens}
 use Rattle.world.specs.Store.{Shown}
 use Rattle.world.specs.World.{World}
 use Rattle.statements.specs.Counted.{versions_in}
@@ -10,8 +10,8 @@ use Rattle.store.specs.Parts.{FillsAt}
 use Rattle.store.specs.Between.{told}
 use Rattle.store.specs.declared.between.CopyEnd.{CopyEnd}
 use Rattle.store.specs.declared.between.CopyEnd.TheVariants.{Refused, Ended}
-use Rattle.store.specs.declared.refusal.StoreRefusal.{StoreRefusal}
-use Rattle.store.specs.declared.refusal.StoreRefusal.TheVariants as store
+use Rattle.store_files.specs.declared.refusal.StoreRefusal.{StoreRefusal}
+use Rattle.store_files.specs.declared.refusal.StoreRefusal.TheVariants as store
 use Rattle.catalog.specs.Meanwhile.{PrintsCatalogOn}
 use Rattle.catalog.specs.declared.between.CatalogEnd.{CatalogEnd}
 use Rattle.catalog.specs.declared.between.CatalogEnd.TheVariants as end
@@ -25,17 +25,17 @@ use Rattle.runner.specs.Opened.{OnOpened}
 
 -- why no copy was made, by why the store was not opened or copied; other tables than a store's are bytes too, and
 -- `NoTeam` never comes
-abbrev pub uncopied : StoreRefusal → CopyRefusal
-uncopied store.Device = copy.Device
-uncopied store.Memory = copy.Memory
-uncopied store.BadSchema = copy.NotEmpty
-uncopied store.NotEmpty = copy.NotEmpty
-uncopied store.NoTeam = copy.Device
+abbrev pub copy_refusal : StoreRefusal → CopyRefusal
+copy_refusal store.Device = copy.Device
+copy_refusal store.Memory = copy.Memory
+copy_refusal store.BadSchema = copy.NotEmpty
+copy_refusal store.NotEmpty = copy.NotEmpty
+copy_refusal store.NoTeam = copy.Device
 
 -- the result of a copy, by that of the store
 abbrev pub copied : Result (Unit {0}) CopyEnd → Result (Unit {0}) CopyRefusal
 copied (Ok u) = Ok tt
-copied (Err (Refused why)) = Err (uncopied why)
+copied (Err (Refused why)) = Err (copy_refusal why)
 copied (Err Ended) = Err copy.Ended
 
 -- what came of a catalog, by how its printing ended
@@ -74,7 +74,7 @@ module _ {S F : Type 0} (shown : S → Shown) (shown_too : F → Shown) where
   -- result says why
   pub record CopiesNone (source source_new : S) (result : Result (Unit {0}) CopyRefusal) : Type 0 where
     pub same : source_new ≡ source
-    pub tells : (result ≡ Err copy.NotEmpty) ⊎ ((why : StoreRefusal) × (result ≡ Err (uncopied why)))
+    pub tells : (result ≡ Err copy.NotEmpty) ⊎ ((why : StoreRefusal) × (result ≡ Err (copy_refusal why)))
 
   -- nothing was done, since another copy is being made
   pub record IsBusy (source source_new : S) (result : Result (Unit {0}) CopyRefusal) : Type 0 where

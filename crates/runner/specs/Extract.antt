@@ -1,13 +1,13 @@
 -- Extracting from the store of one file into that of another.
 use Rattle.std.specs.Prelude.{ℕ, List, ◌≡◌, ◌⊎◌, Result, Err}
-use Rattle.files.specs.History.{Span, IsIdle, Refuses, Opens}
+use Rattle.store_files.specs.History.{Span, IsIdle, Refuses, Opens}
 use Rattle.world.specs.Store.{Shown}
 use Rattle.store.specs.Extracted.{HasCauseInEither}
 use Rattle.store.specs.Parts.{ExtractsTeams}
-use Rattle.setup.specs.declared.refusal.StoreRefusal.{StoreRefusal}
+use Rattle.store_files.specs.declared.refusal.StoreRefusal.{StoreRefusal}
 use Rattle.commands.specs.declared.refusal.CommandRefusal.{CommandRefusal}
 use Rattle.commands.specs.declared.refusal.CommandRefusal.TheVariants.{NotEmpty}
-use Rattle.file_action.specs.Refusal.{unopened}
+use Rattle.commands.specs.Ending.{unopened}
 use Rattle.runner.specs.Opened.{store_result, LeavesSource}
 
 module _ {S F : Type 0} (shown : S → Shown) (shown_too : F → Shown) (source source_new : S) where

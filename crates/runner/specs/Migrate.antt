@@ -1,7 +1,7 @@
 -- Migrating the file of an older store into the store of another file.
 use Rattle.std.specs.Prelude.{ℕ, ◌≡◌, ◌⊎◌, List, [], ◌∷◌, ◌++◌, Result, Err}
-use Rattle.files.specs.History.{Span, IsIdle, Refuses, Opens}
-use Rattle.files.specs.declared.files.Deed.TheVariants.{Copied, Made, Opened, Refused, Closed, Unlinked}
+use Rattle.store_files.specs.History.{Span, IsIdle, Refuses, Opens}
+use Rattle.store_files.specs.declared.files.Deed.TheVariants.{Copied, Made, Opened, Refused, Closed, Unlinked}
 use Rattle.sqlite.specs.Held.{Held, state}
 use Rattle.sqlite.specs.State.{State}
 use Rattle.sqlite.specs.Steps.{over_memory}
@@ -11,10 +11,10 @@ use Rattle.statements.specs.Calls.{IsOpenIfHonest}
 use Rattle.world.specs.Store.{Shown}
 use Rattle.store.specs.Migrated.{Migrates, HasCauseInOne, IsForeign}
 use Rattle.store.specs.Older.{FindsOlder}
-use Rattle.setup.specs.declared.refusal.StoreRefusal.{StoreRefusal}
+use Rattle.store_files.specs.declared.refusal.StoreRefusal.{StoreRefusal}
 use Rattle.commands.specs.declared.refusal.CommandRefusal.{CommandRefusal}
 use Rattle.commands.specs.declared.refusal.CommandRefusal.TheVariants.{NotEmpty}
-use Rattle.file_action.specs.Refusal.{unopened}
+use Rattle.commands.specs.Ending.{unopened}
 use Rattle.runner.specs.Opened.{store_result, LeavesSource}
 
 module _ {C F : Type 0} (state_of : C → State) (shown : F → Shown) (old old_new : C) where

@@ -1,15 +1,16 @@
 -- Opening a store, and why a command is refused whose store is not opened.
 use Rattle.std.specs.Prelude.{ℕ, ◌≡◌, ◌⊎◌, List, Result, Ok, Err}
 use Rattle.sqlite_wal.specs.Recovery.{Image}
-use Rattle.files.specs.History.{Span, IsIdle, Refuses}
+use Rattle.store_files.specs.History.{Span, IsIdle, Refuses}
 use Rattle.world.specs.Store.{Shown}
 use Rattle.world.specs.World.{World}
 use Rattle.store.specs.Shown.{BeginsAt}
 use Rattle.store.specs.Restart.{HoldsStore, RecoversStore}
-use Rattle.setup.specs.declared.refusal.StoreRefusal.{StoreRefusal}
+use Rattle.store_files.specs.declared.refusal.StoreRefusal.{StoreRefusal}
 use Rattle.commands.specs.declared.refusal.CommandRefusal.{CommandRefusal}
 use Rattle.commands.specs.declared.refusal.CommandRefusal.TheVariants as refusal
-use Rattle.file_action.specs.Refusal.{unopened, unmade}
+use Rattle.commands.specs.Ending.{unopened}
+use Rattle.file_action.specs.Refusal.{new_store_refusal}
 
 -- the result of the command, by that of the store
 abbrev pub store_result : Result (Unit {0}) StoreRefusal → Result (Unit {0}) CommandRefusal
@@ -36,4 +37,4 @@ pub record LeavesSource {S F D : Type 0} (targets : Span F D) (to : List ℕ) (s
     (result : Result (Unit {0}) CommandRefusal) : Type 0 where
   pub same : source_new ≡ source
   pub tells : ((result ≡ Err refusal.NotEmpty) × IsIdle targets)
-      ⊎ ((why : StoreRefusal) × (result ≡ Err (unmade (unopened why))) × Refuses targets to)
+      ⊎ ((why : StoreRefusal) × (result ≡ Err (new_store_refusal (unopened why))) × Refuses targets to)

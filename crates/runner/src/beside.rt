@@ -5,7 +5,7 @@ use commands::files::is_same_file;
 use std::fs::{self, File};
 use std::io::{self, ErrorKind};
 use std::rt::HostRuntime;
-use store::refusal::StoreRefusal;
+use store_files::refusal::StoreRefusal;
 
 /// Tests the name of a new store. Fails with `Device` if SQLite has a use for that file, by its name or by a link: for
 /// the database at `db`, or for another that stands there. Fails with `Memory` if memory runs out.

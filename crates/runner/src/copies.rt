@@ -20,7 +20,6 @@ use catalog::Unprinted;
 use catalog::between::{CatalogEnd, print_between};
 use commands::files::size_of_file;
 use control::{CatalogRefusal, Copies, CopyRefusal, Figures};
-use files::files::{StoreFiles, Use};
 use histories::Restart;
 use meanwhile::between::Between;
 use slices::pace::Pace;
@@ -30,8 +29,9 @@ use std::rt::HostRuntime;
 use std::time::Clock;
 use store::between::CopyEnd;
 use store::files::PageRoom;
-use store::refusal::StoreRefusal;
 use store::store::SqlShelves;
+use store_files::files::{StoreFiles, Use};
+use store_files::refusal::StoreRefusal;
 use world::registry::StoreFault;
 use world::shelves::Shelves;
 
@@ -154,7 +154,7 @@ where
     C: Clock,
     L: FileChecks,
     S: Alter,
-    G: StoreFiles<OpenedStore, ClosedFile, StoreRefusal>,
+    G: StoreFiles<OpenedStore, ClosedFile>,
     B: Between<SqlShelves<S>>,
     ensures turns { (mid : _) × B.went between.old between.new source.old mid × IsOnlyRead
         (⟦<SqlShelves<S> as Shelves>⟧.shown mid) (⟦<SqlShelves<S> as Shelves>⟧.shown source.new) }
@@ -165,14 +165,14 @@ where
     ensures ended { IsErrOf result CopyRefusal.Ended → B.ended between.new }
 {
     if let Err(refusal) = checks.check_name(db, to) {
-        return Err(uncopied(refusal));
+        return Err(copy_refusal(refusal));
     }
     if checks.is_same(db, to) {
         return Err(CopyRefusal::NotEmpty);
     }
     let mut fresh = match targets.open(to, Use::Writing) {
         Ok(file) => file,
-        Err(unopened) => return Err(uncopied(unopened)),
+        Err(unopened) => return Err(copy_refusal(unopened)),
     };
     let mut pace = SlicePace::new(clock, checks, to);
     let told = copy_into(&mut pace, source, &mut fresh.store, between);
@@ -207,14 +207,14 @@ fn copied(told: Result<(), CopyEnd>) -> Result<(), CopyRefusal>
 {
     match told {
         Ok(()) => Ok(()),
-        Err(CopyEnd::Refused(refusal)) => Err(uncopied(refusal)),
+        Err(CopyEnd::Refused(refusal)) => Err(copy_refusal(refusal)),
         Err(CopyEnd::Ended) => Err(CopyRefusal::Ended),
     }
 }
 
 /// Returns why no copy was made, by why the store was not opened or copied.
-fn uncopied(refusal: StoreRefusal) -> CopyRefusal
-    ensures value { result ≡ spec.uncopied refusal }
+fn copy_refusal(refusal: StoreRefusal) -> CopyRefusal
+    ensures value { result ≡ spec.copy_refusal refusal }
     ensures begun { result ≢ Busy }
     ensures goes_on { result ≢ CopyRefusal.Ended }
 {

@@ -9,11 +9,11 @@ use crate::copy_line::CopyLine;
 use crate::file_checks::FileChecks;
 use crate::found::{ClosedFile, Found, OpenedStore};
 use commands::refusal::CommandRefusal;
-use file_action::refusal::{command_refusal, unmade};
-use files::files::{StoreFiles, Use};
+use file_action::refusal::new_store_refusal;
 use sqlite::Alter;
-use store::refusal::StoreRefusal;
 use store::store::SqlShelves;
+use store_files::files::{StoreFiles, Use};
+use store_files::refusal::StoreRefusal;
 use world::shelves::Shelves;
 
 /// Puts some teams' part of the store of one file into the store of another. Fails with the refusals of the store; with
@@ -33,23 +33,18 @@ pub(crate) fn extract_file<L, F, G>(
 ) -> Result<(), CommandRefusal>
 where
     L: FileChecks,
-    F: StoreFiles<OpenedStore, ClosedFile, StoreRefusal>,
-    G: StoreFiles<OpenedStore, ClosedFile, StoreRefusal>,
+    F: StoreFiles<OpenedStore, ClosedFile>,
+    G: StoreFiles<OpenedStore, ClosedFile>,
     ensures { ExtractsFile (λ s. ⟦<Found as Shelves>⟧.shown s.shelves) (λ s. ⟦<Found as Shelves>⟧.shown s.shelves)
         (record { begins = F.begins; left = F.left; before = F.history files.old; after = F.history files.new })
         (record { begins = G.begins; left = G.left; before = G.history targets.old; after = G.history targets.new })
         db.now (each (λ team. team.now) teams.now) to.now result }
 {
-    if let Err(refusal) = checks.check_name(db, to) {
-        return Err(command_refusal(refusal));
-    }
+    checks.check_name(db, to)?;
     if checks.is_empty(db) && checks.is_same(db, to) {
         return Err(CommandRefusal::NotEmpty);
     }
-    let mut source = match files.open(db, Use::Writing) {
-        Ok(file) => file,
-        Err(unopened) => return Err(command_refusal(unopened)),
-    };
+    let mut source = files.open(db, Use::Writing)?;
     let told = extract_to(checks, targets, db, &mut source.store, teams, to);
     files.close(source);
     told
@@ -67,7 +62,7 @@ fn extract_to<L, G>(
 ) -> Result<(), CommandRefusal>
 where
     L: FileChecks,
-    G: StoreFiles<OpenedStore, ClosedFile, StoreRefusal>,
+    G: StoreFiles<OpenedStore, ClosedFile>,
     ensures { Fills (λ s. ⟦<Found as Shelves>⟧.shown s.shelves) (λ s. ⟦<Found as Shelves>⟧.shown s.shelves)
         (record { begins = G.begins; left = G.left; before = G.history targets.old; after = G.history targets.new })
         (each (λ team. team.now) teams.now) to.now source.old source.new result }
@@ -77,7 +72,7 @@ where
     }
     let mut fresh = match targets.open(to, Use::Writing) {
         Ok(file) => file,
-        Err(unopened) => return Err(unmade(command_refusal(unopened))),
+        Err(unopened) => return Err(new_store_refusal(unopened.into())),
     };
     let line = CopyLine::new(checks.line("extract"));
     let told = extract_part(source, teams, &mut fresh.store, &line);
@@ -96,10 +91,8 @@ fn extract_part(
     ensures { ExtractsPart (λ s. ⟦<Found as Shelves>⟧.shown s.shelves) (λ s. ⟦<Found as Shelves>⟧.shown s.shelves)
         source.old source.new fresh.old fresh.new (each (λ team. team.now) teams.now) result }
 {
-    match extract_teams(&mut source.shelves, teams, fresh, line) {
-        Ok(()) => Ok(()),
-        Err(refusal) => Err(command_refusal(refusal)),
-    }
+    extract_teams(&mut source.shelves, teams, fresh, line)?;
+    Ok(())
 }
 
 /// Puts some teams' part of an open store into that of a file. It is generic over the tables of the first, because a

@@ -1,6 +1,6 @@
 //! What a command asks of files that it opens as stores, or has open, and where it shows how far it is.
 use commands::progress::StderrLine;
-use store::refusal::StoreRefusal;
+use store_files::refusal::StoreRefusal;
 
 /// Checks of files. They change none, so no history has them.
 pub trait FileChecks {

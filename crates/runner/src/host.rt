@@ -22,14 +22,14 @@ use commands::refusal::CommandRefusal;
 use commands::served_catalog::catalog_at;
 use control::{Listing, RegistryCommand};
 use file_action::host::ActionHost;
-use files::files::StoreFiles;
 use histories::{Hear, Tell};
 use sqlite::{Alter, Start};
 use sqlite_trees::store::Store;
 use std::alloc::Global;
 use std::rt::HostRuntime;
-use store::refusal::StoreRefusal;
 use store::store::SqlShelves;
+use store_files::files::StoreFiles;
+use store_files::refusal::StoreRefusal;
 use world::entry::Right;
 use world::shelves::Shelves;
 
@@ -58,7 +58,7 @@ pub trait Host<S, C>: ActionHost<S> + FileChecks {
 
     /// Puts some teams' part of the store of one file into the store of another, each opened by these files. Fails with
     /// the refusals of the store, and with `NotEmpty` if both names lead to one file.
-    fn extract<F: StoreFiles<S, C, StoreRefusal>, G: StoreFiles<S, C, StoreRefusal>>(
+    fn extract<F: StoreFiles<S, C>, G: StoreFiles<S, C>>(
         &mut self,
         files: &mut F,
         targets: &mut G,
@@ -73,7 +73,7 @@ pub trait Host<S, C>: ActionHost<S> + FileChecks {
 
     /// Puts what the older store of one file has into the store of another, each opened by these files. Fails with the
     /// refusals of the store, and with `NotEmpty` if both names lead to one file.
-    fn migrate<Q: OlderFiles<C>, G: StoreFiles<S, C, StoreRefusal>>(
+    fn migrate<Q: OlderFiles<C>, G: StoreFiles<S, C>>(
         &mut self,
         older: &mut Q,
         targets: &mut G,
@@ -216,8 +216,8 @@ impl<'a> Host<OpenedStore, ClosedFile> for SystemHost<'a> {
         to: &str,
     ) -> Result<(), CommandRefusal>
     where
-        F: StoreFiles<OpenedStore, ClosedFile, StoreRefusal>,
-        G: StoreFiles<OpenedStore, ClosedFile, StoreRefusal>,
+        F: StoreFiles<OpenedStore, ClosedFile>,
+        G: StoreFiles<OpenedStore, ClosedFile>,
     {
         extract_file(self, files, targets, db, teams, to)
     }
@@ -231,7 +231,7 @@ impl<'a> Host<OpenedStore, ClosedFile> for SystemHost<'a> {
     ) -> Result<(), CommandRefusal>
     where
         Q: OlderFiles<ClosedFile>,
-        G: StoreFiles<OpenedStore, ClosedFile, StoreRefusal>,
+        G: StoreFiles<OpenedStore, ClosedFile>,
     {
         migrate_file(self.rt.alloc(), self, older, targets, from, to)
     }

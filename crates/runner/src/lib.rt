@@ -49,9 +49,8 @@ use commands::memory::answer_in_memory;
 use commands::refusal::CommandRefusal;
 use control::{Listing, RegistryCommand};
 use file_action::{init, on_file};
-use files::files::StoreFiles;
 use histories::{Hear, Tell};
-use store::refusal::StoreRefusal;
+use store_files::files::StoreFiles;
 use world::entry::Right;
 
 /// What the words after the name of the program ask for, with the files of its stores.
@@ -146,8 +145,8 @@ pub fn run<S, C, H, F, G, Q, I, W>(
 ) -> Result<bool, CommandRefusal>
 where
     H: Host<S, C>,
-    F: StoreFiles<S, C, StoreRefusal>,
-    G: StoreFiles<S, C, StoreRefusal>,
+    F: StoreFiles<S, C>,
+    G: StoreFiles<S, C>,
     Q: OlderFiles<C>,
     I: Hear,
     W: Tell,

@@ -1,8 +1,6 @@
 //! Migrating the store of a file of an older schema into the store of another file.
 
-ghost use Rattle.std.specs.Prelude.{◌≡◌};
 ghost use Rattle.runner.specs.Migrate.{MigratesCopy, MigratesEmpty, MigratesFile, MigratesTo};
-ghost use Rattle.runner.specs.Opened as spec;
 ghost use Rattle.sqlite.specs.Held.{state};
 ghost use Rattle.store.specs.Migrated.{HasCauseInOne, Migrates};
 
@@ -12,14 +10,14 @@ use crate::found::{ClosedFile, Found, FoundTables, OpenedStore};
 use crate::older_files::OlderFiles;
 use crate::unnamed::Unnamed;
 use commands::refusal::CommandRefusal;
-use file_action::refusal::{command_refusal, unmade};
-use files::files::{StoreFiles, Use};
+use file_action::refusal::new_store_refusal;
 use sqlite::{Alter, Connection, MemStore};
 use sqlite_trees::store::Store;
 use std::alloc::Global;
 use store::files::names_no_file;
 use store::migrate::migrate;
-use store::refusal::StoreRefusal;
+use store_files::files::{StoreFiles, Use};
+use store_files::refusal::StoreRefusal;
 use world::shelves::Shelves;
 
 /// An older store that is open: that of a file, or one with no tables in memory.
@@ -50,7 +48,8 @@ impl OlderStore for ClosedFile {
         fresh: &mut OpenedStore,
         line: &CopyLine<'_>,
     ) -> Result<(), CommandRefusal> {
-        command_result(migrate_from(&mut self.connection, fresh, line))
+        migrate_from(&mut self.connection, fresh, line)?;
+        Ok(())
     }
 }
 
@@ -65,7 +64,8 @@ impl OlderStore for Connection<MemStore> {
         fresh: &mut OpenedStore,
         line: &CopyLine<'_>,
     ) -> Result<(), CommandRefusal> {
-        command_result(migrate_from(self, fresh, line))
+        migrate_from(self, fresh, line)?;
+        Ok(())
     }
 }
 
@@ -82,16 +82,6 @@ fn migrate_from<S: Alter>(
         fresh.old.shelves.failures fresh.new.shelves.failures result }
 {
     migrate(old, &mut fresh.shelves, line)
-}
-
-/// Returns the result of the command, by that of the store.
-fn command_result(migrated: Result<(), StoreRefusal>) -> Result<(), CommandRefusal>
-    ensures { result ≡ spec.store_result migrated }
-{
-    match migrated {
-        Ok(()) => Ok(()),
-        Err(refusal) => Err(command_refusal(refusal)),
-    }
 }
 
 /// Copies the older store in one file into the store of another. The older file and its log are only read. Fails with
@@ -111,17 +101,15 @@ pub(crate) fn migrate_file<L, Q, G>(
 where
     L: FileChecks,
     Q: OlderFiles<ClosedFile>,
-    G: StoreFiles<OpenedStore, ClosedFile, StoreRefusal>,
+    G: StoreFiles<OpenedStore, ClosedFile>,
     ensures { MigratesFile ⟦<ClosedFile as OlderStore>⟧.state_of (λ s. ⟦<Found as Shelves>⟧.shown s.shelves)
         (record { begins = Q.begins; left = Q.left; before = Q.history older.old; after = Q.history older.new })
         (record { begins = G.begins; left = G.left; before = G.history targets.old; after = G.history targets.new })
         from.now to.now result }
 {
-    if let Err(refusal) = checks.check_name(from, to) {
-        return Err(command_refusal(refusal));
-    }
+    checks.check_name(from, to)?;
     if names_no_file(from) {
-        return Err(command_refusal(StoreRefusal::Device));
+        return Err(StoreRefusal::Device.into());
     }
     if checks.is_missing_or_empty(from) {
         return migrate_nothing(alloc, checks, targets, from, to);
@@ -130,7 +118,7 @@ where
         Ok(copy) => copy,
         // no copy can be made beside it, because it is the new store
         Err(_) if is_one_file(checks, from, to) => return Err(CommandRefusal::NotEmpty),
-        Err(unread) => return Err(command_refusal(unread)),
+        Err(unread) => return Err(unread.into()),
     };
     migrate_copy(checks, older, targets, &copy, from, to)
 }
@@ -147,7 +135,7 @@ fn migrate_copy<L, Q, G>(
 where
     L: FileChecks,
     Q: OlderFiles<ClosedFile>,
-    G: StoreFiles<OpenedStore, ClosedFile, StoreRefusal>,
+    G: StoreFiles<OpenedStore, ClosedFile>,
     ensures { MigratesCopy ⟦<ClosedFile as OlderStore>⟧.state_of (λ s. ⟦<Found as Shelves>⟧.shown s.shelves)
         (record { begins = Q.begins; left = Q.left; before = Q.history older.old; after = Q.history older.new })
         (record { begins = G.begins; left = G.left; before = G.history targets.old; after = G.history targets.new })
@@ -156,10 +144,7 @@ where
     let opened = older.open(copy.path.as_str(), Use::Writing);
     older.unlink(copy.path.as_str());
     older.unlink(copy.log.as_str());
-    let mut old = match opened {
-        Ok(file) => file,
-        Err(unopened) => return Err(command_refusal(unopened)),
-    };
+    let mut old = opened?;
     let told = migrate_to(checks, targets, from, &mut old.store, to);
     older.close(old);
     told
@@ -181,13 +166,13 @@ fn migrate_nothing<L, G>(
 ) -> Result<(), CommandRefusal>
 where
     L: FileChecks,
-    G: StoreFiles<OpenedStore, ClosedFile, StoreRefusal>,
+    G: StoreFiles<OpenedStore, ClosedFile>,
     ensures { MigratesEmpty (λ s. ⟦<Found as Shelves>⟧.shown s.shelves)
         (record { begins = G.begins; left = G.left; before = G.history targets.old; after = G.history targets.new })
         to.now result }
 {
     let Ok(mut none) = Connection::open_in_memory(alloc) else {
-        return Err(command_refusal(StoreRefusal::Memory));
+        return Err(StoreRefusal::Memory.into());
     };
     migrate_to(checks, targets, from, &mut none, to)
 }
@@ -204,7 +189,7 @@ fn migrate_to<L, O, G>(
 where
     L: FileChecks,
     O: OlderStore,
-    G: StoreFiles<OpenedStore, ClosedFile, StoreRefusal>,
+    G: StoreFiles<OpenedStore, ClosedFile>,
     ensures { MigratesTo O.state_of (λ s. ⟦<Found as Shelves>⟧.shown s.shelves)
         (record { begins = G.begins; left = G.left; before = G.history targets.old; after = G.history targets.new })
         to.now old.old old.new result }
@@ -214,7 +199,7 @@ where
     }
     let mut fresh = match targets.open(to, Use::Writing) {
         Ok(file) => file,
-        Err(unopened) => return Err(unmade(command_refusal(unopened))),
+        Err(unopened) => return Err(new_store_refusal(unopened.into())),
     };
     let line = CopyLine::new(checks.line("migrate 2/2"));
     let told = old.migrate_into(&mut fresh.store, &line);

@@ -11,7 +11,7 @@ use std::io::{self, ErrorKind, Read};
 use std::os::fd::AsRawFd;
 use std::os::unix::fs::{FileExt, MetadataExt, OpenOptionsExt};
 use std::rt::HostRuntime;
-use store::refusal::StoreRefusal;
+use store_files::refusal::StoreRefusal;
 
 /// The position of the locks of a database, and their number of bytes.
 const LOCKS: (u64, u64) = (1 << 30, 512);

@@ -1,13 +1,13 @@
 //! What is asked of the files of older stores.
 ghost use Rattle.std.specs.Prelude.{◌≡◌, [], ◌∷◌, ◌++◌, IfOk, IfErr};
-ghost use Rattle.files.specs.declared.files.Deed.TheVariants.{Copied, Made, Refused, Unlinked};
+ghost use Rattle.store_files.specs.declared.files.Deed.TheVariants.{Copied, Made, Refused, Unlinked};
 
 use crate::unnamed::Unnamed;
-use files::files::StoreFiles;
-use store::refusal::StoreRefusal;
+use store_files::files::StoreFiles;
+use store_files::refusal::StoreRefusal;
 
 /// The files of older stores, which are opened as connections `C`.
-pub trait OlderFiles<C>: StoreFiles<C, C, StoreRefusal> {
+pub trait OlderFiles<C>: StoreFiles<C, C> {
     /// Copies a file, and its log if there is one, into new files in the folder of another, and returns their names.
     /// Fails with `Device`, `BadSchema` or `Memory`, and then leaves no copy.
     fn copy(&mut self, from: &str, beside: &str) -> Result<Unnamed, StoreRefusal>

@@ -6,13 +6,13 @@ ghost use Rattle.runner.specs.Opened.{HasBegun};
 
 use crate::old_file::is_missing;
 use crate::unnamed::Unnamed;
-use files::files::Use;
 use sqlite::Start;
 use std::io::{self, ErrorKind};
 use std::rt::HostRuntime;
 use store::files::{PageRoom, names_no_file};
 use store::open::FileShelves;
-use store::refusal::StoreRefusal;
+use store_files::files::Use;
+use store_files::refusal::StoreRefusal;
 use world::shelves::Shelves;
 
 /// Opens the store of a file. Fails as `FileShelves::open_from` does.

@@ -1,6 +1,6 @@
 //! The files of the system. That these lines do what they note, and no more, is read and not proved.
 ghost use Rattle.std.specs.Prelude.{◌≡◌, [], ◌∷◌, ◌++◌};
-ghost use Rattle.files.specs.declared.files.Deed.TheVariants.{Closed};
+ghost use Rattle.store_files.specs.declared.files.Deed.TheVariants.{Closed};
 
 use crate::found::{AsFound, ClosedFile, Found, FoundTables, OpenedStore};
 use crate::old_file::copy_of;
@@ -8,15 +8,15 @@ use crate::older_files::OlderFiles;
 use crate::open::open_for;
 use crate::opening::opening_line;
 use crate::unnamed::Unnamed;
-use files::files::{Deed, OpenFile, StoreFiles, Use};
-use files::record::Record;
 use sqlite::Start;
 use sqlite_trees::store::Store;
 use std::fs;
 use std::rt::HostRuntime;
 use store::files::PageRoom;
 use store::open_older::open_older;
-use store::refusal::StoreRefusal;
+use store_files::files::{Deed, OpenFile, StoreFiles, Use};
+use store_files::record::Record;
+use store_files::refusal::StoreRefusal;
 use world::shelves::Shelves;
 
 /// The files of the system with the stores in them.
@@ -40,7 +40,7 @@ impl<'a> SystemStoreFiles<'a> {
     }
 }
 
-impl<'a> StoreFiles<OpenedStore, ClosedFile, StoreRefusal> for SystemStoreFiles<'a> {
+impl<'a> StoreFiles<OpenedStore, ClosedFile> for SystemStoreFiles<'a> {
     ghost use Rattle.sqlite_wal.specs.Files.{image_at};
     ghost use Rattle.runner.specs.Opened.{HasBegun};
 
@@ -106,7 +106,7 @@ impl<'a> SystemOlderFiles<'a> {
     }
 }
 
-impl<'a> StoreFiles<ClosedFile, ClosedFile, StoreRefusal> for SystemOlderFiles<'a> {
+impl<'a> StoreFiles<ClosedFile, ClosedFile> for SystemOlderFiles<'a> {
     ghost use Rattle.sqlite.specs.Held.{state};
     ghost use Rattle.sqlite_wal.specs.Files.{image_at};
     ghost use Rattle.runner.specs.Migrate.{IsOlder};

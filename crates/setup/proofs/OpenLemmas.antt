@@ -8,8 +8,8 @@ use Rattle.tables.specs.Means.{StandFor, Holds, IsSettled, StandsForSome}
 use Rattle.setup.specs.Shown.{shown_of, BeginsAt}
 use Rattle.tables.specs.Causes.{IsHindered, IsExcused, IsVast, HasReason}
 use Rattle.setup.specs.Opened.{Opens}
-use Rattle.setup.specs.declared.refusal.StoreRefusal.{StoreRefusal}
-use Rattle.setup.specs.declared.refusal.StoreRefusal.TheVariants as refusal
+use Rattle.store_files.specs.declared.refusal.StoreRefusal.{StoreRefusal}
+use Rattle.store_files.specs.declared.refusal.StoreRefusal.TheVariants as refusal
 use Rattle.sqlite.specs.declared.error.Error.{Error}
 use Rattle.sqlite.specs.declared.error.Error.TheVariants.{SqliteFailure}
 use Rattle.sqlite.specs.declared.error.ErrorCode.TheVariants as code

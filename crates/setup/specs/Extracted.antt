@@ -8,8 +8,8 @@ use Rattle.world.specs.declared.entry.Holder.{Holder}
 use Rattle.world.specs.declared.entry.Place.{Place}
 use Rattle.world.specs.Store.{Shown, AddsNothing, GrewOrFull}
 use Rattle.world.specs.World.{World, common}
-use Rattle.setup.specs.declared.refusal.StoreRefusal.{StoreRefusal}
-use Rattle.setup.specs.declared.refusal.StoreRefusal.TheVariants as refusal
+use Rattle.store_files.specs.declared.refusal.StoreRefusal.{StoreRefusal}
+use Rattle.store_files.specs.declared.refusal.StoreRefusal.TheVariants as refusal
 
 -- ---- a store that has more than `common`
 

@@ -7,8 +7,8 @@ use Rattle.world.specs.World.{World, only_common}
 use Rattle.tables.specs.Schema.{store_schema, no_schema}
 use Rattle.tables.specs.Means.{Means, StandFor, StandsForNone}
 use Rattle.setup.specs.Shown.{shown_of, BeginsAt}
-use Rattle.setup.specs.declared.refusal.StoreRefusal.{StoreRefusal}
-use Rattle.setup.specs.declared.refusal.StoreRefusal.TheVariants as refusal
+use Rattle.store_files.specs.declared.refusal.StoreRefusal.{StoreRefusal}
+use Rattle.store_files.specs.declared.refusal.StoreRefusal.TheVariants as refusal
 
 -- the tables are those of the schema, stay as they are, and stand for the world
 pub record IsFound (old new : State) (w : World) : Type 0 where

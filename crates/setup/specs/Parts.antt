@@ -19,8 +19,8 @@ use Rattle.setup.specs.declared.judge.Judged.{Judged}
 use Rattle.setup.specs.declared.judge.Judged.TheVariants as judged
 use Rattle.setup.specs.declared.write.Rows.{Rows}
 use Rattle.setup.specs.declared.write.Rows.TheVariants as rows
-use Rattle.setup.specs.declared.refusal.StoreRefusal.{StoreRefusal}
-use Rattle.setup.specs.declared.refusal.StoreRefusal.TheVariants as refusal
+use Rattle.store_files.specs.declared.refusal.StoreRefusal.{StoreRefusal}
+use Rattle.store_files.specs.declared.refusal.StoreRefusal.TheVariants as refusal
 
 -- ---- some shelves of a world
 

@@ -9,9 +9,10 @@ ghost use Rattle.tables.specs.Causes.{IsHindered, IsVast};
 ghost use Rattle.tables.specs.Calls.{Honestly};
 ghost use Rattle.setup.specs.Opened.{Opens, IsBad, LeavesFirst, IsOfOpening};
 
-use crate::refusal::{StoreRefusal, open_refusal};
+use crate::refusal::open_refusal;
 use sqlite::{Alter, Connection};
 use std::alloc::Global;
+use store_files::refusal::StoreRefusal;
 use tables::create::create;
 use tables::fit::stand_for_world;
 use tables::schema::is_no_schema;

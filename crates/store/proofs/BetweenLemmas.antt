@@ -13,8 +13,8 @@ use Rattle.slices.proofs.HoldLemmas.{begun, whole}
 use Rattle.slices.specs.declared.cursor.Cursor.{Cursor}
 use Rattle.setup.specs.Extracted.{HasCauseInEither}
 use Rattle.setup.specs.Parts.{SaysOfCopy, FillsAt}
-use Rattle.setup.specs.declared.refusal.StoreRefusal.{StoreRefusal}
-use Rattle.setup.specs.declared.refusal.StoreRefusal.TheVariants as refusal
+use Rattle.store_files.specs.declared.refusal.StoreRefusal.{StoreRefusal}
+use Rattle.store_files.specs.declared.refusal.StoreRefusal.TheVariants as refusal
 use Rattle.setup.proofs.PutLemmas.{spared_at}
 use Rattle.statements.specs.Calls.{Spares, ChangesAt}
 use Rattle.statements.proofs.ChangeLemmas.{spares_at}

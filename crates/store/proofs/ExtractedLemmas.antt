@@ -1,7 +1,6 @@
 -- Some shelves, written whole or not at all, as a call of a store.
-use Rattle.std.proofs.Common.{◌≡◌, ◌≢◌, ℕ, List, [], ◌∷◌, Result, Ok, Err, is_ok, inl, inr, refl, sym, subst}
+use Rattle.std.proofs.Common.{◌≡◌, ◌≢◌, ℕ, Result, Ok, Err, is_ok, inl, inr, refl, sym, subst}
 use Rattle.sqlite.specs.State.{State, HasCleanDisk}
-use Rattle.world.specs.Store.{Shown}
 use Rattle.world.specs.World.{World, IsWorld}
 use Rattle.tables.specs.Means.{Stands, StandsFor}
 use Rattle.tables.proofs.FailureLemmas.{was_clean}
@@ -13,8 +12,8 @@ use Rattle.kept.specs.Kept.{AreKept, IsNothing}
 use Rattle.kept.proofs.KeptLemmas.{nothing_kept}
 use Rattle.setup.specs.Extracted.{IsRead, IsUnfit, AfterFill}
 use Rattle.setup.specs.Parts.{SaysOfCopy, FillsAt, FillsBy}
-use Rattle.setup.specs.declared.refusal.StoreRefusal.{StoreRefusal}
-use Rattle.setup.specs.declared.refusal.StoreRefusal.TheVariants as refusal
+use Rattle.store_files.specs.declared.refusal.StoreRefusal.{StoreRefusal}
+use Rattle.store_files.specs.declared.refusal.StoreRefusal.TheVariants as refusal
 use Rattle.store.proofs.StoreLemmas.{narrow}
 
 pub done_is_fit : IsUnfit (Ok tt) → ⊥

@@ -29,8 +29,8 @@ use Rattle.setup.specs.Opened.{IsOfOpening}
 use Rattle.kept.specs.declared.kept.Kept.{Kept}
 use Rattle.store.specs.declared.migrate.Migrated.{Migrated}
 use Rattle.store.specs.declared.migrate.Migrated.TheVariants.{Whole, NotEmpty, BadSchema}
-use Rattle.setup.specs.declared.refusal.StoreRefusal.{StoreRefusal}
-use Rattle.setup.specs.declared.refusal.StoreRefusal.TheVariants as refusal
+use Rattle.store_files.specs.declared.refusal.StoreRefusal.{StoreRefusal}
+use Rattle.store_files.specs.declared.refusal.StoreRefusal.TheVariants as refusal
 use Rattle.setup.proofs.PutLemmas.{spared_at}
 use Rattle.kept.proofs.KeptLemmas.{nothing_kept}
 use Rattle.setup.proofs.OpenLemmas.{device_hindered}

@@ -3,8 +3,8 @@ use Rattle.std.specs.Prelude.{Bool, false, Result, Ok, Err}
 use Rattle.std.specs.FinSet as set
 use Rattle.sqlite.specs.State.{State}
 use Rattle.meanwhile.specs.Meanwhile.{IsSince}
-use Rattle.setup.specs.declared.refusal.StoreRefusal.{StoreRefusal}
-use Rattle.setup.specs.declared.refusal.StoreRefusal.TheVariants as refusal
+use Rattle.store_files.specs.declared.refusal.StoreRefusal.{StoreRefusal}
+use Rattle.store_files.specs.declared.refusal.StoreRefusal.TheVariants as refusal
 use Rattle.slices.specs.Slices.{HoldsUpTo}
 use Rattle.slices.specs.declared.cursor.Cursor.{Cursor}
 use Rattle.statements.specs.declared.extract_rows.CopyError.{CopyError}

@@ -19,8 +19,8 @@ use Rattle.world.specs.World.{World, only_common}
 use Rattle.setup.specs.Extracted.{IsRead, AfterFill}
 use Rattle.store.specs.declared.migrate.Migrated.{Migrated}
 use Rattle.store.specs.declared.migrate.Migrated.TheVariants.{Whole, NotEmpty, BadSchema}
-use Rattle.setup.specs.declared.refusal.StoreRefusal.{StoreRefusal}
-use Rattle.setup.specs.declared.refusal.StoreRefusal.TheVariants as refusal
+use Rattle.store_files.specs.declared.refusal.StoreRefusal.{StoreRefusal}
+use Rattle.store_files.specs.declared.refusal.StoreRefusal.TheVariants as refusal
 
 -- the tables are those of an older schema, and stand for the world
 abbrev pub WasOf : Database → World → Type 0

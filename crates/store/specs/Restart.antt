@@ -5,7 +5,6 @@ use Rattle.sqlite_wal.specs.Files.{outcomes}
 use Rattle.sqlite_pool.specs.Stored.{StandsAs}
 use Rattle.sqlite_store.specs.Unopened.{state_of}
 use Rattle.sqlite_store.specs.FileStore.{recovers}
-use Rattle.sqlite_store.specs.declared.store.FileStore.{FileStore}
 use Rattle.sqlite.specs.declared.file.Leftover.{Leftover}
 use Rattle.sqlite.specs.declared.file.Leftover.TheVariants as left
 use Rattle.sqlite_catalog.specs.Listing.{IsSound}

@@ -21,13 +21,13 @@ use meanwhile::between::{Between, Halt, HowFar};
 use meanwhile::newcomers::Newcomers;
 use setup::copy::copy_registry;
 use setup::judge::is_blank;
-use setup::refusal::StoreRefusal;
 use slices::cursor::Cursor;
 use slices::pace::Pace;
 use slices::slice::copy_slice;
 use sqlite::{Alter, Connection, Error, ErrorCode, Transaction};
 use statements::extract_rows::CopyError;
 use statements::transaction::commit_if;
+use store_files::refusal::StoreRefusal;
 
 /// Why no copy was made.
 #[derive(Clone, Copy, Debug, Drop, PartialEq, Eq)]

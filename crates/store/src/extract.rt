@@ -10,10 +10,10 @@ use crate::store::{SqlShelves, fault};
 use kept::kept::Kept;
 use setup::copy::copy_teams;
 use setup::judge::Judged;
-use setup::refusal::StoreRefusal;
 use sqlite::Alter;
 use statements::extract_rows::CopyError;
 use statements::meter::Meter;
+use store_files::refusal::StoreRefusal;
 use world::registry::StoreFault;
 
 /// Returns the refusal for a fault of a store.

@@ -10,7 +10,6 @@ ghost use Rattle.setup.specs.Opened.{IsOfOpening};
 ghost use Rattle.store.specs.Names.{IsNoFileName};
 ghost use Rattle.store.specs.Restart.{HoldsNoDatabase, HoldsNoFile, IsOddByte, IsStray};
 
-use setup::refusal::StoreRefusal;
 use sqlite::{Connection, Error, ErrorCode, FileFrom, FileStore, Files, Leftover, Start};
 use sqlite_disk::{Disk, Tally};
 use sqlite_pager::Options;
@@ -21,6 +20,7 @@ use std::alloc::Global;
 use std::fs;
 use std::hash::{BuildHasher, RandomState};
 use std::io::{self, ErrorKind};
+use store_files::refusal::StoreRefusal;
 
 /// What a store has room in memory for. Pages have 4,096 bytes.
 ///

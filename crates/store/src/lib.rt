@@ -53,5 +53,3 @@ pub mod open;
 pub mod open_older;
 mod seen;
 pub mod store;
-
-pub use setup::refusal;

@@ -11,12 +11,12 @@ ghost use Rattle.store.specs.Still.{AreStill};
 use crate::files::{PageRoom, SHORTEST_LOG};
 use crate::open::open_over;
 use peek::Peek;
-use setup::refusal::StoreRefusal;
 use sqlite::{Files, Leftover, Start};
 use sqlite_disk::Disk;
 use sqlite_wal::{checksum_of, probe_frames, probe_page_size};
 use std::alloc::Global;
 use std::io;
+use store_files::refusal::StoreRefusal;
 
 /// Part of the text of a table that only a store has. It is in the first page of each file that goshelf made.
 const OWN_TABLE: &[u8; 50] = b"CREATE TABLE shelf (name TEXT PRIMARY KEY, parent ";

@@ -12,11 +12,12 @@ use kept::kept::Kept;
 use older::schema::format_of;
 use older_rows::write::write_world;
 use setup::judge::is_blank;
-use setup::refusal::{StoreRefusal, open_refusal};
+use setup::refusal::open_refusal;
 use sqlite::{Alter, Connection, Error, ErrorCode};
 use statements::extract_rows::CopyError;
 use statements::meter::Meter;
 use std::alloc::Global;
+use store_files::refusal::StoreRefusal;
 
 /// The outcome of a migration in which no store failed.
 #[derive(Clone, Copy, Debug, Drop, PartialEq, Eq)]

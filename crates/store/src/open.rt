@@ -12,11 +12,11 @@ ghost use Rattle.store.specs.Restart.{HoldsStore, HoldsNoStore, IsStray, Recover
 use crate::files::{PageRoom, connect_files, open_pair};
 use crate::look::look;
 use crate::store::SqlShelves;
-use setup::refusal::StoreRefusal;
 use sqlite::{Alter, Connection, FileFrom, FileStore, Files, Leftover, Start};
 use sqlite_disk::Disk;
 use std::alloc::Global;
 use std::rt::HostRuntime;
+use store_files::refusal::StoreRefusal;
 
 /// A store in a database file and its log, which held what `T` says.
 pub type FileShelves<T> = SqlShelves<FileStore<FileFrom<T>>>;

@@ -10,9 +10,9 @@ ghost use Rattle.store.specs.Restart.{Keeps};
 ghost use Rattle.setup.specs.Opened.{IsOfOpening};
 
 use crate::files::{PageRoom, connect_files, open_pair};
-use setup::refusal::StoreRefusal;
 use sqlite::{Connection, FileFrom, FileStore, Leftover, Start};
 use std::rt::HostRuntime;
+use store_files::refusal::StoreRefusal;
 
 /// Opens a connection to the files of an older store, where `T` says what they hold. It does not test the tables: they
 /// are those that the files hold, or none if the files hold no database yet.

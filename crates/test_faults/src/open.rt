@@ -8,8 +8,8 @@ use sqlite::{Alter, Connection, Files, Leftover, Options};
 use sqlite_disk::{Crash, Disk, Fuse, Memory};
 use std::alloc::Global;
 use std::test::Fail;
-use store::refusal::StoreRefusal;
 use store::store::SqlShelves;
+use store_files::refusal::StoreRefusal;
 
 /// Opens the tables of a connection, does a job with their store, and closes it. Returns the connection, and the bits
 /// that were acknowledged: none if the device keeps the store from opening.

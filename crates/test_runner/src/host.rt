@@ -5,7 +5,6 @@ use commands::registry::register;
 use commands::report::print_inventory;
 use control::{Listing, RegistryCommand};
 use file_action::host::ActionHost;
-use files::files::StoreFiles;
 use histories::{Hear, Tell};
 use memory_store::map_shelves::MapShelves;
 use runner::file_checks::FileChecks;
@@ -13,7 +12,8 @@ use runner::host::Host;
 use runner::older_files::OlderFiles;
 use std::alloc::Global;
 use std::rt::HostRuntime;
-use store::refusal::StoreRefusal;
+use store_files::files::StoreFiles;
+use store_files::refusal::StoreRefusal;
 use world::entry::Right;
 use world::shelves::Shelves;
 
@@ -88,8 +88,8 @@ impl<'a> Host<MapShelves, MapShelves> for MemoryHost<'a> {
         _to: &str,
     ) -> Result<(), CommandRefusal>
     where
-        F: StoreFiles<MapShelves, MapShelves, StoreRefusal>,
-        G: StoreFiles<MapShelves, MapShelves, StoreRefusal>,
+        F: StoreFiles<MapShelves, MapShelves>,
+        G: StoreFiles<MapShelves, MapShelves>,
     {
         Err(CommandRefusal::NotEmpty)
     }
@@ -103,7 +103,7 @@ impl<'a> Host<MapShelves, MapShelves> for MemoryHost<'a> {
     ) -> Result<(), CommandRefusal>
     where
         Q: OlderFiles<MapShelves>,
-        G: StoreFiles<MapShelves, MapShelves, StoreRefusal>,
+        G: StoreFiles<MapShelves, MapShelves>,
     {
         Err(CommandRefusal::NotEmpty)
     }

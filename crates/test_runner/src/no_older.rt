@@ -1,13 +1,13 @@
 //! A system with no older store.
 ghost use Rattle.std.specs.Prelude.{◌≡◌, [], ◌∷◌, ◌++◌};
-ghost use Rattle.files.specs.declared.files.Deed.TheVariants.{Closed};
+ghost use Rattle.store_files.specs.declared.files.Deed.TheVariants.{Closed};
 
-use files::files::{Deed, OpenFile, StoreFiles, Use};
-use files::record::Record;
 use memory_store::map_shelves::MapShelves;
 use runner::older_files::OlderFiles;
 use runner::unnamed::Unnamed;
-use store::refusal::StoreRefusal;
+use store_files::files::{Deed, OpenFile, StoreFiles, Use};
+use store_files::record::Record;
+use store_files::refusal::StoreRefusal;
 
 /// Files of which none holds an older store.
 #[derive(Drop)]
@@ -15,7 +15,7 @@ pub struct NoOlderFiles {
     pub noted: Record<Deed<MapShelves>>,
 }
 
-impl StoreFiles<MapShelves, MapShelves, StoreRefusal> for NoOlderFiles {
+impl StoreFiles<MapShelves, MapShelves> for NoOlderFiles {
     ghost history = { λ f. f.noted.deeds };
 
     ghost begins = { λ _. Unit {0} };

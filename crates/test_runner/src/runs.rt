@@ -4,9 +4,6 @@ use crate::no_older::NoOlderFiles;
 use commands::action::Action;
 use commands::refusal::CommandRefusal;
 use control::{Listing, RegistryCommand};
-use files::files::StoreFiles;
-use files::memory::MemoryStoreFiles;
-use files::record::Record;
 use histories::{Hearing, Telling};
 use memory_store::map_shelves::MapShelves;
 use runner::host::Host;
@@ -15,7 +12,10 @@ use runner::{Command, run};
 use std::alloc::Global;
 use std::rt::HostRuntime;
 use std::test::Fail;
-use store::refusal::StoreRefusal;
+use store_files::files::StoreFiles;
+use store_files::memory::MemoryStoreFiles;
+use store_files::record::Record;
+use store_files::refusal::StoreRefusal;
 use test_support::rows::cell;
 use world::entry::Right;
 
@@ -106,8 +106,8 @@ fn wrong_row<S, C, H, F, G, Q>(
 ) -> &'static str
 where
     H: Host<S, C>,
-    F: StoreFiles<S, C, StoreRefusal>,
-    G: StoreFiles<S, C, StoreRefusal>,
+    F: StoreFiles<S, C>,
+    G: StoreFiles<S, C>,
     Q: OlderFiles<C>,
 {
     for row in RUNS.lines() {

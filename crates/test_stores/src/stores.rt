@@ -6,8 +6,8 @@ use statements::meter::Unmetered;
 use std::alloc::Global;
 use std::test::Fail;
 use store::between::CopyEnd;
-use store::refusal::StoreRefusal;
 use store::store::SqlShelves;
+use store_files::refusal::StoreRefusal;
 use test_support::calls::wrong_row;
 use test_support::rows::{call_of, column};
 

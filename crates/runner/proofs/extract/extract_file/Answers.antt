@@ -1,12 +1,12 @@
 use Rattle.std.proofs.Common.{inl}
-use Rattle.files.proofs.HistoryLemmas.{opened_closed}
+use Rattle.store_files.proofs.HistoryLemmas.{opened_closed}
 use Rattle.runner.proofs.extract.extract_file.Goals as goal
 
 pub returns : goal.returns
 returns g c = inl (record {
-  begun = c.in-Ok.file.store;
+  begun = c.in_ok-source.source.store;
   ended = c.extract_to-told.new.source;
-  begins = c.in-Ok.ensures.begun.0;
+  begins = c.in_ok-source.ensures.begun.0;
   does = c.extract_to-told.ensures;
-  done = opened_closed _ _ _ _ _ _ c.in-Ok.ensures.begun.1 c.in-Ok.ensures.opened c.close.ensures;
+  done = opened_closed _ _ _ _ _ _ c.in_ok-source.ensures.begun.1 c.in_ok-source.ensures.opened c.close.ensures;
 })

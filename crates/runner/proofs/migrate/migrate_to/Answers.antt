@@ -1,5 +1,5 @@
 use Rattle.std.proofs.Common.{inl}
-use Rattle.files.proofs.HistoryLemmas.{opened_closed}
+use Rattle.store_files.proofs.HistoryLemmas.{opened_closed}
 use Rattle.runner.proofs.migrate.migrate_to.Goals as goal
 
 pub returns : goal.returns

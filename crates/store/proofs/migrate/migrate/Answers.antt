@@ -4,7 +4,7 @@ use Rattle.sqlite.specs.State.{HasCleanDisk}
 use Rattle.store.specs.Migrated.{HasOlderReason, MigratesRows}
 use Rattle.store.specs.declared.migrate.Migrated.{Migrated}
 use Rattle.store.specs.declared.migrate.Migrated.TheVariants.{Whole, NotEmpty, BadSchema}
-use Rattle.setup.specs.declared.refusal.StoreRefusal.TheVariants as refusal
+use Rattle.store_files.specs.declared.refusal.StoreRefusal.TheVariants as refusal
 use Rattle.store.proofs.MigratedLemmas.{migrated, done_not_full, error_not_full, fault_tells, opening_tells}
 use Rattle.store.proofs.MigratedLemmas.{opening_some, no_device, device_is, older_device}
 use Rattle.store.proofs.CountedLemmas.{counts_once, counts_same}

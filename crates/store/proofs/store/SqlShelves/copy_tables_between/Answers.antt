@@ -2,7 +2,7 @@ use Rattle.std.proofs.Common.{◌∙◌, true≢false, Ok, Err, sym, subst}
 use Rattle.sqlite.specs.Held.{state}
 use Rattle.sqlite.specs.State.{HasCleanDisk}
 use Rattle.meanwhile.proofs.MeanwhileLemmas.{as_it_was}
-use Rattle.setup.specs.declared.refusal.StoreRefusal.TheVariants as refusal
+use Rattle.store_files.specs.declared.refusal.StoreRefusal.TheVariants as refusal
 use Rattle.statements.specs.Calls.{ChangesAt}
 use Rattle.tables.proofs.FailureLemmas.{was_clean}
 use Rattle.world.specs.World.{only_common}

@@ -5,7 +5,7 @@ use Rattle.tables.proofs.FailureLemmas.{was_clean}
 use Rattle.statements.specs.Calls.{ChangesAt}
 use Rattle.setup.specs.Parts.{AreTeams, IsJudged, is_fit, is_written, part_of_teams}
 use Rattle.setup.specs.declared.judge.Judged.{Judged}
-use Rattle.setup.specs.declared.refusal.StoreRefusal.TheVariants as refusal
+use Rattle.store_files.specs.declared.refusal.StoreRefusal.TheVariants as refusal
 use Rattle.setup.proofs.PartLemmas.{chains_world}
 use Rattle.store.proofs.ExtractedLemmas.{is_read, fills_at, fault_tells, done_is_fit, fault_is_fit}
 use Rattle.store.proofs.store.SqlShelves.extract_rows.Goals as goal

@@ -1,8 +1,8 @@
 -- One deed after another.
 use Rattle.std.proofs.Common.{ℕ, ◌≡◌, List, [], ◌∷◌, ◌++◌, ◌∙◌, ap}
 use Rattle.std.proofs.lemmas.List.{append_assoc}
-use Rattle.files.specs.History.{Done}
-use Rattle.files.specs.declared.files.Deed.TheVariants.{Opened, Closed}
+use Rattle.store_files.specs.History.{Done}
+use Rattle.store_files.specs.declared.files.Deed.TheVariants.{Opened, Closed}
 
 -- a store that was opened, and then closed under that name
 pub opened_closed : {C : Type 0} (before mid after : List (Done C)) (name other : List ℕ) (end : C) → other ≡ name

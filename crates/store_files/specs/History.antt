@@ -1,7 +1,7 @@
 -- What was done to files.
 use Rattle.std.specs.Prelude.{ℕ, ◌≡◌, List, [], ◌∷◌, ◌++◌}
-use Rattle.files.specs.declared.files.Deed.{Deed}
-use Rattle.files.specs.declared.files.Deed.TheVariants.{Opened, Refused, Closed}
+use Rattle.store_files.specs.declared.files.Deed.{Deed}
+use Rattle.store_files.specs.declared.files.Deed.TheVariants.{Opened, Refused, Closed}
 
 -- a deed, with the name of its file
 abbrev pub Done : Type 0 → Type 0

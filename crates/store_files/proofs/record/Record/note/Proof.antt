@@ -33,11 +33,11 @@ use denote.Triple.Spec.{Meets, triple_of}
 use denote.Triple.Table.{entered}
 use denote.Triple.Walked.{says, Stays, stay_ref, stay_none_ref, stay_none_slice, walk_of, AllGo, Goes-ref}
 use denote.Triple.Walked.{Goes-none_ref, Goes-none_slice, Walks, ends_at, walked, walk_Meets}
-use Rattle.files.specs.contracts.record.Record as T
-use Rattle.files.specs.contracts.record.Record.note.Key.{name as #it}
-use Rattle.files.specs.contracts.record.Record.note as it
-use Rattle.files.proofs.record.Record.note.Statement as stated
-use Rattle.files.proofs.record.Record.note.Code as code
+use Rattle.store_files.specs.contracts.record.Record as T
+use Rattle.store_files.specs.contracts.record.Record.note.Key.{name as #it}
+use Rattle.store_files.specs.contracts.record.Record.note as it
+use Rattle.store_files.proofs.record.Record.note.Statement as stated
+use Rattle.store_files.proofs.record.Record.note.Code as code
 
 module _ (D : RattleType) where
   abbrev R : RattleType

@@ -1,4 +1,4 @@
-//! Files whose stores are opened and closed, with a history of that.
+//! Files whose stores are opened and closed, with a history of that, and why one is not opened.
 //!
 //! Code over [`files::StoreFiles`] that has no handle of the system does nothing to a file but what the history has, in
 //! its order. Only clauses read the history: it takes no memory and no time.
@@ -7,3 +7,4 @@
 pub mod files;
 pub mod memory;
 pub mod record;
+pub mod refusal;

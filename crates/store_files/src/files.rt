@@ -1,7 +1,9 @@
 //! What is asked of files.
 ghost use Rattle.std.specs.Prelude.{◌≡◌, [], ◌∷◌, ◌++◌, IfOk, IfErr};
-ghost use Rattle.files.specs.History.{Done};
-ghost use Rattle.files.specs.declared.files.Deed.TheVariants.{Closed, Opened, Refused};
+ghost use Rattle.store_files.specs.History.{Done};
+ghost use Rattle.store_files.specs.declared.files.Deed.TheVariants.{Closed, Opened, Refused};
+
+use crate::refusal::StoreRefusal;
 
 /// What was done to a file.
 #[derive(Drop)]
@@ -36,12 +38,12 @@ pub struct OpenFile<'n, S> {
     pub name: &'n str,
 }
 
-/// Files whose stores are `S`. A closed store leaves a `C`, and a store that is not opened is refused with an `E`.
+/// Files whose stores are `S`. A closed store leaves a `C`.
 ///
 /// Each opening and closing is noted. A look at a file is not, because it changes nothing.
-pub trait StoreFiles<S, C, E> {
+pub trait StoreFiles<S, C> {
     ghost use Rattle.std.specs.Prelude.{List, ◌++◌};
-    ghost use Rattle.files.specs.History.{Done};
+    ghost use Rattle.store_files.specs.History.{Done};
 
     /// What was done so far, the oldest first.
     ghost history: { Self → List (Done C) };
@@ -53,7 +55,7 @@ pub trait StoreFiles<S, C, E> {
     ghost left: { S → C };
 
     /// Opens the store of a file. Fails with the refusal of the store.
-    fn open<'n>(&mut self, name: &'n str, purpose: Use) -> Result<OpenFile<'n, S>, E>
+    fn open<'n>(&mut self, name: &'n str, purpose: Use) -> Result<OpenFile<'n, S>, StoreRefusal>
         ensures begun { IfOk result (λ file. begins file.store × (file.name.now ≡ name.now)) }
         ensures opened { IfOk result (λ _. history self.new ≡ history self.old ++ (name.now, Opened) ∷ []) }
         ensures refused { IfErr result (λ _. history self.new ≡ history self.old ++ (name.now, Refused) ∷ []) };

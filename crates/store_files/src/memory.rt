@@ -1,24 +1,25 @@
 //! One file in memory.
 ghost use Rattle.std.specs.Prelude.{◌≡◌, [], ◌∷◌, ◌++◌};
-ghost use Rattle.files.specs.declared.files.Deed.TheVariants.{Closed};
+ghost use Rattle.store_files.specs.declared.files.Deed.TheVariants.{Closed};
 
 use crate::files::{Deed, OpenFile, StoreFiles, Use};
 use crate::record::Record;
+use crate::refusal::StoreRefusal;
 
 /// One file with its store in memory: the store is there, or it is open.
 #[derive(Drop)]
-pub struct MemoryStoreFiles<'a, S, E> {
+pub struct MemoryStoreFiles<'a, S> {
     name: &'a str,
     /// Why a store is not opened: there is no such file, or it is open.
-    refusal: E,
+    refusal: StoreRefusal,
     held: Option<S>,
     noted: Record<Deed<S>>,
 }
 
-impl<'a, S: Drop, E: Copy> MemoryStoreFiles<'a, S, E> {
+impl<'a, S: Drop> MemoryStoreFiles<'a, S> {
     /// Returns a file of this name with a store, to which nothing was done.
-    pub fn new(name: &'a str, store: S, refusal: E) -> MemoryStoreFiles<'a, S, E>
-        ensures { ⟦<MemoryStoreFiles<'a, S, E> as StoreFiles<S, S, E>>⟧.history result ≡ [] }
+    pub fn new(name: &'a str, store: S, refusal: StoreRefusal) -> MemoryStoreFiles<'a, S>
+        ensures { ⟦<MemoryStoreFiles<'a, S> as StoreFiles<S, S>>⟧.history result ≡ [] }
     {
         MemoryStoreFiles {
             name,
@@ -29,14 +30,14 @@ impl<'a, S: Drop, E: Copy> MemoryStoreFiles<'a, S, E> {
     }
 }
 
-impl<'a, S: Drop, E: Copy> StoreFiles<S, S, E> for MemoryStoreFiles<'a, S, E> {
+impl<'a, S: Drop> StoreFiles<S, S> for MemoryStoreFiles<'a, S> {
     ghost history = { λ f. f.noted.deeds };
 
     ghost begins = { λ _. Unit {0} };
 
     ghost left = { λ s. s };
 
-    fn open<'n>(&mut self, name: &'n str, _purpose: Use) -> Result<OpenFile<'n, S>, E> {
+    fn open<'n>(&mut self, name: &'n str, _purpose: Use) -> Result<OpenFile<'n, S>, StoreRefusal> {
         if name == self.name {
             if let Some(store) = self.held.take() {
                 self.noted.note(name.as_bytes(), &Deed::Opened);

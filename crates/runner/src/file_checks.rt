@@ -2,7 +2,7 @@
 use commands::progress::StderrLine;
 use store_files::refusal::StoreRefusal;
 
-/// Checks of files. They change none, so no history has them.
+/// What is asked of files beside their stores. No call changes what a file holds, so no history has it.
 pub trait FileChecks {
     /// Whether there is a file with this name that has no bytes. Folders and devices do not count.
     fn is_empty(&self, name: &str) -> bool;
@@ -19,7 +19,7 @@ pub trait FileChecks {
 
     /// Has the system write to the disk what it has of the log of the store at `path`, which stays as it is. If that
     /// fails, the commit meets it too, and tells.
-    fn settle_log(&self, path: &str);
+    fn sync_log(&self, path: &str);
 
     /// Returns a line on a terminal for a command that begins now, or None if there is no terminal.
     fn line(&self, _verb: &'static str) -> Option<StderrLine<'_>> {

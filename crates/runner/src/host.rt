@@ -157,7 +157,7 @@ impl<'a> FileChecks for SystemHost<'a> {
         check_name(self.rt, db, to)
     }
 
-    fn settle_log(&self, path: &str) {
+    fn sync_log(&self, path: &str) {
         sync_log(self.rt, path);
     }
 

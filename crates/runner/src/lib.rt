@@ -40,7 +40,7 @@ mod open;
 mod opening;
 mod slice_pace;
 pub mod system;
-pub mod unnamed;
+pub mod temporary_files;
 
 use crate::host::Host;
 use crate::older_files::OlderFiles;

@@ -8,7 +8,7 @@ use crate::copy_line::CopyLine;
 use crate::file_checks::FileChecks;
 use crate::found::{ClosedFile, Found, FoundTables, OpenedStore};
 use crate::older_files::OlderFiles;
-use crate::unnamed::Unnamed;
+use crate::temporary_files::TemporaryFiles;
 use commands::refusal::CommandRefusal;
 use file_action::refusal::new_store_refusal;
 use sqlite::{Alter, Connection, MemStore};
@@ -128,7 +128,7 @@ fn migrate_copy<L, Q, G>(
     checks: &L,
     older: &mut Q,
     targets: &mut G,
-    copy: &Unnamed,
+    copy: &TemporaryFiles,
     from: &str,
     to: &str,
 ) -> Result<(), CommandRefusal>

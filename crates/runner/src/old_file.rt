@@ -4,7 +4,7 @@
 //! a log that another program wrote. So it opens a copy, which stands beside the new store.
 
 use crate::copy_line::{FilesLine, ShownFile};
-use crate::unnamed::Unnamed;
+use crate::temporary_files::TemporaryFiles;
 use os::RangeLock;
 use std::fs::{self, File, Metadata, OpenOptions};
 use std::io::{self, ErrorKind, Read};
@@ -33,7 +33,11 @@ struct LockedFile {
 /// meanwhile. Fails with `Device` if another program has one of them open, if one can't be read or has a second name,
 /// if SQLite left a journal, or if the copy can't be written; if there is no room for a copy of a file that is no
 /// database, with `BadSchema`; and with `Memory` if memory runs out. Then it leaves no copy.
-pub(crate) fn copy_of(rt: &HostRuntime, path: &str, to: &str) -> Result<Unnamed, StoreRefusal> {
+pub(crate) fn copy_of(
+    rt: &HostRuntime,
+    path: &str,
+    to: &str,
+) -> Result<TemporaryFiles, StoreRefusal> {
     match copy_locked(rt, path, to) {
         Ok(copy) => Ok(copy),
         Err(error) => match error.kind() {
@@ -45,7 +49,7 @@ pub(crate) fn copy_of(rt: &HostRuntime, path: &str, to: &str) -> Result<Unnamed,
 }
 
 /// Copies both files under their locks. Fails as `copy_of` does, with `InvalidData` for a file that is no database.
-fn copy_locked(rt: &HostRuntime, path: &str, to: &str) -> io::Result<Unnamed> {
+fn copy_locked(rt: &HostRuntime, path: &str, to: &str) -> io::Result<TemporaryFiles> {
     // sqlite puts the log beside the file that a link leads to
     let real = fs::canonicalize(rt, path)?;
     let log_name = format!(in rt.alloc(); "{}-wal", real.as_str())?;
@@ -54,7 +58,7 @@ fn copy_locked(rt: &HostRuntime, path: &str, to: &str) -> io::Result<Unnamed> {
         return Err(ErrorKind::Unsupported.into());
     }
     let log = locked_log(rt, log_name.as_str())?;
-    let copy = Unnamed::beside(rt, to)?;
+    let copy = TemporaryFiles::beside(rt, to)?;
     copy_both(rt, &db, &log, &copy)?;
     if is_as_found(&db) && is_log_as_found(rt, log_name.as_str(), &log) {
         return Ok(copy);
@@ -151,7 +155,7 @@ fn copy_both(
     rt: &HostRuntime,
     db: &LockedFile,
     log: &Option<LockedFile>,
-    to: &Unnamed,
+    to: &TemporaryFiles,
 ) -> io::Result<()> {
     let log_size = match log {
         Some(log) => log.found.len(),

@@ -5,7 +5,7 @@ ghost use Rattle.sqlite_wal.specs.Files.{image_at};
 ghost use Rattle.runner.specs.Opened.{HasBegun};
 
 use crate::old_file::is_missing;
-use crate::unnamed::Unnamed;
+use crate::temporary_files::TemporaryFiles;
 use sqlite::Start;
 use std::io::{self, ErrorKind};
 use std::rt::HostRuntime;
@@ -29,8 +29,8 @@ pub(crate) fn open_for<T: Start>(
 ) -> Result<FileShelves<T>, StoreRefusal>
     ensures { IfOk result (HasBegun ⟦<FileShelves<T> as Shelves>⟧.shown (image_at T.Start)) }
 {
-    if matches!(purpose, Use::Reading) && !names_no_file(path) && is_unmade(rt, path) {
-        open_unnamed(rt, path, start, room)
+    if matches!(purpose, Use::Reading) && !names_no_file(path) && is_missing_store(rt, path) {
+        open_temporary(rt, path, start, room)
     } else {
         open_named(rt, path, start, room)
     }
@@ -38,7 +38,7 @@ pub(crate) fn open_for<T: Start>(
 
 /// Whether there is neither a file of this name nor a log beside it, which may be all that is left of a store. False if
 /// memory runs out.
-fn is_unmade(rt: &HostRuntime, path: &str) -> bool {
+fn is_missing_store(rt: &HostRuntime, path: &str) -> bool {
     match format!(in rt.alloc(); "{path}-wal") {
         Ok(log) => is_missing(rt, path) && is_missing(rt, log.as_str()),
         Err(_) => false,
@@ -46,7 +46,7 @@ fn is_unmade(rt: &HostRuntime, path: &str) -> bool {
 }
 
 /// Opens a new store in files that lose their names, in the folder of a file. Fails as `FileShelves::open_from` does.
-fn open_unnamed<T: Start>(
+fn open_temporary<T: Start>(
     rt: &HostRuntime,
     path: &str,
     start: T,
@@ -54,9 +54,9 @@ fn open_unnamed<T: Start>(
 ) -> Result<FileShelves<T>, StoreRefusal>
     ensures { IfOk result (HasBegun ⟦<FileShelves<T> as Shelves>⟧.shown (image_at T.Start)) }
 {
-    let files = match Unnamed::beside(rt, path) {
+    let files = match TemporaryFiles::beside(rt, path) {
         Ok(files) => files,
-        Err(error) => return Err(unnamed_refusal(error)),
+        Err(error) => return Err(temporary_refusal(error)),
     };
     let opened = open_named(rt, files.path.as_str(), start, room);
     files.unlink(rt);
@@ -64,7 +64,7 @@ fn open_unnamed<T: Start>(
 }
 
 /// Returns why there are no such files: `Memory` if memory ran out, and otherwise `Device`.
-fn unnamed_refusal(error: io::Error) -> StoreRefusal {
+fn temporary_refusal(error: io::Error) -> StoreRefusal {
     match error.kind() {
         ErrorKind::OutOfMemory => StoreRefusal::Memory,
         _ => StoreRefusal::Device,

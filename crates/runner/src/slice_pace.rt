@@ -54,7 +54,7 @@ impl<'a, C: Clock, L: FileChecks> SlicePace<'a, C, L> {
 
     /// Writes the log to the disk, and puts the next time off if that took long.
     fn settle(&mut self) {
-        self.checks.settle_log(self.to);
+        self.checks.sync_log(self.to);
         self.unsettled = 0;
         if self.has_taken(SLOW_MILLIS) {
             self.settled_at = self.settled_at.saturating_mul(2).min(LAST_SETTLED);

@@ -7,7 +7,7 @@ use crate::old_file::copy_of;
 use crate::older_files::OlderFiles;
 use crate::open::open_for;
 use crate::opening::opening_line;
-use crate::unnamed::Unnamed;
+use crate::temporary_files::TemporaryFiles;
 use sqlite::Start;
 use sqlite_trees::store::Store;
 use std::fs;
@@ -147,7 +147,7 @@ impl<'a> StoreFiles<ClosedFile, ClosedFile> for SystemOlderFiles<'a> {
 }
 
 impl<'a> OlderFiles<ClosedFile> for SystemOlderFiles<'a> {
-    fn copy(&mut self, from: &str, beside: &str) -> Result<Unnamed, StoreRefusal> {
+    fn copy(&mut self, from: &str, beside: &str) -> Result<TemporaryFiles, StoreRefusal> {
         match copy_of(self.rt, from, beside) {
             Ok(copy) => {
                 self.noted.note(from.as_bytes(), &Deed::Copied);

@@ -41,7 +41,7 @@ impl<'a> FileChecks for MemoryHost<'a> {
         Ok(())
     }
 
-    fn settle_log(&self, _path: &str) {}
+    fn sync_log(&self, _path: &str) {}
 }
 
 impl<'a> ActionHost<MapShelves> for MemoryHost<'a> {

@@ -4,7 +4,7 @@ ghost use Rattle.store_files.specs.declared.files.Deed.TheVariants.{Closed};
 
 use memory_store::map_shelves::MapShelves;
 use runner::older_files::OlderFiles;
-use runner::unnamed::Unnamed;
+use runner::temporary_files::TemporaryFiles;
 use store_files::files::{Deed, OpenFile, StoreFiles, Use};
 use store_files::record::Record;
 use store_files::refusal::StoreRefusal;
@@ -41,7 +41,7 @@ impl StoreFiles<MapShelves, MapShelves> for NoOlderFiles {
 }
 
 impl OlderFiles<MapShelves> for NoOlderFiles {
-    fn copy(&mut self, from: &str, _beside: &str) -> Result<Unnamed, StoreRefusal> {
+    fn copy(&mut self, from: &str, _beside: &str) -> Result<TemporaryFiles, StoreRefusal> {
         self.noted.note(from.as_bytes(), &Deed::Refused);
         Err(StoreRefusal::Device)
     }

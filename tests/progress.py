@@ -145,6 +145,8 @@ def imports_elsewhere(suite):
 
 def interrupted(suite):
     """A command that a signal ends leaves its line, and the cursor below it."""
+    # (a shell has what it runs in the background ignore SIGINT, and that is handed on)
+    signal.signal(signal.SIGINT, signal.default_int_handler)
     write_rows()
     for number in (signal.SIGINT, signal.SIGTERM, signal.SIGKILL):
         shown = OnTerminal(*words_of_import(fresh("store.db")))

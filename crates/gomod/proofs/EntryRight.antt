@@ -3,8 +3,8 @@ use Rattle.std.proofs.Common.{◌≡◌, ℕ, true, false, List, [], ◌∷◌, 
 use Rattle.std.proofs.Common.{Err, ◌⊎◌, inl, inr, ⊎_elim}
 use Rattle.std.specs.Str.{bytes_eq}
 use Rattle.std.proofs.lemmas.Slice.Eq.{bytes_eq-Decides}
-use Rattle.modlex.specs.declared.lexer.Kind.{Kind}
-use Rattle.modlex.specs.declared.lexer.Kind.TheVariants as kinds
+use Rattle.modlex.specs.declared.lexer.TokenKind.{TokenKind}
+use Rattle.modlex.specs.declared.lexer.TokenKind.TheVariants as kinds
 use Rattle.gomod.specs.declared.keyword.Keyword.{Keyword}
 use Rattle.gomod.specs.declared.fault.GoModFault.{GoModFault}
 use Rattle.gomod.specs.declared.fault.GoModFault.TheVariants as faults
@@ -57,7 +57,7 @@ pub shape_same : (k : Keyword) (ts : List Symbol) (ds es : List Demand) → HasS
 shape_same k ts ds es h g = let a = demands-from_shape k ts ds h in let b = demands-from_shape k ts es g in cc
 
 -- an entry is neither a parenthesis nor empty
-word_kind_opens : (k : Kind) → is_word_kind k ≡ true → opens_block_kind k ≡ false
+word_kind_opens : (k : TokenKind) → is_word_kind k ≡ true → opens_block_kind k ≡ false
 word_kind_opens kinds.Name h = refl
 word_kind_opens kinds.Quoted h = refl
 word_kind_opens kinds.Raw h = refl
@@ -69,7 +69,7 @@ word_kind_opens kinds.BracketLeft h = refl
 word_kind_opens kinds.BracketRight h = refl
 
 -- a word closes no block
-word_kind_closes : (k : Kind) → is_word_kind k ≡ true → closes_block_kind k ≡ false
+word_kind_closes : (k : TokenKind) → is_word_kind k ≡ true → closes_block_kind k ≡ false
 word_kind_closes kinds.Name h = refl
 word_kind_closes kinds.Quoted h = refl
 word_kind_closes kinds.Raw h = refl

@@ -2,8 +2,8 @@
 use Rattle.std.proofs.Common.{◌≡◌, ℕ, Bool, true, false, not, ◌&&◌, List, [], ◌∷◌, ◌++◌, refl, ap, sym, ◌∙◌, subst}
 use Rattle.std.proofs.Common.{Option, Some, None, Result, Ok, Err, codes, ⊎_elim}
 use Rattle.std.specs.List.{list_all, AllByRecursion}
-use Rattle.modlex.specs.declared.lexer.Kind.{Kind}
-use Rattle.modlex.specs.declared.lexer.Kind.TheVariants as kinds
+use Rattle.modlex.specs.declared.lexer.TokenKind.{TokenKind}
+use Rattle.modlex.specs.declared.lexer.TokenKind.TheVariants as kinds
 use Rattle.gomod.specs.declared.keyword.Keyword.{Keyword}
 use Rattle.gomod.specs.declared.fault.GoModFault.{GoModFault}
 use Rattle.gomod.specs.declared.fault.GoModFault.TheVariants as faults
@@ -151,7 +151,7 @@ abbrev pub IsPlain : Symbol → Type 0
 IsPlain t = (t.kind ≡ kinds.ParenLeft → t.text ≡ codes "(") × (t.kind ≡ kinds.ParenRight → t.text ≡ codes ")")
 
 -- a kind that opens a block is the opening parenthesis
-opens_is : (k : Kind) → opens_block_kind k ≡ true → k ≡ kinds.ParenLeft
+opens_is : (k : TokenKind) → opens_block_kind k ≡ true → k ≡ kinds.ParenLeft
 opens_is kinds.ParenLeft h = refl
 opens_is kinds.Name h = cc
 opens_is kinds.Quoted h = cc
@@ -163,7 +163,7 @@ opens_is kinds.BracketLeft h = cc
 opens_is kinds.BracketRight h = cc
 
 -- a kind that closes a block is the closing parenthesis
-closes_is : (k : Kind) → closes_block_kind k ≡ true → k ≡ kinds.ParenRight
+closes_is : (k : TokenKind) → closes_block_kind k ≡ true → k ≡ kinds.ParenRight
 closes_is kinds.ParenRight h = refl
 closes_is kinds.Name h = cc
 closes_is kinds.Quoted h = cc
@@ -175,7 +175,7 @@ closes_is kinds.BracketLeft h = cc
 closes_is kinds.BracketRight h = cc
 
 -- a kind that passes the test of a name is a name
-pub name_is : (k : Kind) → is_name_kind k ≡ true → k ≡ kinds.Name
+pub name_is : (k : TokenKind) → is_name_kind k ≡ true → k ≡ kinds.Name
 name_is kinds.Name h = refl
 name_is kinds.Quoted h = cc
 name_is kinds.Raw h = cc

@@ -2,7 +2,7 @@
 use Rattle.std.proofs.Common.{◌≡◌, ℕ, true, false, not, ◌&&◌, List, [], ◌∷◌, refl, ap, sym, ◌∙◌, subst, Option, Some}
 use Rattle.std.proofs.Common.{None, Result, Ok, Err, inl, inr, ⊎_elim}
 use Rattle.std.proofs.lemmas.Bool.{both_ways}
-use Rattle.modlex.specs.declared.lexer.Kind.TheVariants as kinds
+use Rattle.modlex.specs.declared.lexer.TokenKind.TheVariants as kinds
 use Rattle.gomod.specs.declared.keyword.Keyword.{Keyword}
 use Rattle.gomod.specs.declared.fault.GoModFault.{GoModFault}
 use Rattle.gomod.specs.declared.fault.GoModFault.TheVariants as faults

@@ -2,8 +2,8 @@
 use Rattle.std.proofs.Common.{◌≡◌, Bool, true, false, ◌&&◌, cond, List, [], ◌∷◌, ◌++◌, refl, ap, ◌∙◌, subst, Option}
 use Rattle.std.proofs.Common.{Some, None, ⊎_elim}
 use Rattle.std.proofs.lemmas.Bool.{and_parts}
-use Rattle.modlex.specs.declared.lexer.Kind.{Kind}
-use Rattle.modlex.specs.declared.lexer.Kind.TheVariants as kinds
+use Rattle.modlex.specs.declared.lexer.TokenKind.{TokenKind}
+use Rattle.modlex.specs.declared.lexer.TokenKind.TheVariants as kinds
 use Rattle.gomod.specs.declared.keyword.Keyword.{Keyword}
 use Rattle.gomod.specs.declared.keyword.Keyword.TheVariants.{Module, Go, Toolchain, Require, Exclude, Replace, Retract}
 use Rattle.gomod.specs.declared.keyword.Keyword.TheVariants.{Tool, Godebug, Ignore}
@@ -54,7 +54,7 @@ when_some true ds es h = (refl, cc)
 when_some false ds es h = cc
 
 -- a kind that passes the test of an arrow is the arrow
-arrow_is : (k : Kind) → is_arrow_kind k ≡ true → k ≡ kinds.Arrow
+arrow_is : (k : TokenKind) → is_arrow_kind k ≡ true → k ≡ kinds.Arrow
 arrow_is kinds.Arrow h = refl
 arrow_is kinds.Name h = cc
 arrow_is kinds.Quoted h = cc
@@ -65,11 +65,11 @@ arrow_is kinds.ParenRight h = cc
 arrow_is kinds.BracketLeft h = cc
 arrow_is kinds.BracketRight h = cc
 
-arrow_from : (k : Kind) → k ≡ kinds.Arrow → is_arrow_kind k ≡ true
+arrow_from : (k : TokenKind) → k ≡ kinds.Arrow → is_arrow_kind k ≡ true
 arrow_from k h = ap is_arrow_kind h
 
 -- a word is not an arrow
-word_no_arrow : (k : Kind) → is_word_kind k ≡ true → is_arrow_kind k ≡ false
+word_no_arrow : (k : TokenKind) → is_word_kind k ≡ true → is_arrow_kind k ≡ false
 word_no_arrow kinds.Arrow h = cc
 word_no_arrow kinds.Name h = refl
 word_no_arrow kinds.Quoted h = refl
@@ -118,14 +118,14 @@ and5 a b c d e h = let x = and_parts (a && b && c && d) e h in let y = and4 a b 
 shape_as : (k : Keyword) (ts : List Symbol) (ds es : List Demand) → ds ≡ es → HasShape k ts ds → HasShape k ts es
 shape_as k ts ds es same h = subst (HasShape k ts) same h
 
-record AreInterval (l v c w r : Kind) : Type 0 where
+record AreInterval (l v c w r : TokenKind) : Type 0 where
   left : l ≡ kinds.BracketLeft
   low : is_word_kind v ≡ true
   comma : c ≡ kinds.Comma
   high : is_word_kind w ≡ true
   right : r ≡ kinds.BracketRight
 
-interval_kinds : (l v c w r : Kind) → are_interval_kinds l v c w r ≡ true → AreInterval l v c w r
+interval_kinds : (l v c w r : TokenKind) → are_interval_kinds l v c w r ≡ true → AreInterval l v c w r
 interval_kinds kinds.BracketLeft v kinds.Comma w kinds.BracketRight h =
     let both = and_parts _ _ h in record { left = refl; low = both.0; comma = refl; high = both.1; right = refl }
 interval_kinds _ v _ w _ h = cc

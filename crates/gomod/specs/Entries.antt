@@ -1,7 +1,7 @@
 -- The entries of directives: their shapes, the demands on their words, and their meanings.
 use Rattle.std.specs.Prelude.{◌≡◌, ℕ, true, List, [], ◌∷◌, ◌++◌, Some, ◌⊎◌}
 use Rattle.std.specs.List.{AllByRecursion}
-use Rattle.modlex.specs.declared.lexer.Kind.TheVariants as kinds
+use Rattle.modlex.specs.declared.lexer.TokenKind.TheVariants as kinds
 use Rattle.gomod.specs.declared.keyword.Keyword.{Keyword}
 use Rattle.gomod.specs.declared.keyword.Keyword.TheVariants.{Module, Go, Require, Exclude, Replace, Retract}
 use Rattle.gomod.specs.declared.fault.GoModFault.{GoModFault}

@@ -1,8 +1,8 @@
 -- The keywords of a go.mod file, and the profiles, which say which of them are read.
 use Rattle.std.specs.Prelude.{ℕ, Bool, true, false, List, [], ◌∷◌, ◌++◌, codes, Option, Some, None, if◌then◌else◌}
 use Rattle.std.specs.Str.{bytes_eq}
-use Rattle.modlex.specs.declared.lexer.Kind.{Kind}
-use Rattle.modlex.specs.declared.lexer.Kind.TheVariants as kinds
+use Rattle.modlex.specs.declared.lexer.TokenKind.{TokenKind}
+use Rattle.modlex.specs.declared.lexer.TokenKind.TheVariants as kinds
 use Rattle.gomod.specs.declared.keyword.Keyword.{Keyword}
 use Rattle.gomod.specs.declared.keyword.Keyword.TheVariants.{Module, Go, Toolchain, Require, Exclude}
 use Rattle.gomod.specs.declared.keyword.Keyword.TheVariants.{Replace, Retract, Tool, Godebug, Ignore}
@@ -60,10 +60,10 @@ takes_any_word Ignore = true
 takes_any_word _ = false
 
 -- whether a token opens a block, and whether it closes one
-abbrev pub opens_block_kind : Kind → Bool
+abbrev pub opens_block_kind : TokenKind → Bool
 opens_block_kind kinds.ParenLeft = true
 opens_block_kind _ = false
 
-abbrev pub closes_block_kind : Kind → Bool
+abbrev pub closes_block_kind : TokenKind → Bool
 closes_block_kind kinds.ParenRight = true
 closes_block_kind _ = false

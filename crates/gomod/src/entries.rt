@@ -16,7 +16,7 @@ ghost use Rattle.gomod.specs.Reading.{interval, retract_entry};
 use super::fault::GoModFault;
 use super::go_version::{is_file_path, is_go_version};
 use super::interval::Interval;
-use modlex::{Kind, Token};
+use modlex::{Token, TokenKind};
 use modpath::{LoosePath, ModulePath, PathError, Suffix, loose_suffix, suffix};
 use modver::{Bound, Version, VersionFault, compare_bounds, fits_suffix};
 use std::alloc::Global;
@@ -320,7 +320,11 @@ fn is_interval(left: &Token, first: &Token, comma: &Token, second: &Token, right
 {
     matches!(
         (left.kind, comma.kind, right.kind),
-        (Kind::BracketLeft, Kind::Comma, Kind::BracketRight)
+        (
+            TokenKind::BracketLeft,
+            TokenKind::Comma,
+            TokenKind::BracketRight
+        )
     ) && first.is_word()
         && second.is_word()
 }

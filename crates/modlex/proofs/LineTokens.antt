@@ -1,7 +1,7 @@
 -- The tokens that are computed of a line, its fault, and the same tokens at another offset.
 use Rattle.std.proofs.Common.{◌≡◌, ℕ, zero, suc, ◌+◌, ◌-◌, ◌≤◌, take, List, [], ◌∷◌, map, length, refl, ap, arith}
 use Rattle.std.proofs.Common.{Option, Some, None, Result, Ok, Err, ◌⊎◌, inl, inr, ⊎_elim}
-use Rattle.modlex.specs.declared.lexer.Kind.{Kind}
+use Rattle.modlex.specs.declared.lexer.TokenKind.{TokenKind}
 use Rattle.modlex.specs.declared.lexer.TokenFault.{TokenFault}
 use Rattle.modlex.specs.declared.lexer.TokenFault.TheVariants as token_faults
 use Rattle.modlex.specs.Bytes.{is_blank, is_slash_and}
@@ -37,7 +37,7 @@ after_fault : (front : List Lexeme) (r : Result (List Lexeme) TokenFault) (e : T
 after_fault front (Ok ts) e h = cc
 after_fault front (Err d) e h = h
 
-found_fault : (line at b : ℕ) (bs : List ℕ) (e : TokenFault) (o : Option (Kind × ℕ))
+found_fault : (line at b : ℕ) (bs : List ℕ) (e : TokenFault) (o : Option (TokenKind × ℕ))
     → ((k : ℕ) → tokens_behind k line (at + 1) bs ≡ Err e → e ≡ token_faults.Lex line)
     → ◌≡◌ {A = Result (List Lexeme) TokenFault}
     (elim o [
@@ -73,7 +73,7 @@ none_few : (n : ℕ) (ts : List Lexeme) → ◌≡◌ {A = Result (List Lexeme) 
 none_few n [] h = omega arith
 none_few n (t ∷ ts) h = cc
 
-found_few : (line at b : ℕ) (bs : List ℕ) (ts : List Lexeme) (o : Option (Kind × ℕ))
+found_few : (line at b : ℕ) (bs : List ℕ) (ts : List Lexeme) (o : Option (TokenKind × ℕ))
     → ((k : ℕ) (us : List Lexeme) → tokens_behind k line (at + 1) bs ≡ Ok us → length us ≤ length bs)
     → ◌≡◌ {A = Result (List Lexeme) TokenFault} (elim o [
       | None ↦ Err (token_faults.Lex line)

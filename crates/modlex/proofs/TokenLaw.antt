@@ -8,9 +8,9 @@ use Rattle.std.proofs.lemmas.List.{take_at, drop_at}
 use Rattle.std.specs.Option.{option_map}
 use Rattle.std.specs.Str.{bytes_eq}
 use Rattle.std.proofs.lemmas.Slice.Eq.{bytes_eq-Decides}
-use Rattle.modlex.specs.declared.lexer.Kind.{Kind}
-use Rattle.modlex.specs.declared.lexer.Kind.TheVariants.{Name, Quoted, Raw, Arrow, Comma, ParenLeft, ParenRight}
-use Rattle.modlex.specs.declared.lexer.Kind.TheVariants.{BracketLeft, BracketRight}
+use Rattle.modlex.specs.declared.lexer.TokenKind.{TokenKind}
+use Rattle.modlex.specs.declared.lexer.TokenKind.TheVariants.{Name, Quoted, Raw, Arrow, Comma, ParenLeft, ParenRight}
+use Rattle.modlex.specs.declared.lexer.TokenKind.TheVariants.{BracketLeft, BracketRight}
 use Rattle.modlex.specs.Bytes.{is_blank, is_string_byte, is_name_byte, is_slash_and, quoted_len, raw_len, name_len}
 use Rattle.modlex.specs.Lexer.{Lexeme, lexeme, lexeme_at, punctuation_kind, word_at, name_kind, tokens_then}
 use Rattle.modlex.specs.Lexer.{tokens_behind}
@@ -155,7 +155,7 @@ name_word : (b : ℕ) (bs : List ℕ) → is_name_byte b ≡ true → is_slash_a
     → lexeme_at (b ∷ bs) ≡ option_map (λ n. (name_kind (b ∷ take n bs), n + 1)) (name_len bs)
 unfolding lexeme_at
 name_word b bs name star =
-    let mark_or_word : Option Kind → Option (Kind × ℕ) = λ m. elim m [ Some k ↦ Some (k, 1) | None ↦ word_at b bs ] in
+    let mark_or_word : Option TokenKind → Option (TokenKind × ℕ) = λ m. elim m [ Some k ↦ Some (k, 1) | None ↦ word_at b bs ] in
     ap mark_or_word (name_no_mark b name) ∙ word_at-name b bs name star
 
 -- a run of name bytes is one token
@@ -175,7 +175,7 @@ name_kind-name text other = kind_by (bytes_eq text (codes "=>")) (λ e. other ((
     kind_by false no_arrow = refl
 
 -- the function finds what the relation says
-pub lexeme_at-lexeme : (kind : Kind) (text rest : List ℕ) → IsLexeme kind text rest
+pub lexeme_at-lexeme : (kind : TokenKind) (text rest : List ℕ) → IsLexeme kind text rest
     → lexeme_at (text ++ rest) ≡ Some (kind, length text)
 unfolding lexeme_at
 lexeme_at-lexeme ParenLeft text rest h = ap (λ t. lexeme_at (t ++ rest)) h
@@ -221,7 +221,7 @@ begins_run (b ∷ text) rest some run =
     record { first = b; others = text; is = refl; no_blank = name_no_blank b run.0; no_comment = run.1 }
 
 -- a token begins with neither a blank nor a comment
-pub lexeme_begins : (kind : Kind) (text rest : List ℕ) → IsLexeme kind text rest → Begins text rest
+pub lexeme_begins : (kind : TokenKind) (text rest : List ℕ) → IsLexeme kind text rest → Begins text rest
 unfolding is_blank
 lexeme_begins ParenLeft text rest h = begins_mark 40 text [] rest h refl refl
 lexeme_begins ParenRight text rest h = begins_mark 41 text [] rest h refl refl
@@ -234,7 +234,7 @@ lexeme_begins Arrow text rest h = begins_run text rest (let e = ap length h.0 in
 lexeme_begins Name text rest h = begins_run text rest h.0 h.2
 
 -- a token at the front
-token_front : (line at : ℕ) (kind : Kind) (text rest : List ℕ) → IsLexeme kind text rest
+token_front : (line at : ℕ) (kind : TokenKind) (text rest : List ℕ) → IsLexeme kind text rest
     → tokens_behind 0 line at (text ++ rest)
     ≡ tokens_then (lexeme kind line at text ∷ []) (tokens_behind 0 line (at + length text) rest)
 token_front line at kind text rest h =

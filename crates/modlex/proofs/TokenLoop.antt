@@ -7,7 +7,7 @@ use Rattle.modlex.specs.Bytes.{is_blank, is_slash_and}
 use denote.Text.{Utf8}
 use denote.Shadow.{shadow}
 use Rattle.modlex.specs.declared.lexer.TokenFault.TheVariants as faults
-use Rattle.modlex.specs.declared.lexer.Kind.{Kind}
+use Rattle.modlex.specs.declared.lexer.TokenKind.{TokenKind}
 use Rattle.modlex.specs.declared.lexer.TokenFault.{TokenFault}
 use Rattle.modlex.specs.Lexer.{Lexeme, lexeme, lexeme_at, tokens_then, tokens_behind, first_of, lines_tokens}
 use Rattle.modlex.specs.Lexer.{text_tokens}
@@ -30,7 +30,7 @@ tokens_then-tokens_then xs ys (Ok ts) = ap (λ l. Ok l) (append_assoc xs ys ts)
 tokens_then-tokens_then xs ys (Err e) = refl
 
 -- a token and what stands behind it
-pub tokens_behind-token : (line at b : ℕ) (bs : List ℕ) (kind : Kind) (n : ℕ) → is_blank b ≡ false
+pub tokens_behind-token : (line at b : ℕ) (bs : List ℕ) (kind : TokenKind) (n : ℕ) → is_blank b ≡ false
     → is_slash_and 47 b bs ≡ false → lexeme_at (b ∷ bs) ≡ Some (kind, n)
     → 0 < n → tokens_behind 0 line at (b ∷ bs)
     ≡ tokens_then (lexeme kind line at (take n (b ∷ bs)) ∷ []) (tokens_behind 0 line (at + n) (drop n (b ∷ bs)))
@@ -43,7 +43,7 @@ tokens_behind-token line at b bs kind (suc m) no_blank no_comment found positive
     (tokens_behind-skipped m line (at + 1) bs ∙ ap (λ k. tokens_behind 0 line k (drop m bs)) there))
 
 -- the tokens from a token on, whose first byte is read by its index
-pub tokens_behind-token_at : (line at : ℕ) (bytes : List ℕ) (kind : Kind) (n : ℕ) → 0 < length bytes
+pub tokens_behind-token_at : (line at : ℕ) (bytes : List ℕ) (kind : TokenKind) (n : ℕ) → 0 < length bytes
     → is_blank (get_or bytes 0 0) ≡ false → is_slash_and 47 (get_or bytes 0 0) (drop 1 bytes) ≡ false
     → lexeme_at bytes ≡ Some (kind, n) → 0 < n
     → tokens_behind 0 line at bytes
@@ -86,7 +86,7 @@ pub record ReadsOn (line start : ℕ) (text : List ℕ) (most : ℕ) (out : List
 
 -- a token joins those so far, if it is one of the first
 pub ReadsOn-token : {line start most at : ℕ} {text rest : List ℕ} {out : List Lexeme} (behind token : List ℕ)
-    (kind : Kind) (n : ℕ)
+    (kind : TokenKind) (n : ℕ)
     → ReadsOn line start text most out at rest → (0 < n) × (n ≤ length rest) → is_blank (get_or rest 0 0) ≡ false
     → is_slash_and 47 (get_or rest 0 0) (drop 1 rest) ≡ false
     → lexeme_at rest ≡ Some (kind, n) → token ≡ take n rest → behind ≡ drop n rest → shadow (Utf8 behind)

@@ -5,9 +5,9 @@ use Rattle.std.proofs.Common.{ap, ◌∙◌, refl, append_assoc, Option, Some, N
 use Rattle.std.proofs.Common.{codes, MatchBool, length-append}
 use Rattle.std.proofs.lemmas.Bool.{eqb-false, eqb-true, not-false}
 use Rattle.std.proofs.lemmas.Option.{same_Some}
-use Rattle.modlex.specs.declared.lexer.Kind.{Kind}
-use Rattle.modlex.specs.declared.lexer.Kind.TheVariants.{Name, Quoted, Raw, Arrow, Comma, ParenLeft, ParenRight}
-use Rattle.modlex.specs.declared.lexer.Kind.TheVariants.{BracketLeft, BracketRight}
+use Rattle.modlex.specs.declared.lexer.TokenKind.{TokenKind}
+use Rattle.modlex.specs.declared.lexer.TokenKind.TheVariants.{Name, Quoted, Raw, Arrow, Comma, ParenLeft, ParenRight}
+use Rattle.modlex.specs.declared.lexer.TokenKind.TheVariants.{BracketLeft, BracketRight}
 use Rattle.modlex.specs.declared.lexer.TokenFault.{TokenFault}
 use Rattle.std.specs.Str.{bytes_eq}
 use Rattle.std.proofs.lemmas.Slice.Eq.{bytes_eq-Decides}
@@ -199,7 +199,7 @@ quoted_closes (b ∷ c ∷ bs) n h =
     (chosen (not (is_string_byte b)) _ _ _ h)
 
 -- the first `n` bytes are a token of this kind before the rest
-pub record Cuts (kind : Kind) (bs : List ℕ) (n : ℕ) : Type 0 where
+pub record Cuts (kind : TokenKind) (bs : List ℕ) (n : ℕ) : Type 0 where
   pub text : List ℕ
   pub rest : List ℕ
   pub lex : IsLexeme kind text rest
@@ -207,7 +207,7 @@ pub record Cuts (kind : Kind) (bs : List ℕ) (n : ℕ) : Type 0 where
   pub len : n ≡ length text
 
 -- a punctuation byte is a token of the kind found for it
-mark_lexeme : (b : ℕ) (kind : Kind) (rest : List ℕ) → punctuation_kind b ≡ Some kind → IsLexeme kind (b ∷ []) rest
+mark_lexeme : (b : ℕ) (kind : TokenKind) (rest : List ℕ) → punctuation_kind b ≡ Some kind → IsLexeme kind (b ∷ []) rest
 mark_lexeme b kind rest h =
     ⊎_elim (λ p. mark_is 40 ParenLeft p.0 (same_Some _ _ p.1) refl)
     (λ p. ⊎_elim (λ q. mark_is 41 ParenRight q.0 (same_Some _ _ q.1) refl)
@@ -220,11 +220,11 @@ mark_lexeme b kind rest h =
     (chosen (b == 41) _ _ _ p.1))
     (chosen (b == 40) _ _ _ h)
   where
-    mark_is : (c : ℕ) (k : Kind) → (b == c) ≡ true → k ≡ kind → IsLexeme k (c ∷ []) rest → IsLexeme kind (b ∷ []) rest
+    mark_is : (c : ℕ) (k : TokenKind) → (b == c) ≡ true → k ≡ kind → IsLexeme k (c ∷ []) rest → IsLexeme kind (b ∷ []) rest
     mark_is c k e same lex =
         subst (λ j. IsLexeme j (b ∷ []) rest) same (subst (λ x. IsLexeme k (x ∷ []) rest) (sym (eqb-true b c e)) lex)
 
-kind_lexeme : (t : Bool) (text rest : List ℕ) (kind : Kind) → bytes_eq text (codes "=>") ≡ t → 0 < length text
+kind_lexeme : (t : Bool) (text rest : List ℕ) (kind : TokenKind) → bytes_eq text (codes "=>") ≡ t → 0 < length text
     → IsRun text rest → cond t Arrow Name ≡ kind → IsLexeme kind text rest
 kind_lexeme true text rest kind test some run h =
     subst (λ k. IsLexeme k text rest) h ((bytes_eq-Decides text (codes "=>")).0 test, run)
@@ -236,7 +236,7 @@ or_false true y h = cc
 or_false false y h = (refl, h)
 
 -- the word or arrow found at the front, which is not a comment, is a token of that kind and length
-word_cuts : (b : ℕ) (bs : List ℕ) (kind : Kind) (n : ℕ) → is_slash_and 47 b bs ≡ false → word_at b bs ≡ Some (kind, n)
+word_cuts : (b : ℕ) (bs : List ℕ) (kind : TokenKind) (n : ℕ) → is_slash_and 47 b bs ≡ false → word_at b bs ≡ Some (kind, n)
     → Cuts kind (b ∷ bs) n
 word_cuts b bs kind n no_comment h =
     ⊎_elim
@@ -291,12 +291,12 @@ word_cuts b bs kind n no_comment h =
     (chosen (b == 96) _ _ _ p.1))
     (chosen (b == 34) _ _ _ h)
   where
-    pair_halves : {k j : Kind} {m i : ℕ} → ◌≡◌ {A = Kind × ℕ} (k, m) (j, i) → (k ≡ j) × (m ≡ i)
+    pair_halves : {k j : TokenKind} {m i : ℕ} → ◌≡◌ {A = TokenKind × ℕ} (k, m) (j, i) → (k ≡ j) × (m ≡ i)
     pair_halves h = (ap (λ p. p.0) h, ap (λ p. p.1) h)
 
-cuts_by : (o : Option Kind) (b : ℕ) (bs : List ℕ) (kind : Kind) (n : ℕ) → punctuation_kind b ≡ o
+cuts_by : (o : Option TokenKind) (b : ℕ) (bs : List ℕ) (kind : TokenKind) (n : ℕ) → punctuation_kind b ≡ o
     → is_slash_and 47 b bs ≡ false
-    → ◌≡◌ {A = Option (Kind × ℕ)} (elim o [ Some k ↦ Some (k, 1) | None ↦ word_at b bs ]) (Some (kind, n))
+    → ◌≡◌ {A = Option (TokenKind × ℕ)} (elim o [ Some k ↦ Some (k, 1) | None ↦ word_at b bs ]) (Some (kind, n))
     → Cuts kind (b ∷ bs) n
 cuts_by None b bs kind n mark no_comment h = word_cuts b bs kind n no_comment h
 cuts_by (Some k) b bs kind n mark no_comment h =
@@ -310,7 +310,7 @@ cuts_by (Some k) b bs kind n mark no_comment h =
       len = sym same.1;
     }
 
-pub lexeme_at-cuts : (b : ℕ) (bs : List ℕ) (kind : Kind) (n : ℕ) → is_slash_and 47 b bs ≡ false
+pub lexeme_at-cuts : (b : ℕ) (bs : List ℕ) (kind : TokenKind) (n : ℕ) → is_slash_and 47 b bs ≡ false
     → lexeme_at (b ∷ bs) ≡ Some (kind, n) → Cuts kind (b ∷ bs) n
 unfolding lexeme_at
 lexeme_at-cuts b bs kind n no_comment h = cuts_by (punctuation_kind b) b bs kind n refl no_comment h
@@ -343,7 +343,7 @@ end_only line at bytes (t ∷ ts) end h = cc
 
 -- the tokens read from bytes that begin with neither a blank nor a comment are theirs, if that holds of all shorter
 -- bytes
-token_sound : (fuel line at b : ℕ) (bs : List ℕ) (ts : List Lexeme) (o : Option (Kind × ℕ))
+token_sound : (fuel line at b : ℕ) (bs : List ℕ) (ts : List Lexeme) (o : Option (TokenKind × ℕ))
     → ((offset : ℕ) (rest : List ℕ) (more : List Lexeme) → length rest ≤ fuel
     → tokens_behind 0 line offset rest ≡ Ok more → AreTokens line offset rest more) → length (b ∷ bs) ≤ suc fuel
     → tokens_behind 0 line at (b ∷ bs) ≡ Ok ts → lexeme_at (b ∷ bs) ≡ o → is_blank b ≡ false

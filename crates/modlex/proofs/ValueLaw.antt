@@ -3,9 +3,9 @@ use Rattle.std.proofs.Common.{◌≡◌, ◌↔◌, ℕ, ◌+◌, Bool, true, fa
 use Rattle.std.proofs.Common.{sym, ◌∙◌, subst, MatchBool}
 use Rattle.std.proofs.lemmas.Bool.{ne_eqb}
 use Rattle.std.specs.List.{AllByRecursion}
-use Rattle.modlex.specs.declared.lexer.Kind.{Kind}
-use Rattle.modlex.specs.declared.lexer.Kind.TheVariants.{Name, Quoted, Raw, Arrow, Comma, ParenLeft, ParenRight}
-use Rattle.modlex.specs.declared.lexer.Kind.TheVariants.{BracketLeft, BracketRight}
+use Rattle.modlex.specs.declared.lexer.TokenKind.{TokenKind}
+use Rattle.modlex.specs.declared.lexer.TokenKind.TheVariants.{Name, Quoted, Raw, Arrow, Comma, ParenLeft, ParenRight}
+use Rattle.modlex.specs.declared.lexer.TokenKind.TheVariants.{BracketLeft, BracketRight}
 use Rattle.modlex.specs.Bytes.{is_string_byte}
 use Rattle.modlex.specs.Lexer.{Lexeme}
 use Rattle.modlex.specs.Tokens.{IsQuoted, IsLexeme, AreTokens}
@@ -55,7 +55,7 @@ inside_same : (mark : ℕ) (xs ys text : List ℕ) → text ≡ mark ∷ (xs ++ 
 inside_same mark xs ys text h k = sym (between mark xs) ∙ ap (inside mark) (sym h ∙ k) ∙ between mark ys
 
 -- a token has exactly one value, the computed one
-value_is : (kind : Kind) (text rest : List ℕ) → IsLexeme kind text rest → (value : List ℕ)
+value_is : (kind : TokenKind) (text rest : List ℕ) → IsLexeme kind text rest → (value : List ℕ)
     → HasValue kind text value ↔ (value ≡ value_of_text kind text)
 value_is Quoted text rest lex value =
     let computed : value_of_text Quoted text ≡ plain_text lex.0 = ap (λ x. plain_text (inside 34 x)) lex.2

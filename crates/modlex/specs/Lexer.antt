@@ -3,9 +3,9 @@ use Rattle.std.specs.Prelude.{◌≡◌, ℕ, zero, suc, length, ◌+◌, ◌-�
 use Rattle.std.specs.Prelude.{Option, Some, None, Result, Ok, Err, map, ◌++◌, if◌then◌else◌, take, codes}
 use Rattle.std.specs.Option.{option_map}
 use Rattle.std.specs.Str.{bytes_eq}
-use Rattle.modlex.specs.declared.lexer.Kind.{Kind}
-use Rattle.modlex.specs.declared.lexer.Kind.TheVariants.{Name, Quoted, Raw, Arrow, Comma, ParenLeft, ParenRight}
-use Rattle.modlex.specs.declared.lexer.Kind.TheVariants.{BracketLeft, BracketRight}
+use Rattle.modlex.specs.declared.lexer.TokenKind.{TokenKind}
+use Rattle.modlex.specs.declared.lexer.TokenKind.TheVariants.{Name, Quoted, Raw, Arrow, Comma, ParenLeft, ParenRight}
+use Rattle.modlex.specs.declared.lexer.TokenKind.TheVariants.{BracketLeft, BracketRight}
 use Rattle.modlex.specs.declared.lexer.Span.{Span}
 use Rattle.modlex.specs.declared.lexer.Token.{Token}
 use Rattle.modlex.specs.declared.lexer.TokenFault.{TokenFault}
@@ -14,11 +14,11 @@ use Rattle.modlex.specs.Lines.{lines}
 use Rattle.modlex.specs.Bytes.{is_blank, is_name_byte, is_slash_and, quoted_len, raw_len, name_len}
 
 -- a run of name bytes is the arrow if it is `=>`, and otherwise a name
-abbrev pub name_kind : List ℕ → Kind
+abbrev pub name_kind : List ℕ → TokenKind
 name_kind name = if bytes_eq name (codes "=>") then Arrow else Name
 
 -- punctuation is a token by itself
-abbrev pub punctuation_kind : ℕ → Option Kind
+abbrev pub punctuation_kind : ℕ → Option TokenKind
 punctuation_kind b =
     if b == 40 then Some ParenLeft
     else (if b == 41 then Some ParenRight
@@ -28,7 +28,7 @@ punctuation_kind b =
     else None))))
 
 -- the word or arrow at the front: its kind and its length
-abbrev pub word_at : ℕ → List ℕ → Option (Kind × ℕ)
+abbrev pub word_at : ℕ → List ℕ → Option (TokenKind × ℕ)
 word_at b bs =
     if b == 34 then option_map (λ n. (Quoted, n + 1)) (quoted_len false bs)
     else (if b == 96 then option_map (λ n. (Raw, n + 1)) (raw_len bs)
@@ -36,13 +36,13 @@ word_at b bs =
     else option_map (λ n. (name_kind (b ∷ take n bs), n + 1)) (name_len bs)))
 
 -- the kind and the length of the token at the front, which is neither a blank nor a comment
-unfoldable pub lexeme_at : List ℕ → Option (Kind × ℕ)
+unfoldable pub lexeme_at : List ℕ → Option (TokenKind × ℕ)
 lexeme_at [] = None
 lexeme_at (b ∷ bs) = elim (punctuation_kind b) [ Some k ↦ Some (k, 1) | None ↦ word_at b bs ]
 
 -- a token without where its text lies in memory
 pub record Lexeme : Type 0 where
-  pub kind : Kind
+  pub kind : TokenKind
   pub line : ℕ
   pub span : Span
   pub text : List ℕ
@@ -54,7 +54,7 @@ abbrev pub views : List Token → List Lexeme
 views = map view
 
 -- the lexeme of this kind and this text at an offset
-abbrev pub lexeme : Kind → ℕ → ℕ → List ℕ → Lexeme
+abbrev pub lexeme : TokenKind → ℕ → ℕ → List ℕ → Lexeme
 lexeme kind line at text =
     record { kind = kind; line = line; span = record { start = at; end = at + length text }; text = text }
 

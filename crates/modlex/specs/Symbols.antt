@@ -1,13 +1,13 @@
 -- The tokens of a line without their lines and spans.
 use Rattle.std.specs.Prelude.{ℕ, Bool, true, false, List, map}
-use Rattle.modlex.specs.declared.lexer.Kind.{Kind}
-use Rattle.modlex.specs.declared.lexer.Kind.TheVariants as kinds
+use Rattle.modlex.specs.declared.lexer.TokenKind.{TokenKind}
+use Rattle.modlex.specs.declared.lexer.TokenKind.TheVariants as kinds
 use Rattle.modlex.specs.declared.lexer.Token.{Token}
 use Rattle.modlex.specs.Lexer.{Lexeme, view, views}
 
 -- a token without its line and span
 pub record Symbol : Type 0 where
-  pub kind : Kind
+  pub kind : TokenKind
   pub text : List ℕ
 
 abbrev pub symbol_of : Lexeme → Symbol
@@ -20,7 +20,7 @@ abbrev pub symbols : List Token → List Symbol
 symbols ts = map symbol_of (views ts)
 
 -- names and strings are words
-abbrev pub is_word_kind : Kind → Bool
+abbrev pub is_word_kind : TokenKind → Bool
 is_word_kind kinds.Name = true
 is_word_kind kinds.Quoted = true
 is_word_kind kinds.Raw = true
@@ -29,10 +29,10 @@ is_word_kind _ = false
 abbrev pub is_word : Symbol → Bool
 is_word t = is_word_kind t.kind
 
-abbrev pub is_name_kind : Kind → Bool
+abbrev pub is_name_kind : TokenKind → Bool
 is_name_kind kinds.Name = true
 is_name_kind _ = false
 
-abbrev pub is_arrow_kind : Kind → Bool
+abbrev pub is_arrow_kind : TokenKind → Bool
 is_arrow_kind kinds.Arrow = true
 is_arrow_kind _ = false

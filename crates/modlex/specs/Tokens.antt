@@ -2,9 +2,9 @@
 use Rattle.std.specs.Prelude.{◌≡◌, ◌≢◌, ℕ, ◌+◌, ◌<◌, ◌≤◌, Bool, true, false, ◌==◌, List}
 use Rattle.std.specs.Prelude.{[], ◌∷◌, ◌++◌, length, codes, slice_range, ◌⊎◌, MatchBool}
 use Rattle.std.specs.List.{AllByRecursion, flat_map}
-use Rattle.modlex.specs.declared.lexer.Kind.{Kind}
-use Rattle.modlex.specs.declared.lexer.Kind.TheVariants.{Name, Quoted, Raw, Arrow, Comma, ParenLeft, ParenRight}
-use Rattle.modlex.specs.declared.lexer.Kind.TheVariants.{BracketLeft, BracketRight}
+use Rattle.modlex.specs.declared.lexer.TokenKind.{TokenKind}
+use Rattle.modlex.specs.declared.lexer.TokenKind.TheVariants.{Name, Quoted, Raw, Arrow, Comma, ParenLeft, ParenRight}
+use Rattle.modlex.specs.declared.lexer.TokenKind.TheVariants.{BracketLeft, BracketRight}
 use Rattle.modlex.specs.Bytes.{is_blank, is_string_byte, is_name_byte, is_slash_and}
 use Rattle.modlex.specs.Lines.{lines}
 use Rattle.modlex.specs.Lexer.{Lexeme, lexeme}
@@ -42,7 +42,7 @@ IsRun (b ∷ bs) rest = (is_name_byte b ≡ true) × (is_slash_and 47 b (bs ++ r
     × (is_slash_and 42 b (bs ++ rest) ≡ false) × IsRun bs rest
 
 -- a text is a token of this kind if `rest` comes after it
-abbrev pub IsLexeme : Kind → List ℕ → List ℕ → Type 0
+abbrev pub IsLexeme : TokenKind → List ℕ → List ℕ → Type 0
 IsLexeme ParenLeft text rest = text ≡ codes "("
 IsLexeme ParenRight text rest = text ≡ codes ")"
 IsLexeme BracketLeft text rest = text ≡ codes "["

@@ -1,7 +1,7 @@
 -- The values of tokens, as a relation on their spelling.
 use Rattle.std.specs.Prelude.{◌≡◌, ◌↔◌, ℕ, ◌==◌, List, [], ◌∷◌, ◌++◌, MatchBool}
-use Rattle.modlex.specs.declared.lexer.Kind.{Kind}
-use Rattle.modlex.specs.declared.lexer.Kind.TheVariants.{Quoted, Raw}
+use Rattle.modlex.specs.declared.lexer.TokenKind.{TokenKind}
+use Rattle.modlex.specs.declared.lexer.TokenKind.TheVariants.{Quoted, Raw}
 use Rattle.modlex.specs.Lexer.{Lexeme}
 use Rattle.modlex.specs.Symbols.{symbol_of}
 use Rattle.modlex.specs.Words.{value_of}
@@ -16,7 +16,7 @@ Spells (b ∷ c ∷ bs) value =
 
 -- a string has the value that the text between its marks spells, a raw string that text itself, and any other token its
 -- text
-abbrev pub HasValue : Kind → List ℕ → List ℕ → Type 0
+abbrev pub HasValue : TokenKind → List ℕ → List ℕ → Type 0
 HasValue Quoted text value = (content : List ℕ) × (text ≡ 34 ∷ (content ++ 34 ∷ [])) × Spells content value
 HasValue Raw text value = text ≡ 96 ∷ (value ++ 96 ∷ [])
 HasValue _ text value = value ≡ text

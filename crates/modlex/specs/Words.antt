@@ -1,7 +1,7 @@
 -- The computed values of tokens.
 use Rattle.std.specs.Prelude.{◌≡◌, ℕ, ◌==◌, List, [], ◌∷◌, ◌++◌, if◌then◌else◌}
-use Rattle.modlex.specs.declared.lexer.Kind.{Kind}
-use Rattle.modlex.specs.declared.lexer.Kind.TheVariants.{Quoted, Raw}
+use Rattle.modlex.specs.declared.lexer.TokenKind.{TokenKind}
+use Rattle.modlex.specs.declared.lexer.TokenKind.TheVariants.{Quoted, Raw}
 use Rattle.modlex.specs.Symbols.{Symbol}
 
 -- a text without its first byte, or without its last, if that is the given byte
@@ -24,7 +24,7 @@ plain_text [] = []
 plain_text (b ∷ []) = if b == 92 then [] else b ∷ []
 plain_text (b ∷ c ∷ bs) = if b == 92 then c ∷ plain_text bs else b ∷ plain_text (c ∷ bs)
 
-abbrev pub value_of_text : Kind → List ℕ → List ℕ
+abbrev pub value_of_text : TokenKind → List ℕ → List ℕ
 value_of_text Quoted text = plain_text (inside 34 text)
 value_of_text Raw text = inside 96 text
 value_of_text _ text = text

@@ -13,7 +13,7 @@ use std::alloc::{AllocError, AllocFailed, Global};
 
 /// The kind of a token.
 #[derive(Clone, Copy, Debug, PartialEq, Eq)]
-pub enum Kind {
+pub enum TokenKind {
     Name,
     Quoted,
     Raw,
@@ -35,7 +35,7 @@ pub struct Span {
 /// A token, whose text is a slice of the source.
 #[derive(Clone, Copy, Debug)]
 pub struct Token<'a> {
-    pub kind: Kind,
+    pub kind: TokenKind,
     pub line: usize,
     pub span: Span,
     pub text: &'a str,
@@ -163,34 +163,34 @@ fn name_len(bytes: &[u8]) -> Option<usize>
 }
 
 /// Returns the kind of a token of one byte, or `None` if the byte is not such a token.
-fn punctuation_kind(byte: u8) -> Option<Kind>
+fn punctuation_kind(byte: u8) -> Option<TokenKind>
     ensures value { result ≡ punctuation_kind byte }
     ensures ascii { IfSome result (λ _. byte < 128) }
 {
     match byte {
-        b'(' => Some(Kind::ParenLeft),
-        b')' => Some(Kind::ParenRight),
-        b'[' => Some(Kind::BracketLeft),
-        b']' => Some(Kind::BracketRight),
-        b',' => Some(Kind::Comma),
+        b'(' => Some(TokenKind::ParenLeft),
+        b')' => Some(TokenKind::ParenRight),
+        b'[' => Some(TokenKind::BracketLeft),
+        b']' => Some(TokenKind::BracketRight),
+        b',' => Some(TokenKind::Comma),
         _ => None,
     }
 }
 
-fn name_kind(name: &[u8]) -> Kind
+fn name_kind(name: &[u8]) -> TokenKind
     ensures { result ≡ name_kind name.now }
 {
     if name == b"=>".as_slice() {
-        Kind::Arrow
+        TokenKind::Arrow
     } else {
-        Kind::Name
+        TokenKind::Name
     }
 }
 
 /// Returns the kind and the length of the token at the front of `bytes`, or `None` if there is none.
 /// `bytes` begins with neither a blank nor a comment.
 #[tactic(auto, using(crate::proofs::Cuts::cuts), unfolding(crate::specs::Lexer::lexeme_at))]
-fn lexeme_at(bytes: &[u8]) -> Option<(Kind, usize)>
+fn lexeme_at(bytes: &[u8]) -> Option<(TokenKind, usize)>
     ensures value { result ≡ lexeme_at bytes.now }
     ensures within { IfSome result (λ found. (0 < found.1) × (found.1 ≤ length bytes.now)) }
     // No character is cut in two.
@@ -201,8 +201,8 @@ fn lexeme_at(bytes: &[u8]) -> Option<(Kind, usize)>
         return Some((kind, 1));
     }
     match first {
-        b'"' => Some((Kind::Quoted, quoted_len(rest)? + 1)),
-        b'`' => Some((Kind::Raw, raw_len(rest)? + 1)),
+        b'"' => Some((TokenKind::Quoted, quoted_len(rest)? + 1)),
+        b'`' => Some((TokenKind::Raw, raw_len(rest)? + 1)),
         _ if !is_name_byte(first) || is_slash_and(b'*', bytes, 0) => None,
         _ => {
             let len = name_len(rest)? + 1;

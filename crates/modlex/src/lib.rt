@@ -24,5 +24,5 @@ mod lexer;
 mod words;
 
 pub use crate::lexer::{
-    Kind, Span, Token, TokenFault, cut_line, first_tokens, line_tokens, tokens,
+    Span, Token, TokenFault, TokenKind, cut_line, first_tokens, line_tokens, tokens,
 };

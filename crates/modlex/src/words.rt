@@ -6,7 +6,7 @@ ghost use Rattle.std.specs.Cow.{cow_str_bytes, IsBorrowedStr};
 ghost use Rattle.modlex.specs.Symbols.{symbol, is_word, is_name_kind, is_arrow_kind};
 ghost use Rattle.modlex.specs.Words.{inside, plain_text, value_of, HasBackslash, HasEscape};
 
-use super::lexer::{Kind, Token};
+use super::lexer::{Token, TokenKind};
 use std::alloc::{AllocError, Global};
 use std::borrow::CowStr;
 
@@ -15,21 +15,24 @@ impl<'a> Token<'a> {
     pub fn is_word(&self) -> bool
         ensures { result ≡ is_word (symbol self.now) }
     {
-        matches!(self.kind, Kind::Name | Kind::Quoted | Kind::Raw)
+        matches!(
+            self.kind,
+            TokenKind::Name | TokenKind::Quoted | TokenKind::Raw
+        )
     }
 
     /// Whether the token is a name, as each keyword is.
     pub fn is_name(&self) -> bool
         ensures { result ≡ is_name_kind self.now.kind }
     {
-        matches!(self.kind, Kind::Name)
+        matches!(self.kind, TokenKind::Name)
     }
 
     /// Whether the token is the arrow `=>`.
     pub fn is_arrow(&self) -> bool
         ensures { result ≡ is_arrow_kind self.now.kind }
     {
-        matches!(self.kind, Kind::Arrow)
+        matches!(self.kind, TokenKind::Arrow)
     }
 
     /// Returns the value of the token: the content of a string, without the backslashes that escape, or the
@@ -41,8 +44,8 @@ impl<'a> Token<'a> {
         ensures borrowed { ¬ HasEscape (symbol self.now) → IsOkAnd result IsBorrowedStr }
     {
         match self.kind {
-            Kind::Quoted => plain_text(alloc, inside(self.text, '"')),
-            Kind::Raw => Ok(CowStr::Borrowed(inside(self.text, '`'))),
+            TokenKind::Quoted => plain_text(alloc, inside(self.text, '"')),
+            TokenKind::Raw => Ok(CowStr::Borrowed(inside(self.text, '`'))),
             _ => Ok(CowStr::Borrowed(self.text)),
         }
     }

@@ -13,7 +13,7 @@ use world::shelves::Shelves;
 
 /// The kind of a job.
 #[derive(Clone, Copy, Drop, PartialEq, Eq)]
-pub enum Kind {
+pub enum JobKind {
     /// Does the steps. Each step has a bit.
     Steps,
     /// Imports the rows of a list. Each row has a bit.
@@ -29,7 +29,7 @@ pub enum Kind {
 /// A job to do with a store.
 #[derive(Drop)]
 pub struct Job<'a> {
-    pub kind: Kind,
+    pub kind: JobKind,
     /// The steps or the requests, one a line.
     pub rows: &'a str,
     /// The output: the world for `Look`, the rows that were answered wrong for `Sweep`.
@@ -37,7 +37,7 @@ pub struct Job<'a> {
 }
 
 impl<'a> Job<'a> {
-    pub fn new(alloc: Global, kind: Kind, rows: &'a str) -> Job<'a> {
+    pub fn new(alloc: Global, kind: JobKind, rows: &'a str) -> Job<'a> {
         Job {
             kind,
             rows,
@@ -53,7 +53,7 @@ pub fn do_job<S: Alter>(
     job: &mut Job,
     chosen: u8,
 ) -> Result<u8, Fail> {
-    if job.kind == Kind::Extract && chosen != 0 {
+    if job.kind == JobKind::Extract && chosen != 0 {
         return take_part(alloc, shelves);
     }
     do_on_shelves(alloc, shelves, job, chosen)
@@ -89,16 +89,16 @@ fn do_on_shelves<S: Shelves>(
     chosen: u8,
 ) -> Result<u8, Fail> {
     match job.kind {
-        Kind::Steps => done(alloc, shelves, job.rows, chosen),
-        Kind::Import => imported(alloc, shelves, chosen),
-        Kind::Sweep if chosen != 0 => answered(
+        JobKind::Steps => done(alloc, shelves, job.rows, chosen),
+        JobKind::Import => imported(alloc, shelves, chosen),
+        JobKind::Sweep if chosen != 0 => answered(
             alloc,
             shelves,
             MapShelves::new(alloc)?,
             job.rows,
             &mut job.told,
         ),
-        Kind::Look => told_by(alloc, shelves, &mut job.told),
+        JobKind::Look => told_by(alloc, shelves, &mut job.told),
         _ => Ok(0),
     }
 }

@@ -1,5 +1,5 @@
 //! Changes that a stop breaks off at each call of a file, and the worlds that the files hold afterwards.
-use crate::jobs::{Job, Kind};
+use crate::jobs::{Job, JobKind};
 use crate::open::{Found, Halted, Left, NO_STOP, left_by, stop_at};
 use crate::steps::{ALL, SETUP};
 use sqlite_disk::Memory;
@@ -13,7 +13,7 @@ pub fn prepared(alloc: Global) -> Result<Left, Fail> {
         log: &none,
         db: &none,
     };
-    let mut setup = Job::new(alloc, Kind::Steps, SETUP);
+    let mut setup = Job::new(alloc, JobKind::Steps, SETUP);
     let left = left_by(alloc, found, &mut setup, ALL, NO_STOP)?;
     if left.acknowledged != ALL {
         return Err(Fail::new("the steps before are not done"));
@@ -23,7 +23,7 @@ pub fn prepared(alloc: Global) -> Result<Left, Fail> {
 
 /// Returns the world of the store in two files, or the empty text if it cannot be opened.
 fn world_of(alloc: Global, found: Found) -> Result<String, Fail> {
-    let mut look = Job::new(alloc, Kind::Look, "");
+    let mut look = Job::new(alloc, JobKind::Look, "");
     left_by(alloc, found, &mut look, 0, NO_STOP)?;
     Ok(look.told)
 }
@@ -130,7 +130,7 @@ fn wrong_stops(alloc: Global, found: Found, job: &mut Job, all: u8) -> Result<&'
 }
 
 /// Stops a job on files that hold what the steps of [`SETUP`] make. Returns the empty text, or what was wrong.
-fn wrong_job(alloc: Global, kind: Kind, steps: &str, all: u8) -> Result<&'static str, Fail> {
+fn wrong_job(alloc: Global, kind: JobKind, steps: &str, all: u8) -> Result<&'static str, Fail> {
     let before = prepared(alloc)?;
     let mut job = Job::new(alloc, kind, steps);
     wrong_stops(alloc, before.written(), &mut job, all)
@@ -143,7 +143,7 @@ fn wrong_extract(alloc: Global) -> Result<&'static str, Fail> {
         log: &none,
         db: &none,
     };
-    let mut job = Job::new(alloc, Kind::Extract, "");
+    let mut job = Job::new(alloc, JobKind::Extract, "");
     wrong_stops(alloc, found, &mut job, 1)
 }
 
@@ -152,7 +152,7 @@ const PUBLISH: &str =
 
 #[test]
 fn a_stopped_publish_leaves_all_or_nothing(rt: HostRuntime) -> Result<(), Fail> {
-    assert_eq!(rt; wrong_job(rt.alloc(), Kind::Steps, PUBLISH, 1)?, "");
+    assert_eq!(rt; wrong_job(rt.alloc(), JobKind::Steps, PUBLISH, 1)?, "");
     Ok(())
 }
 
@@ -164,14 +164,14 @@ key-add|beta|gammakey00000001 = Done
 
 #[test]
 fn a_stopped_command_leaves_all_or_nothing(rt: HostRuntime) -> Result<(), Fail> {
-    assert_eq!(rt; wrong_job(rt.alloc(), Kind::Steps, COMMANDS, 7)?, "");
+    assert_eq!(rt; wrong_job(rt.alloc(), JobKind::Steps, COMMANDS, 7)?, "");
     Ok(())
 }
 
 #[test]
 fn a_stopped_revocation_leaves_all_or_nothing(rt: HostRuntime) -> Result<(), Fail> {
     let steps = "key-revoke|alphakey00000001 = Done";
-    assert_eq!(rt; wrong_job(rt.alloc(), Kind::Steps, steps, 1)?, "");
+    assert_eq!(rt; wrong_job(rt.alloc(), JobKind::Steps, steps, 1)?, "");
     Ok(())
 }
 
@@ -182,13 +182,13 @@ keys-revoke|alpha = Done
 
 #[test]
 fn a_stopped_revocation_of_all_keys_leaves_all_or_nothing(rt: HostRuntime) -> Result<(), Fail> {
-    assert_eq!(rt; wrong_job(rt.alloc(), Kind::Steps, REVOCATION, 3)?, "");
+    assert_eq!(rt; wrong_job(rt.alloc(), JobKind::Steps, REVOCATION, 3)?, "");
     Ok(())
 }
 
 #[test]
 fn a_stopped_import_keeps_the_rows_that_were_told(rt: HostRuntime) -> Result<(), Fail> {
-    assert_eq!(rt; wrong_job(rt.alloc(), Kind::Import, "", 3)?, "");
+    assert_eq!(rt; wrong_job(rt.alloc(), JobKind::Import, "", 3)?, "");
     Ok(())
 }
 

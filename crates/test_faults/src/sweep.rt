@@ -1,6 +1,6 @@
 //! Requests that a store answers while calls of its files fail. Each gets the 503, or the reply of shelves in maps that
 //! took only the requests that the store did not answer with the 503.
-use crate::jobs::{Job, Kind};
+use crate::jobs::{Job, JobKind};
 use crate::open::{Left, NO_STOP, left_by, stop_at};
 use crate::requests::wrong_reply;
 use crate::stops::prepared;
@@ -30,7 +30,7 @@ const COUNT: u8 = 8;
 /// request was answered right and the last run answered all, and otherwise what was wrong.
 fn wrong_of(alloc: Global, of_log: bool) -> Result<String, Fail> {
     let before = prepared(alloc)?;
-    let mut sweep = Job::new(alloc, Kind::Sweep, REQUESTS);
+    let mut sweep = Job::new(alloc, JobKind::Sweep, REQUESTS);
     let opened = left_by(alloc, before.written(), &mut sweep, 0, NO_STOP)?;
     for calls in calls_of(&opened, of_log)..MOST {
         let left = left_by(

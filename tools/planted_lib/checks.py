@@ -96,8 +96,8 @@ def prove(crate):
 
 
 class Room:
-    """Copies of a crate, of its kept work and of the libraries below, for one round; the crate's own is made anew
-    for each check."""
+    """Copies of a crate, of its kept work and of the libraries below, for one round at a time; the crate's own is made
+    anew for each check."""
 
     def __init__(self, crate, root, keep, number):
         self.crate, self.root, self.keep, self.number, self.checks = crate, root, keep, number, 0

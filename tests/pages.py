@@ -1,11 +1,11 @@
 #!/usr/bin/env python3
 """Checks the pages of the repository, each *.md file that git knows or would add.
 
-Of each page: links lead to files and headings that exist; commits, files, crates and items that it cites in backticks
-exist; a line has at most 100 characters, a table cell 120, and the README 120 lines. The blocks marked `sh run` of a
-page run one after another in one shell, in a folder of their own with the built program and tools/ on the path. A block
-marked `output` is what the last block before it that runs has to print. A sheet of docs/theorems/ is what
-tools/theorems prints. With names of pages, only those are checked. tools/pages calls it too.
+Of each page: links lead to files and headings that exist; commits, files, crates, items and names with an underscore
+that it cites in backticks exist; a line has at most 100 characters, a table cell 120, and the README 120 lines. The
+blocks marked `sh run` of a page run one after another in one shell, in a folder of their own with the built program and
+tools/ on the path. A block marked `output` is what the last block before it that runs has to print. A sheet of
+docs/theorems/ is what tools/theorems prints. With names of pages, only those are checked. tools/pages calls it too.
 """
 
 import os
@@ -24,10 +24,15 @@ LONGEST_README = 120
 LONGEST_CELL = 120
 LONGEST_LINE = 100
 SHEETS = "docs/theorems/"
+# what runs printed, with the names of their day
+RUNS = "bench/runs/"
 # folders and files at the top whose names pages cite in backticks
 PLACES = re.compile(r"(?:\.ci|bench|crates|deploy|docs|examples|tests|tools)/[\w./*-]+|[\w-]+\.(?:md|txt)")
 COMMIT = re.compile(r"(?=.*\d)(?=.*[a-f])[0-9a-f]{7,12}")
 ITEM = re.compile(r"\w+(?:::\w+)+")
+NAME = re.compile(r"[A-Za-z]\w*_\w+")
+# files of crates, which pages cite from a crate's folder on, or by their own name
+SOURCE = re.compile(r"(?:[a-z]\w*/)*\w+\.(?:rt|antt)")
 FENCE = re.compile(r"^```([^\n]*)\n(.*?)^```$", re.M | re.S)
 MARK = "---- the end of a block ----"
 
@@ -100,8 +105,11 @@ def is_there(name):
 
 def bad_files(text):
     """The files that a page cites and that do not exist."""
-    cited = {word for code in codes(text) for word in code.split() if PLACES.fullmatch(word)}
-    return sorted(it for it in cited if "/out/" not in it and not is_there(it))
+    cited = {word for code in codes(text) for word in code.split()}
+    bad = {it for it in cited if PLACES.fullmatch(it) and "/out/" not in it and not is_there(it)}
+    sources = [it for it in cited if SOURCE.fullmatch(it) and not PLACES.fullmatch(it)]
+    held = "\n".join(lines_of("git", "ls-files", "-co", "--exclude-standard", "crates")) + "\n" if sources else ""
+    return sorted(bad | {it for it in sources if f"/{it}\n" not in held})
 
 
 def crates():
@@ -118,11 +126,17 @@ def words_of(crate):
     return found
 
 
+def names_beside_pages():
+    """Each word with an underscore of the files that are no pages."""
+    return set(lines_of("git", "grep", "--untracked", "-hIoE", r"\w+_\w+", "--", ":!*.md"))
+
+
 def bad_names(text, own, used, known):
-    """The crates and the items that a page cites and that do not exist."""
+    """The crates, the items and the names with an underscore that a page cites and that do not exist."""
     cited = codes(text)
     bad = [it for it in cited if re.fullmatch(r"(?:test|bench)_\w+", it) and it not in own]
     bad += [it for it in re.findall(r"\bcrate `(\w+)`", prose(text)) if it not in own | used]
+    bad += sorted(it for it in cited if NAME.fullmatch(it) and it not in known["beside"])
     for item in sorted(it for it in cited if ITEM.fullmatch(it)):
         first, *_, last = item.split("::")
         if first in own:
@@ -238,7 +252,7 @@ def check(suite, page, known, wrong):
         ("links", bad_links(page, text)),
         ("commits", bad_commits(text)),
         ("files", bad_files(text)),
-        ("crates and items", bad_names(text, own, used, known)),
+        ("crates and items", [] if page.startswith(RUNS) else bad_names(text, own, used, known)),
         ("table cells", bad_cells(text)),
         ("lines", bad_lines(text)),
     ):
@@ -253,7 +267,7 @@ def check(suite, page, known, wrong):
 
 def main():
     suite = Suite()
-    known, wrong = {"*": words_of("*")}, wrong_sheets()
+    known, wrong = {"*": words_of("*"), "beside": names_beside_pages()}, wrong_sheets()
     for page in sys.argv[1:] or lines_of("git", "ls-files", "-co", "--exclude-standard", "*.md"):
         if not page.startswith("-"):
             check(suite, page, known, wrong)

@@ -2,10 +2,13 @@
 """`goshelf catalog --control S`: a running `serve` prints the catalog of a key, and serves others between its lines.
 
 The lines are compared with those of `catalog --db`, which `catalog` compares with what goshelf answers. A catalog that
-has to last is one of many lines, or is read slowly.
+has to last is one of many lines, or is read slowly. The command prints all of them or nothing, and `serve` never waits
+for who reads what it prints.
 """
 
+import hashlib
 import os
+import shutil
 import signal
 import socket
 import subprocess
@@ -28,6 +31,8 @@ from lib.tables import connected, put_versions, settled
 PATHS, VERSIONS = 8, 3_000
 # seconds between two reads of a catalog that is read slowly, and those that a line may wait for its operator
 PACE, PATIENCE = 0.1, 2
+# seconds that a pager takes no line of what the command prints, and those that a peer may wait meanwhile
+PAUSE, MOST = 10, 1
 # peers who ask on and on, and the seconds that one may wait on a busy machine
 PEERS, LONGEST = 8, 4
 # what is published while the store is served, as in lib/catalog_store.py
@@ -39,6 +44,7 @@ M example.com/gamma/pseudo v0.0.0-20261111120000-abcdefabcdef - 30
 C example.com/log v1.2.1 2026-11-28 1
     retract [v1.0.0, v1.2.0]
 """
+MIB = 1 << 20
 LINE = b'{"Path":"example.com/a","Version":"v1.0.0"}\n'
 # the words that a catalog may end with, and those of other orders
 WORDS = ("no-key", "device", "memory", "busy", "ended")
@@ -104,21 +110,26 @@ class Slow:
         return bytes(self.got)
 
 
-def into_a_file():
-    """Starts the command, whose lines go into a file, and waits for the first of them."""
+def started():
+    """Starts the command."""
     words = [PROGRAM, "catalog", "--control", CONTROL, "--key", KEY]
-    with open("lines", "wb") as file:
-        child = subprocess.Popen(words, stdout=file, stderr=subprocess.PIPE)
+    return subprocess.Popen(words, stdout=subprocess.PIPE, stderr=subprocess.PIPE)
+
+
+def begun(server):
+    """Starts the command, and waits until its catalog has begun: then another is refused."""
+    child = started()
     for _ in range(6_000):
-        if os.path.getsize("lines"):
+        if server.order(order_of(KEYS["N"])) == b"busy\n":
             return child
-        time.sleep(0.005)
+        time.sleep(0.001)
     sys.exit("the catalog does not begin")
 
 
-def is_front(printed, lines):
-    """Whether whole lines were printed, some of these, from the first on, and not all."""
-    return 0 < len(printed) < len(lines) and printed.endswith(b"\n") and lines.startswith(printed)
+def ending(child):
+    """How a command ends: its status, what it printed, and the line of its refusal."""
+    printed, told = child.communicate(timeout=120)
+    return child.returncode, printed, told.decode()
 
 
 def same(suite):
@@ -216,25 +227,24 @@ def under_load(suite):
 def ended(suite):
     """What ends a catalog: its operator, an output that fails, the end of the server."""
     lines = large_store("served.db")
-    server = Server("served.db", CONTROL)
+    with open("errors", "wb") as errors:
+        server = Server("served.db", CONTROL, errors=errors)
     left(suite, server, lines)
     unread(suite, server, lines)
-    stopped(suite, server, lines)
+    stopped(suite, server)
     for name, number in (("a signal", signal.SIGTERM), ("a kill", signal.SIGKILL)):
         server = Server("served.db", CONTROL)
-        child = into_a_file()
+        child = begun(server)
         server.child.send_signal(number)
-        _, told = child.communicate(timeout=60)
-        suite.equal(f"{name}: no outcome", (child.returncode, told), (1, b"goshelf: io\n"))
-        suite.holds(f"{name}: lines are printed, and no part of one", is_front(read("lines"), lines))
+        suite.equal(f"{name}: no outcome, and no line is printed", ending(child), refusal("io"))
         server.ended()
 
 
 def left(suite, server, lines):
     """An operator who goes away ends a catalog, and one who only shuts its side does not."""
-    child = into_a_file()
+    child = begun(server)
     child.kill()
-    child.wait()
+    ending(child)
     suite.equal("a GET, once an operator has gone", server.status(get(LIST)), 200)
     suite.equal("the next catalog", next_catalog(), (0, lines, ""))
     with open("/dev/full", "wb") as full:
@@ -267,24 +277,43 @@ def unread(suite, server, lines):
         suite.equal("a GET, while an operator reads nothing", server.status(get(LIST)), 200)
         waited = time.monotonic() - begun
         suite.holds(f"it waits {PATIENCE} s", waited < PATIENCE + LONGEST, waited)
+        told = read("errors").decode().splitlines()[-1:]
+        suite.equal(
+            "and is told as ended", told, [f"order: catalog {hashlib.sha256(KEY.encode()).hexdigest()[:16]}: ended"]
+        )
         suite.equal("the next catalog", next_catalog(), (0, lines, ""))
         told = rest(held)
         suite.holds("who reads nothing is told no outcome", lines.startswith(told) and told != lines, told[-200:])
 
 
-def stopped(suite, server, lines):
+def stopped(suite, server):
     """An order to stop ends a catalog."""
-    child = into_a_file()
+    child = begun(server)
     suite.equal("stop, during a catalog", server.order(b"stop\n"), b"stopping\n")
-    _, told = child.communicate(timeout=60)
-    suite.equal("the catalog is told so", (child.returncode, told), (1, b"goshelf: ended\n"))
-    suite.holds("lines are printed, and no part of one", is_front(read("lines"), lines))
+    suite.equal("the catalog is told so, and no line is printed", ending(child), refusal("ended"))
     server.ended()
     suite.equal("serve ends well", (server.child.returncode, os.path.lexists(CONTROL)), (0, False))
 
 
+def paused(suite):
+    """A pager that takes no line for long holds up nobody, and gets all of them."""
+    lines = large_store("served.db")
+    server = Server("served.db", CONTROL)
+    child, waits, end = started(), [], time.monotonic() + PAUSE
+    while time.monotonic() < end:
+        at = time.monotonic()
+        assert server.status(get(LIST)) == 200
+        waits.append(time.monotonic() - at)
+        time.sleep(0.01)
+    suite.holds(f"no peer waits {MOST} s while a pager waits", max(waits) < MOST, max(waits))
+    suite.equal("another catalog meanwhile", next_catalog(), (0, lines, ""))
+    suite.equal("stop meanwhile", server.order(b"stop\n"), b"stopping\n")
+    server.ended()
+    suite.equal("the pager gets all lines", ending(child), (0, lines, ""))
+
+
 def replies(suite):
-    """What a false server tells: nothing but whole lines is printed, and only `done` ends the command well."""
+    """What a false server tells: only `done` ends the command well, and otherwise nothing is printed."""
     whole = LINE + LINE + b"done\n"
     cuts = [whole[:at] for at in range(len(whole))]
     told_by(suite, "io", *cuts, *ODD)
@@ -296,14 +325,22 @@ def replies(suite):
         line = f"{word}\n".encode()
         told_by(suite, word if word in WORDS else "io", line, LINE + line, LINE * 1_000 + line)
     unasked(suite)
+    if not shutil.which("prlimit"):
+        return suite.skip("memory", "there is no prlimit here")
+    limit = ["prlimit", f"--as={MIB << 5}"]
+    for size, wanted in ((1, (0, b"a" * MIB + b"\n", "")), (64, refusal("memory"))):
+        told = b"a" * size * MIB + b"\ndone\n"
+        ran, _ = by_false_server(["catalog", "--key", KEY, "--control"], told, before=limit)
+        suite.holds(f"32 MiB of memory and a catalog of {size} MiB", ran == wanted, (ran[0], len(ran[1]), ran[2]))
 
 
 def told_by(suite, word, *texts):
-    """How the command ends by each reply of a false server, of which it prints all but the last line."""
+    """How the command ends by each reply of a false server, of which it prints all but the last line if that is
+    `done`."""
     for told in texts:
         printed = told[: told[:-1].rfind(b"\n") + 1]
         ran, sent = by_false_server(["catalog", "--key", KEY, "--control"], told)
-        wanted = (1, printed, f"goshelf: {word}\n") if word else (0, printed, "")
+        wanted = refusal(word) if word else (0, printed, "")
         suite.equal(f"a server that tells {shown(told, 60)}", (ran, sent), (wanted, order_of(KEY)))
 
 
@@ -317,4 +354,4 @@ def unasked(suite):
 
 
 if __name__ == "__main__":
-    sys.exit(in_new_folders(Suite(), same, meanwhile, under_load, ended, replies))
+    sys.exit(in_new_folders(Suite(), same, meanwhile, under_load, paused, ended, replies))

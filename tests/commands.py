@@ -1,5 +1,5 @@
 #!/usr/bin/env python3
-"""What each command prints and how it ends: runs on one store, imports, inventories, and where `serve` listens.
+"""What each command prints and how it ends: runs on one store, inventories, and where `serve` listens.
 
 A table holds runs, which are made in order, as `runs_of` of lib/program.py reads them. Each run is to end with its
 status, print its lines, byte for byte, and say its word or nothing on standard error.
@@ -16,7 +16,6 @@ from lib.program import ROOT, run
 from lib.scratch import in_new_folders, read, write
 from lib.servers import Server
 from lib.suite import Suite
-from lib.worked import HEADER
 
 LIB_FILES = {"go.mod": "module example.com/lib\n", "zip": "", "long.mod": b" " * 1_048_577}
 LIB = """
@@ -65,85 +64,6 @@ answer --db store.db < A example.com/lib/@v/v1.0.0.mod | 0
     404 not found
 init --db store.db | 1 not-empty
 """
-LISTS = {
-    "two.csv": HEADER + "example.com/i,v1.0.0,,i.mod,i.zip\nexample.com/i,v1.1.0,2024-01-01T00:00:00Z,i.mod,i.zip\n",
-    "one.csv": HEADER + "example.com/i,v1.0.0,,i.mod,i.zip\n",
-    "no-mod.csv": HEADER + "example.com/i,v1.2.0,,none,i.zip\n",
-    "four.csv": (
-        HEADER + "example.com/i,v1.2.0,,i.mod,none\nexample.com//i,v1.2.0,,none,none\n"
-        "example.com/i,1.2.0,,none,none\nexample.com/i,v1.2.0,2024-01-01,i.mod,i.zip\n"
-    ),
-    # the empty line is no row
-    "three.csv": (
-        HEADER + "example.com/i,v1.3.0,,bad.mod,i.zip\nexample.com/i,v1.3.0,,long.mod,i.zip\n\n"
-        "example.com/i,v1.0.0,,i.mod,one.zip\n"
-    ),
-    "header.csv": HEADER,
-    "empty.csv": "",
-    "short-header.csv": "path,version,time,mod\n",
-    "other-header.csv": "path,version,time,zip,mod\nexample.com/i,v1.4.0,,i.mod,i.zip\n",
-    "row-of-four.csv": HEADER + "example.com/i,v1.4.0,,i.mod,i.zip\nexample.com/i,v1.5.0,,i.mod\n",
-    "row-of-six.csv": HEADER + "example.com/i,v1.5.0,,i.mod,i.zip,more\n",
-    "no-text.csv": HEADER.encode() + b"\xff,v1.0.0,,m,z\n",
-}
-LISTED = {
-    "i.mod": "module example.com/i\n",
-    "bad.mod": "modul example.com/i\n",
-    "long.mod": b" " * 1_048_577,
-    "i.zip": "",
-    "one.zip": "X",
-}
-IMPORTS = """
-team-add --db store.db --team alpha | 0
-key-add --db store.db --shelf alpha --key A | 0
-key-add --db store.db --shelf alpha --key R --read-only | 0
-import --db store.db --key A --list two.csv | 0
-    1 201 published
-    2 201 published
-import --db store.db --key A --list two.csv | 0
-    1 200 already published
-    2 200 already published
-import --db store.db --key N --list two.csv | 1
-    1 404 not found
-    2 404 not found
-import --db store.db --key R --list one.csv | 1
-    1 403 forbidden
-import --db store.db --key N --list no-mod.csv | 1
-    1 no file
-import --db store.db --key A --list four.csv | 1
-    1 no file
-    2 404 not found
-    3 404 not found
-    4 422 bad-time
-import --db store.db --key A --list three.csv | 1
-    1 422 bad-gomod 1
-    2 413 too large
-    3 409 conflict
-import --db store.db --key A --list header.csv | 0
-import --db store.db --key A --list empty.csv | 1 bad-row
-    0 bad row
-import --db store.db --key A --list short-header.csv | 1 bad-row
-    0 bad row
-import --db store.db --key A --list other-header.csv | 1 bad-row
-    0 bad row
-import --db store.db --key A --list row-of-four.csv | 1 bad-row
-    1 201 published
-    2 bad row
-import --db store.db --key A --list row-of-six.csv | 1 bad-row
-    1 bad row
-import --db store.db --key A --list no-text.csv | 1 bad-row
-    1 bad row
-import --db store.db --key A --list none.csv | 1 io
-inventory --db store.db --key A | 0
-    path,version,shelf,class,time,mod_bytes,zip_bytes
-    example.com/i,v1.0.0,alpha,release,,21,0
-    example.com/i,v1.1.0,alpha,release,2024-01-01T00:00:00Z,21,0
-    example.com/i,v1.4.0,alpha,release,,21,0
-import --db new.db --key A --list no-text.csv | 1 bad-row
-    1 bad row
-import --db new.db --key A --list none.csv | 1 io
-"""
-
 SEEN_FILES = {
     "x.mod": "module example.com/x\n",
     "y.mod": "module example.com/y\n",
@@ -208,11 +128,6 @@ def one_store(suite):
     suite.runs("runs on one store", LIB)
 
 
-def imports(suite):
-    write(LISTS | LISTED)
-    suite.runs("imports", IMPORTS)
-
-
 def seen(suite):
     write(SEEN_FILES)
     suite.runs("what a shelf sees", SEEN)
@@ -258,4 +173,4 @@ def address(suite):
 
 
 if __name__ == "__main__":
-    sys.exit(in_new_folders(Suite(), quick_start, one_store, imports, seen, serve, address))
+    sys.exit(in_new_folders(Suite(), quick_start, one_store, seen, serve, address))

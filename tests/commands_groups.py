@@ -55,6 +55,29 @@ key-add --db store.db --shelf platform --key shortkey1234567 | 1 name
 key-add --db store.db --shelf platform --key A | 1 taken
 key-add --db store.db --shelf Platform --key A | 1 no-team
 """
+# names come before teams, and teams before keys
+REGISTRY = """
+init --db store.db | 0
+team-add --db store.db --team Alpha | 1 name
+team-add --db store.db --team common | 1 name
+team-add --db store.db --team alpha | 0
+team-add --db store.db --team alpha | 1 taken
+key-add --db store.db --shelf nosuch --key short --read-only | 1 name
+key-add --db store.db --shelf nosuch --key A --read-only | 1 no-team
+key-add --db store.db --shelf alpha --key A --read-only | 0
+key-add --db store.db --shelf common --key A --read-only | 1 taken
+key-add --db store.db --shelf nosuch --key A --read-only | 1 no-team
+group-add --db store.db --group Platform | 1 name
+group-add --db store.db --group platform | 0
+group-add --db store.db --group platform | 1 taken
+team-add --db store.db --team gamma --group alpha | 1 no-group
+team-add --db store.db --team gamma --group platform | 0
+team-add --db store.db --team delta --group platform | 0
+team-add --db store.db --team delta --group nosuch | 1 taken
+key-add --db store.db --shelf platform --key P | 0
+key-add --db store.db --shelf gamma --key M | 0
+key-add --db store.db --shelf delta --key D | 0
+"""
 GROUP_FILES = {
     "g.mod": "module example.com/g\n",
     "h.mod": "module example.com/h\n",
@@ -192,8 +215,12 @@ def who(suite):
     suite.runs("who has keys", WHO)
 
 
+def registry(suite):
+    suite.runs("teams, groups and keys", REGISTRY)
+
+
 def made_keys(suite):
-    """`--new` prints a key that no other run prints, and adds it."""
+    """`--new` adds a key that no other run adds, and prints it."""
     suite.runs("made keys", "init --db store.db | 0\nteam-add --db store.db --team alpha | 0")
     made, words = [], "key-add --db store.db --shelf alpha --new".split()
     for _ in range(40):
@@ -214,8 +241,8 @@ def made_keys(suite):
     with open("/dev/full", "wb") as full:
         ran = subprocess.run([PROGRAM, *words], stdout=full, stderr=subprocess.PIPE, timeout=120)
     suite.equal("a key that cannot be printed", (ran.returncode, ran.stderr), (1, b"goshelf: io\n"))
-    suite.equal("it is not added", run("key-list --db store.db".split()), listed)
+    suite.equal("it is not there", run("key-list --db store.db".split()), listed)
 
 
 if __name__ == "__main__":
-    sys.exit(in_new_folders(Suite(), groups, who, made_keys))
+    sys.exit(in_new_folders(Suite(), groups, registry, who, made_keys))

@@ -15,7 +15,7 @@ import time
 
 from lib.keys import KEY, KEYS
 from lib.messages import get, put, reply
-from lib.peers import GOMOD, LIST, Load, rest
+from lib.peers import GOMOD, LIST, Load, by_false_server, rest
 from lib.program import PROGRAM, run, words_of
 from lib.scratch import in_new_folders, read
 from lib.servers import CONTROL, Server
@@ -77,13 +77,10 @@ catalog --key A | 0
 catalog --key N | 1 no-key
 catalog --key= | 1 no-key
 """
-# words that no line can carry, and how both end
+# words that no line can carry, and how both end, whether somebody listens or not
 UNSAYABLE = [
     (["group-add", "--group", "plat form"], "name"), (["team-add", "--team", "al\npha"], "name"),
     (["team-add", "--team", "alpha beta", "--group", "platform"], "name"),
-    (["team-add", "--team", "delta", "--group", "plat form"], "no-group"),
-    (["team-add", "--team", "alpha", "--group", "plat form"], "taken"),
-    (["team-add", "--team", "delta", "--group", "g" * 200], "no-group"),
     (["key-add", "--shelf", "al pha", "--key", KEYS["B"]], "no-team"),
     (["key-add", "--shelf", "alpha", "--key", KEY + "\n"], "name"),
     (["key-add", "--shelf", "al pha", "--key", "short"], "name"), (["key-revoke", "--key", KEY + " "], "no-key"),
@@ -94,6 +91,14 @@ UNSAYABLE = [
     (["key-revoke", "--fingerprint", "ccaaf6d9\n9f2c8ac7"], "no-key"),
     (["catalog", "--key", "k" * 200], "no-key"), (["catalog", "--key", KEY + " "], "no-key"),
 ]  # fmt: skip
+# groups that no line can carry, for which another word is sent, since only the store knows how these end
+BAD_GROUPS = [
+    (["team-add", "--team", "delta", "--group", "plat form"], "no-group"),
+    (["team-add", "--team", "alpha", "--group", "plat form"], "taken"),
+    (["team-add", "--team", "delta", "--group", "g" * 200], "no-group"),
+]  # fmt: skip
+# paths of copies that no line can carry
+BAD_PATHS = ["a b", "a\nb.db", "p" * 4_091, " "]
 # what is sent before the operator shuts its side, and what is told
 LINES = [
     (b"", b"bad\n"), (b"\n", b"bad\n"), (b"team-add", b"bad\n"), (b"team-add\n", b"bad\n"), (b"team-add \n", b"name\n"),
@@ -137,9 +142,10 @@ def orders(suite):
         name, *options = words_of(command)
         suite.equal(f"{command}, by --control", run([name, "--control", CONTROL, *options]), wanted)
         suite.equal(f"{command}, by --db", run([name, "--db", "other.db", *options]), wanted)
-    for words, word in UNSAYABLE:
+    for words, word in UNSAYABLE + BAD_GROUPS:
         for way in (["--control", CONTROL], ["--db", "other.db"]):
             suite.equal(f"{words}, by {way[0]}", run([words[0], *way, *words[1:]]), (1, b"", f"goshelf: {word}\n"))
+    unheard(suite)
     made(suite, server)
     answered(suite, server)
     server.kill()
@@ -148,18 +154,37 @@ def orders(suite):
         suite.equal(f"the key {key} is in both stores, or in none", told, [status, status])
 
 
+def unheard(suite):
+    """Words that no line can carry are refused before anybody is asked; all others need somebody who listens."""
+    copies = [(["copy", "--to", path], "name") for path in BAD_PATHS]
+    for words, word in UNSAYABLE + copies + [(words, "device") for words, _ in BAD_GROUPS]:
+        told = run([words[0], "--control", "nobody", *words[1:]])
+        suite.equal(f"{[it[:20] for it in words]} where nobody listens", told, (1, b"", f"goshelf: {word}\n"))
+    for path in BAD_PATHS:
+        told = run(["copy", "--control", CONTROL, "--to", path])
+        suite.equal(f"a copy to {path[:20]!r}", told, (1, b"", "goshelf: name\n"))
+
+
 def made(suite, server):
-    """A key that the program makes and prints."""
+    """A key that the program makes, adds and prints. None is printed that was not added, and none stays unprinted."""
+    words = ["key-add", "--control", CONTROL, "--shelf", "nosuch", "--new"]
+    suite.equal("a key for no shelf, by --control", run(words), (1, b"", "goshelf: no-team\n"))
     status, output, told = run(["key-add", "--control", CONTROL, "--shelf", "alpha", "--new"])
     suite.equal("a key that is made, by --control", (status, told), (0, ""))
     key = output.decode().strip()
     suite.holds("it has 26 of a-z0-9", re.fullmatch("[a-z0-9]{26}", key), output)
     suite.equal("it reads", server.told(get(LIST, key)), reply(404, b"not found\n"))
     suite.equal("the same key, by --db", run(["key-add", "--db", "other.db", "--shelf", "alpha", "--key", key])[0], 0)
+    listed = run(["key-list", "--control", CONTROL])
     with open("/dev/full", "wb") as full:
         words = [PROGRAM, "key-add", "--control", CONTROL, "--shelf", "alpha", "--new"]
         ran = subprocess.run(words, stdout=full, stderr=subprocess.PIPE, timeout=120)
     suite.equal("a made key that cannot be printed", (ran.returncode, ran.stderr), (1, b"goshelf: io\n"))
+    suite.equal("is revoked", run(["key-list", "--control", CONTROL]), listed)
+    for told, word in ((b"device\n", "device"), (b"taken\n", "taken"), (b"bad\n", "io"), (b"", "io")):
+        ended, sent = by_false_server(["key-add", "--shelf", "alpha", "--new", "--control"], told)
+        suite.equal(f"a made key of which a server tells {told!r}", ended, (1, b"", f"goshelf: {word}\n"))
+        suite.holds("was sent", re.fullmatch(b"key-add alpha [a-z0-9]{26}\n", sent), sent)
 
 
 def answered(suite, server):

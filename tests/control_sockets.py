@@ -33,6 +33,13 @@ REPLIES = {"done", "name", "taken", "no-team", "no-key", "no-group", "device", "
 # orders, their lines, and what may come of each: where anything else is told, the command ends with `io`
 ORDERS = (
     (["team-add", "--team", "gamma"], b"team-add gamma\n", REPLIES),
+    (["team-add", "--team", "alpha", "--group", "platform"], b"team-add alpha platform\n", REPLIES),
+    (["group-add", "--group", "platform"], b"group-add platform\n", REPLIES),
+    (["key-add", "--shelf", "alpha", "--key", KEY, "--read-only"], f"reader-add alpha {KEY}\n".encode(), REPLIES),
+    (["key-revoke", "--key", KEY], f"key-revoke {KEY}\n".encode(), REPLIES),
+    (["key-revoke", "--shelf", "alpha", "--all"], b"keys-revoke alpha\n", REPLIES),
+    # no line can carry the group, so the command asks whether the team is there
+    (["team-add", "--team", "alpha", "--group", "plat form"], b"team-add alpha ?\n", REPLIES),
     (["key-revoke", "--fingerprint", "ccaaf6d99f2c8ac7"], b"revoke-fingerprint ccaaf6d99f2c8ac7\n", REPLIES),
     (["copy", "--to", "one.db"], b"copy one.db\n", {"done", "device", "memory", "not-empty", "busy", "ended"}),
     (["stop"], b"stop\n", {"stopping", "device", "memory"}),

@@ -210,7 +210,11 @@ def refused(suite):
         suite.counts(f"a peer after {to!r}", None if server.status(get(LIST)) == 200 else "not answered")
     suite.equal("the files are as they were", [read(it) for it in FILES], before)
     # (opening a file that is no store leaves a log beside it)
-    suite.equal("and no others", [it for it in sorted(os.listdir(".")) if it not in names], ["other", "text-wal"])
+    suite.equal(
+        "and no others",
+        [it for it in sorted(os.listdir(".")) if it not in names],
+        ["other", "other.db-reserve", "text-wal"],
+    )
     for sent, told in LINES:
         suite.equal(f"told of {sent[:60]!r}", server.order(sent), told)
     suite.equal("no copy was made", os.path.lexists("one.db"), False)

@@ -66,6 +66,46 @@ FALSE = [
     LINE.replace(b" shelves", b" copying=1/-2 shelves"), LINE.replace(b" copied", b" copying=1/2 copied"),
     LINE.replace(b"shelves=2", b"shelves=3"),
 ]  # fmt: skip
+# what a server tells, what is printed, and how the ping ends; `;` is the end of a line, and `@` stands for OLD
+HEALTHS = """
+@ shelves=0|@ shelves=0|done
+@ bytes=4096 shelves=0|@ bytes=4096 shelves=0|done
+@ bytes=8192 log=32 copied=2026-11-26T18:50:00Z shelves=2;shelf alpha publishes=1 fetches=0;shelf common publishes=0 \
+fetches=7|@ bytes=8192 log=32 copied=2026-11-26T18:50:00Z shelves=2;shelf alpha publishes=1 fetches=0;shelf common \
+publishes=0 fetches=7|done
+@ copying=1200/50000 shelves=0|@ copying=1200/50000 shelves=0|done
+@ log=32 copied=2026-11-26T18:50:00Z copying=0/0 shelves=0|@ log=32 copied=2026-11-26T18:50:00Z copying=0/0 \
+shelves=0|done
+@||Io
+0@ shelves=0||Io
+@ shelves=0 ||Io
+@ shelves=00||Io
+@ shelves=1||Io
+@ shelves=0;||Io
+@ shelves=0;shelf alpha publishes=1 fetches=0||Io
+@ shelves=1;shelf Alpha publishes=1 fetches=0||Io
+@ shelves=1;shelf  publishes=1 fetches=0||Io
+@ shelves=2;shelf beta publishes=1 fetches=0;shelf alpha publishes=1 fetches=0||Io
+@ shelves=2;shelf alpha publishes=1 fetches=0;shelf alpha publishes=1 fetches=0||Io
+@ log=32 bytes=8192 shelves=0||Io
+@ copied=2026-11-26T24:50:00Z shelves=0||Io
+@ copying=1200 shelves=0||Io
+@ copying=1200/ shelves=0||Io
+@ copying=/50000 shelves=0||Io
+@ copying=1200/50000/1 shelves=0||Io
+@ copying=01200/50000 shelves=0||Io
+@ copying=1200/18446744073709551616 shelves=0||Io
+@ copying=1200/50000 copying=1200/50000 shelves=0||Io
+@ copying=1200/50000 copied=2026-11-26T18:50:00Z shelves=0||Io
+connections=124||Io
+device||Device
+memory||Memory
+busy||Io
+ended||Io
+done||Io
+bad||Io
+||Io
+"""
 # the place of each class of statuses among the counts
 CLASSES = [None, 2, 4, 5]
 NO_LINGER = struct.pack("ii", 1, 0)
@@ -307,12 +347,11 @@ def false(suite):
         suite.equal(f"a health of {len(line)} bytes", by_false_server(PING[:-1], line), ((0, line, ""), b"ping\n"))
     for told in FALSE:
         suite.equal(f"a server that tells {told[:60]!r}", by_false_server(PING[:-1], told), (refusal("io"), b"ping\n"))
-    for word in ("device", "memory"):
-        suite.equal(
-            f"one whose store tells {word}",
-            by_false_server(PING[:-1], f"{word}\n".encode()),
-            (refusal(word), b"ping\n"),
-        )
+    for row in HEALTHS.strip("\n").split("\n"):
+        told, printed, ended = (it.replace("@", OLD.decode().rstrip("\n")) for it in row.split("|"))
+        told, printed = (it.replace(";", "\n").encode() + b"\n" for it in (told, printed))
+        wanted = (0, printed, "") if ended == "done" else refusal(ended.lower())
+        suite.equal(f"the health {row[:80]}", by_false_server(PING[:-1], told), (wanted, b"ping\n"))
     with open("/dev/full", "wb") as full:
         new_store("served.db")
         server = Server("served.db", CONTROL)

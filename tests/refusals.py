@@ -15,9 +15,10 @@ from lib import stores
 from lib.keys import KEY, KEYS, SHELVES
 from lib.messages import put
 from lib.older import SCHEMA_2
-from lib.program import ROOT, answered, done, run
+from lib.program import ROOT, answered, done, refusal, run
 from lib.refusals import Refusals, new_store, word
-from lib.scratch import in_new_folders, write
+from lib.scratch import in_new_folders, read, write
+from lib.servers import CONTROL, Server
 from lib.stores import add_platform
 from lib.tables import PIECE, change, order_key, rank_key
 from lib.worked import HEADER
@@ -215,6 +216,40 @@ def migrations(suite):
     suite.wants("migrate: G has a version", "not-empty", word("migrate --from older.db --to newer.db"))
 
 
+def lone_logs(suite):
+    """A log stands at the name of a new store, whose file is missing or empty: each command says so, and keeps it."""
+    new_store("l.db")
+    new_store("served.db")
+    change("older.db", *([statement] for statement in filter(str.strip, SCHEMA_2.split(";"))))
+    server = Server("served.db", CONTROL)
+    commands = (
+        ("extract", ["extract", "--db", "l.db", "--team", "alpha", "--to"]),
+        ("migrate", ["migrate", "--from", "older.db", "--to"]),
+        ("copy", ["copy", "--control", CONTROL, "--to"]),
+    )
+    for name, words in commands:
+        to = os.path.abspath(f"{name}.db")
+        said = f"{to}-wal is a log without its store: move it away, or name another file\ngoshelf: not-empty\n"
+        log = read("l.db-wal")
+        write({f"{to}-wal": log})
+        suite.equal(f"{name}: a log alone", run([*words, to]), (1, b"", said))
+        suite.holds(f"{name}: no file is made", not os.path.lexists(to))
+        write({to: ""})
+        suite.equal(f"{name}: a log beside an empty file", run([*words, to]), (1, b"", said))
+        suite.equal(f"{name}: both are as they were", (read(to), read(f"{to}-wal")), (b"", log))
+        os.remove(f"{to}-wal")
+        suite.equal(f"{name}: the log was moved away", run([*words, to]), (0, b"", ""))
+        suite.equal(f"{name}: another store is there", run([*words, to]), refusal("not-empty"))
+        write({f"no-{name}.db-wal": "no log of SQLite\n"})
+        suite.equal(f"{name}: another file at the log's name", run([*words, f"no-{name}.db"]), refusal("device"))
+        write({f"new-{name}.db-wal": ""})
+        suite.equal(f"{name}: an empty log alone", run([*words, f"new-{name}.db"]), (0, b"", ""))
+    # (the path is that of serve, which may have another folder)
+    write({"near.db-wal": log})
+    suite.equal("copy: a log alone, by a near path", run([*commands[-1][1], "near.db"]), refusal("not-empty"))
+    server.kill()
+
+
 def names(suite):
     new_store("n.db")
     for cause, team in (
@@ -269,4 +304,4 @@ def memory(suite):
 
 
 if __name__ == "__main__":
-    sys.exit(in_new_folders(Refusals(), numbers, files, outcomes, extracts, migrations, names, memory))
+    sys.exit(in_new_folders(Refusals(), numbers, files, outcomes, extracts, migrations, lone_logs, names, memory))

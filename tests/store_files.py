@@ -18,7 +18,8 @@ from lib.scratch import in_new_folders, read, write
 from lib.servers import CONTROL, NEW_STORE, Server
 from lib.stores import new_store
 from lib.suite import Suite
-from lib.tables import PIECE
+from lib.sums import seal
+from lib.tables import PIECE, settled
 
 KEPT_FILES = {"go.mod": "module example.com/lib\n", "Z": "Z\n"}
 KEPT = """
@@ -92,8 +93,7 @@ def changed(name, sql):
     """Runs statements on a file by sqlite3, which copies the log into it, and returns its bytes."""
     conn = sqlite3.connect(name)
     conn.executescript(sql)
-    conn.execute("PRAGMA wal_checkpoint(TRUNCATE)")
-    conn.close()
+    settled(conn)
     return read(name)
 
 
@@ -204,6 +204,7 @@ def logged(name, made, later, stale=()):
     for sql in (made, *stale):
         conn.executescript(sql)
     conn.execute(f"PRAGMA wal_checkpoint({'RESTART' if stale else 'TRUNCATE'})")
+    seal(name)
     conn.executescript(later)
     files = {end: read(name + end) for end in ("", "-wal", "-shm")}
     conn.close()

@@ -240,6 +240,58 @@ example.com/x;example.com/y;
 GET B -/modules | 200 example.com/h;example.com/l;example.com/r;example.com/x;example.com/y;
 GET C -/modules | 200 example.com/h;example.com/l;example.com/r;example.com/x;example.com/y;
 """
+# on a new store with that group and these teams
+CHAIN_REQUESTS = """
+# group-publishes
+PUT P example.com/g/@v/v1.0.0 | 201 published; | | g
+# group-seen-by-members
+GET M example.com/g/@v/v1.0.0.zip | 200 g
+GET D example.com/g/@v/v1.0.0.zip | 200 g
+GET A example.com/g/@v/v1.0.0.zip | 404 not found;
+GET C example.com/g/@v/v1.0.0.zip | 404 not found;
+# member-under-group
+PUT M example.com/g/@v/v1.0.0 | 409 conflict; | | m
+PUT M example.com/g/@v/v1.0.0 | 200 already published; | | g
+# chain-publishes
+PUT M example.com/h/@v/v1.0.0 | 201 published; | | m
+PUT P example.com/h/@v/v1.0.0 | 201 published; | | h
+PUT C example.com/h/@v/v1.0.0 | 201 published; | | c
+# chain-view
+GET M example.com/h/@v/v1.0.0.zip | 200 m
+GET D example.com/h/@v/v1.0.0.zip | 200 h
+GET P example.com/h/@v/v1.0.0.zip | 200 h
+GET A example.com/h/@v/v1.0.0.zip | 200 c
+# chain-lists
+PUT D example.com/h/@v/v1.1.0 | 201 published; | | d
+PUT P example.com/h/@v/v1.2.0 | 201 published; | module example.com/h;retract [v1.1.0, v1.2.0]; | p
+GET M example.com/h/@v/list | 200 v1.0.0;v1.2.0;
+GET D example.com/h/@v/list | 200 v1.0.0;v1.1.0;v1.2.0;
+GET A example.com/h/@v/list | 200 v1.0.0;
+GET M example.com/h/@latest | 200 {"Version":"v1.0.0"}
+GET D example.com/h/@latest | 200 {"Version":"v1.0.0"}
+PUT D example.com/h/@v/v1.3.0 | 201 published;
+GET D example.com/h/@latest | 200 {"Version":"v1.3.0"}
+GET M example.com/h/@latest | 200 {"Version":"v1.0.0"}
+GET P example.com/h/@v/list | 200 v1.0.0;v1.2.0;
+PUT D example.com/own/@v/v1.0.0 | 201 published;
+GET M -/modules | 200 example.com/g;example.com/h;
+GET D -/modules | 200 example.com/g;example.com/h;example.com/own;
+GET P -/modules | 200 example.com/g;example.com/h;
+GET A -/modules | 200 example.com/h;
+GET M -/gosum/example.com/g/@v/v1.0.0 | 200 example.com/g v1.0.0/go.mod h1:OJ1klDEevVKLkxk3UnEX/d9Uk3DpmjQKYxb0X6M2RS0=;
+GET A -/gosum/example.com/g/@v/v1.0.0 | 404 not found;
+"""
+# the same, where common has nothing
+MEMBER_REQUESTS = """
+# a member and its group
+PUT M example.com/h/@v/v1.0.0 | 201 published; | | m
+PUT P example.com/h/@v/v1.0.0 | 201 published; | | h
+PUT D example.com/h/@v/v1.0.0 | 409 conflict; | | d
+GET M example.com/h/@v/v1.0.0.zip | 200 m
+GET D example.com/h/@v/v1.0.0.zip | 200 h
+GET P example.com/h/@v/v1.0.0.zip | 200 h
+GET A example.com/h/@v/v1.0.0.zip | 404 not found;
+"""
 # team-is-no-group and name-shared
 GROUP_COMMANDS = """
 team-add --db groups.db --team eps --group alpha | 1 no-group
@@ -385,10 +437,13 @@ def groups(suite):
     run(["answer", "--db", "groups.db"], b"".join(request for _, _, request, _ in rows_of(REQUESTS)))
     add_platform("groups.db")
     suite.runs("groups", GROUP_COMMANDS)
-    for where, ask in (("a run each", in_own_runs), ("one stream", in_one_stream), ("serve", by_serve)):
-        for end in ("", "-wal"):
-            shutil.copy(f"groups.db{end}", f"asked.db{end}")
-        ask(suite, f"groups, {where}", ["--db", "asked.db"], rows_of(GROUP_REQUESTS))
+    new_store("new.db", *SHELVES)
+    add_platform("new.db")
+    for store, table in (("groups", GROUP_REQUESTS), ("new", CHAIN_REQUESTS), ("new", MEMBER_REQUESTS)):
+        for where, ask in (("a run each", in_own_runs), ("one stream", in_one_stream), ("serve", by_serve)):
+            for end in ("", "-wal"):
+                shutil.copy(f"{store}.db{end}", f"asked.db{end}")
+            ask(suite, f"groups, {where}", ["--db", "asked.db"], rows_of(table))
 
 
 def over_memory(suite):

@@ -1,10 +1,10 @@
 -- What one run of the program does.
-use Rattle.std.specs.Prelude.{ℕ, List, ◌≡◌, ◌⊎◌, codes, Bool, Option, Result}
+use Rattle.std.specs.Prelude.{ℕ, List, ◌≡◌, ◌⊎◌, ◌++◌, codes, Bool, Option, Result, Err}
 use Rattle.histories.specs.Account.{Account}
 use Rattle.clap.specs.declared.error.kind.ErrorKind.{ErrorKind}
 use Rattle.clap.specs.declared.error.kind.ErrorKind.TheVariants.{DisplayHelp, DisplayVersion, OutOfMemory}
 use Rattle.commands.specs.declared.refusal.CommandRefusal.{CommandRefusal}
-use Rattle.commands.specs.declared.refusal.CommandRefusal.TheVariants.{Io, Memory}
+use Rattle.commands.specs.declared.refusal.CommandRefusal.TheVariants.{Io, Memory, NotEmpty}
 use Rattle.commands.specs.Exit.{exit_of, status_of, IsSilent, Says}
 use Rattle.commands.specs.ImportLine.{PrintsFront}
 use Rattle.commands.specs.declared.action.Action.TheVariants.{AddNew, Import, Publish, Register}
@@ -12,7 +12,7 @@ use Rattle.commands.specs.declared.action.Action.TheVariants.{RevokeNamed, Serve
 use Rattle.commands.specs.declared.exit.Exit.{Exit}
 use Rattle.commands.specs.declared.exit.Exit.TheVariants.{Done, Refused, BadUsage}
 use Rattle.runner.specs.declared.Command.{Command}
-use Rattle.runner.specs.declared.Command.TheVariants.{OnStore}
+use Rattle.runner.specs.declared.Command.TheVariants.{Copy, Extract, Migrate, OnStore}
 use Rattle.cli.specs.Asks.{Asks, IsShownFor}
 
 -- How a run ends that shows the parser's text in place of a command, by the text's kind: well for help and the version,
@@ -42,6 +42,10 @@ new_store_line = codes "new store: the file of --db is missing or empty; without
 abbrev pub new_file_line : List ℕ
 new_file_line = codes "new store: the file of --db is missing or empty\n"
 
+-- the line that says that a log stands where no store is, at the name of a new one
+abbrev pub lone_log_line : List ℕ → List ℕ
+lone_log_line to = to ++ codes "-wal is a log without its store: move it away, or name another file\n"
+
 -- nothing was written to the errors, or this line, or a beginning of it if a write failed
 abbrev pub MayPrint : Option (List ℕ) → Option (List ℕ) → List ℕ → Type 0
 MayPrint errors errors_new line = (errors_new ≡ errors) ⊎ PrintsFront errors errors_new line
@@ -57,6 +61,14 @@ MayWarn errors errors_new (OnStore db (Publish words files)) = MayPrint errors e
 MayWarn errors errors_new (OnStore db (Import key list)) = MayPrint errors errors_new new_file_line
 MayWarn errors errors_new other = errors_new ≡ errors
 
+-- Behind a command, nothing was written to the errors, but perhaps the line that a log stands at the name of its new
+-- store: if that is why it was refused.
+abbrev pub MayExplain : Option (List ℕ) → Option (List ℕ) → Command → Result Bool CommandRefusal → Type 0
+MayExplain errors errors_new (Extract db teams to) (Err NotEmpty) = MayPrint errors errors_new (lone_log_line to.now)
+MayExplain errors errors_new (Migrate from to) (Err NotEmpty) = MayPrint errors errors_new (lone_log_line to.now)
+MayExplain errors errors_new (Copy control to) (Err NotEmpty) = MayPrint errors errors_new (lone_log_line to.now)
+MayExplain errors errors_new command told = errors_new ≡ errors
+
 -- `words` are the words after the name of the program
 module _ {P : Type 0} (ran : Ran P) (words : List (List ℕ)) (old new : P) (came came_new : Account)
     (written written_new : Option (List ℕ)) where
@@ -65,7 +77,9 @@ module _ {P : Type 0} (ran : Ran P) (words : List (List ℕ)) (old new : P) (cam
     pub command : Command
     pub asks : Asks words command
     pub told : Result Bool CommandRefusal
-    pub tells : MayWarn errors errors_new command
+    pub errors_warned : Option (List ℕ)
+    pub warns : MayWarn errors errors_warned command
+    pub explains : MayExplain errors_warned errors_new command told
     pub runs : ran old new came came_new written written_new told command
     pub ends : ended ≡ exit_of told
 

@@ -4,7 +4,8 @@ ghost use Rattle.clap.specs.Values.{kind_of};
 ghost use Rattle.commands.specs.Exit.{IsSilent, Says, status_of};
 ghost use Rattle.commands.specs.ImportLine.{PrintsFront};
 ghost use Rattle.words.specs.Table.{texts};
-ghost use Rattle.cli.specs.Run.{EndsShown, Exits, RefusesWords, SparesOutput, MayWarn, new_file_line, new_store_line};
+ghost use Rattle.cli.specs.Run.{EndsShown, Exits, MayExplain, MayPrint, MayWarn, RefusesWords, SparesOutput};
+ghost use Rattle.cli.specs.Run.{lone_log_line, new_file_line, new_store_line};
 
 use crate::asked::command_of;
 use crate::system::{Runner, SystemStores};
@@ -13,7 +14,7 @@ use clap::error::ErrorKind;
 use commands::action::Action;
 use commands::exit::Exit;
 use commands::refusal::CommandRefusal;
-use engine::write::write_bytes;
+use engine::write::{write_both, write_bytes};
 use histories::{Hear, Tell};
 use runner::Command;
 use std::alloc::Global;
@@ -26,7 +27,8 @@ use words::{matches_of, no_form};
 ///
 /// A refusal prints one line `goshelf: <word>` on `errors`; `publish` prints its outcome on `output` instead, and
 /// `import` a line for each row. Bad usage prints the parser's text on `errors`. If the store is new, `serve` prints a
-/// line there, and so do commands that write to the store if that is a terminal. The texts of the parser are tested and
+/// line there, and so do commands that write to the store if that is a terminal. If a new store is refused because a
+/// log stands at its name, a line says so before the refusal. The texts of the parser are tested and
 /// not proved.
 pub fn command<'a, I: Hear, O: Tell, E: Tell>(
     rt: &'a HostRuntime,
@@ -67,6 +69,7 @@ pub fn command_by<P: Runner, I: Hear, O: Tell, E: Tell>(
     };
     tell_new_store(runner, &command, errors);
     let told = runner.run(&command, input, output);
+    explain(runner, &command, told, errors);
     end(Exit::of_command(told), errors)
 }
 
@@ -116,6 +119,41 @@ fn write_new_file<E: Tell>(errors: &mut E)
     ensures { PrintsFront (E.contents errors.old) (E.contents errors.new) new_file_line }
 {
     let _ = write_bytes(errors, b"new store: the file of --db is missing or empty\n");
+}
+
+/// Writes a line on `errors` if a command was refused because a log stands alone at the name of its new store.
+fn explain<P: Runner, E: Tell>(
+    runner: &P,
+    command: &Command,
+    told: Result<bool, CommandRefusal>,
+    errors: &mut E,
+)
+    ensures { MayExplain (E.contents errors.old) (E.contents errors.new) command.now told }
+{
+    if told != Err(CommandRefusal::NotEmpty) {
+        return;
+    }
+    match command {
+        Command::Extract { to, .. } | Command::Migrate { to, .. } => {
+            tell_lone_log(runner, to, errors);
+        }
+        // the server takes a path from another folder than this process
+        Command::Copy { to, .. } if to.starts_with('/') => tell_lone_log(runner, to, errors),
+        _ => {}
+    }
+}
+
+/// Writes a line on `errors` if a log stands alone at the name of a store, or a beginning of it if a write fails.
+fn tell_lone_log<P: Runner, E: Tell>(runner: &P, to: &str, errors: &mut E)
+    ensures { MayPrint (E.contents errors.old) (E.contents errors.new) (lone_log_line to.now) }
+{
+    if runner.has_lone_log(to) {
+        let _ = write_both(
+            errors,
+            to.as_bytes(),
+            b"-wal is a log without its store: move it away, or name another file\n",
+        );
+    }
 }
 
 /// Shows the parser's text, and returns how the run ended: help and the version on the output, and what is wrong with

@@ -2,6 +2,7 @@
 use commands::refusal::CommandRefusal;
 use file_action::host::ActionHost;
 use histories::{Hear, Tell};
+use runner::file_checks::FileChecks;
 use runner::found::{ClosedFile, OpenedStore};
 use runner::host::{Host, SystemHost};
 use runner::system::{SystemOlderFiles, SystemStoreFiles};
@@ -20,6 +21,10 @@ pub trait Runner {
 
     /// Whether a command begins with a new store, because the file is missing or empty and no log is left beside it.
     fn is_new(&self, db: &str) -> bool;
+
+    /// Whether there is no such file, or it has no bytes, and beside it stands a log that may be what is left of a
+    /// store.
+    fn has_lone_log(&self, name: &str) -> bool;
 
     /// Whether a person may see standard error, which is a terminal.
     fn is_watched(&self) -> bool;
@@ -55,6 +60,10 @@ impl<'a> Runner for SystemStores<'a> {
 
     fn is_new(&self, db: &str) -> bool {
         is_new_store(self.rt, db)
+    }
+
+    fn has_lone_log(&self, name: &str) -> bool {
+        SystemHost { rt: self.rt }.has_lone_log(name)
     }
 
     fn is_watched(&self) -> bool {

@@ -1,6 +1,6 @@
 -- How a fingerprint that no line can carry ends in each world.
 use Rattle.std.proofs.Common.{◌≡◌, ℕ, List, [], ◌∷◌, Bool, true, false, Option, Result, Ok, Err, refl, ◌∙◌, sym, ap}
-use Rattle.std.proofs.Common.{subst, arith}
+use Rattle.std.proofs.Common.{subst, arith, None, inl}
 use Rattle.std.specs.Prelude.{codes, cond, filter}
 use Rattle.std.specs.Cmp.Lexicographic.{bytes_decides}
 use Rattle.keyring.specs.KeyList.{fingerprint}
@@ -12,9 +12,10 @@ use Rattle.world.specs.World.{World}
 use Rattle.control.specs.Asking.{AsksToRevoke}
 use Rattle.control.specs.Line.{IsNaming, named_words}
 use Rattle.control.specs.declared.client.Untold.{Untold}
+use Rattle.control.specs.declared.client.Untold.TheVariants as untold
 use Rattle.control.specs.declared.outcome.Outcome.{Outcome}
 use Rattle.commands.specs.Ending.{ending}
-use Rattle.commands.specs.Order.{RevokesOver}
+use Rattle.commands.specs.Order.{RevokesOver, RevokesThere}
 use Rattle.commands.specs.SentOrder.{order_ending}
 use Rattle.commands.specs.declared.refusal.CommandRefusal.{CommandRefusal}
 use Rattle.commands.specs.declared.refusal.CommandRefusal.TheVariants.{NoKey}
@@ -59,3 +60,14 @@ revokes_over unread unread_new written written_new f told result asks ends = rec
       let unsaid = (subst (AsksToRevoke unread unread_new written written_new f) is asks).0 in
       ends ∙ ap (order_ending which.Registry NoKey) is ∙ none_revoked f unsaid w;
 }
+
+-- a fingerprint that no line can carry ends so without a connection
+pub unsent_revokes : (f : List ℕ) → ((sent : List ℕ) → ¬ IsNaming sent f) → RevokesThere f (Err NoKey)
+unsent_revokes f unsaid =
+    inl (
+      None,
+      None,
+      None,
+      None,
+      revokes_over None None None None f (Err untold.Words) (Err NoKey) (unsaid, tt) refl,
+    )

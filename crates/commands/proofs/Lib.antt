@@ -1,6 +1,4 @@
 mod InventoryLines
-mod LastLines
-mod CatalogEndings
 mod OutlineLines
 mod ImportLists
 mod Imports

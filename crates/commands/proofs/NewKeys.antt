@@ -1,59 +1,66 @@
--- A key that is added after its shelf was looked up.
-use Rattle.std.proofs.Common.{◌≡◌, ◌∙◌, ap, sym, ℕ, List, Some, None, Result, Ok, Err}
-use Rattle.std.specs.FinMap as map
-use Rattle.keyring.specs.Made.{key_of}
-use Rattle.world.proofs.Causes.{in_turn}
-use Rattle.world.specs.World.{World}
-use Rattle.world.specs.Store.{Shown, Reads}
+-- A key that is made, added and printed.
+use Rattle.std.proofs.Common.{◌≡◌, ◌∙◌, ◌⊎◌, ap, sym, inl, inr, ℕ, List, Option, Some, Result, Ok, Err}
+use Rattle.std.specs.Borrow.{Bor}
+use Rattle.histories.specs.Calls.{Writes}
+use Rattle.world.specs.Store.{Shown}
+use Rattle.world.specs.declared.entry.Right.{Right}
 use Rattle.world.specs.declared.registry.RegistryReply.{RegistryReply}
 use Rattle.world.specs.declared.registry.RegistryReply.TheVariants as registered
 use Rattle.world.specs.declared.registry.StoreFault.{StoreFault}
 use Rattle.world.specs.declared.registry.StoreFault.TheVariants as fault
-use Rattle.machine.proofs.AfterRead.{crash_after}
 use Rattle.control.specs.declared.registry_command.RegistryCommand.{RegistryCommand}
 use Rattle.commands.specs.Ending.{Registers, ending}
-use Rattle.commands.specs.NewKey.{Found, HasCause, Makes}
+use Rattle.commands.specs.NewKey.{AddsDrawn, AddsKey, AddsMade, EndsWithIo, HasCause, HasNoKeyOr, Shows}
+use Rattle.commands.specs.RandomBytes.{Drawn}
 use Rattle.commands.specs.declared.refusal.CommandRefusal.{CommandRefusal}
 use Rattle.commands.specs.declared.refusal.CommandRefusal.TheVariants.{Io}
 
--- a registry command that is carried out after the store was read
-pub registers_after : {T : Type 0} (old mid new : Shown) (found : T) (value : World → T) (order : RegistryCommand)
-    (result : Result (Unit {0}) CommandRefusal)
-    → Reads old mid (Ok found) value → Registers mid new order result → Registers old new order result
-registers_after old mid new found value order result reads registers = record {
-  told = registers.told;
-  does = record {
-    honest = λ h. reads.honest (registers.does.honest h);
-    at = λ h w stands fits.
-        let here = reads.at (registers.does.honest h) w stands in
-        let then = registers.does.at h w here.stays fits in
-        record {
-          answer = then.answer;
-          ok = then.ok;
-          err = then.err;
-          crash = crash_after old mid new w registers.told _ here.left then.crash;
-        };
-    cause = in_turn old mid new found registers.told reads.cause registers.does.cause;
-  };
-  ends = registers.ends;
-}
+-- ---- what is known of one that carries registry commands out holds of what is known less of
 
--- a key was made only for a shelf that is there, of the bytes
-pub made_is : (found : Found) (bytes key : List ℕ) → Makes found bytes (Ok key) → key_of bytes ≡ Some key
-made_is (Ok (Some parent)) bytes key made = made
-made_is (Ok None) bytes key made = cc
-made_is (Err fault.Device) bytes key made = cc
-made_is (Err fault.Memory) bytes key made = cc
+module _ {R T : Type 0} (registers : R → R → RegistryCommand → Result (Unit {0}) CommandRefusal → Type 0)
+    (others : T → T → RegistryCommand → Result (Unit {0}) CommandRefusal → Type 0) (at : R → T)
+    (then : (old new : R) (order : RegistryCommand) (ended : Result (Unit {0}) CommandRefusal)
+    → registers old new order ended → others (at old) (at new) order ended)
+    (shelf : Bor (List ℕ)) (right : Right) where
+  shows_so : (added : Result (Unit {0}) CommandRefusal) (key : Bor (List ℕ)) (mid new : R)
+      (written written_new : Option (List ℕ)) (result : Result (Unit {0}) CommandRefusal)
+      → Shows registers shelf right added key mid new written written_new result
+      → Shows others shelf right added key (at mid) (at new) written written_new result
+  shows_so (Ok u) key mid new written written_new result (inl printed) =
+      inl (printed.0, ap at printed.1, printed.2)
+  shows_so (Ok u) key mid new written written_new result (inr failed) =
+      let revoked = failed.1 in
+      inr (failed.0, (revoked.0, then _ _ _ _ revoked.1, revoked.2))
+  shows_so (Err refusal) key mid new written written_new result shows = (shows.0, ap at shows.1, shows.2)
 
--- a registry command that is carried out after a key was made
-pub registers_made : (old mid new : Shown) (shelf bytes key : List ℕ) (found : Found) (order : RegistryCommand)
-    (result : Result (Unit {0}) CommandRefusal)
-    → Makes found bytes (Ok key) → Reads old mid found (λ w. map.get w.shelves shelf)
-    → Registers mid new order result → Registers old new order result
-registers_made old mid new shelf bytes key (Ok parent) order result made reads registers =
-    registers_after old mid new parent (λ w. map.get w.shelves shelf) order result reads registers
-registers_made old mid new shelf bytes key (Err fault.Device) order result made reads registers = cc
-registers_made old mid new shelf bytes key (Err fault.Memory) order result made reads registers = cc
+  key_so : (key : Bor (List ℕ)) (old new : R) (written written_new : Option (List ℕ))
+      (result : Result (Unit {0}) CommandRefusal)
+      → AddsKey registers shelf right key old new written written_new result
+      → AddsKey others shelf right key (at old) (at new) written written_new result
+  key_so key old new written written_new result adds = record {
+    mid = at adds.mid;
+    added = adds.added;
+    adds = then _ _ _ _ adds.adds;
+    shows = shows_so adds.added key adds.mid new written written_new result adds.shows;
+  }
+
+  made_so : (bytes : List ℕ) (old new : R) (written written_new : Option (List ℕ))
+      (result : Result (Unit {0}) CommandRefusal)
+      → AddsMade registers shelf right bytes old new written written_new result
+      → AddsMade others shelf right bytes (at old) (at new) written written_new result
+  made_so bytes old new written written_new result (inl made) =
+      inl (made.0, made.1, key_so made.0 old new written written_new result made.2)
+  made_so bytes old new written written_new result (inr none) =
+      inr (none.0, none.1, none.2, ap at none.3, none.4)
+
+  pub drawn_so : (drawn drawn_new : Drawn) (old new : R) (written written_new : Option (List ℕ))
+      (result : Result (Unit {0}) CommandRefusal)
+      → AddsDrawn registers shelf right drawn drawn_new old new written written_new result
+      → AddsDrawn others shelf right drawn drawn_new (at old) (at new) written written_new result
+  drawn_so drawn drawn_new old new written written_new result (inl gave) =
+      inl (gave.0, gave.1, made_so gave.0 old new written written_new result gave.2)
+  drawn_so drawn drawn_new old new written written_new result (inr none) =
+      inr (none.0, none.1, ap at none.2, none.3)
 
 -- ---- why a command ends with `Io`
 
@@ -67,12 +74,10 @@ never_io (Ok registered.NoGroup) is = cc
 never_io (Err fault.Device) is = cc
 never_io (Err fault.Memory) is = cc
 
--- a registry command does not
-pub registers_cause : (old new : Shown) (order : RegistryCommand) (result : Result (Unit {0}) CommandRefusal)
-    (cause : Type 0) → Registers old new order result → HasCause result cause
-registers_cause old new order (Ok u) cause registers = tt
-registers_cause old new order (Err e) cause registers =
-    λ is. absurd (never_io registers.told (ap Err (sym is) ∙ registers.ends))
+-- no registry command of a store does
+pub never_registers : {S : Type 0} (shown : S → Shown)
+    → ¬ EndsWithIo (λ old new order ended. Registers (shown old) (shown new) order ended)
+never_registers shown ends = never_io ends.3.told ends.3.ends
 
 -- a command of which each cause is another has that
 pub cause_map : (result : Result (Unit {0}) CommandRefusal) (cause other : Type 0) → (cause → other)
@@ -80,7 +85,12 @@ pub cause_map : (result : Result (Unit {0}) CommandRefusal) (cause other : Type 
 cause_map (Ok u) cause other map has = tt
 cause_map (Err e) cause other map has = λ is. map (has is)
 
--- what is so is a cause of any end
-pub cause_of : (result : Result (Unit {0}) CommandRefusal) (cause : Type 0) → cause → HasCause result cause
-cause_of (Ok u) cause is = tt
-cause_of (Err e) cause is = λ io. is
+pub no_key_or : (cause other : Type 0) → (cause → other) → (drawn drawn_new : Drawn) (writes writes_new : Writes)
+    → HasNoKeyOr cause drawn drawn_new writes writes_new → HasNoKeyOr other drawn drawn_new writes writes_new
+no_key_or cause other map drawn drawn_new writes writes_new (inl failed) = inl failed
+no_key_or cause other map drawn drawn_new writes writes_new (inr (bytes, gives, inl none)) =
+    inr (bytes, gives, inl none)
+no_key_or cause other map drawn drawn_new writes writes_new (inr (bytes, gives, inr (inl failed))) =
+    inr (bytes, gives, inr (inl failed))
+no_key_or cause other map drawn drawn_new writes writes_new (inr (bytes, gives, inr (inr is))) =
+    inr (bytes, gives, inr (inr (map is)))

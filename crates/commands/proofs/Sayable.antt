@@ -23,17 +23,19 @@ use Rattle.world.specs.Registry.{is_top, is_group, lacks_group, team_added, afte
 use Rattle.world.specs.World.{World, IsWorld, common, is_team_name, is_key}
 use Rattle.world.proofs.Orders.{text_self}
 use Rattle.machine.specs.Machine.{after}
-use Rattle.control.specs.Asking.{IsUnsayable, Asks}
+use Rattle.control.specs.Asking.{Asks, IsUnsayable}
 use Rattle.control.specs.Line.{IsSaid, longest}
 use Rattle.control.specs.RegistryCommand.{add_word, said_in, event_of, outcome_in}
 use Rattle.control.specs.Words.{Said, space, line_end, is_word, is_word_byte, is_word_if, behind, text_of}
 use Rattle.control.specs.declared.client.Untold.{Untold}
+use Rattle.control.specs.declared.client.Untold.TheVariants as untold
 use Rattle.control.specs.declared.registry_command.RegistryCommand.{RegistryCommand}
 use Rattle.control.specs.declared.registry_command.RegistryCommand.TheVariants.{TeamAdd, GroupAdd, KeyAdd}
 use Rattle.control.specs.declared.registry_command.RegistryCommand.TheVariants.{KeyRevoke, KeysRevoke}
 use Rattle.control.specs.declared.outcome.Outcome.{Outcome}
 use Rattle.commands.specs.Ending.{ending}
-use Rattle.commands.specs.Order.{group_sent, IsSentFor, ComeToTheSame, refusal_by, unsayable, OrdersOver}
+use Rattle.commands.specs.Order.{no_name, group_sent, IsSentFor, ComeToTheSame, refusal_by, unsayable, OrdersOver}
+use Rattle.commands.specs.Order.{OrdersThere}
 use Rattle.commands.specs.SentOrder.{order_ending}
 use Rattle.commands.specs.declared.refusal.CommandRefusal.{CommandRefusal}
 use Rattle.commands.specs.declared.refusal.CommandRefusal.TheVariants.{NoTeam}
@@ -154,19 +156,20 @@ carried a b c s verb first second room =
 -- the group of a team fits in a line
 abbrev IsGroupSayable : Option (List ℕ) → Type 0
 IsGroupSayable None = Unit {0}
-IsGroupSayable (Some group) = (group ≡ common) ⊎ (is_team_name group ≡ true)
+IsGroupSayable (Some group) = (group ≡ no_name) ⊎ (is_team_name group ≡ true)
 
 sent_sayable : (group : Option (List ℕ)) → IsGroupSayable (group_sent group)
 sent_sayable None = tt
 sent_sayable (Some g) = go (is_team_name g) refl
   where
-    go : (b : Bool) → is_team_name g ≡ b → IsGroupSayable (if b then Some g else Some common)
+    go : (b : Bool) → is_team_name g ≡ b → IsGroupSayable (if b then Some g else Some no_name)
     go true named = inr named
     go false unnamed = inl refl
 
 group_fits : (group : Option (List ℕ)) → IsGroupSayable group → FitsIf 32 group
 group_fits None sayable = tt
-group_fits (Some g) sayable = shelf_fits g sayable
+group_fits (Some g) (inl same) = subst (Fits 32) (sym same) (word_fits 32 no_name refl refl refl)
+group_fits (Some g) (inr named) = team_fits g named
 
 common_no_group : (w : World) → is_group w common ≡ false
 common_no_group w = and_right (is_top (map.get w.shelves common)) (not (bytes_eq common common))
@@ -206,14 +209,15 @@ same_team : (w : World) (t : List ℕ) (group : Option (List ℕ)) → IsWorld w
 same_team w t None is = (refl, refl)
 same_team w t (Some g) is = go (is_team_name g) refl
   where
-    go : (b : Bool) → is_team_name g ≡ b → let group : Option (List ℕ) = if b then Some g else Some common in
+    go : (b : Bool) → is_team_name g ≡ b → let group : Option (List ℕ) = if b then Some g else Some no_name in
         (team_added w t group ≡ team_added w t (Some g))
         × (after_team_add w t group (team_added w t group) ≡ after_team_add w t (Some g) (team_added w t (Some g)))
     go true named = (refl, refl)
     go false unnamed =
-        let none = no_group w g is unnamed in (
-          ap (answer (is_team_name t) (map.contains_key w.shelves t)) (common_no_group w ∙ sym none),
-          refused w t common (common_no_group w) ∙ sym (refused w t g none),
+        let none = no_group w g is unnamed in
+        let never = no_group w no_name is refl in (
+          ap (answer (is_team_name t) (map.contains_key w.shelves t)) (never ∙ sym none),
+          refused w t no_name never ∙ sym (refused w t g none),
         )
 
 pub comes_to_the_same : (order sent : RegistryCommand) → IsSentFor order sent → ComeToTheSame sent order
@@ -351,3 +355,15 @@ orders_over unread unread_new written written_new order asked told result sends 
       let unsaid = (subst (Asks unread unread_new written written_new asked) is asks).0 in
       ends ∙ ap (order_ending which.Registry (unsayable asked)) is ∙ unsent_ends order asked sends unsaid w world;
 }
+
+-- one whose order no line can carry ends so without a connection
+pub unsent_over : (order asked : RegistryCommand) → IsSentFor order asked → IsUnsayable asked
+    → OrdersThere order (Err (unsayable asked))
+unsent_over order asked sends unsaid =
+    inl (
+      None,
+      None,
+      None,
+      None,
+      orders_over None None None None order asked (Err untold.Words) (Err (unsayable asked)) sends (unsaid, tt) refl,
+    )

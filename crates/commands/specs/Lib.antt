@@ -8,7 +8,6 @@ pub mod ImportLine
 pub mod ImportList
 pub mod Inventory
 pub mod Rows
-pub mod LastLine
 pub mod Lines
 pub mod Listing
 pub mod NewKey

@@ -1,96 +1,93 @@
--- A key that is made, printed and added.
+-- A key that is made, added and printed.
 use Rattle.std.specs.Prelude.{ℕ, ◌≡◌, ◌<◌, ◌⊎◌, ◌++◌, List, codes, Option, Some, None, Result, Ok, Err, IfErr}
 use Rattle.std.specs.Borrow.{Bor}
-use Rattle.std.specs.FinMap as map
 use Rattle.std.specs.Io.KnownBytes.{Appends}
 use Rattle.histories.specs.Calls.{Writes}
 use Rattle.keyring.specs.Made.{key_of}
-use Rattle.world.specs.Store.{Shown, Reads}
+use Rattle.world.specs.Store.{Shown}
 use Rattle.world.specs.declared.entry.Right.{Right}
-use Rattle.world.specs.declared.registry.StoreFault.{StoreFault}
-use Rattle.world.specs.declared.registry.StoreFault.TheVariants as fault
 use Rattle.control.specs.declared.registry_command.RegistryCommand.{RegistryCommand}
-use Rattle.control.specs.declared.registry_command.RegistryCommand.TheVariants.{KeyAdd}
+use Rattle.control.specs.declared.registry_command.RegistryCommand.TheVariants.{KeyAdd, KeyRevoke}
 use Rattle.commands.specs.Ending.{Registers}
 use Rattle.commands.specs.Order.{OrdersThere}
 use Rattle.commands.specs.Printed.{HasFailed, PrintsFront}
 use Rattle.commands.specs.RandomBytes.{Drawn, Gives, GivesNone, no_draws}
 use Rattle.commands.specs.declared.refusal.CommandRefusal.{CommandRefusal}
-use Rattle.commands.specs.declared.refusal.CommandRefusal.TheVariants.{NoTeam, Device, Memory, Io}
+use Rattle.commands.specs.declared.refusal.CommandRefusal.TheVariants.{Memory, Io}
 
--- the parent of a shelf that was looked up, if there is such a shelf
-abbrev pub Found : Type 0
-Found = Result (Option (Option (List ℕ))) StoreFault
+-- why these bytes make no key: memory ran out, or they make none
+abbrev pub MakesNone : List ℕ → CommandRefusal → Type 0
+MakesNone bytes refusal = (refusal ≡ Memory) ⊎ ((refusal ≡ Io) × (key_of bytes ≡ None))
 
--- the key that these bytes make, or why there is none: memory ran out, or they make none
+-- the key that they make, or why there is none
 abbrev pub MakesKey : List ℕ → Result (List ℕ) CommandRefusal → Type 0
 MakesKey bytes (Ok key) = key_of bytes ≡ Some key
-MakesKey bytes (Err refusal) = (refusal ≡ Memory) ⊎ ((refusal ≡ Io) × (key_of bytes ≡ None))
-
--- so it is for a shelf that was looked up: there is also none if there is no such shelf, or the store met a fault
-abbrev pub Makes : Found → List ℕ → Result (List ℕ) CommandRefusal → Type 0
-Makes (Ok (Some parent)) bytes made = MakesKey bytes made
-Makes (Ok None) bytes made = made ≡ Err NoTeam
-Makes (Err fault.Device) bytes made = made ≡ Err Device
-Makes (Err fault.Memory) bytes made = made ≡ Err Memory
+MakesKey bytes (Err refusal) = MakesNone bytes refusal
 
 -- the line of a key
 abbrev pub key_line : List ℕ → List ℕ
 key_line key = key ++ codes "\n"
 
--- why no key was ordered: none was made, and nothing was printed; or the output failed, and a beginning of the key's
--- line was printed, or all of it
-abbrev pub PrintsNone : Option (List ℕ) → Option (List ℕ) → Result (List ℕ) CommandRefusal → CommandRefusal → Type 0
-PrintsNone written written_new (Ok key) refusal = (refusal ≡ Io) × PrintsFront written written_new (key_line key)
-PrintsNone written written_new (Err why) refusal = (refusal ≡ why) × (written_new ≡ written)
+-- how a command ends whose key could not be printed: with `Io` if the key was revoked, and otherwise as that ended
+abbrev pub unprinted : Result (Unit {0}) CommandRefusal → CommandRefusal
+unprinted (Ok u) = Io
+unprinted (Err refusal) = refusal
 
--- The key that the bytes make was printed, and then this was done with the registry command that adds it.
-pub record PrintsIt (orders : RegistryCommand → Type 0) (shelf : Bor (List ℕ)) (right : Right) (bytes : List ℕ)
-    (written written_new : Option (List ℕ)) : Type 0 where
-  pub key : Bor (List ℕ)
-  pub is : key_of bytes ≡ Some key.now
-  pub prints : Appends written written_new (key_line key.now)
-  pub ordered : orders (KeyAdd shelf key right)
+-- `registers` says what happens when a registry command is carried out, by a store or by a `serve` that is asked.
+module _ {R : Type 0} (registers : R → R → RegistryCommand → Result (Unit {0}) CommandRefusal → Type 0)
+    (shelf : Bor (List ℕ)) (right : Right) where
+  -- From mid to new, after the key was added: it was printed whole. Or the output failed, so that a beginning of its
+  -- line was printed, or all of it, and then the key was revoked, or was to be.
+  abbrev pub Prints : Bor (List ℕ) → R → R → Option (List ℕ) → Option (List ℕ) → Result (Unit {0}) CommandRefusal
+      → Type 0
+  Prints key mid new written written_new result =
+      ((result ≡ Ok tt) × (new ≡ mid) × Appends written written_new (key_line key.now))
+      ⊎ (PrintsFront written written_new (key_line key.now)
+      × ((revoked : Result (Unit {0}) CommandRefusal) × registers mid new (KeyRevoke key) revoked
+      × (result ≡ Err (unprinted revoked))))
 
--- A key was made or was not, and none was ordered.
-pub record OrdersNone (is_made : Result (List ℕ) CommandRefusal → Type 0) (written written_new : Option (List ℕ))
-    (refusal : CommandRefusal) : Type 0 where
-  pub made : Result (List ℕ) CommandRefusal
-  pub makes : is_made made
-  pub prints : PrintsNone written written_new made refusal
+  -- what is done with a key by how its addition ended: if that failed, nothing more is done, and nothing printed
+  abbrev pub Shows : Result (Unit {0}) CommandRefusal → Bor (List ℕ) → R → R → Option (List ℕ) → Option (List ℕ)
+      → Result (Unit {0}) CommandRefusal → Type 0
+  Shows (Ok u) key mid new written written_new result = Prints key mid new written written_new result
+  Shows (Err refusal) key mid new written written_new result =
+      (result ≡ Err refusal) × (new ≡ mid) × (written_new ≡ written)
 
--- the key that the bytes make was printed, and then added as a registry command adds it that names it; or the shelf
--- was looked up, which changes nothing, and none was added
-abbrev pub AddsMade : Shown → Shown → Bor (List ℕ) → Right → List ℕ → Option (List ℕ) → Option (List ℕ)
-    → Result (Unit {0}) CommandRefusal → Type 0
-AddsMade old new shelf right bytes written written_new result =
-    PrintsIt (λ order. Registers old new order result) shelf right bytes written written_new
-    ⊎ ((refusal : CommandRefusal) × (result ≡ Err refusal)
-    × (found : Found) × Reads old new found (λ w. map.get w.shelves shelf.now)
-    × OrdersNone (Makes found bytes) written written_new refusal)
+  -- From old to new the key was to be added to the shelf, and then to be printed.
+  pub record AddsKey (key : Bor (List ℕ)) (old new : R) (written written_new : Option (List ℕ))
+      (result : Result (Unit {0}) CommandRefusal) : Type 0 where
+    pub mid : R
+    pub added : Result (Unit {0}) CommandRefusal
+    pub adds : registers old mid (KeyAdd shelf key right) added
+    pub shows : Shows added key mid new written written_new result
 
--- so it is with bytes that were drawn; or none could be drawn, and nothing was done
+  -- so it is of the key that the bytes make; or none was made, and nothing was done
+  abbrev pub AddsMade : List ℕ → R → R → Option (List ℕ) → Option (List ℕ) → Result (Unit {0}) CommandRefusal → Type 0
+  AddsMade bytes old new written written_new result =
+      ((key : Bor (List ℕ)) × (key_of bytes ≡ Some key.now) × AddsKey key old new written written_new result)
+      ⊎ ((refusal : CommandRefusal) × MakesNone bytes refusal × (result ≡ Err refusal) × (new ≡ old)
+      × (written_new ≡ written))
+
+  -- so it is with bytes that were drawn; or none could be drawn, and nothing was done
+  abbrev pub AddsDrawn : Drawn → Drawn → R → R → Option (List ℕ) → Option (List ℕ) → Result (Unit {0}) CommandRefusal
+      → Type 0
+  AddsDrawn drawn drawn_new old new written written_new result =
+      ((bytes : List ℕ) × Gives drawn drawn_new bytes × AddsMade bytes old new written written_new result)
+      ⊎ (GivesNone drawn drawn_new × (result ≡ Err Io) × (new ≡ old) × (written_new ≡ written))
+
+-- so it is of a store
 abbrev pub AddsNew : {S : Type 0} → (S → Shown) → Drawn → Drawn → S → S → Bor (List ℕ) → Right
     → Option (List ℕ) → Option (List ℕ) → Result (Unit {0}) CommandRefusal → Type 0
 AddsNew shown drawn drawn_new old new shelf right written written_new result =
-    ((bytes : List ℕ) × Gives drawn drawn_new bytes
-    × AddsMade (shown old) (shown new) shelf right bytes written written_new result)
-    ⊎ (GivesNone drawn drawn_new × (result ≡ Err Io) × (new ≡ old) × (written_new ≡ written))
+    AddsDrawn (λ old new order ended. Registers (shown old) (shown new) order ended) shelf right drawn drawn_new
+    old new written written_new result
 
--- the key that the bytes make was printed, and then an order was sent that adds it; or none was sent
-abbrev pub OrdersMade : Bor (List ℕ) → Right → List ℕ → Option (List ℕ) → Option (List ℕ)
-    → Result (Unit {0}) CommandRefusal → Type 0
-OrdersMade shelf right bytes written written_new result =
-    PrintsIt (λ order. OrdersThere order result) shelf right bytes written written_new
-    ⊎ ((refusal : CommandRefusal) × (result ≡ Err refusal)
-    × OrdersNone (MakesKey bytes) written written_new refusal)
-
--- so it is with bytes that were drawn; or none could be drawn, and nothing was printed
+-- so it is of a `serve` that is asked, of which nothing is known but what the orders say
 abbrev pub OrdersDrawn : Drawn → Drawn → Bor (List ℕ) → Right → Option (List ℕ) → Option (List ℕ)
     → Result (Unit {0}) CommandRefusal → Type 0
 OrdersDrawn drawn drawn_new shelf right written written_new result =
-    ((bytes : List ℕ) × Gives drawn drawn_new bytes × OrdersMade shelf right bytes written written_new result)
-    ⊎ (GivesNone drawn drawn_new × (result ≡ Err Io) × (written_new ≡ written))
+    AddsDrawn {R = Unit {0}} (λ old new order ended. OrdersThere order ended) shelf right drawn drawn_new tt tt
+    written written_new result
 
 -- so it is where nothing was drawn before
 abbrev pub OrdersNew : Bor (List ℕ) → Right → Option (List ℕ) → Option (List ℕ) → Result (Unit {0}) CommandRefusal
@@ -100,19 +97,32 @@ OrdersNew shelf right written written_new result =
 
 -- ---- why a command ends with `Io`
 
--- the bytes make no key, or the output failed
-abbrev pub IsUnprinted : List ℕ → Writes → Writes → Type 0
-IsUnprinted bytes writes writes_new = (key_of bytes ≡ None) ⊎ HasFailed writes writes_new
+-- a registry command ended with it
+abbrev pub EndsWithIo : {R : Type 0} → (R → R → RegistryCommand → Result (Unit {0}) CommandRefusal → Type 0) → Type 0
+EndsWithIo {R} registers = (old new : R) × (order : RegistryCommand) × registers old new order (Err Io)
+
+-- the output failed, or this is so
+abbrev pub FailsOr : Type 0 → Writes → Writes → Type 0
+FailsOr other writes writes_new = HasFailed writes writes_new ⊎ other
+
+-- the bytes make no key, or so it is
+abbrev pub IsUnmadeOr : Type 0 → List ℕ → Writes → Writes → Type 0
+IsUnmadeOr other bytes writes writes_new = (key_of bytes ≡ None) ⊎ FailsOr other writes writes_new
 
 -- so it is of the bytes that were drawn, or none could be drawn
-abbrev pub HasNoKey : Drawn → Drawn → Writes → Writes → Type 0
-HasNoKey drawn drawn_new writes writes_new =
+abbrev pub HasNoKeyOr : Type 0 → Drawn → Drawn → Writes → Writes → Type 0
+HasNoKeyOr other drawn drawn_new writes writes_new =
     (drawn.failed < drawn_new.failed)
-    ⊎ ((bytes : List ℕ) × Gives drawn drawn_new bytes × IsUnprinted bytes writes writes_new)
+    ⊎ ((bytes : List ℕ) × Gives drawn drawn_new bytes × IsUnmadeOr other bytes writes writes_new)
 
--- the line of a key was printed, so an order was sent
-abbrev pub IsPrinted : Option (List ℕ) → Option (List ℕ) → Type 0
-IsPrinted written written_new = (key : List ℕ) × Appends written written_new (key_line key)
+-- no registry command of a store ends with `Io`
+abbrev pub HasNoKey : Drawn → Drawn → Writes → Writes → Type 0
+HasNoKey drawn drawn_new writes writes_new = HasNoKeyOr ⊥ drawn drawn_new writes writes_new
+
+-- an order may
+abbrev pub HasNoKeyOrOrder : Drawn → Drawn → Writes → Writes → Type 0
+HasNoKeyOrOrder drawn drawn_new writes writes_new =
+    HasNoKeyOr ((order : RegistryCommand) × OrdersThere order (Err Io)) drawn drawn_new writes writes_new
 
 -- a command that ended with `Io` did so because of this
 abbrev pub HasCause : Result (Unit {0}) CommandRefusal → Type 0 → Type 0

@@ -1,11 +1,12 @@
 -- Orders that a command sends to a running `serve`.
-use Rattle.std.specs.Prelude.{ℕ, ◌≡◌, ◌⊎◌, if◌then◌else◌, Bool, List, Option, Some, None, option_copied, Result, Ok}
-use Rattle.std.specs.Prelude.{Err}
+use Rattle.std.specs.Prelude.{ℕ, ◌≡◌, ◌⊎◌, if◌then◌else◌, Bool, List, codes, Option, Some, None, option_copied}
+use Rattle.std.specs.Prelude.{Result, Ok, Err}
 use Rattle.std.specs.Borrow.{Bor}
-use Rattle.world.specs.World.{World, IsWorld, common, is_team_name, is_key}
+use Rattle.world.specs.World.{World, IsWorld, is_team_name, is_key}
 use Rattle.machine.specs.Machine.{after}
 use Rattle.keyring.specs.Revoke.{revoked_with}
-use Rattle.control.specs.Asking.{Asks, AsksToCopy, AsksToRevoke, AsksToStop}
+use Rattle.control.specs.Asking.{Asks, AsksToCopy, AsksToRevoke, AsksToStop, HasLine, IsSayable}
+use Rattle.control.specs.Line.{copy_words, longest, longest_copy, named_words}
 use Rattle.control.specs.declared.client.Untold.{Untold}
 use Rattle.control.specs.declared.client.Untold.TheVariants as untold
 use Rattle.control.specs.declared.registry_command.RegistryCommand.{RegistryCommand}
@@ -21,11 +22,14 @@ use Rattle.commands.specs.declared.sent_order.SentOrder.TheVariants.{Registry, C
 
 -- ---- what is sent
 
--- The group that is sent for one. A group whose name breaks the rule may fit in no line, so `common` replaces it, which
--- is no group either.
+-- a word that is no name, so no group has it
+abbrev pub no_name : List ℕ
+no_name = codes "?"
+
+-- the group that is sent for one: if its name breaks the rule, it may fit in no line, and `no_name` replaces it
 abbrev pub group_sent : Option (List ℕ) → Option (List ℕ)
 group_sent None = None
-group_sent (Some group) = if is_team_name group then Some group else Some common
+group_sent (Some group) = if is_team_name group then Some group else Some no_name
 
 -- this order is sent for that one
 abbrev pub IsSentFor : RegistryCommand → RegistryCommand → Type 0
@@ -69,12 +73,16 @@ pub record OrdersOver
   pub ends : result ≡ order_ending Registry (unsayable asked) told
   pub unsent : told ≡ Err untold.Words → EndsInEach order result
 
--- so it was over a connection, or there was none
+-- a line can carry the order that is sent for this one
+abbrev pub CanBeSent : RegistryCommand → Type 0
+CanBeSent order = (asked : RegistryCommand) × IsSentFor order asked × HasLine asked
+
+-- so it was over a connection, or there was none for an order that can be sent
 abbrev pub OrdersThere : RegistryCommand → Result (Unit {0}) CommandRefusal → Type 0
 OrdersThere order result =
     ((unread unread_new written written_new : Option (List ℕ))
     × OrdersOver unread unread_new written written_new order result)
-    ⊎ (result ≡ Err Device)
+    ⊎ ((result ≡ Err Device) × CanBeSent order)
 
 -- in each world, the command ends as the revocation of the key with this fingerprint does there
 abbrev pub EndsNamedInEach : List ℕ → Result (Unit {0}) CommandRefusal → Type 0
@@ -89,12 +97,12 @@ pub record RevokesOver (unread unread_new written written_new : Option (List ℕ
   pub ends : result ≡ order_ending Registry NoKey told
   pub unsent : told ≡ Err untold.Words → EndsNamedInEach f result
 
--- so it was over a connection, or there was none
+-- so it was over a connection, or there was none for the line
 abbrev pub RevokesThere : List ℕ → Result (Unit {0}) CommandRefusal → Type 0
 RevokesThere f result =
     ((unread unread_new written written_new : Option (List ℕ))
     × RevokesOver unread unread_new written written_new f result)
-    ⊎ (result ≡ Err Device)
+    ⊎ ((result ≡ Err Device) × IsSayable longest (named_words f))
 
 -- The line that orders a copy to the path was sent as `AsksToCopy` says, and the command ends by the result. A path that
 -- no line can carry counts as a name that breaks its rule.
@@ -104,12 +112,12 @@ pub record CopiesOver (unread unread_new written written_new : Option (List ℕ)
   pub asks : AsksToCopy unread unread_new written written_new path told
   pub ends : result ≡ order_ending Copy Name told
 
--- so it was over a connection, or there was none
+-- so it was over a connection, or there was none for the line
 abbrev pub CopiesThere : List ℕ → Result (Unit {0}) CommandRefusal → Type 0
 CopiesThere path result =
     ((unread unread_new written written_new : Option (List ℕ))
     × CopiesOver unread unread_new written written_new path result)
-    ⊎ (result ≡ Err Device)
+    ⊎ ((result ≡ Err Device) × IsSayable longest_copy (copy_words path))
 
 -- the line that ends a server was sent as `AsksToStop` says, and the command ends by the result
 pub record StopsOver (unread unread_new written written_new : Option (List ℕ))

@@ -36,9 +36,13 @@ outcome_ending outcome.Ended = Err refusal.Ended
 outcome_ending outcome.Stopping = Ok tt
 outcome_ending outcome.Bad = Err refusal.Io
 
+-- why a command is refused that was told no outcome, by why it is refused if no line can carry the order
+abbrev pub untold_ending : CommandRefusal → Untold → CommandRefusal
+untold_ending unsaid untold.Words = unsaid
+untold_ending unsaid untold.Memory = refusal.Memory
+untold_ending unsaid untold.Io = refusal.Io
+
 -- how a command ends, by the order that it sends, by why it is refused if no line can carry that, and by what was told
 abbrev pub order_ending : SentOrder → CommandRefusal → Result Outcome Untold → Result (Unit {0}) CommandRefusal
 order_ending sent unsaid (Ok outcome) = if may_have sent outcome then outcome_ending outcome else Err refusal.Io
-order_ending sent unsaid (Err untold.Words) = Err unsaid
-order_ending sent unsaid (Err untold.Memory) = Err refusal.Memory
-order_ending sent unsaid (Err untold.Io) = Err refusal.Io
+order_ending sent unsaid (Err why) = Err (untold_ending unsaid why)

@@ -30,7 +30,7 @@ pub enum Action<'a> {
     Register {
         command: RegistryCommand<'a>,
     },
-    /// `key-add --new`: makes a key, prints it, and adds it to a shelf.
+    /// `key-add --new`: makes a key, adds it to a shelf, and prints it.
     AddNew {
         shelf: &'a str,
         right: Right,

@@ -3,7 +3,7 @@
 //! | command | what it does | where |
 //! |---|---|---|
 //! | `team-add`, `group-add`, `key-add`, `key-revoke` | does one registry command, as the machine does | [`registry`] |
-//! | `key-add --new` | makes a key of random bytes, prints it, and adds it | [`new_key`], [`random_bytes`] |
+//! | `key-add --new` | makes a key of random bytes, adds it, and prints it | [`new_key`], [`random_bytes`] |
 //! | `key-revoke --fingerprint` | revokes the key that has a fingerprint | [`registry`] |
 //! | `publish` | asks the machine to publish two files, and prints the line of its outcome | [`publish`] |
 //! | `import` | asks the machine to publish each row of a list, with a line for each | [`import`], [`import_file`] |
@@ -15,7 +15,7 @@
 //! | `serve` | prints where it listens, answers each connection's message, and obeys orders between them | [`serve`] |
 //! | with `--control`; `copy`, `stop` | sends an order to `serve`, and ends by its outcome | [`order`], `sent_order` |
 //! | `key-list`, `shelf-list` with `--control` | asks a running `serve` for the list, and prints it | [`listing`] |
-//! | `catalog` with `--control` | prints the catalog of a running `serve` as it comes | [`served_catalog`] |
+//! | `catalog` with `--control` | prints the catalog of a running `serve`, once it came whole | [`served_catalog`] |
 //! | `ping` | asks a running `serve` for its health, and prints the line | [`ping`] |
 //! | `copy`, `import` | show on a terminal how far they are | [`progress`], [`copy_progress`], `import_progress` |
 //!
@@ -39,7 +39,6 @@ pub mod import_list;
 mod import_progress;
 pub mod inventory;
 mod inventory_text;
-mod last_line;
 pub mod laws;
 pub mod ledger;
 pub mod listing;
@@ -53,6 +52,7 @@ pub mod progress;
 pub mod publish;
 pub mod random_bytes;
 pub mod refusal;
+mod registrar;
 pub mod registry;
 pub mod report;
 pub mod requirements;

@@ -1,25 +1,35 @@
 //! The commands of the registry that are sent to a running `serve`, a copy of its store, and its end.
-ghost use Rattle.std.specs.Prelude.{◌≡◌, option_copied};
+ghost use Rattle.std.specs.Prelude.{◌≡◌, Err, MatchOption, option_copied};
 ghost use Rattle.commands.specs.Order as spec;
 
 use crate::copy_progress::{AwaitedCopy, patient_server_at};
 use crate::progress::StderrLine;
 use crate::refusal::CommandRefusal;
 use crate::sent_order::{SentOrder, order_ending};
-use control::{RegistryCommand, ask, ask_to_copy, ask_to_revoke, ask_to_stop, server_at};
+use control::{
+    RegistryCommand, ask, ask_to_copy, ask_to_revoke, ask_to_stop, has_copy_line, has_line,
+    has_naming_line, server_at,
+};
 use histories::{Hear, Hearing, Tell, Telling};
 use std::alloc::Global;
 use std::io::Write;
 use std::rt::HostRuntime;
-use world::names::{COMMON, is_key, is_team_name};
+use world::names::{is_key, is_team_name};
 
-/// Sends an order to the `serve` that listens at a socket, and ends as the same command does on the store of a file.
-/// Fails with the refusals of that command; with `Device` also if nobody listens there or the system refuses the
-/// connection; with `Memory` also if memory runs out for the line, and then nothing is sent; and with `Io` if no
-/// outcome of a registry command came. Then the order may have been carried out.
+/// What is sent for a group whose name breaks the rule: no group has this name either.
+const NO_NAME: &str = "?";
+
+/// Sends an order to the `serve` that listens at a socket, and ends as the same command does on the store of a file. An
+/// order that no line can carry ends as it would in any world, whether somebody listens or not. Fails with the refusals
+/// of that command; with `Device` also if nobody listens there or the system refuses the connection; with `Memory` also
+/// if memory runs out for the line, and then nothing is sent; and with `Io` if no outcome of a registry command came.
+/// Then the order may have been carried out.
 pub fn order_at(rt: &HostRuntime, path: &str, order: &RegistryCommand) -> Result<(), CommandRefusal>
     ensures { spec.OrdersThere order.now result }
 {
+    if let Some(refusal) = unsent_refusal(order) {
+        return Err(refusal);
+    }
     match server_at(rt, path) {
         Ok(server) => order_over(
             rt.alloc(),
@@ -28,6 +38,18 @@ pub fn order_at(rt: &HostRuntime, path: &str, order: &RegistryCommand) -> Result
             order,
         ),
         Err(_) => Err(CommandRefusal::Device),
+    }
+}
+
+/// Returns how a command ends whose order no line can carry, or None if one can.
+pub fn unsent_refusal(order: &RegistryCommand) -> Option<CommandRefusal>
+    ensures { MatchOption result (spec.CanBeSent order.now) (λ refusal. spec.OrdersThere order.now (Err refusal)) }
+{
+    let asked = with_sendable_group(order);
+    if has_line(&asked) {
+        None
+    } else {
+        Some(unsayable(&asked))
     }
 }
 
@@ -49,6 +71,8 @@ pub fn order_over<R: Hear, W: Tell>(
 }
 
 /// Returns the order to send for another: one that is equivalent in every world, and whose group can stand in a line.
+/// No refusal is right in every world for a team of a group that no line can carry: if the team is there it is `Taken`,
+/// otherwise `NoGroup`.
 fn with_sendable_group<'a>(order: &RegistryCommand<'a>) -> RegistryCommand<'a>
     ensures { spec.IsSentFor order.now result }
 {
@@ -61,12 +85,12 @@ fn with_sendable_group<'a>(order: &RegistryCommand<'a>) -> RegistryCommand<'a>
     }
 }
 
-/// The group that is sent for another: `common`, which is no group either, for one whose name breaks the rule.
+/// The group that is sent for another: `NO_NAME` for one whose name breaks the rule.
 fn group_to_send<'a>(group: Option<&'a str>) -> Option<&'a str>
     ensures { option_copied result ≡ spec.group_sent (option_copied group.entry) }
 {
     match group {
-        Some(name) => Some(if is_team_name(name) { name } else { COMMON }),
+        Some(name) => Some(if is_team_name(name) { name } else { NO_NAME }),
         None => None,
     }
 }
@@ -92,10 +116,14 @@ fn refusal_by(keeps: bool, refusal: CommandRefusal) -> CommandRefusal
 }
 
 /// Has the `serve` that listens at a socket revoke the key that has a fingerprint, and ends as the same command does on
-/// the store of a file. `NoKey` if no key has it or several have. Fails as `order_at` does otherwise.
+/// the store of a file. `NoKey` if no key has it or several have, or no line can carry it. Fails as `order_at` does
+/// otherwise.
 pub fn revoke_at(rt: &HostRuntime, path: &str, fingerprint: &str) -> Result<(), CommandRefusal>
     ensures { spec.RevokesThere fingerprint.now result }
 {
+    if !has_naming_line(fingerprint) {
+        return Err(CommandRefusal::NoKey);
+    }
     match server_at(rt, path) {
         Ok(server) => revoke_over(
             rt.alloc(),
@@ -132,6 +160,9 @@ pub fn revoke_over<R: Hear, W: Tell>(
 pub fn copy_at(rt: &HostRuntime, control: &str, path: &str) -> Result<(), CommandRefusal>
     ensures { spec.CopiesThere path.now result }
 {
+    if !has_copy_line(path) {
+        return Err(CommandRefusal::Name);
+    }
     let line = StderrLine::on_stderr(rt, "copy");
     match patient_server_at(rt, control, &line) {
         Ok(server) => copy_over(

@@ -30,7 +30,7 @@ pub enum CommandRefusal {
     /// The file has other tables than a store's (for `migrate`, than an older store's), or is no database.
     BadSchema,
     /// For `init`, the file has bytes already; for `extract`, `migrate` and `copy`, the new store has more than
-    /// `common`, or its file is that of the other store.
+    /// `common`, its file is that of the other store, or a log stands alone beside it.
     NotEmpty,
     /// For `copy` and `catalog`, the server makes another copy or prints another catalog.
     Busy,

@@ -57,9 +57,19 @@ pub(crate) fn order_ending(
                 Err(CommandRefusal::Io)
             }
         }
-        Err(Untold::Words) => Err(unsayable),
-        Err(Untold::Memory) => Err(CommandRefusal::Memory),
-        Err(Untold::Io) => Err(CommandRefusal::Io),
+        Err(why) => Err(untold_ending(unsayable, why)),
+    }
+}
+
+/// Returns why a command is refused that was told nothing of the order that it sent: `unsayable` if no line can carry
+/// that, `Memory` if memory ran out for the line, and otherwise `Io`.
+pub(crate) fn untold_ending(unsayable: CommandRefusal, why: Untold) -> CommandRefusal
+    ensures { result ≡ spec.untold_ending unsayable why }
+{
+    match why {
+        Untold::Words => unsayable,
+        Untold::Memory => CommandRefusal::Memory,
+        Untold::Io => CommandRefusal::Io,
     }
 }
 

@@ -10,7 +10,7 @@ use crate::moment::SystemCalendar;
 use crate::printing::{print_both, print_one};
 use crate::refusal::CommandRefusal;
 use control::{
-    Calendar, Copies, Doors, ended, opened, operators_at, remove_socket, serve_both, tell,
+    Calendar, Copies, Doors, ended, opened, operators_at, remove_socket, reserved, serve_both, tell,
 };
 use engine::Io;
 use engine::write::write_bytes;
@@ -21,6 +21,7 @@ use mio::unix::SourceFd;
 use mio::{Events, Interest, Poll, Token};
 use modver::TimeText;
 use socket::serve_on;
+use std::alloc::Global;
 use std::io::{self, ErrorKind};
 use std::net::{Ipv4Addr, TcpListener, TcpStream};
 use std::os::fd::{AsFd, AsRawFd, OwnedFd};
@@ -109,9 +110,19 @@ fn serve_operators<D: Calendar, S: Keyring, K: Copies<S>, O: Tell, E: Tell>(
     let Ok(operators) = operators_at(rt, path) else {
         return Err(CommandRefusal::Io);
     };
+    let has_room = <K as Copies<S>>::make_room(copies);
     match open_doors(rt, entrance, operators, output) {
         Ok(mut doors) => {
-            serve_told(rt, &mut doors, shelves, copies, since, connections, errors);
+            serve_told(
+                rt,
+                &mut doors,
+                shelves,
+                copies,
+                has_room,
+                since,
+                connections,
+                errors,
+            );
             remove_socket(rt, path);
             Ok(())
         }
@@ -122,12 +133,14 @@ fn serve_operators<D: Calendar, S: Keyring, K: Copies<S>, O: Tell, E: Tell>(
     }
 }
 
-/// Serves the callers of both doors, and tells before that what was opened, and after it that it ended.
+/// Serves the callers of both doors, and tells before that what was opened and whether all of the room is kept, and
+/// after it that it ended.
 fn serve_told<S: Keyring, K: Copies<S>, E: Tell>(
     rt: &HostRuntime,
     doors: &mut Doors,
     shelves: &mut S,
     copies: &K,
+    has_room: bool,
     since: TimeText,
     connections: u32,
     errors: &mut E,
@@ -138,6 +151,7 @@ fn serve_told<S: Keyring, K: Copies<S>, E: Tell>(
     let alloc = rt.alloc();
     let versions = copies.versions(shelves);
     tell(opened(alloc, copies.served(), versions), errors);
+    tell_room(alloc, has_room, errors);
     serve_both(
         alloc,
         rt,
@@ -150,6 +164,15 @@ fn serve_told<S: Keyring, K: Copies<S>, E: Tell>(
         errors,
     );
     tell(ended(alloc, copies.served()), errors);
+}
+
+/// Tells if not all of the room that is kept on the disk for orders is there.
+fn tell_room<E: Tell>(alloc: Global, has_room: bool, errors: &mut E)
+    ensures { WritesNotices (E.contents errors.old) (E.contents errors.new) }
+{
+    if !has_room {
+        tell(reserved(alloc, false), errors);
+    }
 }
 
 /// What takes the connections of both.

@@ -1,31 +1,39 @@
-//! The catalog of a key, asked of a running `serve` and printed as it comes.
-ghost use Rattle.std.specs.Prelude.{◌≡◌, [], OnOk};
+//! The catalog of a key, asked of a running `serve`, read whole and then printed.
+ghost use Rattle.std.specs.Prelude.{◌≡◌, ◌⊎◌, ◌≤◌, [], IfErr, OnOk, length, take};
+ghost use Rattle.control.specs.Listing.{AreLines};
+ghost use Rattle.commands.specs.Printed.{HasFailed};
 ghost use Rattle.commands.specs.ServedCatalog as spec;
 
-use crate::last_line::print_but_last;
 use crate::refusal::CommandRefusal;
-use crate::sent_order::{SentOrder, order_ending};
-use control::{Outcome, Untold, ask_for_catalog, outcome_in, server_at};
+use crate::report::print;
+use crate::sent_order::{SentOrder, order_ending, untold_ending};
+use control::{Unread, Untold, ask_for_catalog, has_catalog_line, outcome_in, read_all, server_at};
 use histories::{Hear, Hearing, Tell, Telling};
 use std::alloc::Global;
 use std::io;
 use std::os::unix::net::UnixStream;
 use std::rt::HostRuntime;
+use world::bytes::Bytes;
 
-/// Asks the `serve` that listens at a socket for the catalog of a key, and prints its lines as they come, until all
-/// came. `NoKey` if there is no such key, or no line can carry it: then nothing is printed. `Device` if nobody
-/// listens there, the system refuses the connection, or the store of that server met a fault; `Memory` if memory ran
-/// out there, or here for the line that asks; `Busy` if the server makes a copy or another catalog, and `Ended` if it
-/// ended this one; `Io` if what came does not end with the word of an outcome, or the output failed. Then a beginning
-/// of the lines is printed.
+/// Asks the `serve` that listens at a socket for the catalog of a key, reads all of it, prints its lines and returns
+/// true. The server waits for this process to read, and never for what it prints to.
+///
+/// `NoKey` if there is no such key, or no line can carry it. `Device` if nobody listens there, the system refuses the
+/// connection, or the store of that server met a fault; `Memory` if memory ran out there, or here for the catalog;
+/// `Busy` if the server makes a copy or another catalog, and `Ended` if it ended this one; `Io` if what came does not
+/// end with the word of an outcome: then nothing is printed. `Io` if the output failed: then a beginning of the lines
+/// is printed, or all of them.
 pub fn catalog_at<O: Tell>(
     rt: &HostRuntime,
     path: &str,
     key: &str,
     output: &mut O,
-) -> Result<(), CommandRefusal>
+) -> Result<bool, CommandRefusal>
     ensures { spec.CatalogsThere key.now (O.contents output.old) (O.contents output.new) result }
 {
+    if !has_catalog_line(key) {
+        return Err(CommandRefusal::NoKey);
+    }
     match waiting_server_at(rt, path) {
         Ok(server) => catalog_over(
             rt.alloc(),
@@ -45,59 +53,73 @@ fn waiting_server_at(rt: &HostRuntime, control: &str) -> io::Result<UnixStream> 
     Ok(server)
 }
 
-/// Writes the line that asks for the catalog of a key, prints the lines that come, but for the last, and ends by the
-/// word that this is. What ends without such a word was cut off. Fails as `catalog_at` does once it is connected.
+/// Writes the line that asks for the catalog of a key, reads all that comes, prints its lines if they are a whole
+/// catalog, and returns true. Fails as `catalog_at` does once it is connected. It takes memory for all the lines at
+/// once.
 pub fn catalog_over<R: Hear, W: Tell, O: Tell>(
     alloc: Global,
     reader: &mut R,
     writer: &mut W,
     key: &str,
     output: &mut O,
-) -> Result<(), CommandRefusal>
+) -> Result<bool, CommandRefusal>
     ensures catalogs { spec.CatalogsOver (R.remaining reader.old) (R.remaining reader.new)
         (W.contents writer.old) (W.contents writer.new) key.now
         (O.contents output.old) (O.contents output.new) result }
+    // It prints all, or nothing, unless a call of the output failed.
+    ensures whole { IfErr result (λ _. (O.contents output.new ≡ O.contents output.old)
+        ⊎ HasFailed (O.writes output.old) (O.writes output.new)) }
     // What was printed is flushed.
     ensures flushed { OnOk result ((O.writes output.new).unflushed ≡ []) }
 {
     let asked = ask_for_catalog(alloc, writer, key);
-    let told = print_asked(alloc, asked, reader, output);
-    order_ending(SentOrder::Catalog, CommandRefusal::NoKey, told)
+    print(hear_asked(alloc, asked, reader), output)
 }
 
-/// Prints what comes as `print_told` does, if it was asked for. Otherwise returns why it was not.
-fn print_asked<R: Hear, O: Tell>(
+/// Returns the lines of the catalog that comes, if it was asked for. Otherwise fails with why it was not.
+fn hear_asked<R: Hear>(
     alloc: Global,
     asked: Result<(), Untold>,
     reader: &mut R,
-    output: &mut O,
-) -> Result<Outcome, Untold>
-    ensures prints { spec.PrintsServed (R.remaining reader.old) (R.remaining reader.new)
-        (O.contents output.old) (O.contents output.new) result asked }
-    ensures flushed { OnOk result ((O.writes output.new).unflushed ≡ []) }
+) -> Result<Bytes, CommandRefusal>
+    ensures { spec.HearsAsked (R.remaining reader.old) (R.remaining reader.new) result asked }
 {
     match asked {
-        Ok(()) => print_told(alloc, reader, output),
-        Err(why) => Err(why),
+        Ok(()) => hear_catalog(alloc, reader),
+        Err(why) => Err(untold_ending(CommandRefusal::NoKey, why)),
     }
 }
 
-/// Prints the lines that come, but for the last, and returns the outcome that this tells. `Io` if it tells none, a read
-/// fails, memory runs out for a line, or the output fails: then a beginning of what came is printed.
-fn print_told<R: Hear, O: Tell>(
-    alloc: Global,
-    reader: &mut R,
-    output: &mut O,
-) -> Result<Outcome, Untold>
-    ensures tells { spec.TellsCatalog (R.remaining reader.old) (R.remaining reader.new)
-        (O.contents output.old) (O.contents output.new) result }
-    ensures flushed { OnOk result ((O.writes output.new).unflushed ≡ []) }
+/// Reads a catalog to the end of the stream, and returns its lines. Fails with what the last line says if that is not
+/// `done`; with `Memory` if memory runs out; and with `Io` if a read fails or the last line says nothing.
+fn hear_catalog<R: Hear>(alloc: Global, reader: &mut R) -> Result<Bytes, CommandRefusal>
+    ensures { spec.HearsCatalog (R.remaining reader.old) (R.remaining reader.new) result }
 {
-    let Ok(last) = print_but_last(alloc, reader, output) else {
-        return Err(Untold::Io);
+    let mut got = match read_all(alloc, reader) {
+        Ok(got) => got,
+        Err(Unread::Memory) => return Err(CommandRefusal::Memory),
+        Err(Unread::Io) => return Err(CommandRefusal::Io),
     };
-    match outcome_in(&last) {
-        Some(told) => Ok(told),
-        None => Err(Untold::Io),
+    let at = last_line_at(&got);
+    let Some(told) = outcome_in(&got[at..]) else {
+        return Err(CommandRefusal::Io);
+    };
+    order_ending(SentOrder::Catalog, CommandRefusal::NoKey, Ok(told))?;
+    got.truncate(at);
+    Ok(Bytes::new(got))
+}
+
+/// Returns where the last line of a text begins, with its end or without.
+fn last_line_at(text: &[u8]) -> usize
+    ensures bound { result ≤ length text.now }
+    ensures lines { AreLines (take result text.now) }
+{
+    let mut at = text.len().saturating_sub(1);
+    while at > 0 {
+        if text[at - 1] == b'\n' {
+            return at;
+        }
+        at -= 1;
     }
+    0
 }

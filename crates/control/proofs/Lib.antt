@@ -1,4 +1,5 @@
 pub mod WordLemmas
+pub mod SayingLemmas
 pub mod RegistryCommandLemmas
 pub mod LineLemmas
 pub mod CopyLemmas
@@ -14,7 +15,9 @@ pub mod ListingLemmas
 pub mod NamingLemmas
 pub mod StepLemmas
 pub mod TallyLemmas
+pub mod PlainLemmas
 pub mod NoticeLemmas
+pub mod ShownLemmas
 pub mod ServeLemmas
 pub mod CallsLemmas
 pub mod ServingLemmas

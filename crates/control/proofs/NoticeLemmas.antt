@@ -1,11 +1,11 @@
 -- What is written of what happened.
-use Rattle.std.proofs.Common.{◌≡◌, ◌≢◌, ℕ, nat_eq, Bool, true, false, IsTrue, not, ◌&&◌, List, [], ◌∷◌, ◌++◌, All, refl}
+use Rattle.std.proofs.Common.{◌≡◌, ◌≢◌, ℕ, nat_eq, Bool, true, false, IsTrue, not, List, [], ◌∷◌, ◌++◌, All, refl}
 use Rattle.std.proofs.Common.{sym}
-use Rattle.std.proofs.Common.{ap, ◌∙◌, subst, Option, Result, Ok, Err, inl, inr, append_assoc, append-nil}
+use Rattle.std.proofs.Common.{ap, ◌∙◌, subst, Option, None, Some, Result, Ok, Err, inl, inr, append_assoc, append-nil}
 use Rattle.std.proofs.KnownBytes.{Appends-kept, Appends-nil, Appends-trans}
-use Rattle.std.proofs.lemmas.Bool.{false≢true, and_parts, eq-eqb, eqb-true}
+use Rattle.std.proofs.lemmas.Bool.{false≢true, and_parts, eq-eqb}
 use Rattle.std.proofs.lemmas.List.Elements.{All-append, All-cons, All-head, All-nil, All-tail}
-use Rattle.std.specs.Prelude.{codes, decimal, if◌then◌else◌}
+use Rattle.std.specs.Prelude.{codes, decimal, option_copied}
 use Rattle.std.specs.List.{list_all}
 use Rattle.std.specs.Io.KnownBytes.{Appends, Keeps}
 use mathlib.Core.HLevel.{⊥_prop}
@@ -13,13 +13,22 @@ use mathlib.Core.Logic.{∥∥₁_elim}
 use Rattle.engine.specs.Written.{Writes}
 use Rattle.engine.specs.declared.fault.Io.{Io}
 use Rattle.keyring.specs.KeyList.{fingerprint}
-use Rattle.control.specs.Notices.{Occasion, Opened, Uncounted, Ordered, Copied, Catalogued, Answered, Met, Ended}
-use Rattle.control.specs.Notices.{EndsLine, IsNotice, IsPiece, NoneIsRefusal, WritesNotices, is_plain_byte}
-use Rattle.control.specs.Notices.{errand_words, joined, line_of, plain, shown_words}
+use Rattle.modver.specs.SemanticVersion.{version_text}
+use Rattle.control.specs.Notices.{Answer, Occasion, Opened, Uncounted, Ordered, Copied, Catalogued, Answered, Reserved, Met}
+use Rattle.control.specs.Notices.{Ended, EndsLine, IsNotice, IsPiece, NoneIsRefusal, WritesNotices, behind_team, errand_words}
+use Rattle.control.specs.Notices.{has_group, has_shelf, joined, line_of, name_if, plain, right_words, shown_words}
 use Rattle.control.specs.Outcome as outcome
 use Rattle.control.specs.Words.{line_end}
+use Rattle.control.specs.declared.errand.Errand.{Errand}
+use Rattle.control.specs.declared.errand.Errand.TheVariants as errand
 use Rattle.control.specs.declared.outcome.Outcome.{Outcome}
 use Rattle.control.specs.declared.outcome.Outcome.TheVariants as case
+use Rattle.control.specs.declared.registry_command.RegistryCommand.{RegistryCommand}
+use Rattle.control.specs.declared.registry_command.RegistryCommand.TheVariants.{TeamAdd, GroupAdd, KeyAdd}
+use Rattle.control.specs.declared.registry_command.RegistryCommand.TheVariants.{KeyRevoke, KeysRevoke}
+use Rattle.control.proofs.PlainLemmas.{decimal_no_end, fingerprint_no_end, is_no_end, no_end_both, plain_text}
+use Rattle.world.specs.declared.entry.Right.{Right}
+use Rattle.world.specs.declared.entry.Right.TheVariants.{Reads, Publishes}
 use Rattle.world.specs.declared.registry.RegistryReply.TheVariants as registered
 use Rattle.world.specs.declared.registry.StoreFault.TheVariants as fault
 
@@ -100,9 +109,6 @@ calm_behind begins (x ∷ xs) ys calm = calm_behind (nat_eq x line_end) xs ys ca
 
 -- ---- a line of an occasion is calm
 
-abbrev is_no_end : ℕ → Bool
-is_no_end b = not (nat_eq b line_end)
-
 on_false : (b : Bool) (text : List ℕ) → not b ≡ true → Calm false text → Calm b text
 on_false true text never calm = absurd (false≢true never)
 on_false false text is calm = calm
@@ -123,29 +129,57 @@ calm_line b word rest other no_end all calm = (
   on_false (nat_eq b line_end) (word ++ rest) no_end (calm_within word rest all calm),
 )
 
-plain_byte : (b : ℕ) → is_plain_byte b ≡ true → is_no_end b ≡ true
-plain_byte b is = at (nat_eq b line_end) refl
-  where
-    at : (same : Bool) → nat_eq b line_end ≡ same → not same ≡ true
-    at true e = absurd (false≢true (subst (λ x. is_plain_byte x ≡ true) (eqb-true b line_end e) is))
-    at false e = refl
+-- ---- the words end no line
 
-both_hold : (a b : Bool) → a ≡ true → b ≡ true → (a && b) ≡ true
-both_hold a b one two = rw (one, two) refl
+no_end_name : (has : Bool) (name : List ℕ) → list_all is_no_end (name_if has name) ≡ true
+no_end_name true name = plain_text name
+no_end_name false name = refl
 
-plain_bytes : (text : List ℕ) → list_all is_plain_byte text ≡ true → list_all is_no_end text ≡ true
-plain_bytes [] is = refl
-plain_bytes (b ∷ bs) is =
-    let parts = and_parts (is_plain_byte b) (list_all is_plain_byte bs) is in
-    both_hold (is_no_end b) (list_all is_no_end bs) (plain_byte b parts.0) (plain_bytes bs parts.1)
+no_end_group : (told : Answer) (group : Option (List ℕ)) → list_all is_no_end (behind_team told group) ≡ true
+no_end_group told None = refl
+no_end_group told (Some group) =
+    no_end_both (codes " ") (name_if (has_group told) group) refl (no_end_name (has_group told) group)
 
-plain_text : (text : List ℕ) → list_all is_no_end (plain text) ≡ true
-plain_text text = at (list_all is_plain_byte text) refl
-  where
-    at : (passes : Bool) → list_all is_plain_byte text ≡ passes
-        → list_all is_no_end (if passes then text else codes "?") ≡ true
-    at true e = plain_bytes text e
-    at false e = refl
+no_end_right : (right : Right) → list_all is_no_end (right_words right) ≡ true
+no_end_right Reads = refl
+no_end_right Publishes = refl
+
+no_end_shown : (command : RegistryCommand) (told : Answer) → list_all is_no_end (shown_words command told) ≡ true
+no_end_shown (TeamAdd name group) told =
+    let named = name_if (has_shelf told) name.now in
+    let behind = behind_team told (option_copied group) in
+    no_end_both (codes "team-add ") (named ++ behind) refl
+    (no_end_both named behind (no_end_name (has_shelf told) name.now) (no_end_group told (option_copied group)))
+no_end_shown (GroupAdd name) told =
+    no_end_both (codes "group-add ") (name_if (has_shelf told) name.now) refl (no_end_name (has_shelf told) name.now)
+no_end_shown (KeyAdd shelf key right) told =
+    let named = name_if (has_shelf told) shelf.now in
+    let behind = right_words right ++ fingerprint key.now in
+    no_end_both (codes "key-add ") (named ++ behind) refl
+    (no_end_both named behind (no_end_name (has_shelf told) shelf.now)
+    (no_end_both (right_words right) (fingerprint key.now) (no_end_right right) (fingerprint_no_end key.now)))
+no_end_shown (KeyRevoke key) told =
+    no_end_both (codes "key-revoke ") (fingerprint key.now) refl (fingerprint_no_end key.now)
+no_end_shown (KeysRevoke shelf) told =
+    no_end_both (codes "keys-revoke ") (name_if (has_shelf told) shelf.now) refl
+    (no_end_name (has_shelf told) shelf.now)
+
+no_end_version : (verb path version : List ℕ) → list_all is_no_end verb ≡ true
+    → list_all is_no_end (verb ++ (plain path ++ (codes " " ++ plain version))) ≡ true
+no_end_version verb path version is =
+    no_end_both verb (plain path ++ (codes " " ++ plain version)) is
+    (no_end_both (plain path) (codes " " ++ plain version) (plain_text path)
+    (no_end_both (codes " ") (plain version) refl (plain_text version)))
+
+no_end_errand : (asked : Errand) → list_all is_no_end (errand_words asked) ≡ true
+no_end_errand errand.Key = refl
+no_end_errand (errand.Fetch path) = no_end_both (codes "fetch ") (plain path.now) refl (plain_text path.now)
+no_end_errand (errand.FetchVersion path version) =
+    no_end_version (codes "fetch ") path.now (version_text version.now) refl
+no_end_errand (errand.Publish path) = no_end_both (codes "publish ") (plain path.now) refl (plain_text path.now)
+no_end_errand (errand.PublishVersion path version) =
+    no_end_version (codes "publish ") path.now (version_text version.now) refl
+no_end_errand errand.Modules = refl
 
 calm_outcome : (told : Outcome) → Calm false (outcome.line_of told)
 calm_outcome told = calm_within (outcome.word_of told) (line_end ∷ []) (word told)
@@ -166,29 +200,46 @@ calm_outcome told = calm_within (outcome.word_of told) (line_end ∷ []) (word t
     word case.Stopping = refl
     word case.Bad = refl
 
-calm_told : (text : List ℕ) (told : Outcome) → Calm false (plain text ++ (codes ": " ++ outcome.line_of told))
-calm_told text told =
-    calm_within (plain text) (codes ": " ++ outcome.line_of told) (plain_text text)
+calm_told : (text : List ℕ) (told : Outcome) → list_all is_no_end text ≡ true
+    → Calm false (text ++ (codes ": " ++ outcome.line_of told))
+calm_told text told is =
+    calm_within text (codes ": " ++ outcome.line_of told) is
     (calm_within (codes ": ") (outcome.line_of told) refl (calm_outcome told))
+
+calm_opened : (file : List ℕ) (n : ℕ)
+    → Calm false (plain file ++ (codes ": " ++ (decimal n ++ codes " versions\n")))
+calm_opened file n =
+    calm_within (plain file) (codes ": " ++ (decimal n ++ codes " versions\n")) (plain_text file)
+    (calm_within (codes ": ") (decimal n ++ codes " versions\n") refl
+    (calm_within (decimal n) (codes " versions\n") (decimal_no_end n)
+    (calm_within (codes " versions") (codes "\n") refl (λ never. absurd (false≢true never), tt))))
 
 calm_end : (text : List ℕ) → Calm false (plain text ++ codes "\n")
 calm_end text = calm_within (plain text) (codes "\n") (plain_text text) (λ never. absurd (false≢true never), tt)
 
 calm_about : (about : Occasion) → Calm true (line_of about)
-calm_about (Opened file n) =
-    calm_line 111 (codes "pened: ") _ refl refl refl
-    (calm_end (file ++ (codes ": " ++ (decimal n ++ codes " versions"))))
-calm_about (Uncounted file met) = calm_line 111 (codes "pened: ") _ refl refl refl (calm_told file (case.Failed met))
+calm_about (Opened file n) = calm_line 111 (codes "pened: ") _ refl refl refl (calm_opened file n)
+calm_about (Uncounted file met) =
+    calm_line 111 (codes "pened: ") _ refl refl refl (calm_told (plain file) (case.Failed met) (plain_text file))
 calm_about (Ordered command told) =
-    calm_line 111 (codes "rder: ") _ refl refl refl (calm_told (shown_words command) (outcome.outcome_of told))
-calm_about (Copied path told) =
-    calm_line 111 (codes "rder: ") _ refl refl refl (calm_told (codes "copy " ++ path) (outcome.outcome_of_copy told))
-calm_about (Catalogued key told) =
     calm_line 111 (codes "rder: ") _ refl refl refl
-    (calm_told (codes "catalog " ++ fingerprint key) (outcome.outcome_of_catalog told))
+    (calm_told (shown_words command told) (outcome.outcome_of told) (no_end_shown command told))
+calm_about (Copied path told) =
+    let words = codes "copy " ++ plain path in
+    calm_line 111 (codes "rder: ") (words ++ (codes ": " ++ outcome.line_of (outcome.outcome_of_copy told)))
+    refl refl refl
+    (calm_told words (outcome.outcome_of_copy told) (no_end_both (codes "copy ") (plain path) refl (plain_text path)))
+calm_about (Catalogued key told) =
+    let words = codes "catalog " ++ fingerprint key in
+    calm_line 111 (codes "rder: ") (words ++ (codes ": " ++ outcome.line_of (outcome.outcome_of_catalog told)))
+    refl refl refl
+    (calm_told words (outcome.outcome_of_catalog told)
+    (no_end_both (codes "catalog ") (fingerprint key) refl (fingerprint_no_end key)))
 calm_about (Answered told) = calm_line 111 (codes "rder: ") _ refl refl refl (calm_outcome told)
+calm_about (Reserved told) = calm_line 114 (codes "eserve: ") _ refl refl refl (calm_outcome told)
 calm_about (Met asked met) =
-    calm_line 102 (codes "ault: ") _ refl refl refl (calm_told (errand_words asked) (case.Failed met))
+    calm_line 102 (codes "ault: ") _ refl refl refl
+    (calm_told (errand_words asked) (case.Failed met) (no_end_errand asked))
 calm_about (Ended file) = calm_line 101 (codes "nded: ") _ refl refl refl (calm_end file)
 
 -- ---- all pieces

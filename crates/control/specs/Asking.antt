@@ -17,11 +17,18 @@ use Rattle.control.specs.declared.outcome.Outcome.{Outcome}
 use Rattle.control.specs.declared.told.Told.{Told}
 use Rattle.control.specs.declared.told.Told.TheVariants as spoken
 
--- no bytes are a line of these words, of so many bytes at most
+-- some bytes are a line of these words, of so many bytes at most
+abbrev pub IsSayable : ℕ → Said → Type 0
+IsSayable most s = (sent : List ℕ) × IsSaid most sent s
+
+-- no bytes are
 abbrev pub IsUnsaid : ℕ → Said → Type 0
 IsUnsaid most s = (sent : List ℕ) → ¬ IsSaid most sent s
 
--- no bytes are a line of this registry command
+-- some bytes are a line of this registry command, or none are
+abbrev pub HasLine : RegistryCommand → Type 0
+HasLine command = IsSayable longest (said_in command)
+
 abbrev pub IsUnsayable : RegistryCommand → Type 0
 IsUnsayable command = IsUnsaid longest (said_in command)
 

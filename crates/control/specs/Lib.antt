@@ -11,7 +11,9 @@ pub mod Listing
 pub mod Order
 pub mod Naming
 pub mod Notices
+pub mod Noted
 pub mod RegistryCommand
+pub mod Reserve
 pub mod Outcome
 pub mod Pace
 pub mod Pinging

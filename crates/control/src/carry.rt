@@ -2,8 +2,10 @@
 ghost use Rattle.machine.specs.Machine.{after};
 ghost use Rattle.world.specs.Store.{Does};
 ghost use Rattle.control.specs.RegistryCommand.{event_of, outcome_in};
+ghost use Rattle.control.specs.Reserve.{UsesRoom};
 
 use crate::registry_command::RegistryCommand;
+use crate::reserve::Reserve;
 use world::registry::{RegistryReply, StoreFault};
 use world::shelves::Shelves;
 
@@ -23,4 +25,29 @@ pub fn carry_out<S: Shelves>(
         RegistryCommand::KeyRevoke { key } => shelves.key_revoke(key),
         RegistryCommand::KeysRevoke { shelf } => shelves.keys_revoke(shelf),
     }
+}
+
+/// Carries out a registry command as [`carry_out`] does, once more if the disk failed and the reserve had room to give
+/// up, which is then taken again. It is one event, however often it is tried. Fails if the store meets a fault: with
+/// `Device` only if no room was given up, or if the disk failed again with it.
+pub fn carry_out_in<S: Shelves, R: Reserve<S>>(
+    shelves: &mut S,
+    reserve: &mut R,
+    command: &RegistryCommand,
+) -> Result<RegistryReply, StoreFault>
+    ensures does { Does (S.shown shelves.old) (S.shown shelves.new) result
+        (λ w. outcome_in w command.now) (λ w. after w (event_of command.now)) }
+    ensures room { UsesRoom (S.shown shelves.old) (S.shown shelves.new)
+        (R.deeds reserve.old) (R.deeds reserve.new) result }
+{
+    let first = carry_out(shelves, command);
+    let Err(StoreFault::Device) = first else {
+        return first;
+    };
+    if !reserve.give_up() {
+        return first;
+    }
+    let second = carry_out(shelves, command);
+    reserve.renew();
+    second
 }

@@ -1,7 +1,8 @@
 //! The operator's side.
-ghost use Rattle.std.specs.Prelude.{◌≡◌, ◌++◌, ◌∷◌, [], IfOk, IfErr, IfSome, OnOk, option_copied};
+ghost use Rattle.std.specs.Prelude.{◌≡◌, ◌++◌, ◌∷◌, [], IfOk, IfErr, IfSome, MatchBool, OnOk, option_copied};
 ghost use Rattle.control.specs.Asking.{Asks, AsksForCatalog, AsksForHealth, AsksForList};
 ghost use Rattle.control.specs.Asking.{AsksToCopy, AsksToRevoke, AsksToStop};
+ghost use Rattle.control.specs.Asking.{HasLine, IsSayable, IsUnsaid, IsUnsayable};
 ghost use Rattle.control.specs.Asking.{IsUnwritten, Sends, TellsOutcome, TellsHealth, TellsList, IsTold, TellsBytes};
 ghost use Rattle.control.specs.Line.{IsCatalogOf, IsCopyTo, IsNaming, IsSaid, IsSent};
 ghost use Rattle.control.specs.Line.{catalog_words, copy_words, longest, longest_copy, named_words};
@@ -18,7 +19,7 @@ use crate::outcome::Outcome;
 use crate::registry_command::RegistryCommand;
 use crate::told::Told;
 use crate::two_words::two_words;
-use crate::words::{Words, are_words};
+use crate::words::{Words, is_sayable};
 use engine::write::write_bytes;
 use histories::{Hear, Tell};
 use std::alloc::{AllocError, Global};
@@ -46,6 +47,37 @@ impl From<AllocError> for Untold {
     fn from(_error: AllocError) -> Untold {
         Untold::Memory
     }
+}
+
+/// Whether [`ask`] can send a registry command: whether a line can carry it.
+pub fn has_line(command: &RegistryCommand) -> bool
+    ensures { MatchBool result (HasLine command.now) (IsUnsayable command.now) }
+{
+    is_sayable(&words_in(command), LONGEST)
+}
+
+/// Whether [`ask_to_copy`] can send a path.
+pub fn has_copy_line(path: &str) -> bool
+    ensures { MatchBool result (IsSayable longest_copy (copy_words path.now))
+        (IsUnsaid longest_copy (copy_words path.now)) }
+{
+    is_sayable(&two_words("copy", path), LONGEST_COPY)
+}
+
+/// Whether [`ask_to_revoke`] can send a fingerprint.
+pub fn has_naming_line(fingerprint: &str) -> bool
+    ensures { MatchBool result (IsSayable longest (named_words fingerprint.now))
+        (IsUnsaid longest (named_words fingerprint.now)) }
+{
+    is_sayable(&two_words("revoke-fingerprint", fingerprint), LONGEST)
+}
+
+/// Whether [`ask_for_catalog`] can send a key.
+pub fn has_catalog_line(key: &str) -> bool
+    ensures { MatchBool result (IsSayable longest (catalog_words key.now))
+        (IsUnsaid longest (catalog_words key.now)) }
+{
+    is_sayable(&two_words("catalog", key), LONGEST)
 }
 
 /// Sends a registry command and returns its outcome.
@@ -218,14 +250,10 @@ fn line_saying(alloc: Global, words: &Words, most: usize) -> Result<Vec<u8>, Unt
     ensures ok { IfOk result (λ line. IsSaid most line.items (said words.now)) }
     ensures err { IfErr result (λ why. IsUnwritten most (said words.now) why) }
 {
-    if !are_words(words) {
+    if !is_sayable(words, most) {
         return Err(Untold::Words);
     }
-    let line = line_with(alloc, words)?;
-    if line_in(&line, most).is_none() {
-        return Err(Untold::Words);
-    }
-    Ok(line)
+    Ok(line_with(alloc, words)?)
 }
 
 /// The words of a registry command.

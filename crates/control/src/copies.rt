@@ -1,5 +1,6 @@
 //! What reads a store that is served: copies of it, the catalogs of its keys, and how much it keeps.
 use crate::health::Figures;
+use crate::reserve::KeepsRoom;
 use histories::Restart;
 use meanwhile::between::Between;
 use std::alloc::Global;
@@ -9,7 +10,7 @@ use world::shelves::Shelves;
 /// Why a copy was not made.
 #[derive(Clone, Copy, Debug, Drop, PartialEq, Eq)]
 pub enum CopyRefusal {
-    /// The file has more than an empty store, or it is that of the served store.
+    /// The file has more than an empty store, it is that of the served store, or a log stands alone beside it.
     NotEmpty,
     /// A disk failed, the file can't be opened, or SQLite has a use for it beside a database.
     Device,
@@ -34,15 +35,17 @@ pub enum CatalogRefusal {
     Busy,
     /// The server ends, or the operator has left.
     Ended,
-    /// The output failed.
+    /// The output failed: the operator took no line in the time of one, or has left.
     Output,
 }
 
-/// What copies a store while it is served, prints the catalogs of its keys, and counts what it keeps.
-pub trait Copies<S: Shelves> {
-    ghost use Rattle.std.specs.Prelude.{ℕ, ◌≡◌, ◌≢◌, ◌<◌, ◌≤◌, List, [], Err, IfErr, IfOk, IsErrOf};
+/// What copies a store while it is served, prints the catalogs of its keys, counts what it keeps, and keeps room on its
+/// disk.
+pub trait Copies<S: Shelves>: KeepsRoom {
+    ghost use Rattle.std.specs.Prelude.{ℕ, ◌≡◌, ◌≢◌, ◌<◌, ◌≤◌, true, List, [], Err, IfErr, IfOk, IsErrOf};
     ghost use Rattle.std.specs.Io.KnownBytes.{Appends};
     ghost use Rattle.control.specs.Copying.{IsOnlyRead, Making, OfKey, ToPath};
+    ghost use Rattle.control.specs.Reserve.{LeavesOthers};
     ghost use Rattle.control.specs.declared.copies.CatalogRefusal.TheVariants as catalog;
     ghost use Rattle.control.specs.declared.copies.CopyRefusal.TheVariants.{Busy, Ended};
     ghost use Rattle.control.specs.declared.health.Figures.{Figures};
@@ -63,9 +66,9 @@ pub trait Copies<S: Shelves> {
     /// Makes the store of a file, with this path, one of the served store as it is at this moment. It copies a slice at
     /// a time, and has `between` take a turn after each slice. Beside these turns, the served store is only read.
     ///
-    /// Fails with `NotEmpty` if the file has more than an empty store, or is that of the served store; with `Device` if
-    /// it can't be opened, SQLite has a use for it beside a database, or a disk failed; with `Memory` if memory ran
-    /// out; and with `Ended` if `between` ended it.
+    /// Fails with `NotEmpty` if the file has more than an empty store, is that of the served store, or is missing or
+    /// empty while a log stands beside it; with `Device` if it can't be opened, SQLite has a use for it beside a
+    /// database, or a disk failed; with `Memory` if memory ran out; and with `Ended` if `between` ended it.
     fn copy<B: Between<S>>(
         &self,
         shelves: &mut S,
@@ -114,17 +117,28 @@ pub trait Copies<S: Shelves> {
     fn figures<'s>(&self, shelves: &'s S) -> Figures<'s>
         ensures { figured shelves.now result };
 
+    /// Has room kept on the disk of the served store from now on, so that an order can be carried out once the disk is
+    /// full, and returns whether all of it is there.
+    fn make_room(&self) -> bool;
+
+    /// Gives up the room that is kept on the disk of the served store, and returns whether there was some. Only a store
+    /// that can be asked again has some.
+    fn give_up_room(&self) -> bool
+        ensures { result ≡ true → (s : S) → LeavesOthers (S.shown s) };
+
     // An order that comes while a copy is made or a catalog is printed does nothing.
     ghost busy: { (s : S) (path : List ℕ) → made s s (ToPath path (Err Busy)) };
 
     ghost no_catalog: { (s : S) (key : List ℕ) → made s s (OfKey key [] (Err catalog.Busy)) };
 }
 
-/// What carries out the orders to copy a store and to print a catalog, and counts what it keeps.
-pub trait CopyOrders<S: Shelves> {
-    ghost use Rattle.std.specs.Prelude.{ℕ, ◌≡◌, ◌<◌, ◌≤◌, List, Err, IfOk};
+/// What carries out the orders to copy a store and to print a catalog, counts what it keeps, and keeps room on its
+/// disk.
+pub trait CopyOrders<S: Shelves>: KeepsRoom {
+    ghost use Rattle.std.specs.Prelude.{ℕ, ◌≡◌, ◌<◌, ◌≤◌, true, List, Err, IfOk};
     ghost use Rattle.std.specs.Io.KnownBytes.{Appends};
     ghost use Rattle.control.specs.Copying.{IsOnlyRead, Making, OfKey, ToPath};
+    ghost use Rattle.control.specs.Reserve.{LeavesOthers};
     ghost use Rattle.control.specs.declared.copies.CatalogRefusal.TheVariants as catalog;
     ghost use Rattle.control.specs.declared.health.Figures.{Figures};
     ghost use Rattle.world.specs.Store.{HasCause};
@@ -175,4 +189,9 @@ pub trait CopyOrders<S: Shelves> {
     /// Returns what is known of the store beside its versions. Does not open its file.
     fn figures<'s>(&self, shelves: &'s S) -> Figures<'s>
         ensures { figured self.now shelves.now result };
+
+    /// Gives up the room that is kept on the disk of the store, and returns whether there was some. Only a store that
+    /// can be asked again has some.
+    fn give_up_room(&self) -> bool
+        ensures { result ≡ true → (s : S) → LeavesOthers (S.shown s) };
 }

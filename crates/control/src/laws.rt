@@ -1,7 +1,7 @@
 //! What lines mean, and what the callers of one run learn about each other.
 ghost use Rattle.control.specs.Isolated.{TasksAreAnsweredAlike};
 ghost use Rattle.control.specs.Laws.{OneEventALine, OneOutcomeALine};
-ghost use Rattle.control.specs.Notices.{NoneIsRefusal};
+ghost use Rattle.control.specs.Notices.{NoneIsRefusal, ShowsNoneAfterFault, ShowsOnlyShelves};
 
 use world::shelves::Shelves;
 
@@ -18,6 +18,14 @@ pub fn outcome_has_a_line_of_its_own()
 /// What `serve` writes on standard error while it serves has no line that begins with `goshelf:`, as a refusal's does.
 pub fn no_notice_is_a_refusal()
     ensures { NoneIsRefusal }
+{}
+
+/// The notice of an order shows of its names only those of shelves that are in the world after it, and of its key only
+/// the fingerprint: other names that no shelf has, and another key with that fingerprint, make the same line. After a
+/// fault it shows no name.
+pub fn notice_names_only_shelves()
+    ensures replied { ShowsOnlyShelves }
+    ensures faults { ShowsNoneAfterFault }
 {}
 
 /// Isolation also holds between two calls of [`serve_both`](crate::serve_both), over any two stores whose worlds agree

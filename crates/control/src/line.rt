@@ -23,12 +23,9 @@ pub(crate) const PING_LINE: &[u8] = b"ping\n";
 /// The most reads of one line, interrupted ones included.
 const TRIES: u32 = 1_000;
 
-/// The most reads of a list. Each takes up to `LONGEST_COPY + 1` bytes.
-const TRIES_OF_ALL: u32 = 1_000_000;
-
-/// Why no line was read.
+/// Why no line was read, or not all to the end of a stream.
 #[derive(Clone, Copy, Debug, Drop, PartialEq, Eq)]
-pub(crate) enum Unread {
+pub enum Unread {
     /// A read failed, or `TRIES` reads did not end a line.
     Io,
     /// Memory ran out.
@@ -97,13 +94,13 @@ fn read_on<R: Hear>(reader: &mut R, got: &mut Vec<u8>, most: usize) -> Result<bo
     }
 }
 
-/// Reads to the end of the stream, and returns the bytes. Fails with `Io` if a read fails or `TRIES_OF_ALL` reads are
-/// not enough, and with `Memory` if memory runs out.
-pub(crate) fn read_all<R: Hear>(alloc: Global, reader: &mut R) -> Result<Vec<u8>, Unread>
+/// Reads to the end of the stream, and returns the bytes. Fails with `Io` if a read fails or `u64::MAX` reads are not
+/// enough, and with `Memory` if memory runs out.
+pub fn read_all<R: Hear>(alloc: Global, reader: &mut R) -> Result<Vec<u8>, Unread>
     ensures { IfOk result (λ got. Gives (R.account reader.old) (R.account reader.new) got.items) }
 {
     let mut got = Vec::new(alloc);
-    for _ in 0..TRIES_OF_ALL {
+    for _ in 0..u64::MAX {
         if read_more(reader, &mut got)? {
             return Ok(got);
         }

@@ -1,13 +1,13 @@
 //! The lines that `serve` writes on standard error.
 ghost use Rattle.std.specs.Prelude.{◌≡◌, ◌++◌, codes, string_bytes, option_copied, IfOk};
-ghost use Rattle.std.specs.List.{list_all};
 ghost use Rattle.control.specs.Notices as spec;
-ghost use Rattle.control.specs.Notices.{Answered, Catalogued, Copied, Ended, Met, Opened, Ordered, Uncounted};
+ghost use Rattle.control.specs.Notices.{Answered, Catalogued, Copied, Ended, Met, Opened, Ordered, Reserved, Uncounted};
 ghost use Rattle.keyring.specs.KeyList as keys;
 
 use crate::copies::{CatalogRefusal, CopyRefusal};
 use crate::errand::{Errand, two};
 use crate::outcome::{Outcome, outcome_of, outcome_of_catalog, outcome_of_copy};
+use crate::plain::{UNTOLD, plain};
 use crate::registry_command::RegistryCommand;
 use keyring::key_list::fingerprint;
 use std::alloc::{AllocError, Global};
@@ -15,10 +15,10 @@ use text::Text;
 use world::entry::Right;
 use world::registry::{RegistryReply, StoreFault};
 
-/// What stands in the place of a text with a control character.
-const UNPRINTABLE: &str = "?";
+/// What a store answered to a registry command.
+pub(crate) type Answer = Result<RegistryReply, StoreFault>;
 
-/// A line that says what happened, with its end. No key stands in it.
+/// A line that says what happened, with its end. In the place of a key stands its fingerprint.
 #[derive(Drop)]
 pub struct Notice {
     text: Text,
@@ -71,8 +71,7 @@ pub fn opened(
 fn opened_with(alloc: Global, file: &str, versions: u64) -> Result<Notice, AllocError>
     ensures { IfOk result (λ notice. notice.text ≡ spec.line_of (Opened file.now versions)) }
 {
-    let text = format!(in alloc; "{}: {} versions", file, versions)?;
-    let line = format!(in alloc; "opened: {}\n", plain(text.as_str()))?;
+    let line = format!(in alloc; "opened: {}: {} versions\n", plain(file), versions)?;
     Ok(Notice::of(line, false))
 }
 
@@ -81,7 +80,7 @@ fn opened_with(alloc: Global, file: &str, versions: u64) -> Result<Notice, Alloc
 fn uncounted(alloc: Global, file: &str, fault: StoreFault) -> Result<Notice, AllocError>
     ensures { IfOk result (λ notice. notice.text ≡ spec.line_of (Uncounted file.now fault)) }
 {
-    let line = outcome_line(alloc, "opened: ", file, Outcome::Failed(fault))?;
+    let line = outcome_line(alloc, "opened: ", plain(file), Outcome::Failed(fault))?;
     Ok(Notice::of(line, false))
 }
 
@@ -93,16 +92,16 @@ pub fn ended(alloc: Global, file: &str) -> Result<Notice, AllocError>
     Ok(Notice::of(line, false))
 }
 
-/// Says what came of a registry command that was carried out, with the fingerprint of the key in its place. Fails only
-/// if memory runs out.
+/// Says what came of a registry command that was carried out. It names only shelves that the store then has, as far as
+/// its reply says. Fails only if memory runs out.
 pub(crate) fn ordered(
     alloc: Global,
     command: &RegistryCommand,
-    told: Result<RegistryReply, StoreFault>,
+    told: Answer,
 ) -> Result<Notice, AllocError>
     ensures { IfOk result (λ notice. notice.text ≡ spec.line_of (Ordered command.now told)) }
 {
-    let words = shown_words(alloc, command)?;
+    let words = shown_words(alloc, command, told)?;
     let line = outcome_line(alloc, "order: ", words.as_str(), outcome_of(told))?;
     Ok(Notice::of(line, false))
 }
@@ -115,7 +114,7 @@ pub(crate) fn copied(
 ) -> Result<Notice, AllocError>
     ensures { IfOk result (λ notice. notice.text ≡ spec.line_of (Copied path.now told)) }
 {
-    let words = two(alloc, "copy ", path)?;
+    let words = two(alloc, "copy ", plain(path))?;
     let line = outcome_line(alloc, "order: ", words.as_str(), outcome_of_copy(told))?;
     Ok(Notice::of(line, false))
 }
@@ -142,6 +141,25 @@ pub(crate) fn answered(alloc: Global, told: Outcome) -> Result<Notice, AllocErro
     Ok(Notice::of(line, false))
 }
 
+/// Says whether all of the room on the disk that is kept for orders is there. Fails only if memory runs out.
+pub fn reserved(alloc: Global, has_room: bool) -> Result<Notice, AllocError>
+    ensures { IfOk result (λ notice. notice.text ≡ spec.line_of (Reserved (spec.room_told has_room))) }
+{
+    let line = two(alloc, "reserve: ", room_told(has_room).line())?;
+    Ok(Notice::of(line, false))
+}
+
+/// Returns the outcome of keeping room.
+fn room_told(has_room: bool) -> Outcome
+    ensures { result ≡ spec.room_told has_room }
+{
+    if has_room {
+        Outcome::RegistryReply(RegistryReply::Done)
+    } else {
+        Outcome::Failed(StoreFault::Device)
+    }
+}
+
 /// Says which fault a store met, and at what. Fails only if memory runs out.
 pub(crate) fn met(alloc: Global, errand: &Errand, fault: StoreFault) -> Result<Notice, AllocError>
     ensures { IfOk result (λ notice. notice.text ≡ spec.line_of (Met errand.now fault)) }
@@ -156,43 +174,51 @@ fn outcome_line(alloc: Global, kind: &str, text: &str, told: Outcome) -> Result<
     ensures { IfOk result (λ line. string_bytes line ≡ spec.outcome_line kind.now text.now told) }
 {
     let mut line = String::from_str(alloc, kind)?;
-    line.push_str(plain(text))?;
+    line.push_str(text)?;
     line.push_str(": ")?;
     line.push_str(told.line())?;
     Ok(line)
 }
 
-/// Returns the words of a registry command, with the fingerprint of the key in its place. Fails only if memory runs
-/// out.
-fn shown_words(alloc: Global, command: &RegistryCommand) -> Result<String, AllocError>
-    ensures { IfOk result (λ words. string_bytes words ≡ spec.shown_words command.now) }
+/// Returns the words of a registry command that got an answer: in the place of a key its fingerprint, and `UNTOLD` in
+/// that of a name that the store may not have. Fails only if memory runs out.
+fn shown_words(alloc: Global, command: &RegistryCommand, told: Answer) -> Result<String, AllocError>
+    ensures { IfOk result (λ words. string_bytes words ≡ spec.shown_words command.now told) }
 {
+    let has = has_shelf(told);
     match command {
-        RegistryCommand::TeamAdd { name, group } => team_words(alloc, name, *group),
-        RegistryCommand::GroupAdd { name } => two(alloc, "group-add ", name),
-        RegistryCommand::KeyAdd { shelf, key, right } => key_words(alloc, shelf, key, *right),
+        RegistryCommand::TeamAdd { name, group } => team_words(alloc, name, *group, told),
+        RegistryCommand::GroupAdd { name } => two(alloc, "group-add ", name_if(has, name)),
+        RegistryCommand::KeyAdd { shelf, key, right } => {
+            key_words(alloc, name_if(has, shelf), key, *right)
+        }
         RegistryCommand::KeyRevoke { key } => {
             let named = fingerprint(alloc, key)?;
             two(alloc, "key-revoke ", named.as_str())
         }
-        RegistryCommand::KeysRevoke { shelf } => two(alloc, "keys-revoke ", shelf),
+        RegistryCommand::KeysRevoke { shelf } => two(alloc, "keys-revoke ", name_if(has, shelf)),
     }
 }
 
-/// Returns the words that add a team. Fails only if memory runs out.
-fn team_words(alloc: Global, name: &str, group: Option<&str>) -> Result<String, AllocError>
-    ensures { IfOk result (λ words. string_bytes words
-        ≡ codes "team-add " ++ (name.now ++ spec.behind_team (option_copied group.entry))) }
+/// Returns the words of a team that was added, or was not. Fails only if memory runs out.
+fn team_words(
+    alloc: Global,
+    name: &str,
+    group: Option<&str>,
+    told: Answer,
+) -> Result<String, AllocError>
+    ensures { IfOk result (λ words. string_bytes words ≡ codes "team-add "
+        ++ (spec.name_if (spec.has_shelf told) name.now ++ spec.behind_team told (option_copied group.entry))) }
 {
-    let mut words = two(alloc, "team-add ", name)?;
+    let mut words = two(alloc, "team-add ", name_if(has_shelf(told), name))?;
     if let Some(group) = group {
         words.push_str(" ")?;
-        words.push_str(group)?;
+        words.push_str(name_if(has_group(told), group))?;
     }
     Ok(words)
 }
 
-/// Returns the words that add a key, with its fingerprint in its place. Fails only if memory runs out.
+/// Returns the words that add a key to a shelf, with its fingerprint in its place. Fails only if memory runs out.
 fn key_words(alloc: Global, shelf: &str, key: &str, right: Right) -> Result<String, AllocError>
     ensures { IfOk result (λ words. string_bytes words
         ≡ codes "key-add " ++ (shelf.now ++ (spec.right_words right ++ keys.fingerprint key.now))) }
@@ -214,21 +240,23 @@ fn right_words(right: Right) -> &'static str
     }
 }
 
-/// Returns the text, or `UNPRINTABLE` if it has a control character of ASCII.
-fn plain(text: &str) -> &str
-    ensures { result.now ≡ spec.plain text.now }
+/// Returns a name that the store has, and otherwise `UNTOLD`: it may be a key that somebody typed in its place.
+fn name_if(has: bool, name: &str) -> &str
+    ensures { result.now ≡ spec.name_if has name.now }
 {
-    if is_plain(text) { text } else { UNPRINTABLE }
+    if has { plain(name) } else { UNTOLD }
 }
 
-fn is_plain(text: &str) -> bool
-    ensures { result ≡ list_all spec.is_plain_byte text.now }
+/// Whether the answer to a command says that the store has the shelf that it names.
+fn has_shelf(told: Answer) -> bool
+    ensures { result ≡ spec.has_shelf told }
 {
-    text.as_bytes().iter().all(|b| is_plain_byte(*b))
+    matches!(told, Ok(RegistryReply::Done | RegistryReply::Taken))
 }
 
-fn is_plain_byte(byte: u8) -> bool
-    ensures { result ≡ spec.is_plain_byte byte }
+/// Whether it says that the store has the group of the team.
+fn has_group(told: Answer) -> bool
+    ensures { result ≡ spec.has_group told }
 {
-    byte >= 32 && byte != 127
+    matches!(told, Ok(RegistryReply::Done))
 }

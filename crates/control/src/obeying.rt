@@ -9,13 +9,14 @@ ghost use Rattle.control.specs.Line.{IsCatalogOf, IsNoCatalog, ReadsLine};
 ghost use Rattle.control.specs.Pinging.{TellsPing};
 ghost use Rattle.control.specs.Told.{IsOutcome, bytes_told};
 
-use crate::carry::carry_out;
+use crate::carry::carry_out_in;
 use crate::copies::{CatalogRefusal, CopyOrders};
 use crate::listing::list;
 use crate::naming::revoke_named;
 use crate::order::{Order, order_of_bytes};
 use crate::outcome::{Outcome, outcome_of, outcome_of_catalog, outcome_of_copy};
 use crate::pinging::ping;
+use crate::reserve::KnownReserve;
 use crate::tally::Tally;
 use crate::told::Told;
 use engine::Io;
@@ -122,9 +123,13 @@ fn heed<S: Keyring, K: CopyOrders<S>>(
         Some(Order::RevokeNamed(fingerprint)) => Told::Outcome(revoke_named(
             alloc,
             shelves,
+            &mut KnownReserve::new(copies),
             fingerprint,
         )),
-        Some(Order::Registry(command)) => Told::Outcome(outcome_of(carry_out(shelves, &command))),
+        Some(Order::Registry(command)) => {
+            let told = carry_out_in(shelves, &mut KnownReserve::new(copies), &command);
+            Told::Outcome(outcome_of(told))
+        }
         None => Told::Outcome(Outcome::Bad),
     }
 }

@@ -14,11 +14,13 @@ pub enum Outcome {
     /// A disk failed, the file of a copy can't be opened, or memory ran out, for the order or already for its line.
     /// Nothing was changed.
     Failed(StoreFault),
-    /// No copy was made: the file has more than an empty store, or is that of the served store.
+    /// No copy was made: the file has more than an empty store, is that of the served store, or a log stands alone
+    /// beside it.
     NotEmpty,
     /// No copy was made and no catalog printed: another one of these is not over.
     Busy,
-    /// No copy was made, or not all of a catalog was printed: the server ends, or the operator has left.
+    /// No copy was made, or not all of a catalog was printed: the server ends, or the operator has left or takes no
+    /// line.
     Ended,
     /// The server ends.
     Stopping,

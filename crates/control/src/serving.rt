@@ -9,9 +9,11 @@ ghost use Rattle.control.specs.Visits.{AnswersOne};
 use crate::calendar::Calendar;
 use crate::callers::{Callers, Operator};
 use crate::faults::RecentFaults;
+use crate::notice::reserved;
 use crate::outcome::Outcome;
 use crate::progress::Progress;
-use crate::telling::tell_next;
+use crate::reserve::{KeepsRoom, Room};
+use crate::telling::{tell, tell_next};
 use crate::told::Told;
 use crate::traffic::Traffic;
 use crate::watched::{Loan, Watched};
@@ -46,6 +48,8 @@ pub(crate) struct Server<'x, C, P, O, L, K, D, E> {
     pub(crate) copied: Option<TimeText>,
     /// How far the copy is that is being made, for those who ask then; none while a catalog is printed.
     pub(crate) how_far: Option<HowFar>,
+    /// How much there was of the room that is kept on the disk for orders, when it was last looked for.
+    room: Room,
     peers: PhantomData<P>,
     operators: PhantomData<O>,
 }
@@ -56,7 +60,7 @@ impl<
     P: Peer + Drop,
     O: Operator + Drop,
     L: Callers<P, O>,
-    K,
+    K: KeepsRoom,
     D: Calendar + Drop,
     E: Tell,
 > Server<'x, C, P, O, L, K, D, E> {
@@ -94,6 +98,7 @@ impl<
             traffic: Traffic::new(alloc),
             copied: None,
             how_far: None,
+            room: copies.keep_room(),
             peers: PhantomData,
             operators: PhantomData,
         }
@@ -109,7 +114,8 @@ impl<
         (self.callers, self.errors)
     }
 
-    /// Answers a peer, and counts its connection.
+    /// Answers a peer, and counts its connection. While not all of the room is there that an order needed, no version
+    /// is published.
     pub(crate) fn answer<N: Loan, S: Shelves>(&mut self, peer: P, watched: &mut Watched<'_, N, S>)
         requires { IsGoing self.old.progress.stops self.old.progress.left self.old.progress.taken }
         ensures serves { ServesPeer (both P.came P.reads) (both P.written P.writes) peer
@@ -118,19 +124,53 @@ impl<
         ensures notes { WritesNotices (E.contents self.old.errors.now) (E.contents self.new.errors.now) }
         ensures same_errors { self.new.errors.ghost_name ≡ self.old.errors.ghost_name }
     {
+        self.keep_room_unless_whole();
+        watched.is_held = self.room == Room::Short;
         let answered = answer_on(self.alloc, self.clock, &mut self.routes, peer, watched);
         self.progress.count_peer(answered);
-        tell_next(
-            self.alloc,
-            self.clock,
-            watched,
-            &mut self.faults,
-            self.errors,
-        );
+        self.tell_of(watched);
+    }
+
+    /// Writes what has to be said of the store after an order, and of the room on its disk.
+    pub(crate) fn tell<N: Loan, S: Shelves>(&mut self, watched: &mut Watched<'_, N, S>)
+        ensures same { self.new.callers ≡ self.old.callers }
+        ensures progress { self.new.progress ≡ self.old.progress }
+        ensures store { watched.new.inner ≡ watched.old.inner }
+        ensures notes { WritesNotices (E.contents self.old.errors.now) (E.contents self.new.errors.now) }
+        ensures same_errors { self.new.errors.ghost_name ≡ self.old.errors.ghost_name }
+    {
+        self.tell_of(watched);
+        self.keep_room_and_tell();
+    }
+
+    /// Has as much room kept as the disk has, and writes whether that is all of it, if that changed.
+    fn keep_room_and_tell(&mut self)
+        ensures same { self.new.callers ≡ self.old.callers }
+        ensures progress { self.new.progress ≡ self.old.progress }
+        ensures notes { WritesNotices (E.contents self.old.errors.now) (E.contents self.new.errors.now) }
+        ensures same_errors { self.new.errors.ghost_name ≡ self.old.errors.ghost_name }
+    {
+        let room = self.copies.keep_room();
+        if room != self.room {
+            self.room = room;
+            tell(reserved(self.alloc, room == Room::Whole), self.errors);
+        }
+    }
+
+    /// Does so unless all of it was there when it was last looked for.
+    fn keep_room_unless_whole(&mut self)
+        ensures same { self.new.callers ≡ self.old.callers }
+        ensures progress { self.new.progress ≡ self.old.progress }
+        ensures notes { WritesNotices (E.contents self.old.errors.now) (E.contents self.new.errors.now) }
+        ensures same_errors { self.new.errors.ghost_name ≡ self.old.errors.ghost_name }
+    {
+        if self.room != Room::Whole {
+            self.keep_room_and_tell();
+        }
     }
 
     /// Writes what has to be said of the store.
-    pub(crate) fn tell<N: Loan, S: Shelves>(&mut self, watched: &mut Watched<'_, N, S>)
+    fn tell_of<N: Loan, S: Shelves>(&mut self, watched: &mut Watched<'_, N, S>)
         ensures same { self.new.callers ≡ self.old.callers }
         ensures progress { self.new.progress ≡ self.old.progress }
         ensures store { watched.new.inner ≡ watched.old.inner }

@@ -16,6 +16,7 @@ use crate::calendar::Calendar;
 use crate::callers::{Caller, Callers, Operator};
 use crate::copies::{CatalogRefusal, Copies, CopyOrders, CopyRefusal};
 use crate::health::Figures;
+use crate::reserve::{KeepsRoom, Room};
 use crate::serving::{Server, is_stopping};
 use crate::watched::{Loan, Watched};
 use histories::{Restart, Tell};
@@ -94,6 +95,16 @@ impl<'a, 'b, 'c, N: Loan, M: Moment, S: Shelves, K: Copies<S>> CopyOrders<
 
     fn figures<'s>(&self, shelves: &'s Watched<'a, N, Noting<'c, M, S>>) -> Figures<'s> {
         shelves.figures_with(figures_in(self.copies, shelves.inner), self.how_far)
+    }
+
+    fn give_up_room(&self) -> bool {
+        <K as Copies<S>>::give_up_room(self.copies)
+    }
+}
+
+impl<'b, K: KeepsRoom> KeepsRoom for BusyCopies<'b, K> {
+    fn keep_room(&self) -> Room {
+        self.copies.keep_room()
     }
 }
 
@@ -445,5 +456,24 @@ impl<
 
     fn figures<'s>(&self, shelves: &'s Watched<'a, N, S>) -> Figures<'s> {
         shelves.figures_with(self.copies.figures(shelves.inner), None)
+    }
+
+    fn give_up_room(&self) -> bool {
+        <K as Copies<S>>::give_up_room(self.copies)
+    }
+}
+
+impl<
+    'x,
+    C: Clock,
+    P: Peer + Drop,
+    O: Operator + Drop,
+    L: Callers<P, O>,
+    K: KeepsRoom,
+    D: Calendar + Drop,
+    E: Tell,
+> KeepsRoom for Server<'x, C, P, O, L, K, D, E> {
+    fn keep_room(&self) -> Room {
+        self.copies.keep_room()
     }
 }

@@ -1,9 +1,12 @@
 //! A store that is served, with what has to be said of it.
-ghost use Rattle.std.specs.Prelude.{◌≡◌, IfErr, IfSome, None, option_copied};
+ghost use Rattle.std.specs.Prelude.{◌≡◌, None, option_copied};
 ghost use Rattle.std.specs.FinMap as map;
 ghost use Rattle.control.specs.Figures.{TellsKept};
-ghost use Rattle.control.specs.Notices.{Catalogued, Copied, Met, Ordered, line_of};
+ghost use Rattle.control.specs.Noted.{IsAbout, NotesCommand, NotesFault, NotesPublish, NotesTold};
+ghost use Rattle.control.specs.Notices.{Catalogued, Copied};
 ghost use Rattle.control.specs.Traffic.{CountsIf, was_found, was_published};
+ghost use Rattle.control.specs.declared.errand.Errand.TheVariants as errand;
+ghost use Rattle.control.specs.declared.registry_command.RegistryCommand.TheVariants as command;
 ghost use Rattle.modver.specs.SemanticVersion.{version_text};
 ghost use Rattle.world.specs.Latest.{latest_of};
 ghost use Rattle.world.specs.Registry.{after_group_add, after_key_add, after_key_revoke, after_keys_revoke};
@@ -58,6 +61,8 @@ pub(crate) struct Watched<'a, N: Loan, S: Shelves> {
     pub(crate) traffic: Traffic,
     /// When the last copy was made, if one was and the time could be read then.
     pub(crate) copied: Option<TimeText>,
+    /// Whether each publish is refused that would store a version.
+    pub(crate) is_held: bool,
     loan: PhantomData<N>,
     ghost same: { inner.ghost_name ≡ N.name },
 }
@@ -70,6 +75,7 @@ impl<'a, N: Loan, S: Shelves> Watched<'a, N, S> {
         ensures value { result.inner.now ≡ inner.old }
         ensures counts { result.traffic.shelves ≡ map.empty }
         ensures copied { result.copied ≡ None }
+        ensures unnoted { result.notice ≡ None }
     {
         Watched {
             alloc,
@@ -77,6 +83,7 @@ impl<'a, N: Loan, S: Shelves> Watched<'a, N, S> {
             notice: None,
             traffic: Traffic::new(alloc),
             copied: None,
+            is_held: false,
             loan: PhantomData,
         }
     }
@@ -93,6 +100,8 @@ impl<'a, N: Loan, S: Shelves> Watched<'a, N, S> {
     pub(crate) fn take(&mut self) -> Option<Notice>
         ensures same { self.new.inner ≡ self.old.inner }
         ensures counts { self.new.traffic ≡ self.old.traffic }
+        ensures value { result ≡ self.old.notice }
+        ensures forgets { self.new.notice ≡ None }
     {
         self.notice.take()
     }
@@ -102,6 +111,7 @@ impl<'a, N: Loan, S: Shelves> Watched<'a, N, S> {
     pub(crate) fn note_told(&mut self, told: &Result<Told, Io>)
         ensures same { self.new.inner ≡ self.old.inner }
         ensures counts { self.new.traffic ≡ self.old.traffic }
+        ensures noted { NotesTold told.now self.old.notice self.new.notice }
     {
         if self.notice.is_some() {
             return;
@@ -115,8 +125,7 @@ impl<'a, N: Loan, S: Shelves> Watched<'a, N, S> {
     fn note_fault<T>(&mut self, errand: &Errand, told: &Result<T, StoreFault>)
         ensures same { self.new.inner ≡ self.old.inner }
         ensures counts { self.new.traffic ≡ self.old.traffic }
-        ensures noted { IfErr told.now (λ fault.
-            IfSome self.new.notice (λ n. n.text ≡ line_of (Met errand.now fault))) }
+        ensures noted { NotesFault errand.now told.now self.old.notice self.new.notice }
     {
         if let Err(fault) = told {
             self.notice = met(self.alloc, errand, *fault).ok();
@@ -127,7 +136,7 @@ impl<'a, N: Loan, S: Shelves> Watched<'a, N, S> {
     fn note_command(&mut self, command: &RegistryCommand, told: Result<RegistryReply, StoreFault>)
         ensures same { self.new.inner ≡ self.old.inner }
         ensures counts { self.new.traffic ≡ self.old.traffic }
-        ensures noted { IfSome self.new.notice (λ n. n.text ≡ line_of (Ordered command.now told)) }
+        ensures noted { NotesCommand command.now told self.new.notice }
     {
         self.notice = ordered(self.alloc, command, told).ok();
     }
@@ -137,7 +146,7 @@ impl<'a, N: Loan, S: Shelves> Watched<'a, N, S> {
         ensures same { self.new.inner ≡ self.old.inner }
         ensures counts { self.new.traffic ≡ self.old.traffic }
         ensures time { self.new.copied ≡ self.old.copied }
-        ensures noted { IfSome self.new.notice (λ n. n.text ≡ line_of (Copied path.now told)) }
+        ensures noted { IsAbout (Copied path.now told) self.new.notice }
     {
         self.notice = copied(self.alloc, path, told).ok();
     }
@@ -147,7 +156,7 @@ impl<'a, N: Loan, S: Shelves> Watched<'a, N, S> {
         ensures same { self.new.inner ≡ self.old.inner }
         ensures counts { self.new.traffic ≡ self.old.traffic }
         ensures time { self.new.copied ≡ self.old.copied }
-        ensures noted { IfSome self.new.notice (λ n. n.text ≡ line_of (Catalogued key.now told)) }
+        ensures noted { IsAbout (Catalogued key.now told) self.new.notice }
     {
         self.notice = catalogued(self.alloc, key, told).ok();
     }
@@ -155,7 +164,8 @@ impl<'a, N: Loan, S: Shelves> Watched<'a, N, S> {
     /// Notes when a copy was made, if the time could be read.
     pub(crate) fn note_time(&mut self, time: Option<TimeText>)
         ensures same { self.new.inner ≡ self.old.inner }
-        ensures noted { self.new.copied ≡ time }
+        ensures time { self.new.copied ≡ time }
+        ensures noted { self.new.notice ≡ self.old.notice }
     {
         self.copied = time;
     }
@@ -180,6 +190,7 @@ impl<'a, N: Loan, S: Shelves> Watched<'a, N, S> {
     /// Counts a fetch of a shelf if its zip was found.
     fn count_fetch(&mut self, shelf: &str, told: &Result<Option<Seen>, StoreFault>)
         ensures same { self.new.inner ≡ self.old.inner }
+        ensures noted { self.new.notice ≡ self.old.notice }
         ensures counts { CountsIf (was_found told.now) Transfer.Fetch shelf.now self.old.traffic self.new.traffic }
     {
         if let Ok(Some(_)) = told {
@@ -190,6 +201,7 @@ impl<'a, N: Loan, S: Shelves> Watched<'a, N, S> {
     /// Counts a publish to a shelf if the store kept it.
     fn count_publish(&mut self, shelf: &str, told: &Result<(), StoreFault>)
         ensures same { self.new.inner ≡ self.old.inner }
+        ensures noted { self.new.notice ≡ self.old.notice }
         ensures counts { CountsIf (was_published told.now) Transfer.Publish shelf.now
             self.old.traffic self.new.traffic }
     {
@@ -210,6 +222,7 @@ impl<'a, N: Loan, S: Shelves> Shelves for Watched<'a, N, S> {
         ensures reads { Reads (S.shown self.old.inner.now) (S.shown self.new.inner.now) result
             (λ w. map.get w.keys key.now) }
         ensures counts { self.new.traffic ≡ self.old.traffic }
+        ensures noted { NotesFault errand.Key result self.old.notice self.new.notice }
     {
         let told = self.inner.key(key);
         self.note_fault(&Errand::Key, &told);
@@ -225,9 +238,11 @@ impl<'a, N: Loan, S: Shelves> Shelves for Watched<'a, N, S> {
         ensures reads { Reads (S.shown self.old.inner.now) (S.shown self.new.inner.now) result
             (λ w. view w shelf.now path.now (version_text version.now)) }
         ensures counts { CountsIf (was_found result) Transfer.Fetch shelf.now self.old.traffic self.new.traffic }
+        ensures noted { NotesFault (errand.FetchVersion path.entry version.entry) result
+            self.old.notice self.new.notice }
     {
         let told = self.inner.entry(shelf, path, version);
-        self.note_fault(&fetch_errand(path, version), &told);
+        self.note_fault(&Errand::FetchVersion { path, version }, &told);
         self.count_fetch(shelf, &told);
         told
     }
@@ -241,9 +256,11 @@ impl<'a, N: Loan, S: Shelves> Shelves for Watched<'a, N, S> {
         ensures reads { Reads (S.shown self.old.inner.now) (S.shown self.new.inner.now) result
             (λ w. heading w shelf.now path.now (version_text version.now)) }
         ensures counts { self.new.traffic ≡ self.old.traffic }
+        ensures noted { NotesFault (errand.FetchVersion path.entry version.entry) result
+            self.old.notice self.new.notice }
     {
         let told = self.inner.heading(shelf, path, version);
-        self.note_fault(&fetch_errand(path, version), &told);
+        self.note_fault(&Errand::FetchVersion { path, version }, &told);
         told
     }
 
@@ -257,9 +274,11 @@ impl<'a, N: Loan, S: Shelves> Shelves for Watched<'a, N, S> {
         ensures reads { Reads (S.shown self.old.inner.now) (S.shown self.new.inner.now) result
             (λ w. standing w shelf.now path.now (version_text version.now) entry.now) }
         ensures counts { self.new.traffic ≡ self.old.traffic }
+        ensures noted { NotesFault (errand.PublishVersion path.entry version.entry) result
+            self.old.notice self.new.notice }
     {
         let told = self.inner.compare(shelf, path, version, entry);
-        self.note_fault(&publish_errand(path, version), &told);
+        self.note_fault(&Errand::PublishVersion { path, version }, &told);
         told
     }
 
@@ -267,9 +286,9 @@ impl<'a, N: Loan, S: Shelves> Shelves for Watched<'a, N, S> {
         ensures reads { Reads (S.shown self.old.inner.now) (S.shown self.new.inner.now) result
             (λ w. versions_of w shelf.now path.now) }
         ensures counts { self.new.traffic ≡ self.old.traffic }
+        ensures noted { NotesFault (errand.Fetch path.entry) result self.old.notice self.new.notice }
     {
         let told = self.inner.versions(shelf, path);
-        let path = path.as_str();
         self.note_fault(&Errand::Fetch { path }, &told);
         told
     }
@@ -278,9 +297,9 @@ impl<'a, N: Loan, S: Shelves> Shelves for Watched<'a, N, S> {
         ensures reads { Reads (S.shown self.old.inner.now) (S.shown self.new.inner.now) result
             (λ w. latest_of w shelf.now path.now) }
         ensures counts { self.new.traffic ≡ self.old.traffic }
+        ensures noted { NotesFault (errand.Fetch path.entry) result self.old.notice self.new.notice }
     {
         let told = self.inner.latest(shelf, path);
-        let path = path.as_str();
         self.note_fault(&Errand::Fetch { path }, &told);
         told
     }
@@ -289,6 +308,7 @@ impl<'a, N: Loan, S: Shelves> Shelves for Watched<'a, N, S> {
         ensures reads { Reads (S.shown self.old.inner.now) (S.shown self.new.inner.now) result
             (λ w. paths_seen w shelf.now) }
         ensures counts { self.new.traffic ≡ self.old.traffic }
+        ensures noted { NotesFault errand.Modules result self.old.notice self.new.notice }
     {
         let told = self.inner.paths(shelf);
         self.note_fault(&Errand::Modules, &told);
@@ -299,9 +319,9 @@ impl<'a, N: Loan, S: Shelves> Shelves for Watched<'a, N, S> {
         ensures reads { Reads (S.shown self.old.inner.now) (S.shown self.new.inner.now) result
             (λ w. count w shelf.now path.now) }
         ensures counts { self.new.traffic ≡ self.old.traffic }
+        ensures noted { NotesFault (errand.Publish path.entry) result self.old.notice self.new.notice }
     {
         let told = self.inner.count(shelf, path);
-        let path = path.as_str();
         self.note_fault(&Errand::Publish { path }, &told);
         told
     }
@@ -317,9 +337,15 @@ impl<'a, N: Loan, S: Shelves> Shelves for Watched<'a, N, S> {
             (S.shown self.old.inner.now) (S.shown self.new.inner.now) result (λ _. tt)
             (λ w. with_entry w (place shelf.now path.now (version_text version.now)) entry.now) }
         ensures counts { CountsIf (was_published result) Transfer.Publish shelf.now self.old.traffic self.new.traffic }
+        ensures noted { NotesPublish self.old.is_held (errand.PublishVersion path.entry version.entry) result
+            self.old.notice self.new.notice }
     {
+        if self.is_held {
+            // No disk failed, so this is not `Device`.
+            return Err(StoreFault::Memory);
+        }
         let told = self.inner.insert(shelf, path, version, entry);
-        self.note_fault(&publish_errand(path, version), &told);
+        self.note_fault(&Errand::PublishVersion { path, version }, &told);
         self.count_publish(shelf, &told);
         told
     }
@@ -330,6 +356,7 @@ impl<'a, N: Loan, S: Shelves> Shelves for Watched<'a, N, S> {
             (λ w. after_team_add w name.now (option_copied group.entry)
             (team_added w name.now (option_copied group.entry))) }
         ensures counts { self.new.traffic ≡ self.old.traffic }
+        ensures noted { NotesCommand (command.TeamAdd name.entry group.entry) result self.new.notice }
     {
         let told = self.inner.team_add(name, group);
         self.note_command(&RegistryCommand::TeamAdd { name, group }, told);
@@ -341,6 +368,7 @@ impl<'a, N: Loan, S: Shelves> Shelves for Watched<'a, N, S> {
             (λ w. group_added w name.now)
             (λ w. after_group_add w name.now (group_added w name.now)) }
         ensures counts { self.new.traffic ≡ self.old.traffic }
+        ensures noted { NotesCommand (command.GroupAdd name.entry) result self.new.notice }
     {
         let told = self.inner.group_add(name);
         self.note_command(&RegistryCommand::GroupAdd { name }, told);
@@ -352,6 +380,7 @@ impl<'a, N: Loan, S: Shelves> Shelves for Watched<'a, N, S> {
             (λ w. key_added w shelf.now key.now)
             (λ w. after_key_add w shelf.now key.now right (key_added w shelf.now key.now)) }
         ensures counts { self.new.traffic ≡ self.old.traffic }
+        ensures noted { NotesCommand (command.KeyAdd shelf.entry key.entry right) result self.new.notice }
     {
         let told = self.inner.key_add(shelf, key, right);
         self.note_command(&RegistryCommand::KeyAdd { shelf, key, right }, told);
@@ -363,6 +392,7 @@ impl<'a, N: Loan, S: Shelves> Shelves for Watched<'a, N, S> {
             (λ w. key_revoked w key.now)
             (λ w. after_key_revoke w key.now (key_revoked w key.now)) }
         ensures counts { self.new.traffic ≡ self.old.traffic }
+        ensures noted { NotesCommand (command.KeyRevoke key.entry) result self.new.notice }
     {
         let told = self.inner.key_revoke(key);
         self.note_command(&RegistryCommand::KeyRevoke { key }, told);
@@ -374,6 +404,7 @@ impl<'a, N: Loan, S: Shelves> Shelves for Watched<'a, N, S> {
             (λ w. keys_revoked w shelf.now)
             (λ w. after_keys_revoke w shelf.now (keys_revoked w shelf.now)) }
         ensures counts { self.new.traffic ≡ self.old.traffic }
+        ensures noted { NotesCommand (command.KeysRevoke shelf.entry) result self.new.notice }
     {
         let told = self.inner.keys_revoke(shelf);
         self.note_command(&RegistryCommand::KeysRevoke { shelf }, told);
@@ -396,19 +427,5 @@ impl<'a, N: Loan, S: Keyring> Keyring for Watched<'a, N, S> {
 
     fn parent(&mut self, alloc: Global, shelf: &str) -> Result<Option<Option<Text>>, StoreFault> {
         self.inner.parent(alloc, shelf)
-    }
-}
-
-fn fetch_errand<'b>(path: &'b ModulePath, version: &'b Version) -> Errand<'b> {
-    Errand::FetchVersion {
-        path: path.as_str(),
-        version: version.as_str(),
-    }
-}
-
-fn publish_errand<'b>(path: &'b ModulePath, version: &'b Version) -> Errand<'b> {
-    Errand::PublishVersion {
-        path: path.as_str(),
-        version: version.as_str(),
     }
 }

@@ -1,5 +1,7 @@
 //! The words of a line.
-ghost use Rattle.std.specs.Prelude.{◌≡◌, MatchOption, option_copied};
+ghost use Rattle.std.specs.Prelude.{◌≡◌, ◌≤◌, ◌^◌, length, MatchBool, MatchOption, option_copied};
+ghost use Rattle.std.specs.Str.{IsUtf8};
+ghost use Rattle.control.specs.Asking.{IsSayable, IsUnsaid};
 ghost use Rattle.control.specs.Words as spec;
 
 /// The words of a line that has two or three.
@@ -34,6 +36,44 @@ pub(crate) fn are_words(words: &Words) -> bool
     ensures { result ≡ spec.are_words (spec.said words.now) }
 {
     is_word(words.verb) && is_word(words.first) && is_word_if(words.second)
+}
+
+/// Whether a line can carry the words, which has at most so many bytes without its end.
+pub(crate) fn is_sayable(words: &Words, most: usize) -> bool
+    ensures { MatchBool result (IsSayable most (spec.said words.now)) (IsUnsaid most (spec.said words.now)) }
+{
+    let length = text_len(words);
+    are_words(words) && length <= most as u128
+}
+
+/// Returns how many bytes the text of the words has.
+fn text_len(words: &Words) -> u128
+    ensures len { result ≡ length (spec.text_of (spec.said words.now)) }
+    ensures text { IsUtf8 (spec.text_of (spec.said words.now)) }
+{
+    let (verb, first) = (word_len(words.verb), word_len(words.first));
+    let behind = behind_len(words.second);
+    verb as u128 + 1 + first as u128 + behind
+}
+
+/// Returns how many bytes a word has.
+fn word_len(word: &str) -> usize
+    ensures len { result ≡ length word.now }
+    ensures text { IsUtf8 word.now }
+{
+    word.len()
+}
+
+/// Returns how many bytes a word behind others has, with the space before it.
+fn behind_len(word: Option<&str>) -> u128
+    ensures len { result ≡ length (spec.behind (option_copied word.entry)) }
+    ensures text { IsUtf8 (spec.behind (option_copied word.entry)) }
+    ensures few { result ≤ 2 ^ 64 }
+{
+    match word {
+        Some(word) => 1 + word_len(word) as u128,
+        None => 0,
+    }
 }
 
 /// Returns the text before the first space, and the text behind it if there is a space.

@@ -34,7 +34,7 @@ module _ (came came_new : Account) (written written_new : Option (List ℕ)) (re
     pub does : done ended
     pub tells : TellsAlone came came_new written written_new result (acceptance ended)
 
-  -- a key was made and printed, a running `serve` was ordered to add it, no store was opened, and nothing was read
+  -- a running `serve` was ordered to add a key that was made, and the key printed, no store was opened, and nothing read
   pub record OrdersNewAlone (shelf : Bor (List ℕ)) (right : Right) : Type 0 where
     pub ended : Result (Unit {0}) CommandRefusal
     pub orders : OrdersNew shelf right written written_new ended
@@ -53,9 +53,7 @@ module _ (came came_new : Account) (written written_new : Option (List ℕ)) (re
 
   -- a running `serve` was asked for the catalog of a key, which was printed, no store was opened, and nothing was read
   pub record CatalogsAlone (key : List ℕ) : Type 0 where
-    pub ended : Result (Unit {0}) CommandRefusal
-    pub catalogs : CatalogsThere key written written_new ended
-    pub tells : result ≡ acceptance ended
+    pub catalogs : CatalogsThere key written written_new result
     pub input : came_new ≡ came
 
 module _ {S C : Type 0} (acts : Deeds S) (state_of : C → State) (shown : S → Shown)

@@ -1,10 +1,11 @@
 //! The names that SQLite gives the files beside a database: its journal, its log and its shared memory. A store of such
 //! a name makes the database unreadable, so none is made there.
 
-use commands::files::is_same_file;
+use commands::files::{is_missing_or_empty, is_same_file};
 use std::fs::{self, File};
-use std::io::{self, ErrorKind};
+use std::io::{self, ErrorKind, Read};
 use std::rt::HostRuntime;
+use store::files::is_new_store;
 use store_files::refusal::StoreRefusal;
 
 /// Tests the name of a new store. Fails with `Device` if SQLite has a use for that file, by its name or by a link: for
@@ -53,6 +54,37 @@ fn is_file(rt: &HostRuntime, path: &str) -> bool {
         Ok(found) => found.is_file(),
         Err(_) => false,
     }
+}
+
+/// Whether there is no such file, or it has no bytes, and beside it stands a log that may be what is left of a store.
+/// SQLite would lose that log, so no store is made there. False if memory runs out.
+pub(crate) fn has_lone_log(rt: &HostRuntime, path: &str) -> bool {
+    if !is_missing_or_empty(rt, path) || is_new_store(rt, path) {
+        return false;
+    }
+    match format!(in rt.alloc(); "{path}-wal") {
+        Ok(log) => is_log(rt, log.as_str()),
+        Err(_) => false,
+    }
+}
+
+/// Whether there is a file of this name that begins as a log. A store that has the name of another one's log does not.
+fn is_log(rt: &HostRuntime, path: &str) -> bool {
+    if !is_file(rt, path) {
+        return false;
+    }
+    match File::open(rt, path) {
+        Ok(mut file) => begins_as_log(&mut file).unwrap_or(false),
+        Err(_) => false,
+    }
+}
+
+/// Whether the next bytes are those that a log of SQLite begins with. Fails if there are too few, or a read fails.
+fn begins_as_log<R: Read>(file: &mut R) -> io::Result<bool> {
+    let mut head = [0; 4];
+    file.read_exact(&mut head)?;
+    // (the last bit is for the order of the bytes in its checksums)
+    Ok(head[..3] == [0x37, 0x7f, 0x06] && head[3] & 0xfe == 0x82)
 }
 
 /// Has the system write to the disk what it has of the log of the store at `path`. Does nothing if the log can't be

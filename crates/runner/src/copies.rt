@@ -11,15 +11,16 @@ ghost use Rattle.runner.specs.Opened.{HasBegun};
 ghost use Rattle.world.specs.Store.{HasCause};
 
 use crate::beside::real_name;
-use crate::file_checks::FileChecks;
+use crate::file_checks::{FileChecks, target_refusal};
 use crate::found::{AsFound, ClosedFile, Found, OpenedStore};
 use crate::host::SystemHost;
+use crate::reserve::{give_up, keep, make};
 use crate::slice_pace::SlicePace;
 use crate::system::SystemStoreFiles;
 use catalog::Unprinted;
 use catalog::between::{CatalogEnd, print_between};
 use commands::files::size_of_file;
-use control::{CatalogRefusal, Copies, CopyRefusal, Figures};
+use control::{CatalogRefusal, Copies, CopyRefusal, Figures, KeepsRoom, Room};
 use histories::Restart;
 use meanwhile::between::Between;
 use slices::pace::Pace;
@@ -64,6 +65,12 @@ impl<'a> FileCopies<'a> {
             Ok(log) => size_of_file(rt, log.as_str()),
             Err(_) => None,
         }
+    }
+}
+
+impl<'a> KeepsRoom for FileCopies<'a> {
+    fn keep_room(&self) -> Room {
+        keep(self.host.rt, self.db)
     }
 }
 
@@ -133,14 +140,23 @@ impl<'a, S: Alter> Copies<SqlShelves<S>> for FileCopies<'a> {
         }
     }
 
+    fn make_room(&self) -> bool {
+        make(self.host.rt, self.db)
+    }
+
+    fn give_up_room(&self) -> bool {
+        give_up(self.host.rt, self.db)
+    }
+
     ghost busy = { λ s path. inr (inr (record { same = refl; tells = refl })) };
 
     ghost no_catalog = { λ s key. inr (refl, refl, refl) };
 }
 
 /// Opens the store of a file and makes it a copy of a served store, whose file is at `db`. It does not open the served
-/// file again: for that, and for a link to it, it fails with `NotEmpty`. If SQLite has a use for the file, it fails
-/// with `Device`, and otherwise as `Copies::copy` does. The clock says when a slice of the copy is to end.
+/// file again: for that, for a link to it, and for a name beside which a log stands alone, it fails with `NotEmpty`. If
+/// SQLite has a use for the file, it fails with `Device`, and otherwise as `Copies::copy` does. The clock says when a
+/// slice of the copy is to end.
 fn copy_to<C, L, S, G, B>(
     clock: &C,
     checks: &L,
@@ -172,7 +188,7 @@ where
     }
     let mut fresh = match targets.open(to, Use::Writing) {
         Ok(file) => file,
-        Err(unopened) => return Err(copy_refusal(unopened)),
+        Err(unopened) => return Err(copy_refusal(target_refusal(checks, to, unopened))),
     };
     let mut pace = SlicePace::new(clock, checks, to);
     let told = copy_into(&mut pace, source, &mut fresh.store, between);

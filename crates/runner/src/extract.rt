@@ -6,7 +6,7 @@ ghost use Rattle.store.specs.Extracted.{HasCauseInEither};
 ghost use Rattle.store.specs.Parts.{ExtractsTeams};
 
 use crate::copy_line::CopyLine;
-use crate::file_checks::FileChecks;
+use crate::file_checks::{FileChecks, target_refusal};
 use crate::found::{ClosedFile, Found, OpenedStore};
 use commands::refusal::CommandRefusal;
 use file_action::refusal::new_store_refusal;
@@ -17,8 +17,8 @@ use store_files::refusal::StoreRefusal;
 use world::shelves::Shelves;
 
 /// Puts some teams' part of the store of one file into the store of another. Fails with the refusals of the store; with
-/// `NotEmpty` if both paths lead to one file, which stays empty if it was; and with `Device` if SQLite has a use for
-/// the second file. On a terminal it shows how far it is.
+/// `NotEmpty` if both paths lead to one file, which stays empty if it was, or a log stands alone beside the second; and
+/// with `Device` if SQLite has a use for the second file. On a terminal it shows how far it is.
 ///
 /// If the first file is empty, it compares the files before it opens either. Otherwise it compares them after it opened
 /// the first, because opening the second would meet the first one's lock and fail with `Device`. If a file with bytes
@@ -72,7 +72,9 @@ where
     }
     let mut fresh = match targets.open(to, Use::Writing) {
         Ok(file) => file,
-        Err(unopened) => return Err(new_store_refusal(unopened.into())),
+        Err(unopened) => {
+            return Err(new_store_refusal(target_refusal(checks, to, unopened).into()));
+        }
     };
     let line = CopyLine::new(checks.line("extract"));
     let told = extract_part(source, teams, &mut fresh.store, &line);

@@ -1,4 +1,6 @@
 //! What a command asks of files that it opens as stores, or has open, and where it shows how far it is.
+ghost use Rattle.std.specs.Prelude.{◌≡◌, ◌⊎◌};
+
 use commands::progress::StderrLine;
 use store_files::refusal::StoreRefusal;
 
@@ -17,6 +19,10 @@ pub trait FileChecks {
     /// for the database at `db`, or for another that stands there. Fails with `Memory` if memory runs out.
     fn check_name(&self, db: &str, to: &str) -> Result<(), StoreRefusal>;
 
+    /// Whether there is no such file, or it has no bytes, and beside it stands a log that may be what is left of a
+    /// store.
+    fn has_lone_log(&self, name: &str) -> bool;
+
     /// Has the system write to the disk what it has of the log of the store at `path`, which stays as it is. If that
     /// fails, the commit meets it too, and tells.
     fn sync_log(&self, path: &str);
@@ -24,5 +30,21 @@ pub trait FileChecks {
     /// Returns a line on a terminal for a command that begins now, or None if there is no terminal.
     fn line(&self, _verb: &'static str) -> Option<StderrLine<'_>> {
         None
+    }
+}
+
+/// Returns why no new store was opened in a file: `NotEmpty` in place of `Device` if a log of another store stands
+/// there alone.
+pub(crate) fn target_refusal<L: FileChecks>(
+    checks: &L,
+    to: &str,
+    refusal: StoreRefusal,
+) -> StoreRefusal
+    ensures { (result ≡ refusal) ⊎ ((refusal ≡ StoreRefusal.Device) × (result ≡ StoreRefusal.NotEmpty)) }
+{
+    if refusal == StoreRefusal::Device && checks.has_lone_log(to) {
+        StoreRefusal::NotEmpty
+    } else {
+        refusal
     }
 }

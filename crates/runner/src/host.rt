@@ -4,7 +4,7 @@ ghost use Rattle.commands.specs.Action.{Acts};
 ghost use Rattle.runner.specs.Copies.{CountsIn, Makes};
 ghost use Rattle.runner.specs.Opened.{HasBegun};
 
-use crate::beside::{check_name, sync_log};
+use crate::beside::{check_name, has_lone_log, sync_log};
 use crate::copies::FileCopies;
 use crate::extract::extract_file;
 use crate::file_checks::FileChecks;
@@ -89,7 +89,7 @@ pub trait Host<S, C>: ActionHost<S> + FileChecks {
     fn order(&mut self, control: &str, command: &RegistryCommand) -> Result<(), CommandRefusal>
         ensures { OrdersThere command.now result };
 
-    /// Makes a key, prints it, and sends an order to add it to a running `serve`. Fails as [`order_new_at`] does.
+    /// Makes a key, sends an order to add it to a running `serve`, and prints it. Fails as [`order_new_at`] does.
     fn order_new<O: Tell>(
         &mut self,
         control: &str,
@@ -126,7 +126,7 @@ pub trait Host<S, C>: ActionHost<S> + FileChecks {
         control: &str,
         key: &str,
         output: &mut O,
-    ) -> Result<(), CommandRefusal>
+    ) -> Result<bool, CommandRefusal>
         ensures { CatalogsThere key.now (O.contents output.old) (O.contents output.new) result };
 
     /// Has a running `serve` end. Fails as [`stop_at`] does.
@@ -155,6 +155,10 @@ impl<'a> FileChecks for SystemHost<'a> {
 
     fn check_name(&self, db: &str, to: &str) -> Result<(), StoreRefusal> {
         check_name(self.rt, db, to)
+    }
+
+    fn has_lone_log(&self, name: &str) -> bool {
+        has_lone_log(self.rt, name)
     }
 
     fn sync_log(&self, path: &str) {
@@ -276,7 +280,7 @@ impl<'a> Host<OpenedStore, ClosedFile> for SystemHost<'a> {
         control: &str,
         key: &str,
         output: &mut O,
-    ) -> Result<(), CommandRefusal> {
+    ) -> Result<bool, CommandRefusal> {
         catalog_at(self.rt, control, key, output)
     }
 

@@ -38,6 +38,7 @@ mod old_file;
 pub mod older_files;
 mod open;
 mod opening;
+mod reserve;
 mod slice_pace;
 pub mod system;
 pub mod temporary_files;
@@ -181,7 +182,7 @@ where
         Command::Copy { control, to } => acceptance(host.copy(control, to)),
         Command::Ping { control } => host.ping(control, output),
         Command::List { control, listing } => host.list(control, *listing, output),
-        Command::Catalog { control, key } => acceptance(host.catalog(control, key, output)),
+        Command::Catalog { control, key } => host.catalog(control, key, output),
         Command::Stop { control } => acceptance(host.stop(control)),
     }
 }

@@ -5,7 +5,7 @@ ghost use Rattle.sqlite.specs.Held.{state};
 ghost use Rattle.store.specs.Migrated.{HasCauseInOne, Migrates};
 
 use crate::copy_line::CopyLine;
-use crate::file_checks::FileChecks;
+use crate::file_checks::{FileChecks, target_refusal};
 use crate::found::{ClosedFile, Found, FoundTables, OpenedStore};
 use crate::older_files::OlderFiles;
 use crate::temporary_files::TemporaryFiles;
@@ -85,7 +85,8 @@ fn migrate_from<S: Alter>(
 }
 
 /// Copies the older store in one file into the store of another. The older file and its log are only read. Fails with
-/// the refusals of the store, and with `NotEmpty` if both names lead to one file, which stays as it was.
+/// the refusals of the store, and with `NotEmpty` if both names lead to one file, which stays as it was, or a log
+/// stands alone beside the other.
 ///
 /// It opens the older store before the other, and judges its tables after it opened the other. What it opens is a copy.
 /// An older file that has no bytes, or is missing, has no tables: it is neither opened nor made. On a terminal it shows
@@ -199,7 +200,9 @@ where
     }
     let mut fresh = match targets.open(to, Use::Writing) {
         Ok(file) => file,
-        Err(unopened) => return Err(new_store_refusal(unopened.into())),
+        Err(unopened) => {
+            return Err(new_store_refusal(target_refusal(checks, to, unopened).into()));
+        }
     };
     let line = CopyLine::new(checks.line("migrate 2/2"));
     let told = old.migrate_into(&mut fresh.store, &line);

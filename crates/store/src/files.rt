@@ -2,9 +2,11 @@
 
 ghost use Rattle.std.specs.Prelude.{◌≡◌, ◌⊎◌, ◌↔◌, true, false, Decides, IfOk, IfErr, IsErrAnd, OnOk, IsTrue};
 ghost use Rattle.sqlite.specs.Files.{file_state, image_of, tally_left, IsOpened, IsCleanLeft, LeavesFiles, Finds};
+ghost use Rattle.sqlite.specs.Files.{IsBlankAs};
 ghost use Rattle.sqlite.specs.Start.{FindsIn};
 ghost use Rattle.sqlite.specs.State.{HasCleanDisk};
 ghost use Rattle.sqlite_std_file.specs.File.{file_is_usable, IsFresh};
+ghost use Rattle.sqlite_store.specs.FileStore.{view};
 ghost use Rattle.sqlite_wal.specs.Reads.{AreClean, IsClean, OnlyReads};
 ghost use Rattle.setup.specs.Opened.{IsOfOpening};
 ghost use Rattle.store.specs.Names.{IsNoFileName};
@@ -54,6 +56,9 @@ impl PageRoom {
 
 /// The page size of a new file.
 const NEW_SIZE: usize = 4_096;
+
+/// Each page of a new file ends in the sum of SQLite's cksumvfs. An opening refuses a file if one is wrong.
+const NEW_HAS_SUMS: bool = true;
 
 /// The bytes of a log's header and of a frame's. sqlite passes over a shorter log.
 pub(crate) const SHORTEST_LOG: usize = 32 + 24;
@@ -148,6 +153,8 @@ pub(crate) fn connect_files<D: Disk + Drop>(
     requires db { IsTrue (D.Disk.is_usable files.db) }
     ensures opened { IfOk result (λ c. HasCleanDisk (file_state c) → IsOpened c) }
     ensures found { IfOk result (λ c. HasCleanDisk (file_state c) → FindsIn (image_of D.Disk files) (file_state c)) }
+    ensures sums { IfOk result (λ c. HasCleanDisk (file_state c)
+        → IsBlankAs true (image_of D.Disk files) → (view c.store).has_sums ≡ true) }
     ensures begun { IfOk result (λ c. HasCleanDisk (file_state c) → ¬ IsStray (image_of D.Disk files)) }
     ensures refused { IfErr result (λ e. IsOfOpening e.0) }
     ensures bad { IfErr result (λ e. e.0 ≡ StoreRefusal.BadSchema
@@ -235,13 +242,15 @@ fn connect_judged<D: Disk + Drop>(
     requires db { IsTrue (D.Disk.is_usable files.db) }
     ensures opened { IfOk result (λ c. HasCleanDisk (file_state c) → IsOpened c) }
     ensures found { IfOk result (λ c. HasCleanDisk (file_state c) → Finds files c) }
+    ensures sums { IfOk result (λ c. HasCleanDisk (file_state c)
+        → IsBlankAs true (image_of D.Disk files) → (view c.store).has_sums ≡ true) }
     ensures refused { IfErr result (λ e. IsOfOpening e.0) }
     ensures bad { IfErr result (λ e. e.0 ≡ StoreRefusal.BadSchema
         → IsCleanLeft e.1 → HoldsNoFile (image_of D.Disk files)) }
     ensures unharmed { IfErr result (λ e. IsCleanLeft e.1 → LeavesFiles files e.1) }
 {
     let caught = files.tally().caught;
-    match Connection::open_files_with(alloc, files, options, false) {
+    match Connection::open_files_with(alloc, files, options, NEW_HAS_SUMS) {
         Ok(conn) => Ok(conn),
         Err((error, left)) => {
             let refusal = file_refusal(error, tally_of(&left).caught != caught);

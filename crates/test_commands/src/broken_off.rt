@@ -1,13 +1,18 @@
 //! Imports that break off: the list cannot be read on, or a line cannot be printed.
-use crate::calls::{imported, seen_by};
 use crate::in_memory::put;
+use commands::import::{Ending, import};
+use commands::inventory::inventory;
 use commands::memory::shelves_with;
 use commands::sources::{FilesInMemory, Sources};
+use engine::Io;
+use histories::Telling;
 use outline::outlines::Outlines;
 use std::alloc::{AllocError, Global};
 use std::io::Read;
+use std::str::from_utf8;
 use std::test::Fail;
 use test_support::doubles::{Sink, Source};
+use world::shelves::Shelves;
 
 const KEY: &str = "alphakey00000001";
 
@@ -49,6 +54,44 @@ example.com/i,v1.0.0,alpha,release,,21,0
 example.com/i,v1.1.0,alpha,release,,21,0
 example.com/i,v1.2.0,alpha,release,,21,0
 ";
+
+/// Imports a list, and returns the lines that are printed and how the import ends.
+fn imported<S: Shelves, F: Sources, L: Read + Drop>(
+    alloc: Global,
+    shelves: &mut S,
+    files: &F,
+    key: &str,
+    list: L,
+    mut output: Sink,
+) -> Result<String, Fail> {
+    let ending = ending_of(import(
+        alloc,
+        shelves,
+        key,
+        list,
+        files,
+        &mut Telling::new(&mut output),
+    ));
+    Ok(format!(in alloc; "{}{ending}", from_utf8(output.taken.as_slice())?)?)
+}
+
+/// Returns how an import ended, in words.
+fn ending_of(ended: Result<Ending, Io>) -> &'static str {
+    match ended {
+        Ok(Ending::AllIn) => "all in",
+        Ok(Ending::SomeOut) => "some out",
+        Ok(Ending::BadRow) => "bad row",
+        Err(_) => "io",
+    }
+}
+
+/// Returns what the shelf of a key sees, or why the inventory fails.
+fn seen_by<S: Outlines>(alloc: Global, shelves: &mut S, key: &str) -> Result<String, Fail> {
+    match inventory(alloc, shelves, key) {
+        Ok(text) => Ok(String::from_str(alloc, from_utf8(text.as_slice())?)?),
+        Err(fault) => Ok(format!(in alloc; "{fault:?}")?),
+    }
+}
 
 /// Imports a list, and returns what is printed, how the import ends, and what the shelf sees afterwards.
 fn left_by<S: Outlines + Drop, L: Read + Drop, F: Sources>(

@@ -3,7 +3,7 @@ ghost use Rattle.std.specs.Prelude.{◌≢◌, IfErr};
 ghost use Rattle.control.specs.declared.copies.CatalogRefusal.TheVariants as catalog;
 ghost use Rattle.control.specs.declared.copies.CopyRefusal.TheVariants.{Busy, Ended};
 
-use control::{CatalogRefusal, Copies, CopyOrders, CopyRefusal, Figures};
+use control::{CatalogRefusal, Copies, CopyOrders, CopyRefusal, Figures, KeepsRoom, Room};
 use histories::Restart;
 use meanwhile::between::{Between, Halt, HowFar};
 use meanwhile::newcomers::Newcomers;
@@ -77,6 +77,13 @@ fn figures_of<'s>() -> Figures<'s> {
     }
 }
 
+/// It has none to give up, and says that all of it is there.
+impl KeepsRoom for Copier {
+    fn keep_room(&self) -> Room {
+        Room::Whole
+    }
+}
+
 impl<S: Shelves> Copies<S> for Copier {
     ghost made = { λ _ _ _. Unit {0} };
 
@@ -130,6 +137,14 @@ impl<S: Shelves> Copies<S> for Copier {
         figures_of()
     }
 
+    fn make_room(&self) -> bool {
+        true
+    }
+
+    fn give_up_room(&self) -> bool {
+        false
+    }
+
     ghost busy = { λ _ _. tt };
 
     ghost no_catalog = { λ _ _. tt };
@@ -171,5 +186,9 @@ impl<S: Shelves> CopyOrders<S> for Copier {
 
     fn figures<'s>(&self, _shelves: &'s S) -> Figures<'s> {
         figures_of()
+    }
+
+    fn give_up_room(&self) -> bool {
+        false
     }
 }

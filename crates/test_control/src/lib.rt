@@ -1,5 +1,5 @@
-//! The worked rows of orders: the answer to each line over shelves in memory, what a command sends and how it ends for
-//! each outcome, an operator and a peer of this process who come at once, and callers and a calendar in memory.
+//! The worked rows of orders: the answer to each line over shelves in memory, an operator and a peer of this process
+//! who come at once, and callers and a calendar in memory.
 #![tactic(auto)]
 
 #[cfg(test)]

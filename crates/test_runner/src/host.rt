@@ -1,9 +1,10 @@
 //! A system whose stores are in memory.
 use commands::action::{Action, acceptance};
+use commands::order::unsent_refusal;
 use commands::refusal::CommandRefusal;
 use commands::registry::register;
 use commands::report::print_inventory;
-use control::{Listing, RegistryCommand};
+use control::{Listing, RegistryCommand, has_catalog_line, has_copy_line, has_naming_line};
 use file_action::host::ActionHost;
 use histories::{Hear, Tell};
 use memory_store::map_shelves::MapShelves;
@@ -39,6 +40,10 @@ impl<'a> FileChecks for MemoryHost<'a> {
 
     fn check_name(&self, _db: &str, _to: &str) -> Result<(), StoreRefusal> {
         Ok(())
+    }
+
+    fn has_lone_log(&self, _name: &str) -> bool {
+        false
     }
 
     fn sync_log(&self, _path: &str) {}
@@ -108,16 +113,27 @@ impl<'a> Host<MapShelves, MapShelves> for MemoryHost<'a> {
         Err(CommandRefusal::NotEmpty)
     }
 
-    fn order(&mut self, _control: &str, _command: &RegistryCommand) -> Result<(), CommandRefusal> {
-        Err(CommandRefusal::Device)
+    fn order(&mut self, _control: &str, command: &RegistryCommand) -> Result<(), CommandRefusal> {
+        match unsent_refusal(command) {
+            Some(refusal) => Err(refusal),
+            None => Err(CommandRefusal::Device),
+        }
     }
 
-    fn revoke(&mut self, _control: &str, _fingerprint: &str) -> Result<(), CommandRefusal> {
-        Err(CommandRefusal::Device)
+    fn revoke(&mut self, _control: &str, fingerprint: &str) -> Result<(), CommandRefusal> {
+        if has_naming_line(fingerprint) {
+            Err(CommandRefusal::Device)
+        } else {
+            Err(CommandRefusal::NoKey)
+        }
     }
 
-    fn copy(&mut self, _control: &str, _to: &str) -> Result<(), CommandRefusal> {
-        Err(CommandRefusal::Device)
+    fn copy(&mut self, _control: &str, to: &str) -> Result<(), CommandRefusal> {
+        if has_copy_line(to) {
+            Err(CommandRefusal::Device)
+        } else {
+            Err(CommandRefusal::Name)
+        }
     }
 
     fn order_new<O: Tell>(
@@ -142,10 +158,14 @@ impl<'a> Host<MapShelves, MapShelves> for MemoryHost<'a> {
     fn catalog<O: Tell>(
         &mut self,
         _control: &str,
-        _key: &str,
+        key: &str,
         _output: &mut O,
-    ) -> Result<(), CommandRefusal> {
-        Err(CommandRefusal::Device)
+    ) -> Result<bool, CommandRefusal> {
+        if has_catalog_line(key) {
+            Err(CommandRefusal::Device)
+        } else {
+            Err(CommandRefusal::NoKey)
+        }
     }
 
     fn ping<O: Tell>(&mut self, _control: &str, _output: &mut O) -> Result<bool, CommandRefusal> {

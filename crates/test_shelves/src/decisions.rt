@@ -60,7 +60,7 @@ fn given(text: &str) -> Result<GivenTime, Fail> {
 }
 
 /// Returns the body of these files, in which `;` is a newline of the go.mod, or None if that is `-`.
-pub fn body(alloc: Global, gomod: &str, zip: &str) -> Result<Option<Body>, AllocError> {
+fn body(alloc: Global, gomod: &str, zip: &str) -> Result<Option<Body>, AllocError> {
     if gomod == "-" {
         return Ok(None);
     }

@@ -1,16 +1,17 @@
-//! The worked examples of shelves in memory, and the worked rows of the streams and connections that they answer.
+//! The worked examples of shelves in memory, and the rows of the streams and connections that they answer.
 //!
 //! | module | its rows show |
 //! |---|---|
-//! | `maps` | the scripts of `test_support`: calls of shelves, and the bytes that answer requests |
+//! | `maps` | the scripts of `test_support`: calls of shelves |
 //! | `kept_counts`, `version_sets` | what shelves in memory keep |
-//! | `entries`, `decisions`, `runs` | which entries may stand, decisions on publishes, runs of the machine |
+//! | `entries`, `decisions` | which entries may stand, decisions on publishes |
 //! | `answers`, `sweeps` | answers to a stream however it is cut, and readers and writers that fail at each call |
 //! | `connections`, `queue` | connections of this process to itself and in memory |
 //! | `in_time` | a peer's time |
 //!
-//! Each table is a text whose lines are rows. Each public function of the crates below runs on at least one row. The
-//! scripts are those of `test_support`, which `test_stores` also runs on tables.
+//! Each table is a text whose lines are rows. Each public function of the crates below runs on at least one row, here
+//! or in a suite, but `run` of `machine`, which is a theorem. The scripts are those of `test_support`, which
+//! `test_stores` also runs on tables.
 #![tactic(auto)]
 
 #[cfg(test)]
@@ -29,8 +30,6 @@ mod kept_counts;
 mod maps;
 #[cfg(test)]
 mod queue;
-#[cfg(test)]
-mod runs;
 #[cfg(test)]
 mod shelves;
 #[cfg(test)]

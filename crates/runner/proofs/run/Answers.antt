@@ -51,15 +51,8 @@ returns-in-List g c = ran _ _ _ _ _ _ _ _ _ _ _ _ _ c.in-List.is
     (record { lists = c.list.ensures; input = refl }, (refl, refl, refl))
 
 pub returns-in-Catalog : goal.returns-in-Catalog
-returns-in-Catalog g c = ran _ _ _ _ _ _ _ _ _ _ _ _ _ c.in-Catalog.is (
-  record {
-    ended = c.catalog.result;
-    catalogs = c.catalog.ensures;
-    tells = c.acceptance-in-Catalog.ensures;
-    input = refl;
-  },
-  (refl, refl, refl),
-)
+returns-in-Catalog g c = ran _ _ _ _ _ _ _ _ _ _ _ _ _ c.in-Catalog.is
+    (record { catalogs = c.catalog.ensures; input = refl }, (refl, refl, refl))
 
 pub returns-in_ok-answer_in_memory-in-AnswerInMemory : goal.returns-in_ok-answer_in_memory-in-AnswerInMemory
 returns-in_ok-answer_in_memory-in-AnswerInMemory g c = ran _ _ _ _ _ _ _ _ _ _ _ _ _ c.in-AnswerInMemory.is (

@@ -65,11 +65,11 @@ returns-in-Some-RevokeNamed-clause-heeds g c = λ none. record {
 
 pub returns-in-Some-Registry-clause-heeds : goal.returns-in-Some-Registry-clause-heeds
 returns-in-Some-Registry-clause-heeds g c = λ none. record {
-  heard = Carried c.in-Some-Registry.command c.carry_out.result;
+  heard = Carried c.in-Some-Registry.command c.carry_out_in-told.result;
   from = rw c.in-Some-Registry.field-0-is at c.in-Some-Registry.ensures;
   prints = refl;
   tells = ap spoken.Outcome c.outcome_of.ensures;
-  through = (refl, tasks_ordered _ _ _ _ c.carry_out.ensures.does);
+  through = (refl, tasks_ordered _ _ _ _ c.carry_out_in-told.ensures.does);
   came = tt;
   lists = tt;
 }

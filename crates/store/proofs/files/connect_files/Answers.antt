@@ -1,7 +1,8 @@
-use Rattle.std.proofs.Common.{subst}
+use Rattle.std.specs.Prelude.{true}
+use Rattle.std.proofs.Common.{subst, sym}
 use Rattle.std.proofs.lemmas.Result.{IfOk-weaker, IfErr-weaker}
 use Rattle.sqlite.proofs.FileLemmas.{same_image}
-use Rattle.sqlite.specs.Files.{file_state}
+use Rattle.sqlite.specs.Files.{file_state, IsBlankAs}
 use Rattle.sqlite.specs.Start.{FindsIn}
 use Rattle.store.specs.Restart.{HoldsNoFile}
 use Rattle.store.proofs.FileLemmas.{leaves_from, no_database, stray_is_none}
@@ -13,6 +14,12 @@ returns-clause-found g c =
     let found = finds clean in
     subst (λ i. FindsIn i (file_state conn)) (same_image c.judge.ensures.log c.judge.ensures.db)
     (record { holds = found.holds; reads = found.reads })) c.connect_judged.ensures.found
+
+pub returns-clause-sums : goal.returns-clause-sums
+returns-clause-sums g c =
+    IfOk-weaker c.connect_judged.result _ _ (λ conn has clean blank.
+    has clean (subst (IsBlankAs true) (sym (same_image c.judge.ensures.log c.judge.ensures.db)) blank))
+    c.connect_judged.ensures.sums
 
 pub returns-clause-begun : goal.returns-clause-begun
 returns-clause-begun g c =

@@ -1,0 +1,204 @@
+//! Room on the disk of a served store: a file beside it, which is cut when an order needs room. That these lines do so
+//! is read and tested, and not proved.
+
+use crate::beside::real_name;
+use control::Room;
+use std::fs::{self, File, OpenOptions};
+use std::io::{self, ErrorKind};
+use std::os::unix::fs::{FileExt, MetadataExt, OpenOptionsExt};
+use std::rt::HostRuntime;
+
+/// The bytes of a reserve: 24 MiB. Whoever publishes leaves a log of at most 999 pages and those of one publish, of
+/// which the largest has 4,144, and perhaps no room to copy them into the file. The next order does that first, so it
+/// needs up to 21,065,728 bytes. For itself it needs 3 pages, and 256 KiB where the log grows.
+const MOST: u64 = 24 << 20;
+
+/// The bytes that a reserve is begun with. Each start doubles it up to `MOST`, as long as the disk has room.
+const LEAST: u64 = MOST >> 5;
+
+/// The bytes that stay when the room is given up.
+const KEPT: u64 = 4_096;
+
+/// What the file of a reserve begins with. The number of its bytes follows.
+const TITLE: &str = "goshelf reserve of ";
+
+/// What follows the number.
+const END: &str = " bytes\n";
+
+/// The bytes that are written at once.
+const PIECE: [u8; 4_096] = [0; 4_096];
+
+/// Gives up the reserve of the store at `db`, and returns whether there was one. Errors are ignored.
+pub(crate) fn give_up(rt: &HostRuntime, db: &str) -> bool {
+    cut(rt, db).unwrap_or(false)
+}
+
+/// Makes the reserve of the store at `db` if there is none, fills it, and returns whether all of it is there. False if
+/// it can't be made, or if another file has its name.
+pub(crate) fn make(rt: &HostRuntime, db: &str) -> bool {
+    begun(rt, db).unwrap_or(false)
+}
+
+/// Fills the reserve of the store at `db` as far as the disk has room, and returns how much of it is there.
+pub(crate) fn keep(rt: &HostRuntime, db: &str) -> Room {
+    filled(rt, db).unwrap_or(Room::Missing)
+}
+
+fn cut(rt: &HostRuntime, db: &str) -> io::Result<bool> {
+    let Some(file) = opened(rt, name_of(rt, db)?.as_str())? else {
+        return Ok(false);
+    };
+    if file.metadata()?.len() <= KEPT {
+        return Ok(false);
+    }
+    file.set_len(KEPT)?;
+    // Some file systems have the room only then.
+    file.sync_all()?;
+    Ok(true)
+}
+
+fn begun(rt: &HostRuntime, db: &str) -> io::Result<bool> {
+    let name = name_of(rt, db)?;
+    let Some(file) = opened(rt, name.as_str())? else {
+        return made(rt, name.as_str());
+    };
+    if !refilled(&file)? {
+        return Ok(false);
+    }
+    doubled(rt, &file)?;
+    Ok(true)
+}
+
+fn filled(rt: &HostRuntime, db: &str) -> io::Result<Room> {
+    let Some(file) = opened(rt, name_of(rt, db)?.as_str())? else {
+        return Ok(Room::Missing);
+    };
+    if refilled(&file)? {
+        Ok(Room::Whole)
+    } else {
+        Ok(Room::Short)
+    }
+}
+
+/// Fills a reserve up to the bytes that it is to have, as far as the disk has room, and returns whether it has them.
+fn refilled(file: &File) -> io::Result<bool> {
+    let (found, bytes) = (file.metadata()?.len(), bytes_of(file)?);
+    if found >= bytes {
+        return Ok(true);
+    }
+    let is_whole = fill(file, found, bytes)?;
+    if is_whole {
+        file.sync_all()?;
+    }
+    Ok(is_whole)
+}
+
+/// Returns the name of the reserve of a store: it stands beside the file that its name leads to. Fails only if memory
+/// runs out.
+fn name_of(rt: &HostRuntime, db: &str) -> io::Result<String> {
+    let real = real_name(rt, db)?;
+    Ok(format!(in rt.alloc(); "{}-reserve", real.as_str())?)
+}
+
+/// Opens a reserve, or returns None if there is no file of this name. Fails if the file is no reserve, or has another
+/// name too.
+fn opened(rt: &HostRuntime, name: &str) -> io::Result<Option<File>> {
+    let named = match fs::symlink_metadata(rt, name) {
+        Err(error) if error.kind() == ErrorKind::NotFound => return Ok(None),
+        found => found?,
+    };
+    if !named.is_file() || named.nlink() != 1 {
+        return Err(ErrorKind::Unsupported.into());
+    }
+    let file = OpenOptions::new().read(true).write(true).open(rt, name)?;
+    let found = file.metadata()?;
+    if found.dev() != named.dev() || found.ino() != named.ino() {
+        return Err(ErrorKind::Unsupported.into());
+    }
+    let _bytes = bytes_of(&file)?;
+    Ok(Some(file))
+}
+
+/// Returns how many bytes a reserve is to have. Fails if the file is none.
+fn bytes_of(file: &File) -> io::Result<u64> {
+    let mut front = [0; 64];
+    let read = file.read_at(&mut front, 0)?;
+    match number_in(&front[..read]) {
+        Some(bytes) if bytes >= LEAST && bytes <= MOST => Ok(bytes),
+        _ => Err(ErrorKind::Unsupported.into()),
+    }
+}
+
+/// Returns the number that the first line of a reserve names, or None if it is no such line.
+fn number_in(front: &[u8]) -> Option<u64> {
+    let text = str::from_utf8(front).ok()?;
+    let (number, _) = text.strip_prefix(TITLE)?.split_once(END)?;
+    number.parse().ok()
+}
+
+/// Makes a reserve, as large as the disk has room for. Fails if it has none for `LEAST` bytes; then it leaves no file.
+fn made(rt: &HostRuntime, name: &str) -> io::Result<bool> {
+    let file = OpenOptions::new()
+        .read(true)
+        .write(true)
+        .create_new(true)
+        .mode(0o600)
+        .open(rt, name)?;
+    match grown(rt, &file) {
+        Ok(()) => Ok(true),
+        Err(error) => {
+            let _ = fs::remove_file(rt, name);
+            Err(error)
+        }
+    }
+}
+
+/// Writes the bytes of a new reserve. Fails if the disk has no room for `LEAST`.
+fn grown(rt: &HostRuntime, file: &File) -> io::Result<()> {
+    name_bytes(rt, file, LEAST)?;
+    if !fill(file, KEPT, LEAST)? {
+        return Err(ErrorKind::StorageFull.into());
+    }
+    doubled(rt, file)
+}
+
+/// Doubles a reserve up to `MOST` bytes, as long as the disk has room.
+fn doubled(rt: &HostRuntime, file: &File) -> io::Result<()> {
+    let mut bytes = bytes_of(file)?;
+    for _ in 0..64 {
+        if bytes >= MOST {
+            break;
+        }
+        let double = bytes.saturating_mul(2).min(MOST);
+        if !fill(file, bytes, double)? {
+            file.set_len(bytes)?;
+            break;
+        }
+        bytes = double;
+        name_bytes(rt, file, bytes)?;
+    }
+    file.sync_all()
+}
+
+/// Writes the first line of a reserve.
+fn name_bytes(rt: &HostRuntime, file: &File, bytes: u64) -> io::Result<()> {
+    let line = format!(in rt.alloc(); "{TITLE}{bytes}{END}")?;
+    file.write_all_at(line.as_str().as_bytes(), 0)
+}
+
+/// Writes zeros to a reserve from one position to another, as far as the disk has room, and returns whether it has room
+/// for all of them.
+fn fill(file: &File, from: u64, to: u64) -> io::Result<bool> {
+    let mut at = from;
+    for _ in 0..MOST {
+        if at >= to {
+            return Ok(true);
+        }
+        let most = (to - at).min(KEPT) as usize;
+        match file.write_at(&PIECE[..most], at) {
+            Ok(0) | Err(_) => return Ok(false),
+            Ok(written) => at = at.saturating_add(written as u64),
+        }
+    }
+    Ok(false)
+}

@@ -1,21 +1,19 @@
 #!/usr/bin/env python3
-"""tools/publish: versions of git repositories, as the go command has them from the shelf.
+"""goshelf-publish: versions of git repositories, as the go command has them from the shelf.
 
-It also runs the CI jobs of docs/CI.md. Expected sums are made from what git has at the commit. The README's command and
-the jobs of docs/CI.md are run as the pages have them, on clones of tags; only the server's name is put in.
+Expected sums are made from what git has at the commit. The README's command is run as the page has it; only the server
+and the repository are put in.
 """
 
 import csv
 import io
 import os
 import re
-import shutil
 import sys
-import tempfile
 
 from lib.modules import escaped
 from lib.pages import blocks
-from lib.program import ROOT, run
+from lib.program import run
 from lib.repositories import KEY, PUBLISH, READER, TIME, UNASKED, Repository, Room, code, greet_of, module, shell
 from lib.scratch import in_a_folder, write
 from lib.servers import Server
@@ -23,9 +21,6 @@ from lib.stores import new_store
 from lib.suite import Suite
 
 SUITE = Suite()
-# the tags for which a job runs, and others
-VERSION_TAGS = ["v1.0.0", "v10.20.30-rc.1", "one/v0.1.0", "sub/dir/v1.2.3"]
-OTHER_TAGS = ["1.8.0", "nightly", "one/1.8.0", "v1.8", "one/v1", "v", "version-1.2.3", "sub/rev1.2.3", "main"]
 
 
 def versions(greet, old, early):
@@ -105,10 +100,13 @@ def ways(room, server, greet):
 
 def of_users(room):
     """Settings of users of git and go, which another repository may need, but not the copy that go reads."""
-    at, other = f"{room.folder}/settings", '[url "https://other.invalid/"]\n\tinsteadOf = https://example.com/greet\n'
+    at, odd = f"{room.folder}/settings", f'{room.folder}/a,b "c" #d%e'
+    other = '[url "https://other.invalid/"]\n\tinsteadOf = https://example.com/greet\n'
     os.makedirs(f"{at}/tmp")
+    os.mkdir(odd)
     write({f"{at}/other": f"[user]\n\tname = me\n{other}", f"{at}/never": '[protocol "file"]\n\tallow = never\n'})
     write({f"{at}/go": "GOFLAGS=-mod=mod\nGOOS=plan9\nGOPROXY=off\n"})
+    write({f"{at}/windows": "[core]\n\tautocrlf = true\n\teol = crlf\n"})
     return {
         "GIT_CONFIG_GLOBAL": {"GIT_CONFIG_GLOBAL": f"{at}/other"},
         "GIT_CONFIG_GLOBAL that allows no files": {"GIT_CONFIG_GLOBAL": f"{at}/never"},
@@ -118,7 +116,9 @@ def of_users(room):
         "GIT_NAMESPACE": {"GIT_NAMESPACE": "other"},
         "GIT_DEFAULT_HASH": {"GIT_DEFAULT_HASH": "sha256"},
         "GOENV": {"GOENV": f"{at}/go"},
+        "git as on Windows": {"GIT_CONFIG_GLOBAL": f"{at}/windows"},
         "a relative GOPATH and TMPDIR": {"GOPATH": "go-path", "TMPDIR": "tmp"},
+        "a TMPDIR of odd letters": {"TMPDIR": odd},
     }
 
 
@@ -174,73 +174,13 @@ def consumes(room, server, rows):
 
 
 def readme(room, server, greet):
-    """The command of the README, in a clone, without nginx: with a key in the place of a login."""
-    shutil.copy(f"{room.folder}/key", f"{room.folder}/home/goshelf.key")
-    found = [it for block in blocks("README.md", "sh", "tools/publish") for it in re.findall("^tools/.*", block, re.M)]
-    replaced = {
-        "tools/publish": PUBLISH,
-        "https://shelf.example.com --netrc": f"{server.url} --key-file ~/goshelf.key",
-    }
-    told = shell(room, greet.folder, found[0], replaced)
+    """The command of the README, on another repository and server."""
+    found = re.findall(r'^"\$clone/tools/goshelf-publish" .*', "".join(blocks("README.md", "sh run")), re.M)
+    replaced = {'"$clone/tools/goshelf-publish"': PUBLISH, "http://127.0.0.1:8080": server.url}
+    replaced["--repository greet "] = f"--repository '{greet.folder}' "
+    told = shell(room, room.folder, found[0], replaced)
     wanted = 0, "already published " + greet.lines("example.com/greet", "v1.0.0", greet.first), ""
     SUITE.equal("the command of the README", (len(found), told), (1, wanted))
-
-
-def jobs(room, server):
-    """The two jobs of docs/CI.md, each run on a clone of a tag of a repository with three modules."""
-    team = Repository(room, "team")
-    shutil.copytree(
-        os.path.join(ROOT, "tools"), f"{team.folder}/tools", ignore=lambda _, names: set(names) - {"publish"}
-    )
-    files = {
-        **module("example.com/team"),
-        **module("example.com/team/one", "one"),
-        **module("example.com/team/two", "two"),
-    }
-    team.first = team.commit(files, "v1.0.0", "one/v0.1.0", "two/v0.2.0")
-    last = team.commit({"one/one.go": code("one", "\n// changed\n")}, "1.8.0", "nightly", "one/1.8.0")
-    found = blocks("docs/CI.md", "yaml")
-    SUITE.equal("jobs of the page", len(found), 2)
-    for text, tags in zip(found, (["v1.0.0", "one/v0.1.0"], ["two/v0.2.0"])):
-        SUITE.holds("a job has at most 15 lines", text.count("\n") <= 15, text)
-        found = [it for it in VERSION_TAGS + OTHER_TAGS if runs_for(text, it)]
-        SUITE.equal(f"the tags of the job {text.partition(':')[0]}", found, VERSION_TAGS)
-        for tag in tags:
-            folder, _, version = tag.rpartition("/")
-            told = "published " + team.lines(f"example.com/team/{folder}".rstrip("/"), version, team.first, folder)
-            SUITE.equal(f"a job for {tag}", job(room, server, team, text, tag), (0, told, ""))
-        for tag, front, version in (("1.8.0", "", "1.0.1"), ("nightly", "", "1.0.1"), ("one/1.8.0", "one/", "0.1.1")):
-            told = f"publish: {tag} is not a version: make a tag {front}vMAJOR.MINOR.PATCH and give that, "
-            told = 1, "", f"{told}or give --pseudo to publish v{version}-0.20240131120000-{last[:12]}\n"
-            SUITE.equal(f"a job for {tag}, if it ran", job(room, server, team, text, tag), told)
-
-
-def runs_for(text, tag):
-    """Whether a job runs for a tag: GitLab's expression finds it, or one of GitHub's patterns is the whole of it, where
-    `*` is any text without a slash and `**` any text."""
-    if found := re.search(r"\$CI_COMMIT_TAG =~ /(.*)/'?$", text, re.M):
-        return bool(re.search(found[1], tag))
-    patterns = re.findall(r"'([^']*)'", text.partition("\n")[0])
-    texts = {"**": ".*", "*": "[^/]*", ".": "\\."}
-    return any(re.fullmatch(re.sub(r"\*\*|[*.]", lambda it: texts[it[0]], pattern), tag) for pattern in patterns)
-
-
-def job(room, server, team, text, tag):
-    """Runs the script of a job as its system does: on a clone of the tag, with the system's variables."""
-    folder = tempfile.mkdtemp(prefix="job-", dir=room.folder)
-    team.git("clone", "-q", "-b", tag, team.folder, f"{folder}/clone")
-    own = {"CI_COMMIT_TAG": tag, "GITHUB_REF_NAME": tag, "GOSHELF_KEY": f"{room.folder}/key", "KEY": KEY}
-    return shell(room, f"{folder}/clone", script_of(text), {"https://shelf.example.com": server.url}, **own)
-
-
-def script_of(text):
-    """The commands of a job: the items of `script:`, which lines further in continue, or the lines below `run: |`."""
-    lines = text.splitlines()
-    if "  script:" not in lines:
-        at = next(at for at, line in enumerate(lines) if line.endswith("run: |"))
-        return "\n".join(line[10:] for line in lines[at + 1 :])
-    items = "\n".join(lines[lines.index("  script:") + 1 :]).split("    - ")
-    return "\n".join(" ".join(it.split("\n      ")).strip() for it in items)
 
 
 def unchanged(repository):
@@ -266,7 +206,6 @@ def session(folder):
     from_host(room, server)
     consumes(room, server, rows)
     readme(room, server, greet)
-    jobs(room, server)
     server.stop()
     SUITE.equal("the clone is unchanged", unchanged(greet), before)
     SUITE.equal("nothing else was published", {tuple(it[:2]) for it in inventory(store)}, published(rows))
@@ -279,12 +218,7 @@ def inventory(store):
 def published(rows):
     """Each path and version that was published."""
     found = {(path, version) for path, _, version, *_ in rows}
-    found |= {("github.com/acme/tool", "v1.0.0"), ("github.com/acme/tool/sub", "v0.1.0")}
-    return found | {
-        ("example.com/team", "v1.0.0"),
-        ("example.com/team/one", "v0.1.0"),
-        ("example.com/team/two", "v0.2.0"),
-    }
+    return found | {("github.com/acme/tool", "v1.0.0"), ("github.com/acme/tool/sub", "v0.1.0")}
 
 
 if __name__ == "__main__":

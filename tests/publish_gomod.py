@@ -1,8 +1,8 @@
 #!/usr/bin/env python3
-"""tools/publish --check, without a server, finds the line that goshelf finds, in listed go.mods and in random ones.
+"""goshelf-publish --check, without a server, finds the line that goshelf finds, in listed go.mods and in random ones.
 
-The program that tools/publish builds for it reads each go.mod, and goshelf gets it as a publish. The list is that of
-the proved reader's own tests, which names the fault of each. The seed is fixed.
+The package by which it does reads each go.mod, and goshelf gets it as a publish. The list is that of the proved
+reader's own tests, which names the fault of each. The seed is fixed.
 """
 
 import os
@@ -14,12 +14,34 @@ import tempfile
 
 from lib.keys import KEY
 from lib.program import ROOT, answered
+from lib.scratch import write
 from lib.suite import Suite
 
 SUITE = Suite()
 SEED = random.Random(20261128)
 COUNT = 6_000
-PROGRAM = re.compile(r"/check\.go\" <<'GO'\n(.*?)\nGO\n", re.S)
+PACKAGE = os.path.join(ROOT, "tools", "publish", "internal", "gomod", "gomod.go")
+# prints a line for each go.mod that it is given, with the number of its fault if it has one
+MAIN = """package main
+
+import (
+	"fmt"
+	"os"
+)
+
+func main() {
+	for _, name := range os.Args[1:] {
+		text, err := os.ReadFile(name)
+		if err != nil {
+			os.Exit(1)
+		}
+		if line := Fault(string(text)); line >= 0 {
+			fmt.Print(line)
+		}
+		fmt.Println()
+	}
+}
+"""
 DIRECTIVES = "module go toolchain require exclude replace retract tool godebug ignore".split()
 PATHS = "example.com/y example.com/y/v2 gopkg.in/yaml.v2 gopkg.in/yaml.v1 mymod example.com/x".split()
 MODULES = ["example.com/x"] * 6 + ["gopkg.in/x.v1", "gopkg.in/x.v2", "example.com/x/v2"]
@@ -97,19 +119,16 @@ def published(texts):
 
 
 def checked(texts, folder):
-    """The line that the program of tools/publish names for each, or nothing."""
-    with open(os.path.join(ROOT, "tools", "publish"), encoding="utf-8") as file:
-        found = PROGRAM.findall(file.read())
+    """The line that the package of goshelf-publish names for each, or nothing."""
+    with open(PACKAGE, encoding="utf-8") as file:
+        package = file.read()
+    assert "\npackage gomod\n" in package
+    write({f"{folder}/gomod.go": package.replace("\npackage gomod\n", "\npackage main\n"), f"{folder}/main.go": MAIN})
     names = [f"{folder}/{at}.mod" for at in range(len(texts))]
-    with open(f"{folder}/check.go", "w", encoding="utf-8") as file:
-        file.write(found[0] + "\n")
-    for name, text in zip(names, texts):
-        with open(name, "wb") as file:
-            file.write(text)
+    write(dict(zip(names, texts)))
     env = {**os.environ, "GO111MODULE": "off", "GOFLAGS": "", "GOCACHE": f"{folder}/cache"}
-    layout = subprocess.run(["gofmt", "-l", f"{folder}/check.go"], capture_output=True)
-    SUITE.equal("its layout is gofmt's", layout.stdout, b"")
-    subprocess.run(["go", "build", "-o", f"{folder}/check", f"{folder}/check.go"], env=env, check=True)
+    words = ["go", "build", "-o", f"{folder}/check", f"{folder}/gomod.go", f"{folder}/main.go"]
+    subprocess.run(words, env=env, check=True)
     ran = subprocess.run([f"{folder}/check", *names], capture_output=True, text=True, check=True)
     return ran.stdout.split("\n")[:-1]
 
@@ -121,7 +140,7 @@ def main():
         found, wanted = checked(texts, folder), published(texts)
     faults = [line for _, line in rows]
     SUITE.holds("listed faults and valid files are many", len(faults) > 100 and faults.count("") > 30, faults)
-    for name, told in (("tools/publish", found), ("goshelf", wanted)):
+    for name, told in (("goshelf-publish", found), ("goshelf", wanted)):
         wrong = [(*row, it) for row, it in zip(rows, told) if row[1] != it]
         SUITE.equal(f"{name}: the line of {len(rows)} listed go.mods", wrong, [])
     texts, found, wanted = (it[len(rows) :] for it in (texts, found, wanted))

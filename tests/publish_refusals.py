@@ -1,5 +1,5 @@
 #!/usr/bin/env python3
-"""What tools/publish says against a version: of its repository, its words, its shape and the lines of its go.mod.
+"""What goshelf-publish says against a version: of its repository, its words, its shape and the lines of its go.mod.
 
 Each cause ends with status 1 and a sentence, and nothing is published. tests/publish_servers.py has what keys and
 servers say.
@@ -143,23 +143,19 @@ def shallow(room, odd, words):
     SUITE.refused(room, "a partial clone", wanted, *few, "v1.0.3")
 
 
-def of_mounts(room, greet):
-    """Folders for temporary files: one that is not there, and one where no program may run."""
+def of_machine(room, greet):
+    """A machine without a folder for temporary files, without git, and without go."""
     words = ["--check", "--repository", greet.folder, "example.com/greet", "v1.0.0"]
     at = f"{room.folder}/nosuch"
     SUITE.refused(
         room, "no folder for files", f"no folder can be made in {at}: name another by TMPDIR", *words, TMPDIR=at
     )
-    at = f"{room.folder}/noexec"
-    os.mkdir(at)
-    mount = ["mount", "-t", "tmpfs", "-o", "size=64m,noexec", "tmpfs", at]
-    if not shutil.which("mount") or subprocess.run(mount, capture_output=True).returncode:
-        SUITE.skip("a folder where no program may run", "nothing can be mounted here")
-        return
-    wanted = f"no program may run in {at}: name another folder by TMPDIR"
-    SUITE.refused(room, "a folder where no program may run", wanted, *words, TMPDIR=at)
-    SUITE.equal("its temporary files", os.listdir(at), [])
-    subprocess.run(["umount", at], check=True)
+    os.mkdir(f"{room.folder}/commands")
+    for name, other in (("git", "go"), ("go", "git")):
+        at = f"{room.folder}/commands/{name}"
+        os.mkdir(at)
+        os.symlink(shutil.which(other), f"{at}/{other}")
+        SUITE.refused(room, f"no {name}", f"there is no command {name}: install it", *words, PATH=at)
 
 
 def of_use(room):
@@ -170,11 +166,11 @@ def of_use(room):
         status, output, errors = room.publish(*words)
         SUITE.holds(
             f"usage: {words}",
-            (status, output) == (2, "") and "usage: tools/publish" in errors,
+            (status, output) == (2, "") and "usage: goshelf-publish" in errors,
             (status, output, errors),
         )
     status, output, errors = room.publish("--help")
-    right = output.startswith("publish: publishes a version") and output.endswith("changes nothing in DIR.\n")
+    right = output.startswith("goshelf-publish: publishes a version") and output.endswith("changes nothing in DIR.\n")
     SUITE.holds("help", (status, errors) == (0, "") and right, (status, output, errors))
 
 
@@ -293,7 +289,7 @@ def session(folder):
         part(room, greet, words)
     from_host(room, nobody)
     of_shape(room, nobody)
-    of_mounts(room, greet)
+    of_machine(room, greet)
     of_use(room)
     found = csv.reader(io.StringIO(run(["inventory", "--db", store, "--key", KEY])[1].decode()))
     SUITE.equal("nothing was published", [it[:2] for it in list(found)[1:]], [])

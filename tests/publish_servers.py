@@ -1,5 +1,5 @@
 #!/usr/bin/env python3
-"""What keys and servers say against a publish by tools/publish: goshelf, others, and those that never answer.
+"""What keys and servers say against a publish by goshelf-publish: goshelf, others, and those that never answer.
 
 Each cause ends with status 1 and a sentence, and nothing is published. The answers of servers that are not goshelf are
 those of a server in this file.
@@ -11,36 +11,40 @@ import http.server
 import io
 import os
 import re
+import shutil
 import signal
 import socket
 import subprocess
 import sys
 import threading
+import time
 
 from lib.keys import KEYS
 from lib.modules import h1, zipped
 from lib.peers import Quiet
+from lib.ports import free_port
 from lib.program import run
 from lib.publishing import Refusals
-from lib.repositories import KEY, PUBLISH, READER, SHELL, TIME, Repository, Room, greet_of, module
-from lib.scratch import in_a_folder, write
+from lib.repositories import KEY, PUBLISH, READER, TIME, Repository, Room, greet_of, module
+from lib.scratch import in_a_folder, read, write
 from lib.servers import Server
 from lib.stores import new_store
+from lib.terminal import OnTerminal, screen
 
 SUITE = Refusals()
 
 
 class Answers(Quiet):
-    """A server that is not goshelf: what it answers is set by a row. It notes what it is asked, and the words of the
-    processes that ask."""
+    """A server that is not goshelf: what it answers is set by a row, and by `first` before that. It notes what it is
+    asked, and the words of the processes that ask."""
 
-    answer, asked, words = (200, b""), [], []
+    answer, first, asked, words = (200, b""), [], [], []
 
     def reply(self):
         self.rfile.read(int(self.headers.get("Content-Length") or 0))
         Answers.asked.append((self.command, self.path, self.headers.get("Authorization")))
         Answers.words.extend(words_of_children(os.getpid()))
-        status, body = Answers.answer
+        status, body = Answers.first.pop(0) if Answers.first else Answers.answer
         self.send_response(status)
         self.send_header("Content-Length", str(len(body)))
         self.end_headers()
@@ -134,7 +138,7 @@ def conflicts(room, server):
 
 
 def by_hand(server, path, files, changed):
-    """Publishes four versions without tools/publish: one as it makes them, one with changed files, one with another
+    """Publishes four versions without goshelf-publish: one as it makes them, one with changed files, one with another
     time, and one that is no zip."""
     for version, zip_bytes, stamp in (
         ("v1.0.0", zipped(path, "v1.0.0", files), TIME),
@@ -168,6 +172,8 @@ def answers(url):
         (403, "not your path\n",
          f"{url} does not let you publish example.com/greet: "
          "publish a path of your own, or ask the operator for this one"),
+        (403, "taken out\n",
+         f"example.com/greet v1.0.0 was taken out of {url} and never comes back: publish the next version"),
         (409, "conflict\n",
          f"example.com/greet v1.0.0 is there with another go.mod, zip or time, and {url} answers 409 to a GET of it: "
          "publish a new version"),
@@ -223,6 +229,9 @@ def of_others(room, greet):
         told[:2] == (1, "") and told[2].startswith(f"publish: no TLS with {url.replace('http', 'https')}: "),
         told,
     )
+    again(room, url, words)
+    on_a_terminal(room, words)
+    of_children(room, words)
     by_netrc(room, url, [*words[:2], *words[4:]])
     behind.shutdown()
 
@@ -281,7 +290,7 @@ def of_transfers(room, greet):
     few = ["--check", "--to", url, "--wait", "2", *words]
     SUITE.refused(room, "a check of a server that does not answer", wanted, *few)
     pipes = {"stdout": subprocess.PIPE, "stderr": subprocess.PIPE}
-    child = subprocess.Popen([SHELL, PUBLISH, "--to", url, *words], env=room.env, start_new_session=True, **pipes)
+    child = subprocess.Popen([PUBLISH, "--to", url, *words], env=room.env, start_new_session=True, **pipes)
     for _ in range(3):
         held.accept()
     os.killpg(child.pid, signal.SIGTERM)
@@ -292,14 +301,97 @@ def of_transfers(room, greet):
 
 
 def no_host(room, greet):
-    """Names that no host has: that of a proxy, and that of the URL."""
+    """Names that no host has, and proxies: one that is not, one where nobody listens, and one that leads nowhere."""
     words = ["--key-file", f"{room.folder}/key", "--repository", greet.folder, "example.com/greet", "v1.0.0"]
-    url, proxy = "http://shelf.example", "http://nosuch.invalid:3128"
-    wanted = f"no host has the name of the proxy by which to ask {url}: mend http_proxy and https_proxy, "
-    wanted += "or name the host in no_proxy"
-    SUITE.refused(room, "a proxy that is not", wanted, "--to", url, *words, http_proxy=proxy)
-    wanted = "no host has the name in http://nosuch.invalid: check the URL"
-    SUITE.refused(room, "a host that is not", wanted, "--to", "http://nosuch.invalid", *words)
+    url = "https://shelf.example"
+    mend = f"the proxy by which to ask {url}: mend http_proxy and https_proxy, or name the host in no_proxy"
+    wanted = f"no host has the name of {mend}"
+    SUITE.refused(room, "a proxy that is not", wanted, "--to", url, *words, https_proxy="http://nosuch.invalid:3128")
+    wanted, proxy = f"nobody listens at {mend}", f"http://127.0.0.1:{free_port()}"
+    SUITE.refused(room, "a proxy where nobody listens", wanted, "--to", url, *words, https_proxy=proxy)
+    with socket.create_server(("127.0.0.1", 0)) as held:
+        threading.Thread(target=lambda: forbids(held.accept()[0]), daemon=True).start()
+        proxy = f"http://127.0.0.1:{held.getsockname()[1]}"
+        wanted = f"{url} cannot be asked: Forbidden"
+        SUITE.refused(room, "a proxy that leads nowhere", wanted, "--to", url, *words, https_proxy=proxy)
+    wanted = "no host has the name in https://nosuch.invalid: check the URL"
+    SUITE.refused(room, "a host that is not", wanted, "--to", "https://nosuch.invalid", *words)
+
+
+def forbids(conn):
+    """A proxy answers a request, whatever it is, with a 403."""
+    conn.recv(4096)
+    conn.sendall(b"HTTP/1.1 403 Forbidden\r\n\r\n")
+    conn.close()
+
+
+def in_clear(room, greet):
+    """No key and no password goes over plain http to another machine, whatever its name looks like."""
+    write({f"{room.folder}/netrc": f"default login alpha password {KEY}\n"})
+    words = ["--repository", greet.folder, "example.com/greet", "v1.0.0"]
+    for host in ("shelf.example", "10.0.0.1:8080", "127.0.0.1.shelf.example", "localhost.shelf.example"):
+        wanted = (
+            f"http://{host} would show the key or the password to everybody on the way: give --to a URL with https://"
+        )
+        for login in (["--key-file", f"{room.folder}/key"], ["--netrc"]):
+            name = f"in clear, to {host} by {login[0]}"
+            SUITE.refused(room, name, wanted, "--to", f"http://{host}", *login, *words, NETRC=f"{room.folder}/netrc")
+
+
+def again(room, url, words):
+    """A server that is busy is asked again, five times in all, and at most for half a minute."""
+    path = "/example.com/greet/@v/v1.0.0"
+    for first in ([429], [502, 503], [504, 429, 502, 503]):
+        Answers.first, Answers.asked = [(it, b"unavailable\n") for it in first], []
+        Answers.answer = 201, b"published\n"
+        told = room.publish(*words)
+        found = told[0], told[2], [it[:2] for it in Answers.asked]
+        told = [("PUT", f"/k/{KEY}{path}")] * (len(first) + 1)
+        SUITE.equal(f"a server that answers {first} before it publishes", found, (0, "", told))
+    Answers.answer, Answers.asked = (503, b"unavailable\n"), []
+    begun = time.monotonic()
+    told = room.publish(*words)[:2]
+    took = time.monotonic() - begun
+    SUITE.holds("a server that stays busy", (told, len(Answers.asked)) == ((1, ""), 5) and took < 40, (told, took))
+    Answers.answer, Answers.asked = (500, b""), []
+    told = room.publish(*words)[:2]
+    SUITE.equal("a server that fails is asked once", (told, len(Answers.asked)), ((1, ""), 1))
+
+
+def on_a_terminal(room, words):
+    """The progress of a large publish and each further try show on a terminal alone."""
+    large = Repository(room, "large")
+    large.commit({**module("example.com/large"), "data.bin": os.urandom(3_000_000)}, "v1.0.0")
+    words = [*words[:4], "--repository", large.folder, "example.com/large", "v1.0.0"]
+    Answers.first, Answers.answer = [(503, b"unavailable\n")], (201, b"published\n")
+    run_there = OnTerminal(*words, program=PUBLISH, env=room.env)
+    status, output, shown = run_there.end()
+    lines, _ = screen(shown.replace("\r\n", "\n\r"))
+    size = re.fullmatch(r"publish: sent (29\d\d) of \1 KiB", lines[0])
+    busy = lines[1] == f"publish: {words[1]} answers 503, and is asked again in 500ms"
+    right = status == 0 and output.startswith(b"published ") and size and busy and lines[2] == lines[0]
+    SUITE.holds("on a terminal: progress, and another try", right, (status, lines))
+
+
+def of_children(room, words):
+    """No child has the key in its words or its settings, though the job has it there."""
+    at = f"{room.folder}/watched"
+    os.mkdir(at)
+    for name in ("git", "go"):
+        text = f'#!/bin/sh\n{{ env; echo "$@"; }} >> "{at}/told"\nexec {shutil.which(name)} "$@"\n'
+        write({f"{at}/{name}": text})
+        os.chmod(f"{at}/{name}", 0o755)
+    Answers.answer = 201, b"published\n"
+    own = {
+        "PATH": f"{at}:{room.env['PATH']}",
+        "GOSHELF_KEY": KEY,
+        "URL": f"https://shelf.example/k/{KEY}",
+        "OTHER": "x",
+    }
+    told = room.publish(*words[:2], "--key-file", "-", *words[4:], stdin=KEY.encode(), **own)
+    settings = read(f"{at}/told").decode()
+    found = told[0], KEY in settings, "OTHER=x" in settings, settings.count("LC_ALL=C") > 5
+    SUITE.equal("no key among the settings of a child", found, (0, False, True, True))
 
 
 def nobody_listens(room, url, greet):
@@ -336,6 +428,7 @@ def session(folder):
     of_others(room, greet)
     of_transfers(room, greet)
     no_host(room, greet)
+    in_clear(room, greet)
     hangs_up(room, greet)
     found = csv.reader(io.StringIO(run(["inventory", "--db", store, "--key", KEY])[1].decode()))
     SUITE.equal(

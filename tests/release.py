@@ -31,10 +31,19 @@ WANTED = {
     "deploy/warm/goshelf-warm",
     "deploy/common.sh",
     "deploy/shelf_lines.py",
-    "deploy/goshelf-paths",
-    "deploy/nginx/paths.map",
-    "deploy/nginx/elsewhere.conf",
+    "deploy/doctor_nginx.py",
+    "deploy/store_pages.py",
+    "deploy/words.py",
+    "deploy/units.py",
+    "deploy/goshelf-front",
+    "deploy/front_lib/files.py",
+    "deploy/nginx/goshelf.js",
+    "deploy/nginx/locations.conf",
     "deploy/nginx/public.conf",
+    "goshelf-adopt",
+    "goshelf-publish",
+    "tools/publish/go.mod",
+    "deploy/goshelf-offer",
     "tools/catalog",
     "tools/catalog_lib/catalog.css",
     "docs/catalog.png",
@@ -84,6 +93,18 @@ def unpacked(suite, tar, folder):
     return about
 
 
+def programs(suite, folder, about):
+    """goshelf-publish is there for each system, and says of which release it is."""
+    kinds = {"linux": b"\x7fELF", "darwin": b"\xcf\xfa\xed\xfe", "windows": b"MZ"}
+    for system, begin in kinds.items():
+        for kind in ("amd64", "arm64"):
+            name = f"goshelf-publish-{about['version']}-{system}-{kind}{'.exe' if system == 'windows' else ''}"
+            suite.holds(f"goshelf-publish for {system}-{kind}", read(f"{folder}/{name}").startswith(begin))
+    words = [f"{folder}/goshelf-publish-{about['version']}-linux-amd64", "--version"]
+    printed = subprocess.run(words, capture_output=True, text=True).stdout
+    suite.equal("its version", printed, f"goshelf-publish {about['version']}\n")
+
+
 def is_instrumented():
     """Whether the program is one that `rt try` built, with a sanitizer. It needs more libraries."""
     return b"AddressSanitizer" in read(PROGRAM)
@@ -99,8 +120,10 @@ def needs(suite, about):
         suite.equal("the program needs the C library alone", libraries, "libc.so.6")
 
 
-# Stands in for `rt`: its `ci` makes a program that prints VERSION, and otherwise the version of the tree.
+# Stands in for `rt`: its `ci` makes a program that prints VERSION, and otherwise the version of the tree. Its `all`
+# keeps proofs of `text`, and ends with the status KEEPS.
 GATE = """#!/bin/sh
+[ "$1" != all ] || { mkdir -p crates/text/out/rlib && echo kept > crates/text/out/rlib/stamp; exit $KEEPS; }
 [ "$1" = ci ] || exec echo a kit
 version=${VERSION:-$(sed -n 's/.*"\\(.*\\)".*/\\1/p' crates/cli/src/version.rt)}
 mkdir -p crates/goshelf/out
@@ -111,14 +134,25 @@ echo $GATE
 
 
 # what the gate and the suites print where they pass
-PASSED = {"GATE": "59 passed, 0 failed", "SUITES": "9 passed, 0 failed, 1 skipped"}
+PASSED = {"GATE": "59 passed, 0 failed", "SUITES": "9 passed, 0 failed, 1 skipped", "KEEPS": "0"}
 # what refuses a release: the words and settings of tools/release, and what it says
 FAILURES = (
-    ("--program without a name", ["--program"], {}, "tools/release: --program needs a name\n"),
+    (
+        "--proofs of a program that was not gated",
+        ["--proofs", "--program", "/bin/true"],
+        {},
+        "tools/release: --proofs packs what was gated, and not with --program\n",
+    ),
+    (
+        "proofs that cannot be kept",
+        ["--proofs"],
+        {"KEEPS": "1"},
+        "tools/release: no release: rt all check\n",
+    ),
     ("a program that does not exist", ["--program", "/none"], {}, "realpath: /none: No such file or directory\n"),
-    ("a gate that failed", [], {"GATE": "58 passed, 1 failed"}, "tools/release: no release: rt ci\n"),
+    ("a gate that failed", [], {"GATE": "58 passed, 1 failed"}, "tools/release: no release: .ci/gate\n"),
     ("a suite that failed", [], {"SUITES": "8 passed, 1 failed"}, "tools/release: no release: tests/all\n"),
-    ("a gate that says nothing", [], {"GATE": ""}, "tools/release: no release: rt ci\n"),
+    ("a gate that says nothing", [], {"GATE": ""}, "tools/release: no release: .ci/gate\n"),
     (
         "a suite that changes a file",
         [],
@@ -168,6 +202,29 @@ def gated(suite, folder):
     suite.holds("a refused release writes nothing", not os.path.exists(f"{gate.clone}/out"))
     if suite.equal("a release of what passed", gate.release(), (0, "")):
         passed(suite, gate.clone, f"{folder}/gated")
+    with_proofs(suite, gate)
+
+
+def with_proofs(suite, gate):
+    """A release with the kept proofs of the commit, which another clone of it takes."""
+    shutil.rmtree(f"{gate.clone}/out", ignore_errors=True)
+    if not suite.equal("a release with proofs", gate.release("--proofs"), (0, "")):
+        return
+    names = sorted(os.listdir(f"{gate.clone}/out"))
+    file = next(it for it in names if it.endswith(".kept"))
+    suite.equal("it has nine files and their sums", len(names), 10)
+    summed = subprocess.run(["sha256sum", "--quiet", "-c", "SHA256SUMS"], cwd=f"{gate.clone}/out", capture_output=True)
+    suite.equal("its sums are right", (summed.returncode, read(f"{gate.clone}/out/SHA256SUMS").count(b"\n")), (0, 9))
+    subprocess.run(["git", "clone", "-q", gate.clone, f"{gate.clone}/other"], check=True)
+    kept, rt = f"{gate.clone}/out/{file}", f"{gate.bin}/rt"
+    words = ["tools/kept", "unpack", kept]
+    took = subprocess.run(
+        words, cwd=f"{gate.clone}/other", capture_output=True, text=True, env={**os.environ, "RT": rt}
+    )
+    suite.equal(
+        "a clone of the commit takes it", (took.returncode, took.stdout), (0, f"1 crates have kept proofs of {kept}\n")
+    )
+    suite.equal("it has what was kept", read(f"{gate.clone}/other/crates/text/out/rlib/stamp"), b"kept\n")
 
 
 def passed(suite, clone, folder):
@@ -178,7 +235,7 @@ def passed(suite, clone, folder):
     at = f"{folder}/{tar.removesuffix('.tar.gz')}"
     about = lines_of(read(f"{at}/BUILD").decode())
     found = about["kit"], about["gate"], about["suites"], about["version"].endswith("~ungated")
-    suite.equal("its BUILD", found, ("a kit", *PASSED.values(), False))
+    suite.equal("its BUILD", found, ("a kit", PASSED["GATE"], PASSED["SUITES"], False))
     printed = subprocess.run([f"{at}/goshelf", "--version"], capture_output=True, text=True).stdout
     suite.equal("its program prints its version", printed, f"goshelf {about['version']}\n")
     commit = subprocess.run(["git", "rev-parse", "HEAD"], cwd=clone, capture_output=True, text=True).stdout.strip()
@@ -191,7 +248,9 @@ def main():
     with tempfile.TemporaryDirectory(prefix="goshelf-release-") as folder:
         gated(suite, folder)
         if made := released(suite, folder):
-            needs(suite, unpacked(suite, made[0], folder))
+            about = unpacked(suite, made[0], folder)
+            needs(suite, about)
+            programs(suite, f"{folder}/one", about)
     return suite.end()
 
 

@@ -1,4 +1,4 @@
-"""What the suites of refusals of tools/publish share: rows of a sentence, and the table of docs/REFERENCE.md."""
+"""What the suites of refusals of goshelf-publish share: rows of a sentence, and the table of docs/REFERENCE.md."""
 
 import re
 
@@ -12,10 +12,10 @@ FIRST_OF_SERVERS = "a URL with a key or a password"
 
 
 class Refusals(Suite):
-    """Rows of what tools/publish says where it refuses."""
+    """Rows of what goshelf-publish says where it refuses."""
 
     def refused(self, room, name, wanted, *words, **more):
-        """A row: tools/publish refuses with this sentence, and prints nothing else."""
+        """A row: goshelf-publish refuses with this sentence, and prints nothing else."""
         told = room.publish(*words, **more)
         return self.equal(name, told, (1, "", "".join(f"publish: {it}\n" for it in wanted.split("\n"))))
 
@@ -32,14 +32,14 @@ class Refusals(Suite):
 
 
 def section():
-    """The part of the page about refusals of tools/publish."""
-    return read_page("REFERENCE.md").partition("## Refusals of tools/publish\n")[2].partition("\n## ")[0]
+    """The part of the page about refusals of goshelf-publish."""
+    return read_page("REFERENCE.md").partition("## Refusals of goshelf-publish\n")[2].partition("\n## ")[0]
 
 
 def is_note(line, room):
     """Whether a line is of a run that ended well or of bad usage, or goes with the line before it."""
     notes = ("there: ", "here: ", "the zip there has other bytes", "not checked without", f"{room.served} accepts the")
-    return line[9:].startswith(notes) or re.search(r"needed|lacks|too many|no option|takes a number|need --to", line)
+    return line[9:].startswith(notes) or re.search(r"needed|flag |invalid value|takes a number|need --to", line)
 
 
 def is_of(line, phrase):

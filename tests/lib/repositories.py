@@ -1,8 +1,7 @@
-"""What the suites of tools/publish and tools/adopt share: repositories with modules and tags."""
+"""What the suites of tools/publish share: its two programs, and repositories with modules and tags."""
 
 import os
 import re
-import shutil
 import subprocess
 
 from lib.keys import KEYS
@@ -10,8 +9,8 @@ from lib.modules import h1
 from lib.program import ROOT
 from lib.scratch import write
 
-PUBLISH, ADOPT = (os.path.join(ROOT, "tools", it) for it in ("publish", "adopt"))
-SHELL = shutil.which("dash") or "sh"
+TOOLS = os.path.join(ROOT, "tools")
+PUBLISH, ADOPT = (os.path.join(TOOLS, "publish", "out", it) for it in ("goshelf-publish", "goshelf-adopt"))
 KEY, READER = KEYS["A"], KEYS["R"]
 # what a check says that asks no server
 UNASKED = "publish: not checked without --to: a key, and whether the version is there\n"
@@ -19,12 +18,19 @@ UNASKED = "publish: not checked without --to: a key, and whether the version is 
 STAMP, TIME = "2024-01-31T13:00:00+0100", "2024-01-31T12:00:00Z"
 
 
+def built():
+    """Builds both programs where a file of them is newer, as their first run in a checkout does."""
+    for it in (PUBLISH, ADOPT):
+        subprocess.run([os.path.join(TOOLS, os.path.basename(it)), "--help"], check=True, stdout=subprocess.DEVNULL)
+
+
 class Room:
     """The folder of a run of this suite: keys, a home, and a folder for temporary files, whose name has a space."""
 
     def __init__(self, folder):
         self.folder, self.tmp = folder, f"{folder}/temporary files"
-        # what tools/publish said on standard error, all in all
+        built()
+        # what goshelf-publish said on standard error, all in all
         self.said = []
         for name in ("home", "temporary files"):
             os.mkdir(f"{folder}/{name}")
@@ -48,12 +54,12 @@ class Room:
         self.env = {**clean, **own}
 
     def publish(self, *words, stdin=b"", at=None, **more):
-        """Runs tools/publish in a folder, and returns its status, standard output and standard error. A setting of None
-        is left out. It has to leave no temporary file and to keep keys to itself; what it does not is added to the
+        """Runs goshelf-publish in a folder, and returns its status, standard output and standard error. A setting of
+        None is left out. It has to leave no temporary file and to keep keys to itself; what it does not is added to the
         errors."""
         env = {name: text for name, text in {**self.env, **more}.items() if text is not None}
         how = {"cwd": at or self.folder, "input": stdin, "env": env}
-        ran = subprocess.run([SHELL, PUBLISH, *words], capture_output=True, timeout=300, **how)
+        ran = subprocess.run([PUBLISH, *words], capture_output=True, timeout=300, **how)
         output, errors = ran.stdout.decode(), ran.stderr.decode()
         self.said.append(errors)
         shown = [it for it in KEYS.values() if it in output + errors]
@@ -117,7 +123,7 @@ class Repository:
         return {it[len(front) :]: self.git("cat-file", "blob", f"{commit}:{it}") for it in own}
 
     def lines(self, path, version, commit, folder=""):
-        """The lines of go.sum of a version, and what tools/publish is to print of it behind its first word."""
+        """The lines of go.sum of a version, and what goshelf-publish is to print of it behind its first word."""
         files = self.files(commit, folder)
         gomod = files.get("go.mod", f"module {path}\n".encode())
         whole = h1([(f"{path}@{version}/{name}", text) for name, text in files.items()])

@@ -1,0 +1,3 @@
+module example.com/goshelf-publish
+
+go 1.19

@@ -1,0 +1,40 @@
+package answers
+
+import (
+	"strings"
+	"testing"
+
+	"example.com/goshelf-publish/internal/server"
+)
+
+func TestRefusal(t *testing.T) {
+	for _, it := range []struct {
+		status            int
+		body, netrc, want string
+	}{
+		{403, "forbidden\n", "", "the key only reads"}, {403, "forbidden", "F", "F logs in as a user"},
+		{403, "<html>", "F", "answers 403 and is no"}, {403, "taken out\n", "F", "a v3.0.0+incompatible was taken out of U"},
+		{422, "bad-gomod 2\n", "", "line 2 of the go.mod is not valid: mend it, and tag a new version (frob)"},
+		{422, "bad-gomod 0", "", "no module line"},
+		{422, "bad-gomod x", "", "answers 422 and is no goshelf: check the URL (bad-gomod x)"},
+		{422, "incompatible-gomod", "", "name the module a/v3"}, {401, "", "F", "mend the line for its host in F"},
+		{500, "", "", "is down or busy"}, {302, "", "", "leads to another URL"}, {503, "unavailable", "", "the store met a fault"},
+		{413, "", "", "takes no body of 7 bytes"}, {418, "a\x1b[0m\u202e", "", "(a[0m)"},
+	} {
+		asked := Ask{To: "U", Netrc: it.netrc, Module: "a", Version: "v3.0.0+incompatible", GoMod: []byte("module a\nfrob\n"), Sent: 7}
+		got := server.Reply{Status: it.status, Body: []byte(it.body)}
+		if err := Refusal(got, asked); !strings.Contains(err.Error(), it.want) {
+			t.Errorf("%d %s: %v", it.status, it.body, err)
+		}
+	}
+}
+
+func TestGoMod(t *testing.T) {
+	for text, want := range map[string]string{"module a.com/b\n": "", "module a.com/b\nfrob\n": "line 2", "": "no module line",
+		"module a.com/b\r\nrequire (\r\n\ta.com/c v1.0.0\r\n)\r\n": ""} {
+		err := GoMod([]byte(text))
+		if (err == nil) != (want == "") || err != nil && !strings.Contains(err.Error(), want) {
+			t.Errorf("%q: %v", text, err)
+		}
+	}
+}

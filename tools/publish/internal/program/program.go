@@ -1,0 +1,111 @@
+// Package program has what the programs of this module share: their words, their login, signals and exit statuses.
+package program
+
+import (
+	"context"
+	"errors"
+	"flag"
+	"fmt"
+	"io"
+	"os"
+	"os/signal"
+	"runtime/debug"
+	"strings"
+	"syscall"
+)
+
+// A Program is its name in sentences, its help and what it does with the words of a command line.
+type Program struct {
+	Name, Help string
+	Run        func(ctx context.Context, words []string, stdin io.Reader, stdout, stderr io.Writer) error
+}
+
+// version is set where a release is built (tools/publish/build).
+var version = ""
+
+// Version returns the version of this program: that of its release, or of the module by which it was installed.
+func Version() string {
+	if about, ok := debug.ReadBuildInfo(); ok && version == "" {
+		return about.Main.Version
+	}
+	return version
+}
+
+// A UsageError is what is wrong with the words of a command line.
+type UsageError struct{ error }
+
+// Main runs a program and ends the process: with 0, 1 where it refuses, 2 for bad usage, or 128 and the signal.
+func (p Program) Main() {
+	ctx, stop := context.WithCancel(context.Background())
+	caught, ended := make(chan os.Signal, 1), make(chan error, 1)
+	signal.Notify(caught, os.Interrupt, syscall.SIGTERM, syscall.SIGHUP)
+	go func() { ended <- p.Run(ctx, os.Args[1:], os.Stdin, os.Stdout, os.Stderr) }()
+	select {
+	case err := <-ended:
+		os.Exit(p.report(os.Stdout, os.Stderr, err))
+	case it := <-caught:
+		stop()
+		<-ended // (it removes its temporary files)
+		os.Exit(128 + int(it.(syscall.Signal)))
+	}
+}
+
+// report says why a run failed, and returns the exit status of the program.
+func (p Program) report(stdout, stderr io.Writer, err error) int {
+	switch {
+	case err == nil:
+		return 0
+	case errors.Is(err, flag.ErrHelp):
+		fmt.Fprint(stdout, p.Help)
+		return 0
+	case errors.Is(err, errVersion):
+		command, _, _ := strings.Cut(p.Help, ":")
+		fmt.Fprintln(stdout, command, Version())
+		return 0
+	}
+	if errors.Is(err, ErrSaid) {
+		return 1
+	}
+	Say(stderr, p.Name, err.Error())
+	if !errors.As(err, new(UsageError)) {
+		return 1
+	}
+	_, usage, _ := strings.Cut(p.Help, "\n\n")
+	usage, _, _ = strings.Cut(usage, "\n\n")
+	fmt.Fprintln(stderr, usage)
+	return 2
+}
+
+// ErrSaid ends a run that has said already what went wrong.
+var ErrSaid = errors.New("said already")
+
+// Say writes a text, each line after the name of a program.
+func Say(stderr io.Writer, name, text string) {
+	for _, line := range strings.Split(text, "\n") {
+		fmt.Fprintf(stderr, "%s: %s\n", name, line)
+	}
+}
+
+// Bad returns a UsageError.
+func Bad(format string, words ...any) error { return UsageError{fmt.Errorf(format, words...)} }
+
+var errVersion = errors.New("the version is asked for")
+
+// Words reads the options of a command line, which may stand anywhere, and returns the other words.
+func Words(set *flag.FlagSet, words []string) (names []string, err error) {
+	set.SetOutput(io.Discard)
+	if len(words) == 1 && words[0] == "--version" {
+		return nil, errVersion
+	}
+	for {
+		if err := set.Parse(words); errors.Is(err, flag.ErrHelp) {
+			return nil, err
+		} else if err != nil {
+			return nil, UsageError{err}
+		}
+		if set.NArg() == 0 {
+			return names, nil
+		}
+		names, words = append(names, set.Arg(0)), set.Args()[1:]
+	}
+}

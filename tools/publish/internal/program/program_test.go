@@ -1,0 +1,61 @@
+package program
+
+import (
+	"errors"
+	"flag"
+	"io"
+	"reflect"
+	"strings"
+	"testing"
+)
+
+func TestReport(t *testing.T) {
+	version = "v9"
+	p := Program{Name: "it", Help: "it: does\n\nusage: it\n       it --more\n\nmore\n"}
+	for _, it := range []struct {
+		err            error
+		status         int
+		stdout, stderr string
+	}{
+		{nil, 0, "", ""}, {flag.ErrHelp, 0, p.Help, ""}, {errVersion, 0, "it v9\n", ""}, {ErrSaid, 1, "", ""}, {errors.New("a\nb"), 1, "", "it: a\nit: b\n"},
+		{Bad("no %s", "word"), 2, "", "it: no word\nusage: it\n       it --more\n"},
+	} {
+		var stdout, stderr strings.Builder
+		if got := p.report(&stdout, &stderr, it.err); got != it.status || stdout.String() != it.stdout || stderr.String() != it.stderr {
+			t.Errorf("%v: %d, %q, %q", it.err, got, stdout.String(), stderr.String())
+		}
+	}
+}
+
+func TestWords(t *testing.T) {
+	set := flag.NewFlagSet("", flag.ContinueOnError)
+	one := set.String("one", "", "")
+	got, err := Words(set, strings.Fields("a --one=1 b -- --one"))
+	if err != nil || *one != "1" || !reflect.DeepEqual(got, []string{"a", "b", "--one"}) {
+		t.Errorf("%q, %q, %v", got, *one, err)
+	}
+	if _, err := Words(set, []string{"--two"}); !errors.As(err, new(UsageError)) {
+		t.Error(err)
+	}
+}
+
+// TestPlain refuses a key and a password over http, except within this machine.
+func TestPlain(t *testing.T) {
+	for line, want := range map[string]string{
+		"--to http://shelf.example --key-file -": "would show the key", "--to http://shelf.example --netrc": "would show the key",
+		"--to http://127.0.0.1:1 --key-file -": "does not hold one key", "--to https://shelf.example --key-file -": "does not hold one key",
+	} {
+		set, to := flag.NewFlagSet("", flag.ContinueOnError), Target{}
+		to.Options(set)
+		_, err := Words(set, strings.Fields(line))
+		if err == nil {
+			err = to.Check()
+		}
+		if err == nil {
+			_, err = to.Server("it", strings.NewReader(""), io.Discard)
+		}
+		if err == nil || !strings.Contains(err.Error(), want) {
+			t.Errorf("%s: %v", line, err)
+		}
+	}
+}

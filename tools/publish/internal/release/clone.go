@@ -1,0 +1,107 @@
+package release
+
+import (
+	"context"
+	"fmt"
+	"path"
+	"path/filepath"
+	"strings"
+
+	"example.com/goshelf-publish/internal/names"
+)
+
+// A clone is a git repository from which a version is taken. The go command reads a copy of its heads and tags.
+type clone struct {
+	Tools
+	folder, copy string
+}
+
+// told returns what git says in the clone, or "" if it fails.
+func (c *clone) told(ctx context.Context, words ...string) string {
+	text, err := c.git(ctx, c.folder, words...)
+	if err != nil {
+		return ""
+	}
+	return string(text)
+}
+
+// take makes the copy, which the go command may read whoever owns the clone.
+func (c *clone) take(ctx context.Context) error {
+	about, err := c.git(ctx, c.folder, "rev-parse", "--is-inside-work-tree", "--git-common-dir")
+	if err != nil {
+		return fmt.Errorf("%s is not a git repository that can be read: %w", c.folder, err)
+	}
+	inside, from, _ := strings.Cut(strings.TrimSpace(string(about)), "\n")
+	if names := c.changes(ctx); strings.TrimSpace(inside) == "true" && names != nil {
+		return fmt.Errorf("%s has changes that no commit has, and a version holds commits: commit or stash them (%s)",
+			c.folder, strings.Join(names, " "))
+	}
+	if c.isPartial(ctx) {
+		return fmt.Errorf("%s is a partial clone, which lacks files of its commits: clone it without --filter", c.folder)
+	}
+	if from = filepath.FromSlash(strings.TrimSpace(from)); !filepath.IsAbs(from) {
+		from = filepath.Join(c.folder, from)
+	}
+	if from, err = filepath.Abs(from); err != nil {
+		return fmt.Errorf("%s is not a git repository that can be read: %w", c.folder, err)
+	}
+	words := strings.Fields("git -c protocol.file.allow=always clone -q --bare --shared --")
+	words = append(words, from, c.copy+".git")
+	if _, err := c.output(ctx, command{words: words, settings: []string{"GIT_ALLOW_PROTOCOL=file"}}); err != nil {
+		return fmt.Errorf("%s cannot be cloned: %w", c.folder, err)
+	}
+	return nil
+}
+
+// changes returns the first files that are not as the commit has them.
+func (c *clone) changes(ctx context.Context) (names []string) {
+	for _, line := range strings.Split(c.told(ctx, "--no-optional-locks", "status", "--porcelain"), "\n") {
+		if len(line) > 3 && len(names) < 3 {
+			names = append(names, line[3:])
+		}
+	}
+	return names
+}
+
+// isPartial says whether files of the commits are missing, which the copy could not fetch.
+func (c *clone) isPartial(ctx context.Context) bool {
+	return c.told(ctx, "config", "--get-regexp", `^remote\..*\.promisor$`) != "" &&
+		strings.Contains("\n"+c.told(ctx, "rev-list", "--objects", "--all", "--missing=print", "HEAD"), "\n?")
+}
+
+// commit returns that of a name, or "".
+func (c *clone) commit(ctx context.Context, name string) string {
+	return strings.TrimSpace(c.told(ctx, "rev-parse", "-q", "--verify", name+"^{commit}"))
+}
+
+// moduleAt returns the path that a go.mod of a commit names, or "".
+func (c *clone) moduleAt(ctx context.Context, commit, name string) string {
+	return names.Module([]byte(c.told(ctx, "cat-file", "blob", commit+":"+name)))
+}
+
+// goMods returns the names of the go.mods of a commit.
+func (c *clone) goMods(ctx context.Context, commit string) (names []string) {
+	files := c.told(ctx, "ls-tree", "-r", "-z", "--full-tree", "--name-only", commit)
+	for _, name := range strings.Split(files, "\x00") {
+		if path.Base(name) == "go.mod" {
+			names = append(names, name)
+		}
+	}
+	return names
+}
+
+// name gives a commit that no tag names a branch in the copy. The go command finds it there, and needs the commits
+// before it.
+func (c *clone) name(ctx context.Context, commit string) error {
+	if commit == "" {
+		return nil
+	}
+	if strings.TrimSpace(c.told(ctx, "rev-parse", "--is-shallow-repository")) != "false" {
+		return fmt.Errorf("%s is a shallow clone, and the version of a commit depends on the tags before it: "+
+			"git fetch --unshallow --tags", c.folder)
+	}
+	if _, err := c.git(ctx, c.copy+".git", "update-ref", "refs/heads/goshelf-publish", commit); err != nil {
+		return fmt.Errorf("the copy of %s takes no branch: %w", c.folder, err)
+	}
+	return nil
+}

@@ -18,13 +18,14 @@ import threading
 import time
 from concurrent.futures import ThreadPoolExecutor
 
-from lib.front import AT, GOMOD, LIB, UNUSED, ZIP, keys_of, set_up, settle
+from lib.front import AT, GOMOD, LIB, UNUSED, ZIP, fingerprint, set_up, users_of
 from lib.go_command import settings
 from lib.modules import zipped
 from lib.pages import block, read_page
 from lib.peers import NoModules, rest_of
 from lib.ports import wait_until
 from lib.program import ROOT
+from lib.repositories import built
 from lib.scratch import play, write
 from lib.suite import Suite
 
@@ -45,15 +46,15 @@ def strangers(suite, client):
         "a scheme in other case": f"{word.lower()} {text}",
         "a login and more": f"{good}AAAA",
         "a login and what a line has behind it": f"{good} ann alpha publish",
-        "a line of users.map": f"{text} ann alpha publish={good}",
+        "a line of names": f"{text}\tann\t",
         "half of what is compared": f"{word} {text}={text} ann alpha publish",
         "what is compared, without a line": "Basic ann alpha publish=Basic =Basic",
         "a beginning of a login": good[:-6],
         "another scheme": good.replace("Basic", "Bearer"),
         "an empty login": "Basic ",
         "a regular expression": "Basic .*",
-        "the header of users.map": f"^Basic {text}$",
-        "a key of goshelf": "Basic " + base64.b64encode(f"ann:{keys_of(client.machine)[0]}".encode()).decode(),
+        "the header within others": f"^Basic {text}$",
+        "a key of goshelf that nobody has": "Basic " + base64.b64encode(f"ann:{UNUSED}".encode()).decode(),
         "a user without a password": "Basic " + base64.b64encode(b"ann:").decode(),
     }
     for name, header in bad.items():
@@ -64,9 +65,9 @@ def strangers(suite, client):
         "a stranger's publish", client.ask("PUT", f"{AT}/v8.0.0", None, GOMOD, {"Mod-Length": str(len(GOMOD))})[0], 401
     )
     suite.equal(
-        "a key in the URL is no login", client.ask("GET", f"/k/{keys_of(client.machine)[0]}{AT}/list", None)[0], 401
+        "a key in the URL is no login", client.ask("GET", f"/k/{client.passwords['ann']}{AT}/list", None)[0], 404
     )
-    suite.equal("nor is it with a login", client.get(f"/k/{keys_of(client.machine)[0]}{AT}/list")[0], 404)
+    suite.equal("nor is it with a login", client.get(f"/k/{client.passwords['ann']}{AT}/list")[0], 404)
 
 
 def rights(suite, client):
@@ -214,9 +215,10 @@ def revoked(suite, client):
     held = http.client.HTTPSConnection("localhost", client.machine.front, timeout=60, context=client.context)
     held.request("GET", f"{AT}/v1.0.0.mod", headers={"Authorization": client.login("ann")})
     assert held.getresponse().read() == GOMOD
-    client.machine.does(block("sh", "goshelf-user remove ann"))
-    took = settle(client, "ann", 401)
-    suite.holds("a removed user gets a 401 within 10 seconds, on a busy machine", took < 10, took)
+    began = time.time()
+    client.machine.does("goshelf-front remove ann")
+    took, told = time.time() - began, {client.get(f"{AT}/list", "ann")[0] for _ in range(10)}
+    suite.holds("a removed user gets a 401 once the command has ended", told <= {401, 429} and took < 60, (told, took))
     told = {client.get(f"{AT}/{it}", "ann")[0] for it in ("v1.0.0.zip", "v1.0.0.mod", "v1.2.0.zip", "list")}
     suite.holds("a removed user gets nothing that is cached", told <= {401, 429}, told)
     try:
@@ -228,15 +230,14 @@ def revoked(suite, client):
     suite.equal("a user whose name begins alike still reads", client.get(f"{AT}/v1.0.0.zip", "ann-b"), (200, ZIP))
     suite.equal("others still publish", client.put("v1.3.0", GOMOD)[0], 201)
     client.add("ann", "alpha", "read")
-    suite.holds(
-        "added again, with another password",
-        settle(client, "ann") < 20 and client.get(f"{AT}/v1.0.0.zip") == (200, ZIP),
-    )
+    told = [client.get(f"{AT}/v1.0.0.zip") == (200, ZIP) for _ in range(10)]
+    suite.equal("added again, with another key, by the end of the command", told, [True] * 10)
 
 
 def too_many(suite, client):
     """Strangers are held off, by address, and users are not."""
-    told = [client.ask("GET", "/", None) for _ in range(60)]
+    with ThreadPoolExecutor(30) as pool:
+        told = list(pool.map(lambda _: client.ask("GET", "/", None), range(90)))
     statuses = {status for status, _ in told}
     suite.equal("strangers in a row", statuses, {401, 429})
     suite.equal("the text is plain", {body for status, body in told if status == 429}, {b"too many requests at once\n"})
@@ -261,73 +262,86 @@ def at_once(suite, client):
 
 
 def keys_change(suite, client):
-    """A key of goshelf that is changed as the page says: users do not notice, and the old key is worth nothing."""
+    """A key that is rotated as the page says: the user does not notice, and the old key is worth nothing in the end."""
     machine, told, over = client.machine, [], threading.Event()
-    before = machine.read("etc/nginx/goshelf/keys.map")
-    old = re.search(r'^"alpha read" (\w+);', before, re.M)[1]
+    rotate = next(it for it in block("sh", "goshelf-front rotate").splitlines() if "rotate" in it)
+    before, old = users_of(machine), client.passwords["ann"]
 
     def ask():
         while not over.is_set():
-            told.append(client.get(f"{AT}/list"))
+            told.append(client.ask("GET", f"{AT}/list", header))
 
-    wanted, asking = client.get(f"{AT}/list"), threading.Thread(target=ask)
+    wanted, header = client.get(f"{AT}/list"), client.login("ann")
+    asking = threading.Thread(target=ask)
     asking.start()
     try:
-        printed = machine.sh(block("sh", "goshelf-user rekey"))
+        status, printed, errors = machine.sh(rotate.replace("'Ann Example'", "ann"))
     finally:
         over.set()
         asking.join()
-    suite.equal("a key is changed without a word", printed, (0, "", ""))
+    suite.holds(
+        "a key is rotated", (status, errors) == (0, "") and printed.startswith("machine localhost login ann"), errors
+    )
     is_right = len(told) > 5 and {wanted} == {*told}
     suite.holds(f"a user who asks {len(told)} times meanwhile gets the same", is_right, {*told})
-    found = re.findall(r'^"alpha read" (\w+);', machine.read("etc/nginx/goshelf/keys.map"), re.M)
-    suite.holds("the key is another", len(found) == 1 and found != [old], (old, found))
-    after = machine.read("etc/nginx/goshelf/keys.map").replace(found[0], old)
-    suite.equal("no other is", sorted(after.splitlines()), sorted(before.splitlines()))
+    client.passwords["ann"] = printed.split()[-1]
+    suite.equal("and so does the new key", [client.get(f"{AT}/list") for _ in range(10)], [wanted] * 10)
+    after, new = users_of(machine), fingerprint(client.passwords["ann"])
+    last = after.pop(fingerprint(old)).pop("until", ""), before.pop(fingerprint(old)).pop("until", "")
+    suite.holds("the old one has a last day", last[0] > last[1] == "", last)
+    suite.equal("and no other key is another", {**before, new: after[new]}, after)
+    machine.does("sed -i 's/\\tann\\t20.*/\\tann\\t2020-01-01/' /etc/nginx/goshelf/names && goshelf-front sync")
+    suite.holds("after that it is refused", client.ask("GET", f"{AT}/list", header)[0] in (401, 429))
     conn = http.client.HTTPConnection("127.0.0.1", machine.behind, timeout=60)
     conn.request("GET", f"/k/{old}{AT}/list")
-    suite.equal("the old key is worth nothing", conn.getresponse().status, 404)
+    suite.equal("and worth nothing at goshelf", conn.getresponse().status, 404)
     conn.close()
-    suite.equal("and the maps have no fault", machine.sh("goshelf-user check"), (0, "", ""))
+    unnamed = [it for it in machine.sh("goshelf-front check")[1].splitlines() if "has no name" not in it]
+    suite.equal("and the front has no fault but keys that nobody has", unnamed, [])
 
 
 def of_trouble(suite, machine):
     """The commands of docs/TROUBLE.md print the requests of the log that the page says, and no other."""
     page, lines = read_page("TROUBLE.md"), machine.read("var/log/nginx/goshelf.log").splitlines()
     # (a request that nginx cannot read has no method or no target in its line)
-    log = [it.split() for it in lines if len(it.split()) == 10]
+    log = [it.split() for it in lines if len(it.split()) == 11]
     for command, wanted in (
         ("awk '$7 == 429' /var/log/nginx/goshelf.log", [it for it in log if it[6] == "429"]),
         ("awk '$7 >= 500' /var/log/nginx/goshelf.log", [it for it in log if int(it[6]) >= 500]),
         ("awk '$9 > 5' /var/log/nginx/goshelf.log", [it for it in log if float(it[8]) > 5]),
     ):
         printed = [it.split() for it in machine.does(command).splitlines()]
-        is_right = wanted == [it for it in printed if len(it) == 10]
+        is_right = wanted == [it for it in printed if len(it) == 11]
         suite.holds(command, f"`{command}`" in page and is_right, (len(printed), len(wanted)))
 
 
 def logs(suite, client):
     """The log says who did what, and holds no key and no password."""
     machine = client.machine
-    names = ["goshelf.log", "goshelf-errors.log", "error.log", "start.log"]
-    secrets = [*keys_of(machine), *client.passwords.values(), *(client.login(it).split()[1] for it in client.passwords)]
-    text = "".join(machine.read(f"var/log/nginx/{it}") for it in names)
+    names = [
+        "nginx/goshelf.log",
+        "nginx/goshelf-errors.log",
+        "nginx/error.log",
+        "nginx/start.log",
+        "goshelf/publishes.log",
+    ]
+    secrets = [*client.passwords.values(), *(client.login(it).split()[1] for it in client.passwords)]
+    text = "".join(machine.read(f"var/log/{it}") for it in names)
     suite.holds("no key and no password is in a log", not any(it in text for it in secrets))
-    audit = machine.does(block("sh", 'awk \'$5 == "PUT"')).splitlines()
-    suite.holds(
-        "who published what, and when", any(re.fullmatch(rf"20\S+ pub alpha {AT}/v1.0.0", it) for it in audit), audit
-    )
-    suite.holds("and the other team", any(re.fullmatch(rf"20\S+ bob beta {AT}/v1.0.0", it) for it in audit), audit)
+    audit = machine.does("goshelf-front log --path example.com/lib").splitlines()
+    for name, user, shelf in (("who published what, and when", "pub", "alpha"), ("and the other team", "bob", "beta")):
+        line = [user, fingerprint(client.passwords[user]), shelf, LIB[1:], "v1.0.0", "201"]
+        suite.holds(name, any(it.split("\t")[1:] == line and it.startswith("20") for it in audit), audit)
     of_trouble(suite, machine)
     suite.holds("a stranger is logged as `-`", re.search(rf"^20\S+ 127.0.0.1 - - GET {AT}/list 401 ", text, re.M))
     suite.holds(
         "what came from the cache is marked",
-        re.search(rf"^20\S+ 127.0.0.1 ann alpha GET {AT}/v1.0.0.zip 200 \d+ \S+ HIT$", text, re.M),
+        re.search(rf"""^20\S+ 127.0.0.1 [0-9a-f]{{16}} alpha GET {AT}/v1.0.0.zip 200 \d+ \S+ HIT "ann"$""", text, re.M),
     )
 
 
 def unwritable_cache(suite, client):
-    """Where the cache can't be written nginx tells so by a line that has the key, whatever the format of the log is."""
+    """Where the cache can't be written nginx tells so by a line that has the target, and no key."""
     cache = f"{client.machine.folder}/var/cache/nginx/goshelf"
     held = [os.path.join(at, it) for at, folders, _ in os.walk(cache) for it in folders]
     for it in (cache, *held):
@@ -342,7 +356,11 @@ def unwritable_cache(suite, client):
         for it in (cache, *held):
             os.chmod(it, 0o700)
     text = client.machine.read("var/log/nginx/goshelf-errors.log")
-    suite.holds("a line of crit holds a key", any(it in text for it in keys_of(client.machine)))
+    is_told = "Permission denied" in text and f"{AT}/v1.4.0.mod" in text
+    suite.holds(
+        "a line of crit names the target, and no key",
+        is_told and not any(it in text for it in client.passwords.values()),
+    )
 
 
 def go(client, behind, netrc, *words):
@@ -389,7 +407,7 @@ def go_command(suite, client):
     suite.equal("a build by ~/.netrc", (ended, told.splitlines()[-1:], asked), (True, ["1"], []))
     suite.holds(
         "no secret is in what the go command says",
-        not any(it in told for it in (*client.passwords.values(), *keys_of(client.machine))),
+        not any(it in told for it in client.passwords.values()),
     )
     for name, netrc in (("no ~/.netrc", ""), ("a wrong password", wrong)):
         ended, told, asked = go(client, behind, netrc, "get", "example.com/greet@v1.0.0")
@@ -412,7 +430,8 @@ def by_user(client, folder, name, script):
     home = f"{folder}/{name}"
     os.mkdir(home)
     write({f"{home}/.netrc": f"machine localhost login {name} password {client.passwords[name]}\n"})
-    env = settings(home, SSL_CERT_FILE=client.pem, CURL_CA_BUNDLE=client.pem)
+    path = f"{os.path.join(ROOT, 'tools')}:{os.environ['PATH']}"
+    env = settings(home, PATH=path, SSL_CERT_FILE=client.pem, CURL_CA_BUNDLE=client.pem)
     words = ["sh", "-euc", script]
     return subprocess.run(words, cwd=folder, env=env, capture_output=True, text=True, timeout=300)
 
@@ -426,8 +445,8 @@ def three_modules(suite, client):
     publish = block("sh", "--netrc --repository team")
     prepare = "chmod 600 ~/.netrc\n" + block("sh", "needed only where GOPRIVATE is set")
     publish, prepare = (it.replace("https://shelf.example.com", url) for it in (publish, prepare))
+    built()
     with tempfile.TemporaryDirectory(prefix="goshelf-team-") as folder:
-        os.symlink(os.path.join(ROOT, "tools"), f"{folder}/tools")
         begun = time.time()
         ran = by_user(client, folder, "pub", made + publish)
         told = ran.stdout, ran.returncode

@@ -226,7 +226,7 @@ def go_agrees(suite):
 
 def make_all(suite):
     write_lines()
-    group, common = ["--group", "platform=platform.lines"], ["--common", "common.lines", "--paths", "paths.map"]
+    group, common = ["--group", "platform=platform.lines"], ["--common", "common.lines", "--paths", "owners.json"]
     for shelf, count, words in (
         ("gamma", 7, [*group, *common]),
         ("delta", 5, [*group, *common]),

@@ -15,7 +15,6 @@ import sys
 
 from lib.catalog_front import GOSHELF, MADE, USERS, between, lines_of, own_goshelf, set_up
 from lib.catalog_store import TODAY, tool
-from lib.front import keys_of, settle
 from lib.keys import KEYS
 from lib.messages import put
 from lib.peers import exchanged
@@ -67,7 +66,7 @@ def extracted(reader, suite, user, shelf, team, letters):
         with open(name, "w", encoding="utf-8") as file:
             file.write(lines_of(reader.machine, copy, KEYS[it]))
     own, *above = names.values()
-    words = ["--common", above[-1], "--paths", f"{reader.machine.folder}/etc/nginx/goshelf/paths.map"]
+    words = ["--common", above[-1], "--paths", f"{reader.machine.folder}/etc/nginx/goshelf/owners.json"]
     group = [f"--group=platform={above[0]}"] if len(above) == 2 else []
     told = tool("--to", f"{folder}/{shelf}", "--shelf", shelf, "--today", TODAY, *words, *group, own)
     suite.holds(f"{user}: the pages of a store of {team} alone are made", told[0] == 0, told)
@@ -151,19 +150,17 @@ def strangers(suite, reader):
     machine.does("goshelf team-add --control /run/goshelf/control --team omega")
     for user, shelf in (("eve", "alpha"), ("oda", "omega")):
         reader.add(user, shelf, "publish")
-        settle(reader, user, 404)
     suite.equal("a user who publishes", reader.read("/", "eve")[::2], (200, pages_of(reader, "alpha")["/"]))
     status, _, body = reader.read("/", "oda")
     suite.holds("a shelf without pages", (status, body[:13]) == (404, b"no such page;"), (status, body))
-    machine.does("goshelf-user remove eve")
-    settle(reader, "eve", 401)
+    machine.does("goshelf-front remove eve")
     # (nginx may have had enough of a stranger who asks again and again)
     status = reader.read("/", "eve")[0]
     suite.holds("a user who was removed", status in (401, 429), status)
     told = machine.sh("goshelf-catalog")
     suite.holds("the new shelf gets pages", told[0] == 0 and "\nomega: 4 pages, 4 new" in told[1], told)
     suite.equal("and its user sees them", reader.read("/", "oda")[0], 200)
-    machine.does("goshelf-user remove oda")
+    machine.does("goshelf-front remove oda")
 
 
 def words(reader):
@@ -195,7 +192,7 @@ def who_shows(text):
 
 def runs(suite, reader):
     """A run makes what is new, by a key of each shelf that goshelf has meanwhile alone."""
-    machine, keys, shown = reader.machine, [*KEYS.values(), *keys_of(reader.machine)], []
+    machine, keys, shown = reader.machine, [*KEYS.values(), *reader.passwords.values()], []
     words(reader)
     before = keys_told(machine)
     with between(
@@ -235,7 +232,7 @@ def news(suite, reader, keys):
     suite.equal("by cron it prints nothing", (ran.returncode, ran.stdout, ran.stderr), (0, "", ""))
     suite.equal("nobody else's", {reader.read("/m/example.com/alpha/new/", it)[0] for it in ("bea", "gus")}, {404})
     suite.equal("other pages are as they were", pages_of(reader, "gamma"), before)
-    suite.equal("nothing is beside the store", left(reader), ["shelves.db", "shelves.db-wal"])
+    suite.equal("nothing is beside the store", left(reader), ["shelves.db", "shelves.db-reserve", "shelves.db-wal"])
     readable(suite, machine, keys)
 
 
@@ -266,7 +263,7 @@ def of_backups(suite, reader):
     wanted = re.sub(" .*", " nothing changed", MADE)
     suite.equal("the pages of the backup", (told, asked), ((0, wanted, ""), []))
     suite.equal("the same backup", again, (0, "nothing has changed\n", ""))
-    keys = [*KEYS.values(), *keys_of(machine)]
+    keys = [*KEYS.values(), *reader.passwords.values()]
     suite.equal("no key of the store is shown", [it for it in words(reader) if any(key in it for key in keys)], [])
     of_a_backup_at_beta(suite, reader)
     suite.equal("the later version is not there", reader.read("/m/example.com/alpha/later/")[0], 404)
@@ -287,7 +284,8 @@ def of_a_backup_at_beta(suite, reader):
 
 
 # a goshelf that fails as soon as it is asked for what beta sees in a file
-FAILS_AT_BETA = """case "$1 $(sqlite3 "${3-}" "SELECT shelf FROM access WHERE token = '${5-}'" 2> /dev/null)" in
+FAILS_AT_BETA = """asked="SELECT shelf FROM access WHERE token = '${5-}'"
+case "$1 $(sqlite3 -readonly "${3-}" "$asked" 2> /dev/null)" in
 "catalog beta") echo 'goshelf: device' >&2; exit 1 ;;
 esac
 """
@@ -299,7 +297,12 @@ BREAKS = (
     ("a unit without a store", "export GOSHELF_UNIT=other", "", "there is no folder "),
     ("no folder of pages", "mv @AT@ /root/aside", "mv /root/aside @AT@", "install -d -g www-data -m 2750 "),
     ("no tools", "mv /root/tools /root/aside", "mv /root/aside /root/tools", "there is no command "),
-    ("no users", "mv @MAPS@/users.map /root/aside", "mv /root/aside @MAPS@/users.map", "the users cannot be read"),
+    (
+        "no users",
+        "mv @MAPS@/goshelf.json /root/aside",
+        "mv /root/aside @MAPS@/goshelf.json",
+        "the users cannot be read",
+    ),
     (
         "goshelf is stopped",
         "systemctl stop goshelf",

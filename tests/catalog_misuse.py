@@ -18,7 +18,7 @@ from lib.program import ROOT, columns
 from lib.scratch import in_new_folders, read
 from lib.suite import Suite, shown
 
-COMMON = ("--common", "common.lines", "--paths", "paths.map")
+COMMON = ("--common", "common.lines", "--paths", "owners.json")
 # what a field may not be
 WRONG = {
     "Path": ("../a", "a/../b", "/etc", "a//b", "a/", "a.", "a b", "<b>", 'a"', "a\0", "a\n", "é", "", 1, "x" * 256),
@@ -70,7 +70,7 @@ REFUSED = """
 --to alpha --shelf alpha nosuch | No such file
 --to alpha --shelf alpha --common nosuch alpha.lines | No such file
 --to alpha --shelf alpha --paths nosuch alpha.lines | No such file
---to alpha --shelf alpha --paths alpha.lines alpha.lines | alpha.lines:1: not of the form
+--to alpha --shelf alpha --paths alpha.lines alpha.lines | alpha.lines: 
 --to no/such --shelf alpha alpha.lines | there is no folder
 --to store.db --shelf alpha alpha.lines | was not made by
 --to . --shelf alpha alpha.lines | was not made by

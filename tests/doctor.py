@@ -19,7 +19,7 @@ from lib.older import SCHEMA_1, SCHEMA_2
 from lib.program import NOBODY, PROGRAM, can_be_nobody, done
 from lib.refusals import DOCTOR, Refusals, doctor, new_store, word
 from lib.scratch import fill, in_new_folders, read, small_disk, write
-from lib.tables import change, reordered
+from lib.tables import change, reordered, settled
 
 # what docs/REFERENCE.md has sqlite3 run in a new store, to take over the rows of a file f
 TAKE_OVER = (
@@ -88,7 +88,7 @@ def journal(suite):
     suite.finds("device: another program with SQLite left a rollback journal, d.db-journal", "--db", "d.db")
     left = sqlite3.connect("d.db")
     suite.equal("sqlite3 plays it back", left.execute("SELECT count(*) FROM shelf").fetchone(), (5,))
-    left.close()
+    settled(left)
     suite.wants("the journal was played back", "", word("team-add --db d.db --team epsilon"))
     for name in ("d.db-journal", "d.db-wal", "d.db-shm"):
         suite.wants(
@@ -249,6 +249,11 @@ def sockets(suite):
     ran = doctor("--db", "s.db")
     is_right = "\n    use --control control, or stop it\n" in ran.stdout
     suite.holds("the doctor names the socket of who has the store open", is_right, (ran.stdout, ran.stderr))
+    write({"copy.db-wal": bytes(100)})
+    suite.wants("a copy to a name with an old log", "device", word("copy --control control --to copy.db"))
+    suite.finds("device: there is a log copy.db-wal without copy.db", "--db", "copy.db")
+    os.rename("copy.db-wal", "away")
+    suite.wants("the log was moved away", "", word("copy --control control --to copy.db"))
     if can_be_nobody():
         os.chmod(".", 0o755)
         suite.finds("device: nobody may not connect to control", "--control", "control", before=NOBODY)

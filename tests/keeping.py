@@ -4,11 +4,9 @@
 The commands run on a machine in a folder (lib/machine.py), with the store of lib/operating.py.
 """
 
-import contextlib
 import os
 import re
 import shutil
-import sqlite3
 import sys
 
 from lib.machine import Machine
@@ -16,16 +14,17 @@ from lib.operating import ALPHA, BETA, PUBLISHED, READER, SECRET, answers_of, co
 from lib.pages import block
 from lib.scratch import play, read, write
 from lib.suite import Suite
+from lib.tables import change
 
-# a command `goshelf-uncache`, which stands in for the one that needs an nginx: it notes that it ran
-UNCACHE = "#!/bin/sh\necho >> @/root/uncached\n"
+# a command `goshelf-front`, which stands in for the one that needs an nginx: it notes that it was to reset the caches
+UNCACHE = '#!/bin/sh\n[ "$*" != uncache ] || echo >> @/root/uncached\n'
 # a backup that tests/operating.py would have made a while ago
 OLDER = [f"2020-01-{day:02}T031500Z" for day in (1, 2, 3)]
 BUSY = "another goshelf-backup, goshelf-restore or goshelf-forget has not ended"
 # words of goshelf-restore, the status that they get, and what is said; `night` is empty
 RESTORES = (
     ('"$night"', 2, "usage: goshelf-restore"),
-    ('--yes "$night"', 1, "there is no backup "),
+    ('--yes "$night"', 2, "goshelf-restore: BACKUP is empty\n"),
     ("--yes 2020-13-01T031500Z", 1, "there is no backup 2020-13-01"),
     ("--yes ..", 1, "there is no backup .."),
     ("--yes .", 1, "there is no backup ."),
@@ -49,9 +48,9 @@ FORGETS = (
     ("alpha example.com/lib", 2, "usage:"),
     (f"--force {LEAKED}", 2, "usage:"),
     (f"{LEAKED} --yes", 2, "usage:"),
-    ("--yes '' '' ''", 1, "no shelf has the name ''"),
-    ("--yes alpha '' v1.1.0", 1, "no module has the path ''"),
-    ("--yes alpha example.com/lib ''", 1, "'' is not a version"),
+    ("--yes '' '' ''", 2, "goshelf-forget: SHELF is empty\n"),
+    ("--yes alpha '' v1.1.0", 2, "goshelf-forget: MODULE is empty\n"),
+    ("--yes alpha example.com/lib ''", 2, "goshelf-forget: VERSION is empty\n"),
     ("--yes alpha example.com/!lib v1.1.0", 1, "write capitals as such"),
     ("--yes alpha \"x' OR '1'='1\" v1.1.0", 1, "no module has the path"),
     ("--yes alpha example.com/lib %", 1, "'%' is not a version"),
@@ -119,7 +118,7 @@ def restores(suite, machine):
     machine.does("systemctl start goshelf")
     at, home = f"{machine.folder}/var/backups/goshelf", f"{machine.folder}/var/lib/goshelf"
     machine.write("etc/nginx/conf.d/goshelf.conf", "")
-    machine.command("goshelf-uncache", UNCACHE)
+    machine.command("goshelf-front", UNCACHE)
     lines = machine.does("goshelf-restore").splitlines()
     suite.equal("goshelf-restore lists the backups", [it.partition(":")[0] for it in lines], OLDER)
     suite.holds("with their versions", all(re.fullmatch(r"\S+: 5 versions, \d+ MiB", it) for it in lines), lines)
@@ -157,11 +156,11 @@ def unlucky(suite, machine):
     machine.does("systemctl stop goshelf")
     publish(machine, BETA, "example.com/late", "v1.0.0", b"late")
     machine.does("systemctl start goshelf")
-    machine.command("goshelf-uncache", "#!/bin/sh\nexit 1\n")
+    machine.command("goshelf-front", "#!/bin/sh\nexit 1\n")
     told = machine.sh("goshelf-restore --yes last")
     is_right = told[0] == 1 and "the caches would answer" in told[2] and runs(machine)
     suite.holds("the caches cannot be told", is_right, told)
-    machine.command("goshelf-uncache", UNCACHE)
+    machine.command("goshelf-front", UNCACHE)
     text, flag = machine.read("usr/local/bin/systemctl"), f"{machine.folder}/root/started"
     once = f'start)\n    [ -e "{flag}" ] || {{ touch "{flag}"; exit 1; }}\n'
     machine.write("usr/local/bin/systemctl", text.replace("start)\n", once, 1))
@@ -213,13 +212,11 @@ def bad_key(suite, machine):
     """A text that stands in the store as a key is no command to the sqlite3 that gets the keys."""
     machine.does("systemctl stop goshelf")
     text = f"x', 'alpha', 0);\n.shell touch {machine.folder}/root/ran\n--"
-    with contextlib.closing(sqlite3.connect(machine.store)) as conn, conn:
-        conn.execute("INSERT INTO access (token, shelf, publish) VALUES (?, 'alpha', 0)", (text,))
+    change(machine.store, ["INSERT INTO access (token, shelf, publish) VALUES (?, 'alpha', 0)", text])
     told = machine.sh("goshelf-restore --yes last")
     suite.holds("a store with a key that is none", told[0] == 1 and "goshelf refuses " in told[2], told)
     suite.holds("what stands in its place does not run", not os.path.exists(f"{machine.folder}/root/ran"))
-    with contextlib.closing(sqlite3.connect(machine.store)) as conn, conn:
-        conn.execute("DELETE FROM access WHERE token = ?", (text,))
+    change(machine.store, ["DELETE FROM access WHERE token = ?", text])
     machine.does("systemctl start goshelf")
 
 

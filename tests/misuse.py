@@ -11,7 +11,7 @@ import subprocess
 import sys
 
 from lib.machine import Machine
-from lib.operating import copies, prepared
+from lib.operating import copies, prepared, runs
 from lib.program import PROGRAM, ROOT, done
 from lib.scratch import play, read, small_disk, write
 from lib.stores import remove_store
@@ -19,9 +19,8 @@ from lib.suite import Suite
 
 BACKUPS, OWN = "var/backups/goshelf", "2019 goshelf-kept goshelf-own"
 TOOL, DOCTOR = os.path.join(ROOT, "tools", "shards"), os.path.join(ROOT, "deploy", "goshelf-doctor")
-CONF = 'map $a $goshelf_part {\n    default "$goshelf_shelf 1";\n}\nupstream goshelf {\n    server 127.0.0.1:8080;\n}\n'
-CONF += "# http://goshelf/\n"
-USER_FILES = ("keys.map", "users.map")
+CONF = "upstream goshelf {\n    server 127.0.0.1:8080;\n}\n"
+CONF += "# http://goshelf;\n"
 
 
 def backups(suite, machine):
@@ -78,23 +77,30 @@ def full_disk(suite, machine):
 def forgotten(suite, machine):
     """goshelf-forget is killed once the version is out of the store: the next run does the rest."""
     machine.write("etc/nginx/conf.d/goshelf.conf", CONF)
-    machine.command("goshelf-uncache", '#!/bin/sh\n[ "$PPID" = 1 ] || kill -9 "$PPID"\n')
+    machine.command("goshelf-front", '#!/bin/sh\n[ "$1" != uncache ] || [ "$PPID" = 1 ] || kill -9 "$PPID"\n')
     words = "goshelf-forget --yes alpha example.com/lib v1.0.0"
     count = len(copies(machine))
     told = machine.sh(words)
     suite.holds("a kill in the middle", told[0] != 0 and len(copies(machine)) == count, told)
-    machine.command("goshelf-uncache", "#!/bin/sh\n")
+    machine.command("goshelf-front", "#!/bin/sh\n")
     told = machine.sh(words)
     suite.holds("the next run ends it", told[0] == 0 and copies(machine) == [OWN], told)
     told = machine.sh(words)
     suite.holds("a third finds nothing", told[0] == 1 and "Nothing was taken out" in told[2], told)
+    machine.command("goshelf-front", '#!/bin/sh\n[ "$1" != uncache ]\n')
+    status, printed, _ = told = machine.sh("goshelf-forget --yes alpha example.com/lib v1.2.0")
+    is_right = status == 1 and printed.count("- NOT DONE: ") == 1 and ": goshelf-front uncache\n" in printed
+    suite.holds("one whose caches stay ends with 1, and says what is left to do", is_right, told)
+    told = machine.sh("goshelf-forget --yes alpha example.com/lib v1.2.0")
+    suite.holds("the version is out of the store", "Nothing was taken out" in told[2], told)
+    suite.holds("and goshelf runs", runs(machine))
 
 
 def units(suite, machine):
     """A word that is no unit, a store that is not there, and a folder in the place of a file."""
     os.makedirs(f"{machine.folder}/root/it.prom")
     for words, status, said in (
-        ("GOSHELF_UNIT=../x goshelf-watch", 1, "goshelf: no unit has the name ../x\n"),
+        ("GOSHELF_UNIT=../x goshelf-watch", 1, "goshelf-watch: no unit has the name ../x\n"),
         ("GOSHELF_UNIT=../x goshelf-doctor", 2, "goshelf-doctor: GOSHELF_UNIT is not a unit\n"),
         ("goshelf-metrics --to it.prom", 1, "goshelf-metrics: it.prom is a folder\n"),
     ):
@@ -137,29 +143,31 @@ def shared(suite, machine):
 
 def links(suite, machine):
     """A link in the place of a file of nginx's: it stays, or the command refuses it."""
-    at = f"{machine.folder}/etc/nginx"
-    os.mkdir(f"{at}/goshelf")
-    machine.command("nginx", "#!/bin/sh\n")
-    shutil.copy(f"{machine.folder}/root/deploy/goshelf-uncache", f"{machine.folder}/usr/local/bin/goshelf-uncache")
+    at, names = f"{machine.folder}/etc/nginx", f"{machine.folder}/etc/nginx/goshelf/names"
+    machine.command("nginx", '#!/bin/sh\n[ "$1" != -s ]\n')
+    shutil.copy(f"{machine.folder}/root/deploy/goshelf-front", f"{machine.folder}/usr/local/bin/goshelf-front")
     write({f"{at}/there.conf": CONF, f"{machine.folder}/root/shards.conf": "shard first 127.0.0.1:1\nteam alpha\n"})
     os.remove(f"{at}/conf.d/goshelf.conf")
     os.symlink("../there.conf", f"{at}/conf.d/goshelf.conf")
-    for words in ("goshelf-uncache", f"{TOOL} conf shards.conf /etc/nginx/conf.d/goshelf.conf"):
+    for words, changes in (
+        ("goshelf-front set-up localhost example.com=alpha", False),
+        (f"{TOOL} conf shards.conf /etc/nginx/conf.d/goshelf.conf", True),
+    ):
         before = read(f"{at}/there.conf")
         told = machine.sh(words)
         found = told[0], os.path.islink(f"{at}/conf.d/goshelf.conf"), read(f"{at}/there.conf") != before
-        suite.equal(f"{os.path.basename(words.split()[0])}: the file of a link changes", found, (0, True, True))
-    for it in USER_FILES:
-        write({f"{at}/goshelf/{it}": ""})
-    machine.does("goshelf-user add ann alpha read")
-    os.rename(f"{at}/goshelf/users.map", f"{at}/users.map")
-    os.symlink("../users.map", f"{at}/goshelf/users.map")
+        name = f"{os.path.basename(words.split()[0])}: the file of a link {'changes' if changes else 'stays'}"
+        suite.equal(name, found, (0, True, changes))
+    machine.does("goshelf-front add ann alpha read")
+    os.rename(names, f"{at}/names")
+    os.symlink("../names", names)
     before = machine.does("goshelf key-list --control /run/goshelf/control")
-    told = machine.sh("goshelf-user add bob alpha publish")
-    is_right = told[0] == 1 and "users.map is a link" in told[2] and os.path.islink(f"{at}/goshelf/users.map")
-    suite.holds("goshelf-user refuses a link", is_right, told)
+    told = machine.sh("goshelf-front add bob alpha publish")
+    is_right = told[0] == 1 and "names is a link" in told[2] and os.path.islink(names)
+    suite.holds("goshelf-front refuses a link", is_right, told)
     suite.equal("and adds no key", machine.does("goshelf key-list --control /run/goshelf/control"), before)
-    suite.equal("and lists the users", machine.does("goshelf-user list"), "ann alpha read\n")
+    told = machine.does("goshelf-front list").split("\t")
+    suite.equal("and lists the users", (told[:3], told[-1]), (["ann", "alpha", "read"], "\n"))
 
 
 def shards(suite, machine):
@@ -170,7 +178,8 @@ def shards(suite, machine):
         "root/shards.conf", "shard goshelf-misuse-row 127.0.0.1:1\nteam alpha\nteam beta\ngroup platform gamma\n"
     )
     told = machine.sh(f"{TOOL} make shards.conf {machine.store} ''")
-    suite.equal("tools/shards make in no folder", told, (2, "", "shards: a word is empty\n"))
+    is_right = told[:2] == (2, "") and told[2].endswith("\nshards: FOLDER is empty\n")
+    suite.holds("tools/shards make in no folder", is_right, told)
     suite.equal("it makes nothing", os.path.exists(made), False)
     remove_store(made)
 

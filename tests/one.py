@@ -27,8 +27,8 @@ from lib.company import (
     equal,
     told_over_reloads,
 )
+from lib.front import fingerprint
 from lib.pages import block
-from lib.program import done
 from lib.scratch import fill, mounted, play, read
 from lib.suite import Suite
 
@@ -213,7 +213,7 @@ def cut_publish(suite, company):
 def revoked(suite, company):
     """A user who is removed, one removed while a site is cut off, and a key that the store alone revoked."""
     zip_file = "/example.com/lib/@v/v1.0.0.zip"
-    remove = block("sh", "goshelf-user remove ann")
+    remove = "goshelf-front remove ann"
     company.desk.add(company.first, "tom", "alpha", "read")
     company.first.reload()
     suite.equal("a new user", [company.desk.ask(at, "tom", zip_file)[0] for at in FRONTS], [200] * 3)
@@ -252,48 +252,45 @@ def revoked(suite, company):
 
 
 def key_revoked(suite, company):
-    """A key that the store revoked and the map still has: what is kept goes on until its line is gone."""
+    """A key that the store alone revoked: what is kept goes on until goshelf-front hears of it."""
     old, first = company.key("bob"), company.first
     wanted = company.answers(("bob",))
-    first.does("systemctl stop goshelf")
-    done("key-revoke", "--db", first.store, "--key", old)
-    first.does("systemctl start goshelf")
+    first.does(f"goshelf key-revoke --control /run/goshelf/control --fingerprint {fingerprint(old)}")
     found = company.differing(wanted, failures=(404,))
     suite.equal("a key that the store alone revoked: 404 or what the shelf had before", found, [])
     suite.equal("another user of the shelf is as before", company.differing(company.answers(("rob",))), [])
-    first.edit("etc/nginx/goshelf/keys.map", (f'"beta read" {old};\n', ""))
-    first.reload()
+    first.does("goshelf-front sync")
     company.forget()
     statuses = {company.desk.ask(at, "bob", target)[0] for at in FRONTS for _, target in wanted}
-    suite.holds("its line is out of the map: nothing", statuses <= {401, 429}, statuses)
-    new = "betasnewkey00001"
-    first.does("systemctl stop goshelf")
-    done("key-add", "--db", first.store, "--shelf", "beta", "--key", new, "--read-only")
-    first.does("systemctl start goshelf")
-    first.write("etc/nginx/goshelf/keys.map", first.read("etc/nginx/goshelf/keys.map") + f'"beta read" {new};\n')
-    first.reload()
+    suite.holds("goshelf-front has heard of it: nothing", statuses <= {401, 429}, statuses)
+    company.desk.add(first, "bob", "beta", "read")
     company.forget()
     equal(suite, company, "a new key")
 
 
 def moved_user(suite, company):
     """A user's shelf changes: a site that knows the shelf of before puts nothing into that part of the cache."""
-    first = company.first
+    first, key = company.first, company.key("ann")
     suite.equal("a publish", company.put("pub", "example.com/moved", "v1.0.0")[0], 201)
     suite.equal("of the same name on another shelf", company.put("rob", "example.com/moved", "v1.0.0")[0], 201)
     company.desk.ask(SITE, "ann", "/example.com/lib/@v/v1.0.0.mod")
-    first.edit("etc/nginx/goshelf/users.map", (" ann alpha read", " ann beta read"))
-    first.reload()
+    moved(first, key, "beta")
     target = "/example.com/moved/@v/v1.0.0.zip"
     mine, theirs = company.own("pub", target), company.own("rob", target)
     company.desk.ask(SITE, "ann", target)
     suite.equal("the shelf of before has its own", company.desk.ask(SITE, "pub", target) == mine != theirs, True)
     company.forget()
     equal(suite, company, "a user with another shelf")
-    first.edit("etc/nginx/goshelf/users.map", (" ann beta read", " ann alpha read"))
-    first.reload()
+    moved(first, key, "alpha")
     company.forget()
     equal(suite, company, "a user with the shelf of before")
+
+
+def moved(first, key, shelf):
+    """Has a key be of another shelf: the text of a revoked one may be added again."""
+    first.does(f"goshelf key-revoke --control /run/goshelf/control --key {key}")
+    first.does(f"goshelf key-add --control /run/goshelf/control --shelf {shelf} --key {key} --read-only")
+    first.does("goshelf-front sync")
 
 
 def full_disk(suite, company):
@@ -348,7 +345,7 @@ def day_old(suite, company):
         [company.desk.ask(at, "ann", zip_file)[0] for at in FRONTS],
         [200] * 3,
     )
-    first.does("goshelf-uncache")
+    first.does("goshelf-front uncache")
     first.reload()
     company.forget()
     suite.equal("what was published since is gone", company.own("ann", zip_file)[0], 404)

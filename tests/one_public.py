@@ -58,11 +58,8 @@ class WithPublic(Company):
 
     def claim(self, path):
         """Makes a path the company's, by the commands of NGINX."""
-        name = "etc/nginx/goshelf/paths.map"
-        self.first.write(name, f'{self.first.read(name)}"{path}" "alpha";\n')
-        before = self.first.workers()
-        self.first.does(block("sh", "goshelf-paths check"))
-        wait_until(lambda: self.first.workers() and not before & self.first.workers())
+        self.first.edit("etc/nginx/goshelf/owners.json", ("{", f'{{"{path}": ["alpha"], '))
+        self.first.does(block("sh", "goshelf-front uncache", "NGINX.md"))
         self.forget()
 
     def close(self):

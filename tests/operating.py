@@ -35,7 +35,8 @@ from lib.program import run
 from lib.scratch import play, read
 from lib.stores import remove_store
 from lib.suite import Suite
-from lib.tables import change, reordered
+from lib.sums import has_sums, wrong_sums
+from lib.tables import change, reordered, rows_of
 
 PAGES = "".join(map(read_page, OPERATORS))
 
@@ -83,8 +84,8 @@ def cron(suite, machine):
 
 
 def by_hand(suite, machine):
-    """goshelf copies its store while it runs. sqlite3 copies it once goshelf is stopped; before, its copy is empty,
-    as an inventory shows."""
+    """goshelf copies its store while it runs. sqlite3 makes no store of it: while goshelf runs its copy is empty, and
+    else its first page has a wrong sum, as an inventory shows."""
     ways = re.findall(r"`(sqlite3 F [^`]*COPY[^`]*)`", PAGES)
     suite.equal("ways to copy", len(ways), 1)
     listed = beginning("goshelf inventory").replace("KEY", ALPHA)
@@ -107,7 +108,8 @@ def by_hand(suite, machine):
     for at, way in enumerate(ways):
         copy = f"{machine.folder}/root/good-{at}.db"
         machine.does(way.replace("F", machine.store, 1).replace("COPY", copy))
-        suite.equal(f"{way}: the copy is a store", machine.does(listed.replace("COPY", copy)), wanted)
+        told = machine.sh(listed.replace("COPY", copy))
+        suite.equal(f"{way}: the copy is no store", told, (1, "", "goshelf: bad-schema\n"))
     machine.does("systemctl start goshelf")
 
 
@@ -118,7 +120,7 @@ def backups(suite, machine):
     suite.holds("and goshelf runs on", runs(machine))
     by_copy = copies(machine)[0]
     beside = sorted(os.listdir(f"{machine.folder}/var/lib/goshelf"))
-    suite.equal("nothing is left beside the store", beside, ["shelves.db", "shelves.db-wal"])
+    suite.equal("nothing is left beside the store", beside, ["shelves.db", "shelves.db-reserve", "shelves.db-wal"])
     os.rename(f"{at}/{by_copy}", f"{machine.folder}/root/by-copy")
     suite.equal("a backup that stops goshelf prints nothing", machine.sh("goshelf-backup stop"), (0, "", ""))
     suite.holds("and goshelf runs again", runs(machine))
@@ -155,10 +157,8 @@ def bad_backups(suite, machine):
     machine.does("systemctl stop goshelf")
     os.rename(machine.store, f"{machine.store}.aside")
     shutil.copy(machine.store + ".aside", machine.store)
-    machine.does(
-        'sqlite3 /var/lib/goshelf/shelves.db "DELETE FROM piece WHERE version = 1; DELETE FROM version WHERE id = 1";'
-        " systemctl start goshelf"
-    )
+    change(machine.store, ["DELETE FROM piece WHERE version = 1"], ["DELETE FROM version WHERE id = 1"])
+    machine.does("systemctl start goshelf")
     status, told, _ = machine.sh("goshelf-backup")
     suite.holds(
         "a copy that lacks a version is none",
@@ -234,6 +234,23 @@ def moved(suite, machine):
     suite.equal("it answers no other team", answers_of(own, f"{at}/list", key=BETA), [(404, b"not found\n")])
 
 
+def given_sums(suite, machine):
+    """A store without sums, as an older goshelf made it, gets them by a backup that takes its place."""
+    machine.does("systemctl stop goshelf")
+    plain = f"{machine.folder}/root/plain.db"
+    machine.does(f"sqlite3 {machine.store} .dump | sqlite3 {plain}")
+    remove_store(machine.store)
+    shutil.copy(plain, machine.store)
+    machine.does("systemctl start goshelf")
+    suite.holds("a store without sums is served", runs(machine) and not has_sums(machine.store))
+    before = rows_of(plain)
+    machine.does(block("sh", "&& goshelf-restore last").replace("restore last", "restore --yes last"))
+    machine.does("systemctl stop goshelf")
+    suite.equal("it has the same rows", rows_of(machine.store), before)
+    suite.equal("and sums", (has_sums(machine.store), wrong_sums(machine.store)), (True, []))
+    machine.does("systemctl start goshelf")
+
+
 def older(suite, machine, schema, tables):
     """A store of an older schema is migrated: each team is then in no group, and sees what it saw."""
     machine.does("systemctl stop goshelf")
@@ -282,28 +299,45 @@ def tables(suite, machine):
         "goshelf: bad-schema\n",
     )
     machine.does(block("sh", "goshelf init --db NEW", "REFERENCE.md").replace("NEW", new).replace("'F'", f"'{other}'"))
+    spoiled(suite, machine, new)
     lists = [run(["inventory", "--db", it, "--key", ALPHA]) for it in (new, machine.store)]
     suite.holds("their rows are taken over", lists[0] == lists[1] and lists[0][0] == 0, lists)
     suite.equal(
         "a group is taken over", run(["team-add", "--db", new, "--team", "eps", "--group", "platform"]), (0, b"", "")
     )
+    row_numbers(suite, machine, new)
+    machine.does("systemctl start goshelf")
+
+
+def row_numbers(suite, machine, new):
+    """A store whose row numbers are all in use takes no publish until one is freed."""
     ends = (
         "UPDATE version SET id = {0} WHERE id = (SELECT {1}(id) FROM version); UPDATE piece SET version = {0} WHERE"
         " version = (SELECT {1}(version) FROM piece)"
     )
     for number, which in ((2**63 - 1, "max"), (-(2**63), "min")):
-        machine.does(f'sqlite3 {new} "{ends.format(number, which)}"')
+        change(new, *([it] for it in ends.format(number, which).split(";")))
     lowest = publish(machine, ALPHA, "example.com/lib", "v1.4.0", b"last", new)
     machine.does(block("sh", "UPDATE version SET id = 0", "REFERENCE.md").replace(" F ", f" {new} "))
     found = lowest, publish(machine, ALPHA, "example.com/lib", "v1.4.0", b"last", new)
     suite.equal(
         "a publish without a row number, and with one that was freed", found, ("503 unavailable", "201 published")
     )
-    machine.does("systemctl start goshelf")
+
+
+def spoiled(suite, machine, file):
+    """A file that sqlite3 wrote to as it likes has wrong sums, and the page makes it a store again."""
+    listed = run(["inventory", "--db", file, "--key", ALPHA])
+    machine.does(f"sqlite3 {file} \"INSERT INTO shelf VALUES ('zeta', 'common')\"")
+    refused = run(["inventory", "--db", file, "--key", ALPHA])
+    suite.equal("sqlite3 wrote to a store", refused, (1, b"", "goshelf: bad-schema\n"))
+    shelves = machine.does(block("sh", "F VACUUM", "REFERENCE.md").replace(" F", f" {file}"))
+    suite.holds("its pages have their sums again", "zeta team\n" in shelves, shelves)
+    suite.equal("it is the store of before", run(["inventory", "--db", file, "--key", ALPHA]), listed)
 
 
 def main():
-    parts = (prepared, keys, cron, by_hand, backups, backup, bad_backups, restored, queries, moved, tables)
+    parts = (prepared, keys, cron, by_hand, backups, backup, bad_backups, restored, queries, moved, given_sums, tables)
     olds = [lambda suite, machine, it=it: older(suite, machine, *it) for it in ((1, SCHEMA_1), (2, SCHEMA_2))]
     return play(Suite(), "the machine", "an operator's commands need root", Machine, (*parts, *olds))
 

@@ -13,7 +13,7 @@ import tempfile
 import time
 
 from lib.keys import KEY
-from lib.pages import block, read_page
+from lib.pages import block, blocks
 from lib.program import ROOT
 from lib.releases import about, lines_of, packed, release
 from lib.scratch import read
@@ -24,11 +24,17 @@ UNIT = os.path.join(ROOT, "deploy", "systemd", "goshelf.service")
 # the commands that the package installs
 DEPLOY = os.path.join(ROOT, "deploy")
 SCRIPTS = [it for at in ("", "warm") for it in os.listdir(os.path.join(DEPLOY, at)) if it.startswith("goshelf-")]
-COMMANDS = sorted(["goshelf", *SCRIPTS])
+COMMANDS = sorted(["goshelf", "goshelf-adopt", "goshelf-publish", *SCRIPTS])
 # the rating of systemd-analyze below which the unit has to stay
 SAFE = 2.5
 AT = "example.com/lib/@v"
-LEFT = "/etc/default/goshelf /var/lib/goshelf: shelves.db shelves.db-wal"
+BOTH_UNITS = "goshelf.service goshelf.socket"
+ARE_ACTIVE, ARE_ENABLED = f"systemctl is-active {BOTH_UNITS}", f"systemctl is-enabled {BOTH_UNITS}"
+# what both units say that run, and what a request gets then
+BOTH = ("active active", "v1.0.0 200")
+# the word of the page that stops both
+STOP = "systemctl stop goshelf.socket goshelf"
+LEFT = "/etc/default/goshelf /var/lib/goshelf: shelves.db shelves.db-reserve shelves.db-wal"
 KEPT = "goshelf: kept /var/lib/goshelf and the user goshelf. A purge with GOSHELF_REMOVE_DATA=yes removes both.\n"
 
 
@@ -91,16 +97,16 @@ def installed(suite, copy, package, version):
     )
     suite.equal(
         "nothing starts, now or at boot",
-        copy.prints("systemctl is-active goshelf; systemctl is-enabled goshelf"),
-        "inactive disabled",
+        copy.prints(f"{ARE_ACTIVE}; {ARE_ENABLED}"),
+        "inactive inactive disabled disabled",
     )
-    suite.equal("the unit is right", copy.sh("systemd-analyze verify goshelf.service"), (0, "", ""))
+    suite.equal("the units are right", copy.sh(f"systemd-analyze verify {BOTH_UNITS}"), (0, "", ""))
     there = copy.prints(f"for it in {' '.join(COMMANDS)}; do command -v $it; done")
     suite.equal("its commands are there", there.split(), [f"/usr/bin/{it}" for it in COMMANDS])
     suite.holds("its copyright is there", "licence" in copy.sh("cat /usr/share/doc/goshelf/copyright")[1])
     copy.sh("systemctl start goshelf")
-    found = copy.prints("systemctl show -P AssertResult goshelf; systemctl is-active goshelf; ls -A /var/lib/goshelf")
-    suite.equal("it does not start without a store, and makes none", found, "no inactive")
+    found = copy.prints(f"systemctl show -P AssertResult goshelf; {ARE_ACTIVE}; ls -A /var/lib/goshelf")
+    suite.equal("it does not start without a store, nor its port, and makes none", found, "no inactive inactive")
 
 
 def started(suite, copy):
@@ -108,10 +114,11 @@ def started(suite, copy):
     ping = "goshelf ping --control /run/goshelf/control"
     page = commands("goshelf_VERSION_amd64.deb").partition("\n")[2].replace("--new", f"--key {KEY}")
     status, _, errors = copy.sh(f"{page}{ping}")
-    is_right = status == 0 and re.fullmatch(r"(Created symlink .*\n)?", errors)
+    is_right = status == 0 and re.fullmatch(r"(Created symlink .*\n)*", errors)
     suite.holds("the commands of the page end well, and it takes orders at once", is_right, (status, errors))
     suite.equal("it answers", ask(copy, "-/modules"), "200")
-    suite.equal("it starts at boot", copy.prints("systemctl is-enabled goshelf"), "enabled")
+    found = copy.prints(f"{ARE_ACTIVE}; {ARE_ENABLED}")
+    suite.equal("it runs with its port, now and from boot on", found, "active active enabled enabled")
     suite.equal("a publish", publish(copy, "v1.0.0"), "published 201")
     order = "goshelf key-revoke --control /run/goshelf/control --key nosuchkey0000001"
     suite.equal("root gives it orders", copy.sh(order), (1, "", "goshelf: no-key\n"))
@@ -134,7 +141,7 @@ systemctl daemon-reload"""
 
 def late(suite, copy):
     """A start ends when goshelf takes orders, also with a store that opens late, and fails if it ends before."""
-    serve = "exec goshelf serve --db /var/lib/goshelf/shelves.db --port 8080 --control /run/goshelf/control"
+    serve = "exec goshelf serve --db /var/lib/goshelf/shelves.db --stdin --control /run/goshelf/control"
     told = copy.sh(f"{LATE.format(serve)}; systemctl restart goshelf; goshelf ping --control /run/goshelf/control")
     suite.holds("a goshelf that opens late takes orders once it is started", told[0] == 0, told)
     begun = time.time()
@@ -153,15 +160,15 @@ def doctor(suite, copy):
     """goshelf-doctor without words looks at the unit."""
     told = copy.sh("goshelf-doctor")
     suite.equal("the doctor of a unit that runs", told, (0, "no cause is found: goshelf answers\n", ""))
-    told = copy.sh("systemctl stop goshelf; goshelf-doctor")
+    told = copy.sh(f"{STOP}; goshelf-doctor")
     suite.holds("of one that is stopped", told[0] == 1 and "device: there is no folder /run/goshelf\n" in told[1], told)
     told = copy.sh("touch /var/lib/goshelf/shelves.db-wal; chown root /var/lib/goshelf/shelves.db-wal; goshelf-doctor")
     suite.holds("of one with a log of root", told[0] == 1 and "shelves.db-wal belongs to root" in told[1], told)
-    copy.sh("echo GOSHELF_PORT=22222 >> /etc/default/goshelf")
-    listen = 'IO::Socket::INET->new(Listen => 1, LocalAddr => "127.0.0.1:22222")'
-    told = copy.sh(f"perl -MIO::Socket -e '$s = {listen}; sleep 5' & sleep 1; goshelf-doctor")
-    suite.holds("of one whose port is taken", "io: port 22222 is taken\n" in told[1], told)
-    copy.sh("sed -i '$d' /etc/default/goshelf; systemctl start goshelf")
+    listen = 'IO::Socket::INET->new(Listen => 1, ReuseAddr => 1, LocalAddr => "127.0.0.1:8080")'
+    waits = "until ss -Hltn | grep -q :8080; do sleep 0.1; done"
+    told = copy.sh(f"perl -MIO::Socket -e '$s = {listen}; sleep 60' & {waits}; goshelf-doctor || :; kill $!")
+    suite.holds("of one whose port is taken", "io: port 8080 is taken\n" in told[1], told)
+    copy.sh("systemctl start goshelf")
     suite.equal("and it runs again", ask(copy, f"{AT}/list"), "v1.0.0 200")
 
 
@@ -171,46 +178,44 @@ def restarted(suite, copy):
     copy.sh(f"kill -9 {before}")
     copy.sh(f"while [ $(systemctl show -P MainPID goshelf) = {before} ]; do sleep 0.1; done")
     suite.equal("a killed one is started again, and has the version", ask(copy, f"{AT}/list"), "v1.0.0 200")
-    copy.sh("systemctl stop goshelf")
+    copy.sh(STOP)
     added = copy.sh(
         "runuser -u goshelf -- goshelf key-add --db /var/lib/goshelf/shelves.db --shelf alpha --key alphareader00001"
         " --read-only"
     )
     suite.equal("a command by the user goshelf, while it is stopped", added, (0, "", ""))
     copy.sh("chown root:root /var/lib/goshelf/*; chmod 600 /var/lib/goshelf/*")
-    copy.sh("echo GOSHELF_PORT=8181 > /etc/default/goshelf; systemctl start goshelf")
-    suite.equal(
-        "it starts over files of root, on the port of its settings", ask(copy, f"{AT}/list", 8181), "v1.0.0 200"
-    )
+    told = copy.sh(commands("ListenStream=127.0.0.1:8181")), ask(copy, f"{AT}/list", 8181)
+    suite.equal("it starts over files of root, on the port of the page", told, ((0, "", ""), "v1.0.0 200"))
 
 
-def by_socket(suite, copy):
-    """systemd holds the port, by the commands of the page: restarts refuse no connection."""
-    status, _, errors = copy.sh(commands("goshelf.socket"))
-    suite.holds("the port in systemd's hands: the commands of the page end well", status == 0, errors)
-    suite.equal("it answers there", ask(copy, f"{AT}/list"), "v1.0.0 200")
+# asks for a list until a file is there, and prints how each request ends
+ASKING = """while [ ! -e /tmp/enough ]; do
+    curl -s -m 60 -o /dev/null -w '%{http_code}' URL || :
+    echo " $?"
+done"""
+# six who ask at once, around restarts; a publish comes in the middle
+LOAD = """rm -f /tmp/enough /tmp/told-*
+for it in 1 2 3 4 5 6; do { ASKING; } > /tmp/told-$it & done
+for it in 1 2 3 4 5; do sleep 0.5; systemctl restart goshelf; done
+touch /tmp/enough
+wait
+cat /tmp/told-*"""
+
+
+def under_load(suite, copy):
+    """Restarts while many ask: systemd holds the port, so none is refused, and the one in hand ends."""
     url = f"http://127.0.0.1:8080/k/{KEY}/{AT}/list"
-    restarts = "(for it in 1 2 3 4; do sleep 0.5; systemctl restart goshelf; done) &"
-    asking = (
-        f"while kill -0 $! 2> /dev/null; do curl -s -m 60 -o /dev/null -w '%{{http_code}}' {url}; echo \" $?\"; done"
-    )
-    told = copy.sh(f"set +e\n{restarts}\n{asking}")[1].splitlines()
-    suite.holds(f"{len(told)} requests around four restarts", told.count("200 0") > 8, told[:20])
-    suite.holds("none is refused", not any(it.endswith(" 7") for it in told), sorted({*told}))
-    suite.holds("at most those in hand are lost", len(told) - told.count("200 0") <= 4, sorted({*told}))
+    before = first_process(copy)
+    told = copy.sh(LOAD.replace("ASKING", ASKING).replace("URL", url))[1].splitlines()
+    failed = [it for it in told if it != "200 0"]
+    suite.holds(f"{len(told)} requests around five restarts", len(told) > 100 and first_process(copy) != before, told)
+    suite.equal("none of them fails", failed, [])
     stopped(suite, copy)
+    copy.sh("systemctl enable goshelf")
     by_scripts(suite, copy)
-    undo = (
-        "systemctl disable --now goshelf.socket; systemctl stop goshelf; rm -r /etc/systemd/system/goshelf.s*;"
-        " systemctl daemon-reload"
-    )
-    suite.holds(
-        "and it is undone",
-        copy.sh(f"{undo}; systemctl enable --now goshelf")[0] == 0 and ask(copy, f"{AT}/list") == "v1.0.0 200",
-    )
 
 
-ARE_ACTIVE, BOTH = "systemctl is-active goshelf goshelf.socket", ("active active", "v1.0.0 200")
 # Takes the place of `cat`, by which the user of the store copies a file of it: a connection comes before each copy, and
 # how it ends is noted. (curl's 7 says that it was refused.)
 COPYING = """: > /tmp/during
@@ -234,10 +239,9 @@ def stopped(suite, copy):
     copy.sh("for it in $(seq 100); do ! systemctl is-active -q goshelf || exit 0; sleep 0.1; done")
     told = answer, copy.prints(ARE_ACTIVE)
     suite.equal("a connection starts a goshelf that was stopped", told, ("v1.0.0 200", "active active"))
-    word = "systemctl stop goshelf.socket goshelf"
-    suite.holds("the page has a word for both", f"`{word}`" in read_page("OPERATING.md"))
+    suite.equal("the page has a word for both", blocks("docs/OPERATING.md", "sh", STOP)[0], f"{STOP}\n")
     connect = "curl -s http://127.0.0.1:8080/ || echo $?"
-    for name, script in (("that word", word), ("a removal", "/var/lib/dpkg/info/goshelf.prerm remove")):
+    for name, script in (("that word", STOP), ("a removal", "/var/lib/dpkg/info/goshelf.prerm remove")):
         status, printed, errors = copy.sh(f"{script}\n{connect}")
         suite.equal(
             f"{name} stops both, and a connection starts neither",
@@ -280,16 +284,17 @@ def second(suite, copy):
         f" --shelf delta --key {KEY}"
     )
     status, _, errors = copy.sh(
-        f"cd /usr/share/goshelf\n{store}\n{block('sh', 'goshelf-second.service', 'DEPLOYMENTS.md')}"
+        f"cd /usr/share/goshelf\n{store}\n{block('sh', 'goshelf-second/shelves.db', 'DEPLOYMENTS.md')}"
     )
     suite.holds("a second shard: the commands of the page end well", status == 0, errors)
-    suite.equal("the second unit is right", copy.sh("systemd-analyze verify goshelf-second.service"), (0, "", ""))
+    told = copy.sh("systemd-analyze verify goshelf-second.service goshelf-second.socket")
+    suite.equal("the second units are right", told, (0, "", ""))
     suite.equal(
         "each answers for its own store",
         (ask(copy, f"{AT}/list"), ask(copy, f"{AT}/list", 8081)),
         ("v1.0.0 200", "not found 404"),
     )
-    copy.sh("systemctl stop goshelf")
+    copy.sh(STOP)
     ping = "goshelf ping --control /run/goshelf-second/control"
     suite.equal("the second does without the first", (copy.sh(ping)[0], ask(copy, "-/modules", 8081)), (0, "200"))
     told = copy.sh("export GOSHELF_UNIT=goshelf-second; goshelf-backup; goshelf-backup stop; ls /var/backups")
@@ -300,8 +305,9 @@ def second(suite, copy):
         (0, "v1.0.0 200", "200"),
     )
     copy.sh(
-        "systemctl disable --now goshelf-second; rm -r /etc/systemd/system/goshelf-second.service"
-        " /etc/default/goshelf-second /var/lib/goshelf-second /var/backups/goshelf-second; systemctl daemon-reload"
+        "systemctl disable --now goshelf-second.service goshelf-second.socket; rm -r"
+        " /etc/systemd/system/goshelf-second.* /var/lib/goshelf-second /var/backups/goshelf-second;"
+        " systemctl daemon-reload"
     )
 
 
@@ -343,7 +349,7 @@ def upgraded(suite, copy, first, second, version):
     old, new = copy.put(first), copy.put(second)
     names = {f"goshelf_{name}_amd64.deb": os.path.basename(it) for name, it in (("OLD", old), ("NEW", new))}
     tries, over, back = (commands(it) for it in ("dpkg-deb -x", "apt install -y ./goshelf_NEW", "--allow-downgrades"))
-    copy.sh("systemctl stop goshelf; cp /var/lib/goshelf/shelves.db* /root; systemctl start goshelf")
+    copy.sh(f"{STOP}; cp /var/lib/goshelf/shelves.db* /root; systemctl start goshelf")
     copied = tries.replace("COPY", "/root/shelves.db").replace("KEY", KEY)
     for name, script, wanted in (
         ("a try", copied, version),
@@ -355,11 +361,15 @@ def upgraded(suite, copy, first, second, version):
         step(suite, copy, name, script, wanted)
     found = copy.prints("cut -d'|' -f 1-3 /var/backups/goshelf/2*/versions")
     suite.equal("the backup is there", found, "alpha|example.com/lib|v1.0.0")
-    copy.sh("systemctl stop goshelf")
-    copy.sh(f"dpkg -i {old}")
-    found = copy.prints("systemctl is-active goshelf; systemctl is-enabled goshelf")
-    suite.equal("one that was stopped stays so", found, "inactive enabled")
+    copy.sh(STOP)
+    copy.sh("rm -r /etc/systemd/system/goshelf.socket.d; echo GOSHELF_PORT=8282 >> /etc/default/goshelf")
+    told = copy.sh(f"dpkg -i {old}")
+    found = copy.prints(f"{ARE_ACTIVE}; {ARE_ENABLED}")
+    suite.equal("one that was stopped stays so", found, "inactive inactive enabled enabled")
     copy.sh("systemctl start goshelf; rm -r /var/backups/goshelf")
+    found = "has the port 8282" in told[2], ask(copy, f"{AT}/list", 8282)
+    suite.equal("a port that the settings named stays", found, (True, "v1.0.0 200"))
+    copy.sh("sed -i /8282/d /etc/default/goshelf")
 
 
 def step(suite, copy, name, script, wanted):
@@ -385,7 +395,8 @@ def removed(suite, copy, package):
     """What a removal and a purge leave."""
     suite.equal("a removal ends without a word", by_apt(copy, "remove"), (0, ""))
     suite.equal("nothing runs", copy.prints("pgrep -c goshelf"), "0")
-    suite.equal("nothing starts at boot", copy.prints("find /etc/systemd /run/systemd -name 'goshelf*'"), "")
+    found = copy.prints("find /etc/systemd /run/systemd -name 'goshelf*' -not -name goshelf.socket.d")
+    suite.equal("nothing starts at boot", found, "")
     suite.equal("the store and the settings stay", copy.prints("ls /var/lib/goshelf /etc/default/goshelf"), LEFT)
     suite.equal("a purge says what it keeps", by_apt(copy, "purge"), (0, KEPT))
     suite.equal(
@@ -412,7 +423,7 @@ def by_hand(suite, copy, tar, version):
     there = copy.prints("ls /usr/local/bin | grep ^goshelf").split()
     suite.equal("the tar file: its commands are there", there, COMMANDS)
     suite.equal("the tar file: the commands of the page end well", (status, errors), (0, ""))
-    suite.equal("the tar file: the unit is right", copy.sh("systemd-analyze verify goshelf.service"), (0, "", ""))
+    suite.equal("the tar file: the units are right", copy.sh(f"systemd-analyze verify {BOTH_UNITS}"), (0, "", ""))
     copy.sh("\n".join(commands("goshelf_VERSION_amd64.deb").replace("--new", f"--key {KEY}").splitlines()[1:]))
     suite.equal("the tar file: goshelf answers", ask(copy, "-/modules"), "200")
     before, kept = (
@@ -428,6 +439,11 @@ def by_hand(suite, copy, tar, version):
     suite.equal("the tar file, over another: the commands end well", (told[0], told[2]), (0, ""))
     found = copy.prints(kept), ask(copy, "-/modules"), first_process(copy) not in (before, "0")
     suite.equal("its program is there, and runs over the store", found, (files, "200", True))
+    told = copy.prints("goshelf-publish --version; goshelf-adopt --version")
+    suite.equal("its Go programs", told, f"goshelf-publish {version} goshelf-adopt {version}")
+    told = copy.sh(commands("goshelf-offer"))
+    offered = rf"published example.com/goshelf-publish v0\.0\.0-{version[9:23]}-{version[24:36]}\n"
+    suite.holds("goshelf-publish is offered", told[0] == 0 and re.fullmatch(offered, told[1]), told)
 
 
 def on_a_copy(suite, tar, package, version, folder):
@@ -447,7 +463,7 @@ def on_a_copy(suite, tar, package, version, folder):
         doctor(suite, copy)
         confined(suite, copy)
         edited(suite, copy)
-        by_socket(suite, copy)
+        under_load(suite, copy)
         second(suite, copy)
         restarted(suite, copy)
         upgraded(suite, copy, package, later(package, folder), version)

@@ -3,9 +3,10 @@
 
 Of each page: links lead to files and headings that exist; commits, files, crates, items and names with an underscore
 that it cites in backticks exist; a line has at most 100 characters, a table cell 120, and the README 120 lines. The
-blocks marked `sh run` of a page run one after another in one shell, in a folder of their own with the built program and
-tools/ on the path. A block marked `output` is what the last block before it that runs has to print. A sheet of
-docs/theorems/ is what tools/theorems prints. With names of pages, only those are checked. tools/pages calls it too.
+blocks marked `sh run` of a page run one after another in one shell, in a folder of their own that looks like the top of
+a clone, with the built program and tools/ on the path. A block marked `output` is what the last block before it that
+runs has to print. A sheet of docs/theorems/ is what tools/theorems prints. With names of pages, only those are checked.
+tools/pages calls it too.
 """
 
 import os
@@ -18,6 +19,7 @@ import tempfile
 
 from lib.ports import free_port
 from lib.program import PROGRAM, ROOT
+from lib.repositories import built
 from lib.suite import Suite, shown
 
 LONGEST_README = 120
@@ -35,6 +37,8 @@ NAME = re.compile(r"[A-Za-z]\w*_\w+")
 SOURCE = re.compile(r"(?:[a-z]\w*/)*\w+\.(?:rt|antt)")
 FENCE = re.compile(r"^```([^\n]*)\n(.*?)^```$", re.M | re.S)
 MARK = "---- the end of a block ----"
+# `./goshelf` where a block runs: the built program, which --unproved too runs
+GOSHELF = '#!/bin/sh\n[ "$1" != --unproved ] || shift\nexec \'{program}\' "$@"\n'
 
 
 def read(name):
@@ -188,6 +192,10 @@ def ran(script):
         for name in ("bin", "work"):
             os.mkdir(f"{room}/{name}")
         os.symlink(os.path.abspath(PROGRAM), f"{room}/bin/goshelf")
+        os.symlink(os.path.join(ROOT, "tools"), f"{room}/work/tools")
+        with open(f"{room}/work/goshelf", "w", encoding="utf-8") as file:
+            file.write(GOSHELF.format(program=os.path.abspath(PROGRAM)))
+        os.chmod(f"{room}/work/goshelf", 0o755)
         settings = dict(
             os.environ, HOME=room, TMPDIR=room, PATH=f"{room}/bin:{ROOT}/tools:{os.environ['PATH']}", goshelf="goshelf"
         )
@@ -212,12 +220,13 @@ def ran(script):
 def run_blocks(suite, page, found):
     """Adds a row for each block of a page that runs."""
     script = "".join(f"{body}printf '%s\\n' '{MARK}'\n" for body, _ in found)
-    missing = [
-        it for it in ("curl", "git", "go", "python3") if re.search(rf"^{it} ", script, re.M) and not shutil.which(it)
-    ]
+    wanted = [it for it in ("curl", "git", "go", "python3") if re.search(rf"(?<![\w.-]){it} ", script)]
+    missing = [it for it in wanted if not shutil.which(it)]
     if missing:
         suite.skip(f"{page}: blocks", f"{missing[0]} is not installed")
         return
+    if "goshelf-publish" in script:
+        built()
     status, printed, errors = ran(script.replace("8080", str(free_port())))
     parts = printed.split(MARK + "\n")
     for at, (body, wanted) in enumerate(found):

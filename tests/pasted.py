@@ -20,6 +20,8 @@ from lib.suite import Suite
 # a command that notes its words, and one that also fails
 NOTES = '#!/bin/sh\necho "${0##*/} $*" >> @/root/asked\n'
 FAILS = f"{NOTES}exit 1\n"
+# stops goshelf and its port
+STOP = "systemctl stop goshelf.socket goshelf"
 # what the reader has put into files that a block makes
 OWN = "# the reader's own\n"
 
@@ -45,27 +47,36 @@ def commands(machine, **texts):
 
 
 def of_nginx(suite, machine):
-    """The blocks that set nginx up keep what is there: users, keys, paths, names."""
+    """The blocks that set nginx up keep what is there: names, owners, hosts."""
     machine.write("root/goshelf-first.pem", "")
-    conf, maps = "etc/nginx/conf.d/goshelf.conf", [f"etc/nginx/goshelf/{it}.map" for it in ("users", "keys", "paths")]
+    conf, front = "etc/nginx/conf.d/goshelf.conf", [
+        f"etc/nginx/goshelf/{it}" for it in ("names", "owners.json", "goshelf.json")
+    ]
     blocks = {
-        "NGINX": block("sh", "for it in users.map", "NGINX.md"),
-        "a site": block("sh", "deploy/one/site.conf", "DEPLOYMENTS.md"),
-        "a warm host": block("sh", "warm/server.conf", "DEPLOYMENTS.md"),
+        "NGINX": (block("sh", "goshelf-front set-up", "NGINX.md"), [conf, *front]),
+        "a site": (block("sh", "deploy/one/site.conf", "DEPLOYMENTS.md"), [conf]),
+        "a warm host": (block("sh", "set-up --warm", "DEPLOYMENTS.md"), [conf, front[0], front[2]]),
     }
-    for name, script in blocks.items():
+    commands(machine, **{"apt": NOTES, "nginx": '#!/bin/sh\n[ "$1" != -s ]\n', "systemctl": NOTES})
+    for name, (script, wanted) in blocks.items():
+        script = "\n".join(it for it in script.splitlines() if "goshelf-front add" not in it) + "\n"
         pasted(machine, script)
-        made = [it for it in (conf, *maps) if os.path.exists(f"{machine.folder}/{it}")]
-        suite.equal(f"{name}: its files", made, [conf] if name == "a site" else [conf, *maps])
-        for it in made:
-            machine.write(it, OWN)
-        told = pasted(machine, script), [machine.read(it) for it in made]
-        suite.equal(f"{name}: a second time", told, (([], 0, ""), [OWN] * len(made)))
+        made = [it for it in (conf, *front) if os.path.exists(f"{machine.folder}/{it}")]
+        suite.equal(f"{name}: its files", made, wanted)
+        them = [it for it in made if not it.endswith("goshelf.json")]
+        own = {it: OWN if it in (conf, front[0]) else machine.read(it) + " \n" for it in them}
+        for it, text in own.items():
+            machine.write(it, text)
+        asked, status, errors = pasted(machine, script)
+        told = status, errors, {it: machine.read(it) for it in own}
+        suite.equal(f"{name}: a second time", told, (0, "", own))
         for it in made:
             os.remove(f"{machine.folder}/{it}")
-    commands(machine, nginx=FAILS, systemctl=NOTES)
-    told = pasted(machine, block("sh", "systemctl restart nginx"))[0]
-    suite.equal("an nginx that refuses its files is not restarted", told, ["nginx -t"])
+    commands(machine, nginx=FAILS)
+    asked, status, errors = pasted(machine, blocks["NGINX"][0])
+    suite.equal("an nginx that refuses its files is not restarted", [it for it in asked if "systemctl" in it], [])
+    for it in (conf, *front):
+        os.remove(f"{machine.folder}/{it}")
 
 
 def of_users(suite, machine):
@@ -102,7 +113,7 @@ def of_warm(suite, machine):
     told = asked, "Not found in archive" in errors
     suite.equal("a first host that does not answer: each command runs", told, (["systemctl enable goshelf"] * 2, True))
     lines = machine.read("etc/cron.d/goshelf-warm").splitlines()
-    suite.equal("and cron has each line once", [it.split()[-1] for it in lines], ["store", "maps"])
+    suite.equal("and cron has each line once", [it.split()[-1] for it in lines], ["store", "front"])
     for it in ("ssh", "flock"):
         os.remove(f"{machine.folder}/usr/local/bin/{it}")
     script = block("sh", "cat warm.pub", "DEPLOYMENTS.md")
@@ -115,16 +126,17 @@ def of_warm(suite, machine):
     suite.equal("without the warm host's key no line lets it in", told, (False, line))
 
 
-def of_maps(suite, machine):
-    """New maps are fetched without a word, so that cron mails nothing, also where nginx has one to say."""
-    files = "for it in users keys paths; do echo new > $it.map; done; sha256sum *.map > SHA256SUMS; tar -cf - *"
-    ssh = f"#!/bin/sh\nmkdir -p @/root/maps && cd @/root/maps\n{files}\n"
+def of_front(suite, machine):
+    """A new front is fetched without a word, so that cron mails nothing, also where nginx has one to say."""
+    them = ("goshelf.json", "names", "owners.json", "taken-out")
+    files = f"for it in {' '.join(them)}; do echo new > $it; done; sha256sum {' '.join(them)} > SHA256SUMS; tar -cf - *"
+    ssh = f"#!/bin/sh\nmkdir -p @/root/front && cd @/root/front\n{files}\n"
     commands(machine, ssh=ssh, flock="#!/bin/sh\n", nginx='#!/bin/sh\n[ "$1" = -q ] || echo a notice >&2\n')
     os.makedirs(f"{machine.folder}/etc/nginx/goshelf", exist_ok=True)
-    for it in ("users", "keys", "paths"):
-        machine.write(f"etc/nginx/goshelf/{it}.map", "old\n")
-    told = machine.sh("goshelf-warm maps"), machine.read("etc/nginx/goshelf/users.map")
-    suite.equal("new maps, and an nginx that says something", told, ((0, "", ""), "new\n"))
+    for it in them:
+        machine.write(f"etc/nginx/goshelf/{it}", "old\n")
+    told = machine.sh("goshelf-warm front"), machine.read("etc/nginx/goshelf/goshelf.json")
+    suite.equal("a new front, and an nginx that says something", told, ((0, "", ""), "new\n"))
     for it in ("ssh", "flock", "nginx"):
         os.remove(f"{machine.folder}/usr/local/bin/{it}")
 
@@ -136,7 +148,7 @@ def of_stores(suite, machine):
     machine.write("var/lib/goshelf/shelves.db", OWN)
     asked = pasted(machine, script)[0]
     asked = [it for it in asked if it.startswith("systemctl")]
-    suite.equal("goshelf is not started over a store that was not made", asked, ["systemctl stop goshelf"])
+    suite.equal("goshelf is not started over a store that was not made", asked, [STOP])
     machine.write("var/lib/goshelf/shelves.db", "new")
     asked = pasted(machine, script)[0]
     suite.equal("a second time it is not stopped", [it for it in asked if it.startswith("systemctl")], [])
@@ -144,7 +156,7 @@ def of_stores(suite, machine):
     suite.equal("and both stores are there", found, (OWN, "new"))
     for it in ("older/shelves.db", "shelves.db"):
         os.remove(f"{home}/{it}")
-    script = block("sh", "goshelf-second.service", "DEPLOYMENTS.md").replace("/etc/systemd/system/", "")
+    script = block("sh", "goshelf-second/shelves.db", "DEPLOYMENTS.md").replace("/etc/systemd/system/", "")
     for text in ("second\n", "made again\n"):
         for it in ("second.db", "second.db-wal"):
             machine.write(f"root/{it}", text)
@@ -167,14 +179,15 @@ def of_files(suite, machine):
 def of_loops(suite, machine):
     """README and TUTORIAL do not wait for ever for a serve that has ended, as one whose port is taken."""
     commands(machine, goshelf=FAILS)
+    os.symlink(f"{machine.folder}/usr/local/bin/goshelf", f"{machine.folder}/root/goshelf")
     for name in ("README.md", "docs/TUTORIAL.md"):
         with open(os.path.join(ROOT, name), encoding="utf-8") as file:
             script = next(it for it in re.findall(r"```sh run\n(.*?)```", file.read(), re.S) if "goshelf serve" in it)
         try:
-            asked = pasted(machine, script)[0]
+            asked = pasted(machine, script, TMPDIR=f"{machine.folder}/root")[0]
         except subprocess.TimeoutExpired:
             asked = []
-        suite.holds(f"{name}: a serve that ends", any(it.startswith("goshelf serve") for it in asked), asked)
+        suite.holds(f"{name}: a serve that ends", any("serve" in it.split() for it in asked), asked)
 
 
 def of_pages(suite, machine):
@@ -194,7 +207,7 @@ def main():
         machine = Machine(folder)
         machine.check_out()
         os.symlink(os.path.join(ROOT, "tools"), f"{folder}/root/tools")
-        for part in (of_nginx, of_users, of_cron, of_warm, of_maps, of_stores, of_files, of_loops, of_pages):
+        for part in (of_nginx, of_users, of_cron, of_warm, of_front, of_stores, of_files, of_loops, of_pages):
             part(suite, machine)
     return suite.end()
 

@@ -15,6 +15,7 @@ from concurrent.futures import ThreadPoolExecutor
 
 from lib.developers import PATIENCE, Developers
 from lib.outside import NAME, STORE, TEXT, XMOD, ZIP
+from lib.ports import wait_for
 from lib.scratch import mounted, play
 from lib.suite import Suite
 
@@ -22,7 +23,6 @@ CORE = "/example.com/alpha/core"
 AWAY = b"the public proxy does not answer: try again in a minute\n"
 # files whose zip is larger than what nginx takes at once
 FILES = {"a.go": "package a\n", "r": "".join(hashlib.sha256(bytes([it])).hexdigest() for it in range(256))}
-BLOCK = f"upstream {NAME} {{"
 
 
 def says(status, body=b"no\n", kind=TEXT, *headers):
@@ -142,7 +142,7 @@ def at_once(suite, company):
     made = len(outside.servers[outside.port].taken) - before
     suite.holds("100 misses go over few connections", company.asked_outside() - begun == 100 and made <= 16, made)
     outside.how["/pub.example/hang"] = is_slow
-    company.machine.edit("etc/nginx/goshelf/public.conf", ("goshelf_out 200", "goshelf_out 10"))
+    company.machine.edit("etc/nginx/goshelf/locations.conf", ("goshelf_out 200", "goshelf_out 10"))
     company.reload()
     with ThreadPoolExecutor(30) as pool:
         hanging = [pool.submit(company.ask, f"/pub.example/hang{it}/@v/list", "bob") for it in range(30)]
@@ -152,7 +152,7 @@ def at_once(suite, company):
         suite.holds("at once", time.time() - begun < 1, time.time() - begun)
         statuses = [it.result()[0] for it in hanging]
     suite.equal("the others are refused", (statuses.count(502), statuses.count(429)), (10, 20))
-    company.machine.edit("etc/nginx/goshelf/public.conf", ("goshelf_out 10", "goshelf_out 200"))
+    company.machine.edit("etc/nginx/goshelf/locations.conf", ("goshelf_out 10", "goshelf_out 200"))
     company.reload()
 
 
@@ -191,24 +191,31 @@ def away(suite, company):
     suite.equal("for what was never asked too", company.ask("/pub.example/never/@v/list")[0], 404)
 
 
-def without_block(suite, company):
-    """Without the upstream block, the name server is asked each time, and nginx starts while that is away."""
-    outside, text = company.outside, company.machine.read("etc/nginx/conf.d/goshelf.conf")
-    begin = text.index(BLOCK)
-    block = text[begin : text.index("}\n", begin) + 2]
-    company.conf((block, ""), (f"default {NAME};", f"default {NAME}:{outside.port};"))
-    suite.equal("nginx takes it", company.reload(), "")
+def without_name_server(suite, company):
+    """nginx starts and reloads, and users come and go, while no name server answers."""
+    outside, machine = company.outside, company.machine
+    suite.equal("nginx reads its files", company.reload(), "")
     suite.equal("a module", company.ask("/pub.example/lib/@v/v1.1.0.mod")[0], 200)
     outside.name_server.is_on = False
     time.sleep(1.2)
     suite.equal("nginx reads its files while the name server is away", company.reload(), "")
+    machine.does(
+        "nginx -s stop; while [ -e /run/nginx.pid ]; do sleep 0.1; done".replace("/run/", f"{machine.folder}/")
+    )
+    machine.does("nginx -t && nginx")
+    wait_for(machine.front)
+    suite.equal("nginx starts while the name server is away", company.ask("/login")[0], 204)
+    company.client.add("dan", "alpha", "read")
+    suite.equal("a user is added meanwhile", {company.ask("/login", "dan")[0] for _ in range(10)}, {204})
+    machine.does("goshelf-front remove dan")
+    suite.equal("and removed", {company.ask("/login", "dan")[0] for _ in range(10)}, {401})
     asked = "/pub.example/other/@v/list", "/pub.example/lib/@v/v1.1.0.mod", f"{CORE}/@v/list"
     told = [company.ask(it)[0] for it in asked]
     suite.equal("then a miss is a 502, and what is kept and ours is there", told, [502, 200, 200])
     outside.name_server.is_on = True
     suite.equal("it is asked for no other names", set(outside.name_server.asked) - {NAME, STORE}, set())
-    company.machine.write("etc/nginx/conf.d/goshelf.conf", text)
-    company.reload()
+    time.sleep(1.2)
+    suite.equal("once it is back, so is a miss", company.ask("/pub.example/other/@v/list")[0], 404)
 
 
 def full_disk(suite, company):
@@ -243,7 +250,7 @@ def no_leaks(suite, company):
 
 
 def main():
-    parts = (filled, misbehaves, headers, at_once, certificates, away, without_block, full_disk, no_leaks)
+    parts = (filled, misbehaves, headers, at_once, certificates, away, without_name_server, full_disk, no_leaks)
     why = "it needs root and golang-golang-x-mod-dev"
     return play(Suite(), "a public proxy", why, Developers, parts, os.path.isdir(XMOD))
 

@@ -1,5 +1,5 @@
 #!/usr/bin/env python3
-"""The scripts of users and operators, tests/all, .ci/run and benches print their usage and refuse unknown words.
+"""The scripts of users and operators, tests/all, .ci/ and benches print their usage and refuse unknown words.
 
 Those in sh pass shellcheck, as the package's own do, and all files in Python pyflakes and black, which lays them out
 by pyproject.toml. No line in Rattle has more than 120 characters, and none of a proof 200. The registry lists each
@@ -13,15 +13,19 @@ import re
 import shutil
 import subprocess
 import sys
+import tempfile
 
+from lib.machine import Machine
 from lib.program import ROOT
 from lib.registry import SUITES
 from lib.suite import Suite
 
 SUITE = Suite()
 COMMANDS = sorted(glob.glob("deploy/**/goshelf-*", root_dir=ROOT, recursive=True))
-TOOLS = ["tools/adopt", "tools/catalog", "tools/publish", "tools/release", "tools/shards"]
-SCRIPTS = [*TOOLS, ".ci/run", "tests/all", *COMMANDS]
+TOOLS = ["tools/catalog", "tools/publish/build", "tools/release", "tools/shards"]
+SCRIPTS = [*TOOLS, ".ci/gate", ".ci/run", "tests/all", *COMMANDS]
+# runs a program of tools/publish, which answers
+LAUNCHER = "tools/goshelf-publish"
 # what several of the commands source
 COMMON = "deploy/common.sh"
 # folders with files in Python
@@ -103,7 +107,7 @@ def rattle():
 def shell():
     """The files in sh pass shellcheck, and what several commands of deploy/ do alike stands in one of them."""
     installed = [f"deploy/debian/{it}" for it in ("postinst", "prerm", "postrm")]
-    for script in ("goshelf", COMMON, *SCRIPTS, *installed):
+    for script in ("goshelf", COMMON, LAUNCHER, *SCRIPTS, *installed):
         if script == COMMON or read(script).startswith(SHELLS):
             SUITE.equal(f"shellcheck {script}", ran("shellcheck", "-x", "--source-path=.", script), (0, "", ""))
     homes = {}
@@ -115,6 +119,8 @@ def shell():
         ("the name of a backup", "[0-9]Z'"),
         ("an order to copy", 'goshelf copy --control "$control"'),
         ("a command as the owner of a folder", "setpriv "),
+        ("a stop of goshelf", 'systemctl stop "$unit'),
+        ("a lock of the backups", 'exec 9< "$backups"'),
     ):
         SUITE.equal(f"{subject} has one home", [it for it in (COMMON, *COMMANDS) if text in read(it)], [COMMON])
 
@@ -150,6 +156,16 @@ def benches():
         SUITE.holds(f"{it} --nosuch", (status, output) == (2, "") and "usage: " in errors, told)
 
 
+def installed():
+    """The commands of deploy/ refuse an unknown word as they are installed, beside what they share."""
+    with tempfile.TemporaryDirectory(prefix="goshelf-scripts-") as folder:
+        machine = Machine(folder)
+        machine.check_out()
+        for name in map(os.path.basename, COMMANDS):
+            status, output, errors = told = machine.sh(f"{name} --nosuch")
+            SUITE.holds(f"{name} --nosuch", (status, output) == (2, "") and f"usage: {name}" in errors, told)
+
+
 def main():
     for script in SCRIPTS:
         # (an installed command is on the path)
@@ -157,9 +173,11 @@ def main():
         for option in ("--help", "-h"):
             status, output, errors = told = ran(os.path.join(ROOT, script), option)
             SUITE.holds(f"{script} {option}", (status, errors) == (0, "") and usage in output, told)
-        status, output, errors = told = ran(os.path.join(ROOT, script), "--nosuch")
-        SUITE.holds(f"{script} --nosuch", (status, output) == (2, "") and usage in errors, told)
-    SUITE.holds("the commands of deploy/ are found", len(COMMANDS) > 10, COMMANDS)
+        if script not in COMMANDS:
+            status, output, errors = told = ran(os.path.join(ROOT, script), "--nosuch")
+            SUITE.holds(f"{script} --nosuch", (status, output) == (2, "") and usage in errors, told)
+    SUITE.holds("the commands of deploy/ are found", len(COMMANDS) > 8, COMMANDS)
+    installed()
     benches()
     shell()
     settings()

@@ -14,7 +14,7 @@ from concurrent.futures import ThreadPoolExecutor
 from lib.pages import block
 from lib.program import ROOT, done, run
 from lib.scratch import play, read
-from lib.shards import PSEUDO, SEED, SHELVES, TEAMS, Company, Goshelf, add, key, user_line
+from lib.shards import PSEUDO, SEED, SHELVES, TEAMS, Company, Goshelf, add, front, key
 from lib.suite import Suite
 
 RELEASES = ("v1.0.0", "v1.1.0-RC.1")
@@ -219,19 +219,15 @@ def compared(suite, company, shard, name, teams):
 
 
 def new_team(suite, company):
-    """A team is added at the second shard, to the file of the shards and to nginx's maps."""
+    """A team is added at the second shard, to the file of the shards, to their keys and to nginx's front."""
     second, machine = company.shards["second"], company.machine
     second.stop()
     add(second.store, "zeta")
-    maps = {it: machine.read(f"etc/nginx/goshelf/{it}.map") for it in ("keys", "users", "paths")}
-    maps["paths"] += '"example.com/zeta" "zeta";\n'
     for right, words in (("read", ["--read-only"]), ("publish", [])):
         done("key-add", "--db", second.store, "--shelf", "zeta", "--key", key("zeta", right), *words)
-        maps["keys"] += f'"zeta {right}" {key("zeta", right)};\n'
-        maps["users"] += user_line("zeta", right)
     second.start()
-    for name, text in maps.items():
-        machine.write(f"etc/nginx/goshelf/{name}.map", text)
+    company.write_keys((*SHELVES, "zeta"))
+    machine.write("etc/nginx/goshelf/goshelf.json", front((*SHELVES, "zeta"), 2))
     with open(company.file, "a", encoding="utf-8") as file:
         file.write("team zeta\n")
     conf_in_place(suite, company)
@@ -258,7 +254,7 @@ def conf_in_place(suite, company):
     command = command.replace("/usr/share/goshelf/tools", f"{ROOT}/tools")
     machine.edit(
         name,
-        ('"$goshelf_shelf 1"', '"$goshelf_shelf 7"'),
+        ("max_size=10g", "max_size=7g"),
         ("server_name shelf.example.com;", "server_name own.example.com;"),
     )
     before, text, own = machine.read(name), read(company.file).decode(), "wrong"
@@ -361,13 +357,18 @@ def wrong_files(suite, company):
             (status, lines) == (2, []) and said in errors and errors.count("\n") == 1,
             (status, errors),
         )
-    for drop in ('"common publish"', '"delta read"'):
+    for drop in ("common publish", "delta read"):
         with open(company.keys, encoding="utf-8") as file:
             lines = [it for it in file if not it.startswith(drop)]
         with open(name, "w", encoding="utf-8") as file:
             file.writelines(lines)
+        os.chmod(name, 0o600)
         status, _, errors = company.tool("send", keys=name)
-        suite.holds(f"keys without {drop}", status == 2 and f"it has no line for {drop}" in errors, errors)
+        suite.holds(f"keys without {drop}", status == 2 and f'it has no line for "{drop}"' in errors, errors)
+    os.chmod(company.keys, 0o640)
+    status, _, errors = company.tool("send")
+    suite.holds("keys that others may read", status == 2 and "others than its owner may read it" in errors, errors)
+    os.chmod(company.keys, 0o600)
     for words in (
         [],
         ["send"],

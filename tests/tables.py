@@ -21,7 +21,7 @@ from lib.program import answered, run
 from lib.scratch import read
 from lib.stores import add_platform, remove_store
 from lib.suite import Suite
-from lib.tables import PIECE, PSEUDO, connected, order_key, rank_key
+from lib.tables import PIECE, PSEUDO, connected, order_key, rank_key, settled
 
 PATH = "example.com/m"
 GOMOD = f"module {PATH}\n".encode()
@@ -114,8 +114,7 @@ def read_by_sqlite(suite):
         suite.holds("joined they are the zip", b"".join(piece for _, piece in pieces) == zip_of(version))
     by_order = [version for (version,) in conn.execute("SELECT version FROM version ORDER BY order_key")]
     by_rank = [version for (version,) in conn.execute("SELECT version FROM version ORDER BY rank_key")]
-    conn.execute("PRAGMA wal_checkpoint(TRUNCATE)")
-    conn.close()
+    settled(conn)
     releases = [f"v1.0.{n}" for n in range(7)]
     suite.equal(
         "order_key goes by precedence",
@@ -168,8 +167,7 @@ def shelves_read(suite):
         suite.equal(f"the columns of {name}", found, wanted)
         found = [(row[3], row[2], row[4]) for row in conn.execute(f"PRAGMA foreign_key_list({name})")]
         suite.equal(f"the foreign keys of {name}", found, FOREIGN.get(name, []))
-    conn.execute("PRAGMA wal_checkpoint(TRUNCATE)")
-    conn.close()
+    settled(conn)
 
 
 def changed(file, statements):
@@ -179,8 +177,7 @@ def changed(file, statements):
     conn = connected(file)
     for statement in statements.split(";"):
         conn.execute(statement)
-    conn.execute("PRAGMA wal_checkpoint(TRUNCATE)")
-    conn.close()
+    settled(conn)
 
 
 def second_row(file, parent, is_in_index):
@@ -209,7 +206,7 @@ def second_row(file, parent, is_in_index):
             "INSERT INTO sqlite_schema (rowid, type, name, tbl_name, rootpage, sql) VALUES (?, ?, ?, ?, ?, ?)",
             (number, kind, name, of, roots.get("root", root) if name == key else root, sql),
         )
-    conn.close()
+    settled(conn)
 
 
 # shelves that are those of no world
@@ -400,8 +397,7 @@ def refused(suite):
         except sqlite3.IntegrityError as error:
             suite.holds(cause, False, f"sqlite3 does not make it: {error}")
             continue
-        conn.execute("PRAGMA wal_checkpoint(TRUNCATE)")
-        conn.close()
+        settled(conn)
         is_refused(suite, cause, "bad.db")
 
 
@@ -432,8 +428,7 @@ def made_by_sqlite(suite):
         put_version(conn, number, "alpha", PATH, version, GOMOD, time)
         put_zip(conn, number, zip_of(version))
     conn.execute("COMMIT")
-    conn.execute("PRAGMA wal_checkpoint(TRUNCATE)")
-    conn.close()
+    settled(conn)
     zips = served("made.db")
     for version in VERSIONS:
         suite.holds(f"the zip of {version}, whose rows sqlite3 made, is served", zips[version] == zip_of(version))

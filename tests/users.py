@@ -1,209 +1,287 @@
 #!/usr/bin/env python3
-"""goshelf-user and goshelf-uncache beside an nginx, used and misused; no cache answers what a restored store lost.
+"""goshelf-front beside an nginx, used and misused; no cache answers what a restored store lost.
 
 The machine, its users and its nginx are those of lib/front.py.
 """
 
-import base64
+import json
 import os
-import re
 import sys
 import time
 
-from lib.front import AT, GOMOD, USERS, ZIP, set_up, settle
+from lib.front import AT, GOMOD, UNUSED, USERS, ZIP, fingerprint, set_up, users_of
 from lib.peers import rest_of
 from lib.ports import wait_until
 from lib.scratch import play
 from lib.suite import Suite
 
-# words of goshelf-user that are refused, the status, and what is said
+FOLDER = "etc/nginx/goshelf"
+# words of goshelf-front that are refused, the status, and what is said
 MISUSES = (
-    ("add ann alpha read", 1, "ann is a user already"),
-    ("add ann beta publish", 1, "ann is a user already"),
-    ("add Bob alpha read", 1, "'Bob'"),
-    ("add '' alpha read", 1, "''"),
-    ("add -x alpha read", 1, "'-x'"),
-    ("add 'a b' alpha read", 1, "'a b'"),
-    ("add 'eve\";' alpha read", 1, "'eve"),
-    ("add eve none read", 1, "there is no shelf none"),
-    ("add eve '' read", 1, "no shelf has the name ''"),
+    ("add ann alpha read", 1, "ann has a key of alpha"),
+    ("add ann alpha publish", 1, "ann has a key of alpha"),
+    ("add '' alpha read", 2, "a word is empty"),
+    ("add -x alpha read", 2, "-x"),
+    ("add ' bob' alpha read", 1, "' bob'"),
+    ("add \"$(printf 'a\\tb')\" alpha read", 1, "a tab"),
+    ("add \"$(printf 'a\\nb')\" alpha read", 1, "'a\\nb'"),
+    ("add \"$(printf 'a\\302\\205b')\" alpha read", 1, "a name has"),
+    ("add \"$(printf 'a\\342\\200\\256b')\" alpha read", 1, "a name has"),
+    (f"add {'n' * 129} alpha read", 1, "a name has 1 to 128"),
+    ("add eve none read", 1, "there is no shelf 'none'"),
+    ("add eve Alpha read", 1, "no shelf has the name 'Alpha'"),
+    ("add eve '' read", 2, "a word is empty"),
     ("add eve alpha write", 1, "not 'write'"),
-    ("add eve alpha ''", 1, "not ''"),
-    ("remove eve", 1, "there is no user 'eve'"),
-    ("remove ''", 1, "there is no user ''"),
-    ("key none read", 1, "there is no shelf"),
-    ("rekey none read", 1, 'keys.map has no line "none read"'),
-    ("rekey alpha ''", 1, "not ''"),
-    ("rekey alpha", 2, "usage"),
+    ("add eve alpha ''", 2, "a word is empty"),
+    ("add eve alpha read --until 2027-02-30", 1, "no day YYYY-MM-DD: 2027-02-30"),
+    ("add eve alpha read --until soon", 1, "no day YYYY-MM-DD: soon"),
+    ("add eve alpha read --till 2027-01-31", 2, "--till"),
+    ("rotate eve", 1, "eve has no key"),
+    ("rotate ann --shelf beta", 1, "ann has no key"),
+    ("rotate ann --days -1", 2, "--days -1"),
+    ("rotate ann --days 99999999999", 2, "--days 99999999999"),
+    ("rotate ann --days soon", 2, "soon"),
+    ("remove eve", 1, "there is no 'eve'"),
+    ("remove ''", 2, "a word is empty"),
+    ("remove ann --yes", 2, "--yes"),
     ("", 2, "usage"),
     ("add eve", 2, "usage"),
-    ("add eve alpha read more", 2, "usage"),
+    ("add eve alpha read more", 2, "more"),
     ("remove", 2, "usage"),
-    ("list ann", 2, "usage"),
-    ("sync --force < list", 2, "usage"),
-    ("drop ann", 2, "usage"),
-    ("--yes", 2, "usage"),
+    ("list ann", 2, "ann"),
+    ("check names", 2, "names"),
+    ("uncache 2", 2, "2"),
+    ("uncache --force", 2, "--force"),
+    ("uncache ''", 2, "a word is empty"),
+    ("sync --force list", 2, "--force"),
+    ("sync --yes", 2, "sync has no FILE"),
+    ("take-out example.com/!lib v1.0.0", 1, "example.com/!lib is escaped"),
+    ("take-out lib v1.0.0", 1, "lib is not a module path"),
+    ("take-out example.com/lib latest", 1, "'latest' is not a version"),
+    ("take-out example.com/lib v1.0.0 Alpha", 1, "'Alpha' is no shelf"),
+    ("log --since soon", 1, "no day YYYY-MM-DD: soon"),
+    ("take-over /root/new", 1, "users.map cannot be read"),
+    ("set-up local_host", 1, "'local_host' is not the name of a host"),
+    ("set-up localhost example=alpha", 1, "example is not a module path"),
+    ("set-up localhost example.com=Alpha", 1, "'Alpha' is no shelf"),
+    ("drop ann", 2, "drop"),
+    ("--yes", 2, "--yes"),
 )
-OWN = "".join(f"{' '.join(it)}\n" for it in USERS)
+OWN = "".join(f"{','.join(it)}\n" for it in USERS)
 # lists that are refused, and what is said
 LISTS = (
-    ("", "the list is empty"),
-    ("# nobody\n\n", "the list is empty"),
-    ("ann alpha read\n", "the list lacks 4 of 5 users"),
-    (f"{OWN}Bob,alpha,read\n", "line 6:"),
-    (f"{OWN}ann,beta,read\n", "line 6: ann has a line already"),
-    (f"{OWN}eve\n", "line 6: no shelf"),
-    (f"{OWN}eve alpha read short\n", "line 6: a password has"),
-    (f"{OWN}eve alpha read two words\n", "line 6: a password has"),
-    (f"{OWN}eve none read\n", "there is no shelf none"),
-    (f"{OWN}eve,alpha\n", "line 6: a right"),
+    ("", "list names nobody"),
+    ("# nobody\n\n", "list names nobody"),
+    ("ann,alpha,read\n", "the list lacks 4 of 5 people"),
+    (f"{OWN}\tbob,alpha,read,soon\n", "list:6: no day YYYY-MM-DD: soon"),
+    (f"{OWN}ann,alpha,publish\n", "list:6: ann has a line for alpha already"),
+    (f"{OWN}eve\n", "list:6: not of the form"),
+    (f"{OWN}eve,alpha,read,2027-01-31,password\n", "list:6: not of the form"),
+    (f'{OWN}"a\tb",alpha,read\n', "list:6: a name has"),
+    (f"{OWN}eve,alpha,write\n", "list:6: a right is read or publish, not 'write'"),
+    (f"{OWN}eve,Alpha,read\n", "list:6: no shelf has the name 'Alpha'"),
+    (f"{OWN}eve,alpha\n", "list:6: not of the form"),
+    (f"{OWN}eve,alpha,read\n", "1 people need a key: --keys"),
 )
-# a line of users.map that nginx refuses
-BAD = 'server_name localhost;", "a line that nginx refuses'
 
 
-def maps_of(machine):
-    """The texts of the maps, and the files of their folder."""
-    texts = [machine.read(f"etc/nginx/goshelf/{it}.map") for it in ("users", "keys")]
-    return texts, sorted(os.listdir(f"{machine.folder}/etc/nginx/goshelf"))
+def files_of(machine):
+    """The files of the front that say who may log in, and the names of all."""
+    return [machine.read(f"{FOLDER}/{it}") for it in ("names", "goshelf.json")], sorted(
+        os.listdir(f"{machine.folder}/{FOLDER}")
+    )
 
 
-def key_count(machine):
-    """How many keys the store has."""
-    machine.does("systemctl stop goshelf")
-    count = machine.does(f"sqlite3 {machine.store} 'SELECT count(*) FROM access'").strip()
-    machine.does("systemctl start goshelf")
-    return int(count)
+def keys_told(machine):
+    """A line for each key that goshelf has."""
+    return machine.does("goshelf key-list --control /run/goshelf/control")
 
 
 def misused(suite, client):
-    """goshelf-user with wrong words changes nothing."""
-    machine, before = client.machine, maps_of(client.machine)
+    """goshelf-front with wrong words changes nothing."""
+    machine, before, keys = client.machine, files_of(client.machine), keys_told(client.machine)
     machine.write("root/list", "ann alpha read\n")
     for words, status, said in MISUSES:
-        told = machine.sh(f"goshelf-user {words}")
-        suite.holds(f"goshelf-user {words}: refused", told[0] == status and said in told[2] and not told[1], told)
-        suite.equal(f"goshelf-user {words}: the maps are as they were", maps_of(machine), before)
-    listed = machine.does("goshelf-user list").splitlines()
-    suite.equal("the users", listed, sorted(" ".join(it) for it in USERS))
-    suite.equal("no fault", machine.sh("goshelf-user check"), (0, "", ""))
+        told = machine.sh(f"goshelf-front {words}")
+        suite.holds(f"goshelf-front {words}: refused", told[0] == status and said in told[2] and not told[1], told)
+        suite.equal(f"goshelf-front {words}: the files are as they were", files_of(machine), before)
+    suite.equal("and goshelf's keys", keys_told(machine), keys)
+    listed = machine.does("goshelf-front list").splitlines()
+    wanted = ["\t".join((*it, fingerprint(client.passwords[it[0]]), "")) for it in USERS]
+    suite.equal("the users", listed, sorted(wanted))
+    unnamed = [it for it in machine.sh("goshelf-front check")[1].splitlines() if "has no name" not in it]
+    suite.equal("no fault but keys that nobody has", unnamed, [])
 
 
 def unlucky(suite, client):
-    """nginx refuses the maps, a command was killed, goshelf takes no orders: the old maps stay, and no key is left."""
-    machine, before, keys = client.machine, maps_of(client.machine), key_count(client.machine)
-    users, at = "etc/nginx/goshelf/users.map", f"{client.machine.folder}/etc/nginx/goshelf"
-    machine.write(users, f"{before[0][0]}{BAD}\n")
-    spoilt = maps_of(machine)
-    told = machine.sh("goshelf-user add eve beta read")
-    is_right = told[0] == 1 and "nginx refuses the new maps" in told[2] and maps_of(machine) == spoilt
-    suite.holds("maps that nginx refuses: the old ones are back", is_right, told)
-    machine.write(users, before[0][0])
-    suite.equal("no key was left in the store", key_count(machine), keys)
-    os.mkdir(f"{at}/before")
-    os.rename(f"{at}/users.map", f"{at}/before/users.map")
-    machine.write(users, BAD)
-    told = machine.sh("goshelf-user list")
-    is_right = "are back" in told[2] and maps_of(machine) == before
-    suite.holds("one that was killed: the maps of before are back", is_right, told)
+    """nginx refuses its files, a file is a link, goshelf takes no orders: nobody is added, and no key is left."""
+    machine, before, keys = client.machine, files_of(client.machine), keys_told(client.machine)
+    machine.write("etc/nginx/conf.d/wrong.conf", "nonsense;\n")
+    told = machine.sh("goshelf-front add eve beta read")
+    is_right = told[0] == 1 and not told[1] and "nginx refuses its files" in told[2]
+    suite.holds("files that nginx refuses: nobody is added", is_right and files_of(machine)[0] == before[0], told)
+    suite.equal("no key was left in the store", keys_told(machine), keys)
+    machine.does("rm /etc/nginx/conf.d/wrong.conf; goshelf-front sync")
+    names = f"{machine.folder}/{FOLDER}/names"
+    os.rename(names, f"{machine.folder}/root/names")
+    os.symlink("/root/names".replace("/root", f"{machine.folder}/root"), names)
+    told = machine.sh("goshelf-front add eve beta read")
+    is_right = told[0] == 1 and "names is a link" in told[2] and os.path.islink(names)
+    suite.holds("a link stays", is_right, told)
+    suite.equal("and no key was left in the store", keys_told(machine), keys)
+    os.replace(f"{machine.folder}/root/names", names)
+    machine.write(f"{FOLDER}/names.new", "half")
+    machine.does("goshelf-front sync")
+    suite.equal("what a killed run left is in nobody's way", files_of(machine)[0][0], before[0][0])
     machine.does("systemctl stop goshelf")
-    told = machine.sh("goshelf-user add eve beta read")
-    wanted = 1, "", "goshelf-user: goshelf takes no orders: is it started?\n"
-    suite.equal("without goshelf no key is made", (told, maps_of(machine)), (wanted, before))
+    told = machine.sh("goshelf-front add eve beta read")
+    wanted = "goshelf-front: goshelf does not say its keys: device: is it started?\n"
+    suite.equal("without goshelf no key is made", (told, files_of(machine)[0][0]), ((1, "", wanted), before[0][0]))
     machine.does("systemctl start goshelf")
 
 
 def faults(suite, client):
-    """Lines that were written by hand, and what goshelf-user says of them."""
-    machine, before = client.machine, maps_of(client.machine)
-    login = {it: base64.b64encode(it.encode()).decode() for it in ("ann:other", "Bob:secret", "eve:secret", "eva:")}
-    other, bob, eve, eva = login.values()
-    lines = [
-        (f'"Basic {other}" "{other} ann alpha read";', "ann has another password in line 8"),
-        (f'"Basic {bob}" "{bob} Bob alpha read";', "nobody can log in as Bob"),
-        (f'"Basic {eve}" "{eva} eve alpha read";', "the login of eve is not"),
-        (f'"Basic {eva}" "{eva} eva alpha read";', "the login of eva is not"),
-        ('"Basic QQ==" "QQ== zed alpha write";', 'no line "alpha write"'),
-        ("half a line", "not a line of a user"),
-    ]
-    machine.write("etc/nginx/goshelf/users.map", before[0][0] + "".join(f"{it}\n" for it, _ in lines))
-    os.chmod(f"{machine.folder}/etc/nginx/goshelf/keys.map", 0o644)
-    status, told, _ = machine.sh("goshelf-user check")
-    for line, said in lines:
-        suite.holds(f"check of {line}", status == 1 and said in told, told)
-    suite.holds("check of the rights of a file", "others than root may read it" in told, told)
-    os.chmod(f"{machine.folder}/etc/nginx/goshelf/keys.map", 0o600)
-    machine.write("etc/nginx/goshelf/users.map", before[0][0])
-    paths = machine.read("etc/nginx/goshelf/paths.map")
-    machine.edit("etc/nginx/goshelf/paths.map", (" beta ", " "))
-    status, told, _ = machine.sh("goshelf-user check")
-    found = status, told.count("\n"), "bob can publish nothing" in told
-    suite.holds("check of who publishes for a shelf without a path", found == (1, 1, True), told)
-    machine.write("etc/nginx/goshelf/paths.map", paths)
-    machine.write("etc/nginx/goshelf/users.map", before[0][0] + lines[1][0] + "\n")
-    told = machine.sh("goshelf-user remove Bob"), maps_of(machine)
-    suite.equal("a user of such a line is removed", told, ((0, "", ""), before))
+    """Lines that were written by hand, and all else that is wrong, and what `check` says of it."""
+    machine, before = client.machine, client.machine.read(f"{FOLDER}/names")
+    told = lambda: machine.sh("goshelf-front check")
+    for line, said in (
+        ("0123456789abcdef\teve\t", "eve: goshelf has no key 0123456789abcdef"),
+        (f"{fingerprint(UNUSED)}\teve\t", "names has 16 digits of"),
+        (f"{fingerprint(UNUSED)}\teve\t2020-01-01", f"eve: the day of {fingerprint(UNUSED)} is over"),
+        ("half a line", "names:6: not of the form"),
+        (f"{'0' * 64}\tann\t2027-02-30", "names:6: no day YYYY-MM-DD: 2027-02-30"),
+        (before.splitlines()[0], "has a line already"),
+    ):
+        machine.write(f"{FOLDER}/names", f"{before}{line}\n")
+        status, printed, errors = told()
+        suite.holds(f"check of {line!r}", status == 1 and said in printed + errors, (status, printed, errors))
+    machine.write(f"{FOLDER}/names", before)
+    edited(suite, machine, told)
+    broken(suite, machine, told)
 
 
-def sync(machine, text, options=""):
-    """What goshelf-user sync does with a list."""
+def edited(suite, machine, told):
+    """What is wrong in owners.json and in nginx's own file."""
+    owners, conf = f"{FOLDER}/owners.json", "etc/nginx/conf.d/goshelf.conf"
+    for name, file, pair, said in (
+        ("who publishes for a shelf without a path", owners, ('"beta", ', ""), "bob can publish nothing"),
+        ("a shelf that is not there", owners, ("beta", "gamma"), "example.com: there is no shelf gamma"),
+        ("what nginx has not read", owners, ("example.com", "example.org"), "nginx does not have what these files say"),
+        (
+            "a certificate of another",
+            conf,
+            ("server_name localhost;", "server_name other.example;"),
+            "is not for other",
+        ),
+        ("no certificate", conf, ("ssl/goshelf.pem;", "ssl/nosuch.pem;"), "cannot be read as a certificate"),
+        (
+            "a cache without room",
+            conf,
+            ("min_free=2g", "min_free=90000g"),
+            "its disk has less room than min_free=90000g",
+        ),
+        ("a file that nginx refuses", conf, ("upstream goshelf {", "upstream {"), "invalid number of arguments"),
+        (
+            "a goshelf elsewhere",
+            conf,
+            (f"server 127.0.0.1:{machine.behind};", "server 127.0.0.1:9;"),
+            "127.0.0.1:9, which",
+        ),
+    ):
+        text = machine.read(file)
+        machine.edit(file, pair)
+        status, printed, errors = told()
+        suite.holds(f"check of {name}", status == 1 and said in printed, (status, printed, errors))
+        machine.write(file, text)
+
+
+def broken(suite, machine, told):
+    """What is wrong beside the files of the front."""
+    for name, breaks, mends, said in (
+        (
+            "a log for all to read",
+            "chmod 644 /var/log/nginx/goshelf.log",
+            "chmod 640 /var/log/nginx/goshelf.log",
+            "others",
+        ),
+        (
+            "a clock that was set back",
+            "sed -i 's/: 1[0-9]*,/: 9&/; s/: 9: /: 9/' FILE",
+            "goshelf-front uncache",
+            "clock",
+        ),
+    ):
+        machine.does(breaks.replace("FILE", f"/{FOLDER}/goshelf.json"))
+        status, printed, errors = told()
+        suite.holds(f"check of {name}", status == 1 and said in printed, (status, printed, errors))
+        machine.does(mends)
+
+
+def sync(machine, text, options="--keys new"):
+    """What goshelf-front sync does with a list."""
     machine.write("root/list", text)
-    return machine.sh(f"goshelf-user sync {options} < list")
+    machine.does("rm -f new")
+    return machine.sh(f"goshelf-front sync list {options}")
 
 
 def kept_in_step(suite, client):
-    """Users are kept in step with a list: added, with a password of the list or without, changed and removed."""
-    machine, before = client.machine, maps_of(client.machine)
-    suite.equal("the same users: nothing is printed", (sync(machine, OWN), maps_of(machine)), ((0, "", ""), before))
+    """People are kept in step with a list: added, changed and removed. Machines stay."""
+    machine = client.machine
+    machine.does("goshelf-front add 'build 1' beta read --machine > /dev/null")
+    before = files_of(machine)
+    suite.equal("the same people: nothing is printed", (sync(machine, OWN), files_of(machine)), ((0, "", ""), before))
     for text, said in LISTS:
-        told = sync(machine, text)
-        is_right = told[0] == 1 and said in told[2] and maps_of(machine) == before
+        told = sync(machine, text, "")
+        is_right = told[0] == 1 and said in told[2] and files_of(machine) == before
         suite.holds(f"a list with {text[len(OWN):] or text!r}: {said}", is_right, told)
-    of_files(suite, client, before)
-    csv = OWN.replace("ann-b alpha read\n", "").replace("bob beta publish", "bob beta read")
-    csv += "eve,beta,publish,good,pass:word\n\ntim, alpha, read\n"
-    wanted = "changed bob beta read\nadded eve beta publish\nadded tim alpha read\nremoved ann-b\n"
-    suite.equal("a dry run only prints", (sync(machine, csv, "--dry-run"), maps_of(machine)), ((0, wanted, ""), before))
-    status, told, errors = sync(machine, csv)
-    is_right = (status, errors) == (0, "") and told.startswith(f"{wanted}machine localhost login tim password ")
-    suite.holds("a list is taken", is_right, (status, told, errors))
-    gone = client.passwords["ann-b"]
-    client.passwords.update(eve="good,pass:word", tim=told.split()[-1])
-    for user, status in (("eve", 404), ("tim", 404), ("ann", 404), ("ann-b", 401), ("bob", 404)):
-        settle(client, user, status)
-        suite.holds(f"{user} gets a {status}", True)
+    csv = OWN.replace("ann-b,alpha,read\n", "").replace("bob,beta,publish", "bob,beta,read,2099-01-31")
+    csv += '"Eve, the first",beta,publish\n\ntim, alpha, read\n'
+    wanted = "removed\tann-b\talpha\nchanged\tbob\tbeta\tread\nadded\tEve, the first\tbeta\tpublish\n"
+    wanted += "added\ttim\talpha\tread\n"
+    told = sync(machine, csv, "--dry-run"), files_of(machine)
+    suite.equal("a dry run only prints", told, ((0, wanted, ""), before))
+    machine.write("root/new", "")
+    told = machine.sh("goshelf-front sync list --keys new"), machine.read("root/new")
+    suite.holds("keys never go into a file that is there", told[0][0] == 1 and "File exists" in told[0][2], told)
+    suite.equal("a list is taken", sync(machine, csv), (0, wanted, ""))
+    mode, lines = os.stat(f"{machine.folder}/root/new").st_mode & 0o777, machine.read("root/new").split("\n")
+    suite.equal("only root reads the new lines", (mode, len(lines)), (0o600, 4))
+    old = dict(client.passwords)
+    client.passwords.update({name: line.split()[5] for name, line in zip(("bob", "eve", "tim"), lines)})
+    for user, status in (("eve", 204), ("tim", 204), ("ann", 204), ("bob", 204), ("ann-b", 401)):
+        told = {client.get("/login", user)[0] for _ in range(5)}
+        suite.equal(f"{user} gets a {status}, at once", told, {status})
+    client.passwords["old bob"] = old["bob"]
+    suite.holds("a right that is less ends the old key", client.get("/login", "old bob")[0] in (401, 429))
     suite.equal("a changed right", client.put("v1.0.0", GOMOD, "bob")[0], 403)
-    suite.equal("no fault after that", machine.sh("goshelf-user check"), (0, "", ""))
-    told = sync(machine, OWN.replace("ann-b alpha read", f"ann-b alpha read {gone}"))
-    wanted = "added ann-b alpha read\nchanged bob beta publish\nremoved eve\nremoved tim\n"
-    suite.equal("back again", told, (0, wanted, ""))
-    settle(client, "ann-b", 404)
+    ends = [it.get("until") for it in users_of(machine).values() if it["name"] == "bob"]
+    suite.equal("a last day of the list", ends, ["2099-01-31"])
+    suite.holds("a machine stays", "build 1" in machine.does("goshelf-front list"))
+    back(suite, client)
 
 
-def of_files(suite, client, before):
-    """A list of several files: one that is missing or empty removes nobody."""
-    machine, first, rest = client.machine, *OWN.split("\n", 1)
-    for name, text in (
-        ("one", f"# machines\n{first}\n"),
-        ("two", rest),
-        ("none", "# nobody\n"),
-        ("bad", "eve alpha\n"),
-    ):
-        machine.write(f"root/{name}", text)
-    for words, wanted in (
-        ("one two", (0, "", "")),
-        ("--dry-run two one", (0, "", "")),
-        ("one three", (1, "", "three cannot be read")),
-        ("two three", (1, "", "three cannot be read")),
-        ("two none", (1, "", "none names nobody")),
-        ("one ''", (1, "", " cannot be read")),
-        ("one two bad", (1, "", "bad:1: a right")),
-        ("one two one", (1, "", "one:2: ")),
-        ("one -n two", (2, "", "usage")),
-    ):
-        status, told, errors = machine.sh(f"goshelf-user sync {words}")
-        is_right = (status, told) == wanted[:2] and wanted[2] in errors and maps_of(machine) == before
-        suite.holds(f"goshelf-user sync {words}", is_right, (status, told, errors))
+def back(suite, client):
+    """The list of before, while goshelf is stopped: departures do not wait, and the rest is done later."""
+    machine = client.machine
+    machine.does("systemctl stop goshelf")
+    told = sync(machine, OWN)
+    time.sleep(4)  # (strangers ask 20 times, and then five a second)
+    gone = [client.get("/login", it)[0] for it in ("eve", "tim")]
+    suite.equal("who left is refused while goshelf is stopped", (told[0], gone), (1, [401, 401]))
+    suite.holds("and it says what is not done", "is not revoked" in told[2], told)
+    machine.does("systemctl start goshelf")
+    suite.equal("a sync of nothing new revokes the keys", machine.sh("goshelf-front sync"), (0, "", ""))
+    left = [it for it in ("eve", "tim") if fingerprint(client.passwords[it]) in keys_told(machine)]
+    suite.equal("at goshelf too", left, [])
+    told = sync(machine, OWN)
+    wanted = "changed\tbob\tbeta\tpublish\nadded\tann-b\talpha\tread\n"
+    suite.equal("then the rest is done", sorted(told[1].splitlines()), sorted(wanted.splitlines()))
+    lines = {it.split()[3]: it.split()[5] for it in machine.read("root/new").splitlines()}
+    client.passwords["old bob"] = client.passwords["bob"]
+    client.passwords.update(lines)
+    told = [client.get("/login", it)[0] for it in ("bob", "old bob", "ann-b")]
+    suite.equal("a right that is more leaves the old key for 7 days", told, [204, 204, 204])
+    machine.does("goshelf-front remove 'build 1'")
 
 
 def part_is(client, number):
@@ -214,38 +292,32 @@ def part_is(client, number):
 
 
 def uncached(suite, client):
-    """goshelf-uncache makes the number one that no host had, each time, and puts a file back that nginx refuses."""
-    machine, name = client.machine, "etc/nginx/conf.d/goshelf.conf"
+    """`uncache` makes the generation one that no host had, each time, and changes nothing else."""
+    machine, name = client.machine, f"{FOLDER}/goshelf.json"
     told = [client.put("v1.0.0", GOMOD + ZIP)[0], client.put("v1.0.0", GOMOD + b"other", "bob")[0]]
     suite.equal("two teams publish", told, [201, 201])
-    before, beside = machine.read(name), sorted(os.listdir(f"{machine.folder}/etc/nginx/conf.d"))
-    last, later = int(time.time()) - 1, f"{machine.folder}/usr/local/bin/date"
+    plain = lambda: {
+        key: it for key, it in json.loads(machine.read(name)).items() if key not in ("generation", "serial")
+    }
+    before = plain()
+    last = 0
     for way in ("by the clock", "by a clock that is set back"):
-        told = machine.sh("goshelf-uncache")
-        number = int((re.findall(r"^the caches are reset: their generation is (\d+)\n", told[1]) or [0])[0])
-        is_next = number == last + 1 if os.path.exists(later) else last < number <= time.time()
-        suite.holds(f"the number {way}", (told[0], told[2], is_next) == (0, "", True), (told, last))
-        raised = before.replace('"$goshelf_shelf 1"', f'"$goshelf_shelf {number}"')
-        suite.equal(f"nothing else changed {way}", machine.read(name), raised)
-        machine.command("date", "#!/bin/sh\necho 7\n")
-        last = number
-        # (nginx reads the file a moment later, and must not find a half of the next one)
-        wait_until(lambda number=number: part_is(client, number))
-    os.remove(later)
-    line = f'default "$goshelf_shelf {number}";'
-    for cause, text in (
-        ("a file that nginx refuses", f"{raised}nonsense;\n"),
-        ("a file without the number", raised.replace(line, "")),
-        ("one with two", raised.replace(line, f"{line}\n{line}")),
-    ):
-        machine.write(name, text)
-        told = machine.sh("goshelf-uncache")
-        suite.holds(f"{cause}: it stays", told[0] == 1 and told[2] and machine.read(name) == text, told)
-    machine.write(name, raised)
-    for words in ("2", "--force", "''"):
-        told = machine.sh(f"goshelf-uncache {words}")
-        suite.equal(f"goshelf-uncache {words}", (told[0], machine.read(name)), (2, raised))
-    suite.equal("nothing is beside the file", sorted(os.listdir(f"{machine.folder}/etc/nginx/conf.d")), beside)
+        told = machine.sh("goshelf-front uncache")
+        number = json.loads(machine.read(name))["generation"]
+        is_next = number == last + 1 if way != "by the clock" else abs(time.time() - number) < 600
+        said = told == (0, f"the caches are reset: their generation is {number}\n", "")
+        suite.holds(f"the number {way}", said and is_next, (told, number))
+        suite.equal(f"nothing else changed {way}", plain(), before)
+        suite.holds(f"nginx has it {way}", part_is(client, number))
+        text = json.loads(machine.read(name))
+        last = int(time.time()) + 1000
+        machine.write(name, json.dumps({**text, "generation": last}))
+    machine.write("etc/nginx/conf.d/wrong.conf", "nonsense;\n")
+    told = machine.sh("goshelf-front uncache")
+    suite.holds("files that nginx refuses", told[0] == 1 and "nginx refuses" in told[2] and not told[1], told)
+    suite.holds("nginx goes on", client.get(f"{AT}/v1.0.0.zip") == (200, ZIP))
+    machine.does("rm /etc/nginx/conf.d/wrong.conf")
+    suite.equal("and reads it once it can", machine.sh("goshelf-front sync"), (0, "", ""))
 
 
 def lost(suite, client):
@@ -261,7 +333,7 @@ def lost(suite, client):
     suite.equal("what it has is there", client.get(f"{AT}/v1.0.0.zip"), (200, ZIP))
     told = machine.sh("goshelf-forget --yes alpha example.com/lib v1.0.0")
     suite.holds("a version is taken out", told[0] == 0 and "their generation is " in told[1], told)
-    gone(suite, client, "v1.0.0.zip")
+    suite.equal("nobody gets it again", client.get(f"{AT}/v1.0.0.zip"), (403, b"taken out\n"))
     suite.equal("the other team has its own", client.get(f"{AT}/v1.0.0.zip", "bob"), (200, b"other"))
 
 
@@ -271,8 +343,86 @@ def gone(suite, client, file):
     suite.equal(f"{file} is gone", client.get(f"{AT}/{file}"), (404, b"not found\n"))
 
 
+def taken_out(suite, client):
+    """A version that was taken out, for the logins of a shelf, and for all: nobody reads it or publishes it again."""
+    machine = client.machine
+    suite.equal("a version of both", [client.put("v1.60.0", GOMOD, it)[0] for it in ("pub", "bob")], [201, 201])
+    ways = [f"{AT}/v1.60.0.{it}" for it in ("info", "mod", "zip")] + ["/-/gosum/example.com/lib/@v/v1.60.0"]
+    suite.equal("is read", [client.get(it)[0] for it in ways], [200] * 4)
+    machine.does("goshelf-front take-out example.com/lib v1.60.0 alpha")
+    said = (403, b"taken out\n")
+    suite.equal("taken out for a shelf", [client.get(it) for it in ways], [said] * 4)
+    suite.equal("and not published again", client.put("v1.60.0", GOMOD + b"other"), said)
+    suite.equal("the other shelf has it", client.get(ways[1], "bob"), (200, GOMOD))
+    suite.equal("other versions are there", client.put("v1.60.1", GOMOD)[0], 201)
+    machine.does("goshelf-front take-out example.com/Big v1.0.0-RC.1")
+    for target in ("/example.com/!big/@v/v1.0.0-!r!c.1", "/example.com/%21big/@v/v1.0.0-%21r%21c.1"):
+        told = client.get(f"{target}.mod", "bob"), client.ask(
+            "PUT", target, client.login("bob"), GOMOD, {"Mod-Length": "24"}
+        )
+        suite.equal(f"{target} is taken out for all", told, (said, said))
+    suite.equal("another path is not", client.get("/example.com/big/@v/v1.0.0-!r!c.1.mod", "bob")[0], 404)
+    listed = "example.com/lib v1.0.0 alpha\nexample.com/lib v1.60.0 alpha\nexample.com/Big v1.0.0-RC.1\n"
+    suite.equal("they are listed", machine.does("goshelf-front taken-out"), listed)
+    machine.does("goshelf-front take-out example.com/Big v1.0.0-RC.1")
+    suite.equal("each once", machine.does("goshelf-front taken-out"), listed)
+
+
+def logged(suite, client):
+    """The log of publishes: who did what, also refused, and no text forges a line of it."""
+    machine = client.machine
+    evil = 'x", "status": "201"} \\ Ö'
+    machine.does(f"goshelf-front add '{evil}' beta read > key; goshelf-front add mallory beta read > key2")
+    client.passwords["evil"] = machine.read("root/key").split()[5]
+    begun = len(machine.read("var/log/goshelf/publishes.log").splitlines())
+    for target in ('/example.com/a"},{"x":"/@v/v1.0.0', "/example.com/a/@v/v1\\n.0.0", "/example.com/forged/@v/v1.0.0"):
+        client.ask("PUT", target.replace("\\n", "%0a"), client.login("evil"), GOMOD, {"Mod-Length": "24", "X-A": 'a"}'})
+    client.put("v1.70.0", GOMOD)
+    client.put("v1.70.0", GOMOD)
+    client.put("v1.70.0", GOMOD + b"x")
+    client.put("v1.71.0", GOMOD, "ann")
+    client.ask("PUT", "/golang.org/x/a/@v/v1.0.0", client.login("pub"), GOMOD, {"Mod-Length": "24"})
+    client.ask("PUT", f"/k/{client.passwords['pub']}/a.b/@v/v1.0.0", client.login("pub"), GOMOD, {"Mod-Length": "24"})
+    client.ask("PUT", f"//k/{client.passwords['pub']}/a.b/@v/v1.0.0", client.login("pub"), GOMOD, {"Mod-Length": "24"})
+    found(suite, client, evil, begun)
+
+
+def found(suite, client, evil, begun):
+    """What the log of publishes has of these, and how it is printed."""
+    machine, log = client.machine, lambda words="": client.machine.does(f"goshelf-front log {words}").splitlines()
+    lines = [json.loads(it) for it in machine.read("var/log/goshelf/publishes.log").splitlines()[begun:]]
+    told = [(it["name"], it["path"], it["version"], it["status"]) for it in lines]
+    lib = "example.com/lib"
+    wanted = [
+        (evil, "example.com/forged", "v1.0.0", "403"),
+        ("pub", lib, "v1.70.0", "201"),
+        ("pub", lib, "v1.70.0", "200"),
+    ]
+    wanted += [
+        ("pub", lib, "v1.70.0", "409"),
+        ("ann", lib, "v1.71.0", "403"),
+        ("pub", "golang.org/x/a", "v1.0.0", "403"),
+    ]
+    suite.equal("each publish is one line", told, wanted)
+    told = [it.split("\t")[4:] for it in log(f"--path {lib} --name pub --since 2020-01-01")][-3:]
+    suite.equal("it is printed", told, [[lib, "v1.70.0", it] for it in ("201", "200", "409")])
+    suite.equal("what is below a path, too", len(log("--path example.com")) > len(log(f"--path {lib}")), True)
+    suite.equal("and not what begins alike", log("--path example.com/li"), [])
+    orders = [it.split("\t")[1::5] for it in log() if it.endswith("by root")]
+    suite.holds(
+        "so is each order", ["mallory", "add by root"] in orders and ["ann-b", "remove by root"] in orders, orders
+    )
+    text = machine.read("var/log/goshelf/publishes.log")
+    suite.equal("no key is in it", [it for it in client.passwords.values() if it in text], [])
+    machine.write("var/log/goshelf/publishes.log", text + "half a line\n")
+    told = machine.sh("goshelf-front log")
+    suite.holds("a line that is none is counted", told[0] == 1 and "has 1 lines" in told[2], told)
+    machine.write("var/log/goshelf/publishes.log", text)
+
+
 def main():
-    suite, parts = Suite(), (misused, unlucky, faults, kept_in_step, uncached, lost)
+    suite = Suite()
+    parts = (misused, unlucky, faults, kept_in_step, uncached, lost, taken_out, logged)
     return play(suite, "nginx", "its users and folders need root", lambda folder: set_up(suite, folder), parts)
 
 

@@ -40,7 +40,7 @@ def first_copy(suite, company):
     suite.equal("a copy comes without a word", told, (0, "", ""))
     lines = [it.split() for it in warm.read("etc/cron.d/goshelf-warm").splitlines()]
     script = f"{warm.folder}/usr/local/bin/goshelf-warm"
-    suite.equal("the lines for cron", [it[5:] for it in lines], [["root", script, "store"], ["root", script, "maps"]])
+    suite.equal("the lines for cron", [it[5:] for it in lines], [["root", script, "store"], ["root", script, "front"]])
     for it in lines:
         words = ["ip", "netns", "exec", warm.namespace, "sh", "-c", " ".join(it[6:])]
         ran = subprocess.run(
@@ -49,11 +49,11 @@ def first_copy(suite, company):
         suite.equal(f"{it[7]} by cron", (ran.returncode, ran.stdout, ran.stderr), (0, "", ""))
     modes = {
         it: os.stat(f"{warm.folder}/{it}").st_mode & 0o77
-        for it in (f"{HOME}/shelves.db", f"{HOME}/versions", "etc/nginx/goshelf/keys.map")
+        for it in (f"{HOME}/shelves.db", f"{HOME}/versions", "etc/nginx/goshelf/goshelf.json")
     }
     suite.equal("only their owner may read them", set(modes.values()), {0})
     left = [sorted(os.listdir(f"{company.first.folder}/{it}")) for it in (HOME, "var/backups/goshelf")]
-    suite.equal("nothing is left at the first host", left, [["shelves.db", "shelves.db-wal"], []])
+    suite.equal("nothing is left at the first host", left, [["shelves.db", "shelves.db-reserve", "shelves.db-wal"], []])
 
 
 def answers_of_copy(suite, company):
@@ -289,7 +289,7 @@ def restored(suite, company):
     for it in COPY:
         shutil.copyfile(f"{first.folder}/root/{it}", f"{first.folder}/{HOME}/{it}")
     first.does("systemctl start goshelf")
-    first.does("goshelf-uncache")
+    first.does("goshelf-front uncache")
     first.reload()
     target = "/example.com/lib/@v/v1.90.0.zip"
     suite.equal(
@@ -324,7 +324,7 @@ def public_modules(suite, company):
     told = company.desk.ask(WARM, "bob", "/example.com/own/@v/v8.0.0", "PUT", b"x", {"Mod-Length": "1"})[::2]
     suite.equal("who reads may not publish", told[0], 403)
     told = company.desk.ask(WARM, "pub", target.removesuffix(".mod"), "PUT", b"x", {"Mod-Length": "1"})[::2]
-    suite.equal("nor may anybody below no path of paths.map", told, (403, b"not your path\n"))
+    suite.equal("nor may anybody below no path of owners.json", told, (403, b"not your path\n"))
     company.warm.edit(conf, SECOND_WAY)
     company.warm.reload()
 
@@ -347,7 +347,7 @@ def promoted(suite, company):
     kept = warm.read("etc/nginx/conf.d/goshelf.warm"), os.path.exists(f"{warm.folder}/etc/cron.d/goshelf-warm")
     suite.equal("the old file is kept, and cron fetches nothing", kept, (old, False))
     warm.edit("etc/nginx/conf.d/goshelf.conf", SECOND_WAY)
-    told = warm.does(block("sh", "goshelf-uncache", PAGE))
+    told = warm.does(block("sh", "goshelf-front uncache", PAGE))
     suite.holds("no cache of the first host has its generation", int(told.split()[-1]) > 1_000_000_000, told)
     wait_until(lambda: warm.workers() and not before & warm.workers())
     company.desk.kept.clear()

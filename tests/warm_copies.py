@@ -344,7 +344,7 @@ def ordered(suite, company):
     status, printed, errors = company.wire.copied("store")
     said = b"goshelf-copy: goshelf does not copy its store: goshelf: device\n"
     suite.equal("goshelf takes no orders: it says so", (status, printed, errors), (1, b"", said))
-    suite.equal("nothing is left", sorted(os.listdir(home)), sorted(COPY))
+    suite.equal("nothing is left", sorted(os.listdir(home)), sorted((*COPY, "shelves.db-reserve")))
     first.does("systemctl start goshelf")
     company.back()
     suite.equal("all is answered as before", company.differing(wanted), [])

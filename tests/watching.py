@@ -205,7 +205,7 @@ def to_a_file(suite, machine):
     planted(suite, machine)
     for words in ("--to", "--file x.prom", "now"):
         suite.equal(f"goshelf-metrics {words}", machine.sh(f"goshelf-metrics {words}")[:2], (2, ""))
-    for words, status in {"--to ''": 1, "--to x.txt": 1, "--to .prom": 1, "--to none/x.prom": 1}.items():
+    for words, status in {"--to ''": 2, "--to x.txt": 1, "--to .prom": 1, "--to none/x.prom": 1}.items():
         refused = machine.sh(f"goshelf-metrics {words}")
         suite.holds(f"goshelf-metrics {words}: refused", refused[:2] == (status, "") and refused[2], refused)
 

@@ -2,14 +2,13 @@
 
 import contextlib
 import os
-import secrets
 import socket
 import struct
 import threading
 from http.client import HTTPException, HTTPSConnection
 
 from lib.catalog_store import TODAY, make_store
-from lib.front import Client, settle, start
+from lib.front import Client, start
 from lib.machine import Machine
 from lib.pages import block
 from lib.peers import asked_by
@@ -18,7 +17,7 @@ from lib.scratch import closed_on_failure
 
 # each user, and the user's shelf
 USERS = {"ann": "alpha", "bea": "beta", "gus": "gamma", "dee": "delta", "pam": "platform", "cam": "common"}
-PATHS = f'''"gopkg.in" "beta";\n"example.com" "{' '.join(USERS.values())}"'''
+PATHS = {"gopkg.in": ["beta"], "example.com": [*USERS.values()]}
 # goshelf, which notes its words
 GOSHELF = f"""#!/bin/sh
 echo "$*" >> @/root/words
@@ -124,16 +123,13 @@ def set_up(suite, folder):
     with closed_on_failure(machine):
         make_store(suite, machine.store)
         own_goshelf(machine, GOSHELF)
-        start(machine, lambda block: block.replace('"example.com" "alpha"', PATHS))
+        start(machine, PATHS)
         os.mkdir(f"{folder}/root/tools")
         machine.write("root/tools/catalog", TOOL)
         os.chmod(f"{folder}/root/tools/catalog", 0o755)
         reader = Reader(machine)
-        reader.passwords = {user: secrets.token_hex(16) for user in USERS}
-        users = (f"{user} {shelf} read {reader.passwords[user]}\n" for user, shelf in USERS.items())
-        machine.write("root/users", "".join(users))
-        machine.does("goshelf-user sync users")
-        settle(reader, "ann", 404)
+        for user, shelf in USERS.items():
+            reader.add(user, shelf, "read")
         machine.does(block("sh", "/var/lib/goshelf-catalog"))
         suite.equal("the pages are made", machine.sh("goshelf-catalog"), (0, MADE, ""))
     return reader

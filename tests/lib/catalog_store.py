@@ -111,12 +111,12 @@ def make(shelf, *words):
 
 
 def write_lines():
-    """Writes the lines of each shelf of the store, and a map of paths."""
+    """Writes the lines of each shelf of the store, and the company's paths."""
     for shelf in SHELF_KEYS:
         with open(f"{shelf}.lines", "w", encoding="utf-8") as file:
             file.write(catalog_lines.lines("store.db", shelf))
-    with open("paths.map", "w", encoding="utf-8") as file:
-        file.write('# ours\n"example.com" "common";\n')
+    with open("owners.json", "w", encoding="utf-8") as file:
+        file.write('{"example.com": ["common"]}\n')
 
 
 def line_of(**fields):

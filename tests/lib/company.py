@@ -10,6 +10,7 @@ import socket
 import threading
 import time
 
+from lib.front import set_up_front
 from lib.hosts import Desk, Network, inside
 from lib.pages import block
 from lib.peers import fetched, over
@@ -68,16 +69,14 @@ class Company:
         self.desk = Desk(self.network, DESK, certificates.values())
         for user in USERS:
             self.desk.add(self.first, *user)
-        self.first.reload()
 
     def set_up(self, host, certificate):
         """Sets a host up that is not the first, whose certificate is given."""
         set_up_site(host, certificate)
 
     def key(self, user):
-        """The key by which the first host asks for a user, by its maps."""
-        role = re.search(rf' {user} (\w+ \w+)";', self.first.read("etc/nginx/goshelf/users.map"))[1]
-        return re.search(rf'^"{role}" (\w+);', self.first.read("etc/nginx/goshelf/keys.map"), re.M)[1]
+        """The key by which the first host asks for a user: the user's own."""
+        return self.desk.passwords[user]
 
     def own(self, user, target):
         """The store's own answer."""
@@ -165,11 +164,8 @@ class Company:
 def set_up_first(first):
     """The first host, by the commands of NGINX."""
     first.check_out()
-    first.does(block("sh", "for it in users.map"))
+    set_up_front(first, FIRST, {"example.com": SHELVES})
     first.edit("etc/nginx/conf.d/goshelf.conf", SMALL)
-    first.does(block("sh", ">> /etc/nginx/goshelf/paths.map").replace("alpha", " ".join(SHELVES)))
-    for shelf in SHELVES:
-        first.does(f"goshelf-user key {shelf} read 2> nginx.out; goshelf-user key {shelf} publish 2> nginx.out")
     first.start_nginx()
 
 

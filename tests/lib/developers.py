@@ -9,10 +9,10 @@ import re
 import subprocess
 
 from lib import go_command
-from lib.front import Client, settle, start
+from lib.front import Client, start
 from lib.machine import AUTHORITIES, Machine
 from lib.modules import escaped
-from lib.outside import STORE, Outside, module
+from lib.outside import NAME, STORE, Outside, module
 from lib.ports import wait_until
 from lib.scratch import closed_on_failure, read, write
 from lib.stores import new_store
@@ -29,7 +29,7 @@ PATHS = {
 READER = ("ann", "alpha", "read")
 USERS = (("pat", "alpha", "publish"), ("bob", "beta", "publish"), ("com", "common", "publish"), READER)
 BAIT = b"BAIT"
-FIRST_WAY, SECOND_WAY = "    default $goshelf_public;\n", "    default nowhere;\n"
+FIRST_WAY, SECOND_WAY = "js_var $goshelf_others public;\n", "js_var $goshelf_others nowhere;\n"
 # seconds that nginx waits for the public proxy: here, where the files say 30
 PATIENCE = 2
 
@@ -47,14 +47,11 @@ class Developers:
 
     def start(self):
         new_store(self.machine.store, ("alpha", "firstkey00000001"), ("beta", "firstkey00000002"))
-        lines = "".join(f'"{path}" "{shelves}";\n' for path, shelves in PATHS.items())
-        paths = lambda block: block.replace('"example.com" "alpha";\n', lines)
-        start(self.machine, paths, self.change)
+        start(self.machine, {path: shelves.replace("-", "").split() for path, shelves in PATHS.items()}, self.change)
         self.client = Client(self.machine)
         for user in USERS:
             self.client.add(*user)
         self.client.context.load_verify_locations(self.outside.authority)
-        settle(self.client, "ann", 404)
         self.url = f"https://localhost:{self.machine.front}"
         write({f"{self.folder}/trusted.pem": read(self.client.pem) + read(self.outside.authority)})
 
@@ -63,9 +60,13 @@ class Developers:
         os.unlink(f"{machine.folder}{AUTHORITIES}")
         os.symlink(self.outside.authority, f"{machine.folder}{AUTHORITIES}")
         store = STORE.replace(".", r"\.")
+        for name in ("conf.d", "modules-enabled"):
+            text = machine.read(f"etc/nginx/{name}/goshelf.conf")
+            own = f"resolver 127.0.0.1:{self.outside.name_server.port} valid=1s "
+            text = re.sub("resolver [0-9.]+ valid=60s ", own, text)
+            text = text.replace(f"127.0.0.1:{self.outside.port};", f"{NAME}:{self.outside.port};")
+            machine.write(f"etc/nginx/{name}/goshelf.conf", text)
         self.conf(
-            ("127.0.0.53", f"127.0.0.1:{self.outside.name_server.port}"),
-            ("valid=60s", "valid=1s"),
             (f"https://{store}/", f"https://{store}:{self.outside.store_port}/"),
             ("min_free=2g", "min_free=1m"),
         )
@@ -145,9 +146,8 @@ class Developers:
 
     def secrets(self):
         """Keys, passwords and logins."""
-        keys = re.findall(r"^\".*\" (\w+);$", self.machine.read("etc/nginx/goshelf/keys.map"), re.M)
         passwords = self.client.passwords
-        return [*keys, *passwords.values(), *(self.client.login(it).split()[1] for it in passwords)]
+        return [*passwords.values(), *(self.client.login(it).split()[1] for it in passwords)]
 
     def close(self):
         self.machine.close()

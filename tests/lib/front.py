@@ -1,15 +1,15 @@
 """A machine with goshelf behind nginx, by the page's commands, and its users."""
 
+import hashlib
 import http.client
+import json
 import os
-import re
 import socket
 import ssl
 import time
 
 from lib.logins import Logins
 from lib.machine import Machine
-from lib.pages import block
 from lib.ports import wait_for
 from lib.scratch import closed_on_failure
 from lib.stores import new_store
@@ -88,29 +88,37 @@ def set_up(suite, folder):
     machine = Machine(folder)
     with closed_on_failure(machine):
         new_store(machine.store, ("alpha", UNUSED), ("beta", "firstkey00000002"), (LONG, "firstkey00000003"))
-        start(machine, lambda block: block.replace("alpha", f"alpha beta {LONG}"))
+        start(machine, {"example.com": ["alpha", "beta", LONG]})
         client = Client(machine)
         for user in USERS:
             client.add(*user)
-        settle(client, wanted=404)
-    maps = [f"{folder}/etc/nginx/goshelf/{name}" for name in ("users.map", "keys.map")]
-    suite.equal("only root may read the maps", [os.stat(it).st_mode & 0o777 for it in maps], [0o600, 0o600])
+    own = [f"{folder}/etc/nginx/goshelf/{name}" for name in ("", "names", "goshelf.json")]
+    suite.equal("only root may read who may log in", [os.stat(it).st_mode & 0o777 for it in own], [0o700, 0o600, 0o600])
+    logs = [
+        f"{folder}/var/log/{name}"
+        for name in ("nginx/goshelf.log", "nginx/goshelf-errors.log", "goshelf/publishes.log")
+    ]
+    suite.equal("and only root and its group the logs", [os.stat(it).st_mode & 0o777 for it in logs], [0o640] * 3)
     return client
 
 
 def start(machine, paths, change=lambda machine: None):
-    """Starts goshelf and nginx by the page's commands. `paths` makes the command that names the company's paths from
-    the page's, and `change` changes files before nginx starts."""
+    """Starts goshelf and nginx by the page's commands. `paths` has the company's, each with the shelves that publish
+    there, and `change` changes files before nginx starts."""
     machine.does("systemctl start goshelf")
     made = "openssl req -x509 -newkey rsa:2048 -nodes -days 2 -subj /CN=localhost -addext subjectAltName=DNS:localhost"
     machine.does(f"{made} -out /etc/ssl/goshelf.pem -keyout /etc/ssl/goshelf.key")
     machine.check_out()
-    machine.does(block("sh", "for it in users.map"))
-    machine.does("sed -i 's/server_name shelf.example.com;/server_name localhost;/' /etc/nginx/conf.d/goshelf.conf")
-    machine.does(paths(block("sh", ">> /etc/nginx/goshelf/paths.map")))
+    set_up_front(machine, "localhost", paths)
     change(machine)
-    machine.does(block("sh", "systemctl restart nginx"))
+    machine.does("systemctl restart nginx")
     wait_for(machine.front)
+
+
+def set_up_front(machine, host, paths):
+    """Puts nginx's files in their places, by the command of the page."""
+    words = " ".join(f"{path}={','.join(who)}" for path, who in paths.items())
+    machine.does(f"goshelf-front set-up {host} {words}")
 
 
 def settle(client, user="zoe", wanted=200):
@@ -127,6 +135,10 @@ def settle(client, user="zoe", wanted=200):
     return time.time() - begun
 
 
-def keys_of(machine):
-    """Every key of the store that nginx knows."""
-    return re.findall(r"^\".*\" (\w+);$", machine.read("etc/nginx/goshelf/keys.map"), re.M)
+def fingerprint(key):
+    return hashlib.sha256(key.encode()).hexdigest()[:16]
+
+
+def users_of(machine):
+    """Whom nginx lets in, by the fingerprints of their keys."""
+    return json.loads(machine.read("etc/nginx/goshelf/goshelf.json"))["users"]

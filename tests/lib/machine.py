@@ -25,16 +25,26 @@ FOLDERS = (
     "etc/nginx/conf.d", "etc/nginx/modules-enabled", "etc/ssl/certs", "etc/cron.d", "etc/default", "var/lib/nginx",
     "var/log/nginx", "var/lib/goshelf", "var/backups", "usr/local/bin", "usr/share", "run", "root",
 )  # fmt: skip
+# the modules of nginx that its front needs, as their packages name them
+MODULES = "".join(f"load_module /usr/lib/nginx/modules/ngx_{it}_module.so;\n" for it in ("http_js", "stream"))
 # the authorities that nginx takes for the public proxy
 AUTHORITIES = "/etc/ssl/certs/ca-certificates.crt"
 SYSTEMCTL = """\
 #!/bin/sh
 # `systemctl stop goshelf` and `systemctl start goshelf`, for a program that a file names by its number, that number,
 # and how often it was restarted; and `systemctl restart nginx`
-case "$*" in *nginx) [ "$1" != restart ] || nginx -s reload 2> /dev/null || nginx; exit ;; esac
+case "$*" in
+restart*nginx)
+    old=$(cat "@/nginx.pid" 2> /dev/null || :)
+    [ -z "$old" ] || nginx -s stop 2> /dev/null || :
+    while [ -n "$old" ] && kill -0 "$old" 2> /dev/null; do sleep 0.05; done
+    nginx; exit ;;
+*nginx) exit ;;
+esac
 case "$1 ${3-}" in
 "show MainPID") cat "@/serve.pid" ;;
 "show NRestarts") cat "@/restarts" ;;
+"show Listen") echo "127.0.0.1:PORT (Stream)" ;;
 esac
 case $1 in
 is-active) exit 3 ;; # (of goshelf.socket, which is not there)
@@ -92,6 +102,7 @@ class Machine:
 
     def __init__(self, folder, public=9):
         self.folder, self.front, self.behind, self.public = folder, free_port(), free_port(), public
+        self.clear, self.way, self.says, self.before = (free_port() for _ in range(4))
         for name in FOLDERS:
             os.makedirs(f"{folder}/{name}")
         os.chmod(folder, 0o755)
@@ -101,6 +112,7 @@ class Machine:
         nginx = shutil.which("nginx") or "/usr/sbin/nginx"
         self.command("nginx", f'#!/bin/sh\nexec {nginx} -c "@/nginx.conf" -e "@/var/log/nginx/start.log" "$@"\n')
         self.write("nginx.conf", NGINX_CONF.replace("@/", f"{folder}/"))
+        self.write("etc/nginx/modules-enabled/50-mod-goshelf.conf", MODULES)
         self.store = f"{folder}/var/lib/goshelf/shelves.db"
 
     def command(self, name, text):
@@ -126,12 +138,15 @@ class Machine:
     def placed(self, text):
         """A text with its absolute names below the folder, and with the machine's ports."""
         text = self.placed_on_host(text)
+        for port, own in ((8444, self.way), (8445, self.says), (8446, self.before)):
+            text = text.replace(f"127.0.0.1:{port}", f"127.0.0.1:{own}")
+        text = text.replace("listen 80;", f"listen 127.0.0.1:{self.clear};")
         return text.replace("listen 443 ssl", f"listen 127.0.0.1:{self.front} ssl")
 
     def placed_on_host(self, text):
         """The same with the ports that its files name, but for goshelf's own."""
         text = PLACES.sub(f"{self.folder}/", text).replace("127.0.0.1:8080", f"127.0.0.1:{self.behind}")
-        return text.replace("server proxy.golang.org:443;", f"server 127.0.0.1:{self.public};")
+        return text.replace("proxy.golang.org:443;", f"127.0.0.1:{self.public};")
 
     def sh(self, script, **settings):
         """Runs a script that is written for a whole machine, in `root`. Returns its status, output and errors."""
@@ -172,7 +187,8 @@ class Machine:
     def check_out(self):
         """Puts the files of deploy/ into `root`, which is also /usr/share/goshelf, and installs its commands."""
         os.symlink(f"{self.folder}/root", f"{self.folder}/usr/share/goshelf")
-        for at, _, names in os.walk(os.path.join(ROOT, "deploy")):
+        for at, folders, names in os.walk(os.path.join(ROOT, "deploy")):
+            folders[:] = [it for it in folders if it != "__pycache__"]
             below = os.path.join("root", os.path.relpath(at, ROOT))
             os.makedirs(f"{self.folder}/{below}")
             for name in names:

@@ -90,8 +90,8 @@ class NotFound(Quiet):
         self.send_error(404)
 
 
-def by_false_server(words, told):
-    """How a command ends that is told this, and what it sent."""
+def by_false_server(words, told, before=()):
+    """How a command ends that is told this, and what it sent. The words before are as for `run`."""
     sent = []
 
     def tell():
@@ -109,7 +109,7 @@ def by_false_server(words, told):
         listener.settimeout(60)
         thread = threading.Thread(target=tell)
         thread.start()
-        ran = run([*words, "false"])
+        ran = run([*words, "false"], before=before)
         thread.join()
     os.unlink("false")
     return ran, b"".join(sent)

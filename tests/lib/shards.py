@@ -2,11 +2,13 @@
 
 import base64
 import http.client
+import json
 import os
 import random
 import ssl
 import subprocess
 
+from lib.front import fingerprint
 from lib.machine import Machine
 from lib.peers import fetched
 from lib.ports import wait_for
@@ -34,12 +36,15 @@ def key(shelf, right="publish"):
 
 
 def login(shelf, right="publish"):
-    return "Basic " + base64.b64encode(f"{shelf}-{right}:password".encode()).decode()
+    return "Basic " + base64.b64encode(f"{shelf}-{right}:{key(shelf, right)}".encode()).decode()
 
 
-def user_line(shelf, right):
-    """The line of nginx's users.map for a shelf's user."""
-    return f'"{login(shelf, right)}" "{login(shelf, right).split()[1]} {shelf}-{right} {shelf} {right}";\n'
+def front(shelves, serial=1):
+    """The text of nginx's goshelf.json, with a user of each of these shelves and each right."""
+    them = [(shelf, right) for shelf in shelves for right in ("read", "publish")]
+    users = {fingerprint(key(*it)): {"name": "-".join(it), "shelf": it[0], "right": it[1]} for it in them}
+    owners = {"example.com": list(shelves)}
+    return json.dumps({"serial": serial, "generation": 1, "deepest": 1, "owners": owners, "users": users})
 
 
 def add(file, shelf):
@@ -75,27 +80,27 @@ class Company:
         self.machine, self.folder, self.published = Machine(f"{folder}/machine"), folder, []
         self.one = Goshelf(with_teams(f"{folder}/one.db", SHELVES[1:]))
         self.shards = {name: Goshelf(with_teams(f"{folder}/{name}.db", teams)) for name, teams in TEAMS.items()}
-        self.file, self.keys = f"{folder}/shards.conf", f"{self.machine.folder}/etc/nginx/goshelf/keys.map"
+        self.file, self.keys = f"{folder}/shards.conf", f"{folder}/shards.keys"
         with open(self.file, "w", encoding="utf-8") as file:
             file.write(SHARDS.format(**{name: it.port for name, it in self.shards.items()}))
         self.start_nginx()
 
     def start_nginx(self):
-        machine, rights = self.machine, ("read", "publish")
+        machine = self.machine
         machine.check_out()
         machine.does(CERTIFICATE)
-        for name in ("etc/nginx/goshelf", "var/cache/nginx/goshelf", "var/cache/nginx/goshelf-public"):
+        for name in (
+            "etc/nginx/goshelf",
+            "var/cache/nginx/goshelf",
+            "var/cache/nginx/goshelf-public",
+            "var/log/goshelf",
+        ):
             os.makedirs(f"{machine.folder}/{name}")
         os.chmod(f"{machine.folder}/var/cache/nginx/goshelf", 0o777)
-        machine.write(
-            "etc/nginx/goshelf/keys.map",
-            "".join(f'"{it} {right}" {key(it, right)};\n' for it in SHELVES for right in rights),
-        )
-        machine.write(
-            "etc/nginx/goshelf/users.map", "".join(user_line(it, right) for it in SHELVES for right in rights)
-        )
-        machine.write("etc/nginx/goshelf/paths.map", '"example.com" "{}";\n'.format(" ".join(SHELVES)))
-        machine.does("install -m 0644 deploy/nginx/elsewhere.conf deploy/nginx/public.conf /etc/nginx/goshelf/")
+        self.write_keys(SHELVES)
+        machine.write("etc/nginx/goshelf/goshelf.json", front(SHELVES))
+        names = ("goshelf.js", "locations.conf", "public.conf")
+        machine.does(f"install -m 0644 {' '.join(f'deploy/nginx/{it}' for it in names)} /etc/nginx/goshelf/")
         machine.does(
             f"{ROOT}/tools/shards conf {self.file} < deploy/nginx/goshelf.conf > /etc/nginx/conf.d/goshelf.conf"
         )
@@ -103,6 +108,11 @@ class Company:
         wait_for(machine.front)
         self.context = ssl.create_default_context(cafile=f"{machine.folder}/etc/ssl/goshelf.pem")
         self.context.check_hostname = False
+
+    def write_keys(self, shelves):
+        """Writes the keys by which the shards are asked."""
+        with open(os.open(self.keys, os.O_WRONLY | os.O_CREAT | os.O_TRUNC, 0o600), "w", encoding="utf-8") as file:
+            file.writelines(f"{it} {right} {key(it, right)}\n" for it in shelves for right in ("read", "publish"))
 
     def ask(self, method, shelf, target, body=None, headers=None, right="publish"):
         """What nginx answers."""

@@ -3,6 +3,8 @@
 import re
 import sqlite3
 
+from lib.sums import seal
+
 # bytes of a piece of a zip but for its last
 PIECE = 65_536
 # the tables, of which those of schema 2 were the same but for `shelf`
@@ -48,9 +50,11 @@ def connected(file):
 
 
 def settled(conn):
-    """Closes a connection whose file then holds all of it."""
+    """Closes a connection whose file then holds all of it, also the sums that sqlite3 leaves out."""
+    name = conn.execute("PRAGMA database_list").fetchone()[2]
     conn.execute("PRAGMA wal_checkpoint(TRUNCATE)")
     conn.close()
+    seal(name)
 
 
 def entries_of(conn):
@@ -77,8 +81,7 @@ def change(name, *statements):
     conn = sqlite3.connect(name, isolation_level=None)
     for statement, *values in statements:
         conn.execute(statement, values)
-    conn.execute("PRAGMA wal_checkpoint(TRUNCATE)")
-    conn.close()
+    settled(conn)
 
 
 def reordered(name, other):

@@ -14,13 +14,14 @@ UP = "\x1b[A"
 
 
 class OnTerminal:
-    """A run of goshelf whose standard error is a terminal. Its standard output is a pipe, or the terminal too."""
+    """A run of a program whose standard error is a terminal. Its standard output is a pipe, or the terminal too."""
 
-    def __init__(self, *words, is_all=False):
+    def __init__(self, *words, is_all=False, program=PROGRAM, env=None):
         self.master, slave = pty.openpty()
         termios.tcsetwinsize(slave, (24, 80))
         out = slave if is_all else subprocess.PIPE
-        self.child = subprocess.Popen([PROGRAM, *words], stdin=subprocess.DEVNULL, stdout=out, stderr=slave)
+        how = {"stdin": subprocess.DEVNULL, "stdout": out, "stderr": slave, "env": env}
+        self.child = subprocess.Popen([program, *words], **how)
         os.close(slave)
         self.shown = b""
 

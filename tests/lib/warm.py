@@ -23,7 +23,7 @@ WARM, BOTH, PAGE = "warm.example.com", "modules.example.com", "DEPLOYMENTS.md"
 # modules that are not the company's: goshelf has none of them, and nginx answers them as goshelf would, by the second
 # way
 ELSEWHERE = ("/golang.org/x/mod/@v/v0.1.0.mod", "/golang.org/x/mod/@v/list", "/golang.org/x/mod/@latest")
-SECOND_WAY = ("    default $goshelf_public;\n", "    default nowhere;\n")
+SECOND_WAY = ("js_var $goshelf_others public;\n", "js_var $goshelf_others nowhere;\n")
 HOME, COPY = "var/lib/goshelf", ("shelves.db", "shelves.db-wal")
 NOT_WHOLE = "no whole copy of the first host's store came"
 # answers that need no other than the copy
@@ -126,7 +126,7 @@ class Warm(Company):
         host.check_out()
         host.command("ssh", SSH.format(python=sys.executable))
         host.write("root/goshelf-first.pem", certificate)
-        host.does(block("sh", "warm/server.conf", PAGE))
+        host.does(block("sh", "set-up --warm", PAGE))
         for it in (self.first, host):
             it.edit("etc/nginx/conf.d/goshelf.conf", SECOND_WAY)
         host.start_nginx()
@@ -140,8 +140,8 @@ class Warm(Company):
         assert told == (0, "", ""), told
         return {it for it, (status, _, _) in self.answers().items() if status == 200 and KEPT.search(it[1])}
 
-    def maps(self, command="goshelf-warm maps"):
-        """The maps are fetched, and nginx takes them."""
+    def maps(self, command="goshelf-warm front"):
+        """The files of the first host's front are fetched, and nginx takes them."""
         before = self.warm.workers()
         told = self.warm.sh(command)
         assert told == (0, "", ""), told

@@ -1,13 +1,11 @@
 """What the pages say of a shelf: its modules, who requires whom, and what needs attention."""
-import re
+import json
 from array import array
 from dataclasses import dataclass, field
 from datetime import timedelta
 
 from catalog_lib.lines import Refused, kind, line_of, precedence, read
 
-PATH_LINE = re.compile(r'\s*"([^"\\]*)"\s+"[^"\\]*"\s*;\s*(?:#.*)?')
-IGNORED = re.compile(r"\s*(?:#.*)?")
 # how far back `changed` looks
 RECENT = timedelta(days=30)
 
@@ -176,13 +174,12 @@ def differing(file, above, word, source):
 
 
 def paths_of(name):
-    """The paths of nginx's paths.map, in small letters."""
+    """The paths of nginx's owners.json, in small letters."""
     try:
         with open(name, encoding="utf-8") as file:
-            lines = [(number, it) for number, it in enumerate(file.read().split("\n"), 1) if not IGNORED.fullmatch(it)]
-    except (OSError, UnicodeDecodeError) as error:
+            told = json.load(file)
+    except (OSError, ValueError) as error:
         raise Refused(f"{name}: {error}") from None
-    found = [(number, PATH_LINE.fullmatch(it)) for number, it in lines]
-    if wrong := [number for number, it in found if not it]:
-        raise Refused(f'{name}:{wrong[0]}: not of the form "PATH" "SHELF ..";')
-    return {it[1].lower() for _, it in found}
+    if not isinstance(told, dict):
+        raise Refused(f'{name}: not of the form {{"PATH": ["SHELF", ..], ..}}')
+    return {it.lower() for it in told}

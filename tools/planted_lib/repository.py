@@ -1,4 +1,5 @@
 """The crates of the repository in which the tool runs, and its files."""
+import functools
 import hashlib
 import os
 import subprocess
@@ -6,6 +7,7 @@ import sys
 from dataclasses import dataclass, field
 
 RT = os.environ.get("RT", "rt").split()
+TOOL = os.path.basename(sys.argv[0])
 PARTS = ("src", "specs", "proofs")
 
 
@@ -27,12 +29,18 @@ def root_above(folder):
     """Returns the nearest folder at or above with a crates.txt."""
     while not os.path.isfile(f"{folder}/crates.txt"):
         if folder == os.path.dirname(folder):
-            sys.exit("planted: no crates.txt stands here or above: run it in the repository")
+            sys.exit(f"{TOOL}: no crates.txt stands here or above: run it in the repository")
         folder = os.path.dirname(folder)
     return folder
 
 
 ROOT = root_above(os.getcwd())
+
+
+@functools.lru_cache(maxsize=None)
+def kit():
+    """Returns the name of the kit that checks would use, a line."""
+    return subprocess.run([*RT, "version"], stdin=subprocess.DEVNULL, capture_output=True, text=True).stdout
 
 
 @dataclass
@@ -57,7 +65,7 @@ class Crate:
 
     def sum(self):
         """Returns a sum of all that a check of the crate reads."""
-        made = hashlib.sha256(subprocess.run([*RT, "version"], capture_output=True).stdout)
+        made = hashlib.sha256(kit().encode())
         for crate in [*self.below, self]:
             made.update(crate.line.encode())
             for path in crate.files():
@@ -89,6 +97,6 @@ def changed_since(rev, crates):
     for words in (["diff", "--name-only", rev, "--"], ["ls-files", "-o", "--exclude-standard"]):
         ran = subprocess.run(["git", "-C", ROOT, *words, "crates"], capture_output=True, text=True)
         if ran.returncode:
-            sys.exit(f"planted: {ran.stderr.strip()}")
+            sys.exit(f"{TOOL}: {ran.stderr.strip()}")
         touched |= {it.split("/")[1] for it in ran.stdout.split("\n") if it.count("/") > 1}
     return [it for it in crates if touched & {it.name, *[low.name for low in it.below]}]

@@ -1,0 +1,221 @@
+"""The files of /etc/nginx/goshelf: who may log in, whose paths are whose, what was taken out, and what nginx reads.
+
+None of them has a key. Each is written whole, beside its place, and then renamed.
+"""
+
+import contextlib
+import datetime
+import json
+import os
+import re
+import time
+
+FOLDER = "/etc/nginx/goshelf"
+NAME_LINE = re.compile(r"([0-9a-f]{64}|[0-9a-f]{16})\t([^\t\n\r]+)\t(|\d{4}-\d\d-\d\d(?:T\d\d:\d\d)?)(?:\t(machine))?")
+# (a name is one word of a line of a log, in quotes)
+NAME = re.compile(r"[^\x00-\x1f\x7f-\x9f\u2028\u2029\u202a-\u202e\u2066-\u2069]{1,128}")
+SHELF = re.compile(r"[a-z][a-z0-9-]{0,31}")
+HOST = re.compile(r"[a-z0-9-]+(\.[a-z0-9-]+)+")
+ELEMENT = re.compile(r"[a-z0-9_~-]([a-z0-9._~-]*[a-z0-9_~-])?")
+VERSION = re.compile(r"v[0-9][A-Za-z0-9.+-]*")
+FORM = 'not of the form {"PATH": ["SHELF", ..], ..}'
+# a file that is there until nginx has read goshelf.json
+UNREAD = "unread"
+# the last day of a name that was removed, until goshelf has revoked the key
+REMOVED = "1970-01-01"
+
+
+class Refused(Exception):
+    """Why it was not done."""
+
+
+class BadUsage(Exception):
+    """A word that is not one of the usage."""
+
+
+def read(name):
+    try:
+        with open(f"{FOLDER}/{name}", encoding="utf-8") as file:
+            return file.read()
+    except (OSError, UnicodeDecodeError) as error:
+        raise Refused(f"{FOLDER}/{name} cannot be read: {error}") from None
+
+
+def write(name, text):
+    replace(f"{FOLDER}/{name}", text)
+
+
+def replace(name, text, mode=0o600):
+    """Puts a file in the place of another, whole or not at all."""
+    if os.path.islink(name):
+        raise Refused(f"{name} is a link, and a new file would take its place: put the file itself there")
+    descriptor = os.open(f"{name}.new", os.O_WRONLY | os.O_CREAT | os.O_TRUNC, mode)
+    with open(descriptor, "w", encoding="utf-8") as file:
+        os.fchmod(descriptor, mode)
+        file.write(text)
+        file.flush()
+        os.fsync(descriptor)
+    os.replace(f"{name}.new", name)
+
+
+def now():
+    return datetime.datetime.now(datetime.timezone.utc)
+
+
+def day(days):
+    """The day that is so many from now, as names has it."""
+    try:
+        return (now().date() + datetime.timedelta(days)).isoformat()
+    except OverflowError:
+        raise BadUsage(f"--days {days} ends behind all days") from None
+
+
+def last(text, place=""):
+    """A last day or minute, or nothing."""
+    for form in ("%Y-%m-%d", "%Y-%m-%dT%H:%M") if text else ():
+        with contextlib.suppress(ValueError):
+            return datetime.datetime.strptime(text, form).strftime(form)
+    if text:
+        raise Refused(f"{place}no day YYYY-MM-DD: {text}")
+    return ""
+
+
+class Name:
+    """A line of names: a key, by its SHA-256 or the 16 digits of it that goshelf prints, and whose it is."""
+
+    def __init__(self, digest, name, until="", machine=None):
+        self.digest, self.fingerprint, self.name, self.until, self.machine = digest, digest[:16], name, until, machine
+
+    def is_over(self):
+        return bool(self.until) and self.until < now().isoformat()[: len(self.until)]
+
+    def line(self):
+        return f"{self.digest}\t{self.name}\t{self.until}" + (f"\t{self.machine}\n" if self.machine else "\n")
+
+
+def names():
+    """The lines of names."""
+    found, seen = [], set()
+    for number, line in enumerate(read("names").split("\n"), 1):
+        if not line or line.startswith("#"):
+            continue
+        it = NAME_LINE.fullmatch(line)
+        if not it or not NAME.fullmatch(it[2]):
+            raise Refused(f"names:{number}: not of the form SHA256<tab>NAME<tab>LAST DAY")
+        last(it[3], f"names:{number}: ")
+        if it[1][:16] in seen:
+            raise Refused(f"names:{number}: {it[1][:16]} has a line already")
+        seen.add(it[1][:16])
+        found.append(Name(*it.groups()))
+    return found
+
+
+def put_names(lines):
+    text = "".join(it.line() for it in lines)
+    if text != read("names"):
+        write("names", text)
+
+
+def wrong_path(path):
+    """Why a path cannot be the company's, or nothing."""
+    host, *rest = path.lower().split("/")
+    if "!" in path or "%" in path:
+        return f"{path} is escaped: write it as in a go.mod"
+    if not HOST.fullmatch(host) or host.startswith("-") or not all(map(ELEMENT.fullmatch, rest)):
+        return f"{(path if path.isprintable() else repr(path)) or 'an empty text'} is not a module path"
+    return ""
+
+
+def wrong_shelves(shelves):
+    """Why a list cannot be that of the shelves that publish at a path, or nothing."""
+    if not isinstance(shelves, list) or not all(isinstance(it, str) for it in shelves):
+        return FORM
+    if odd := [it for it in shelves if not SHELF.fullmatch(it)]:
+        return f"{odd[0]!r} is no shelf; [] is a path where nobody publishes"
+    if twice := [it for it in shelves if shelves.count(it) > 1]:
+        return f"{twice[0]} is listed twice"
+    return ""
+
+
+def owner_faults(text):
+    """The faults of the text of owners.json."""
+    try:
+        told = json.loads(text, object_pairs_hook=list)
+    except ValueError as error:
+        return [str(error)]
+    if not isinstance(told, list) or not told:
+        return ["it names no path, so every module would be public"]
+    if not all(isinstance(it, tuple) for it in told):
+        return [FORM]
+    paths = [path.lower() for path, _ in told]
+    found = [(path, why) for path, shelves in told for why in (wrong_path(path), wrong_shelves(shelves)) if why]
+    found += [(path, "it is there twice") for at, (path, _) in enumerate(told) if path.lower() in paths[:at]]
+    return [why if "module path" in why or "escaped" in why else f"{path}: {why}" for path, why in found]
+
+
+def owners():
+    """The company's paths in small letters, and the shelves that publish there."""
+    text = read("owners.json")
+    if faults := owner_faults(text):
+        raise Refused("\ngoshelf-front: ".join(f"owners.json: {it}" for it in faults))
+    return {path.lower(): shelves for path, shelves in json.loads(text).items()}
+
+
+def taken_out():
+    """Each version that was taken out: path, version, and the shelves, or none for all."""
+    try:
+        lines = [it.split() for it in read("taken-out").split("\n") if it and not it.startswith("#")]
+    except Refused:
+        if os.path.exists(f"{FOLDER}/taken-out"):
+            raise
+        return []
+    if wrong := [it for it in lines if len(it) < 2]:
+        raise Refused(f"taken-out: not of the form PATH VERSION SHELF..: {' '.join(wrong[0])}")
+    return [(path, version, shelves) for path, version, *shelves in lines]
+
+
+def target_of(path, version):
+    """The target of a version, without the end of a file's name."""
+    return re.sub("[A-Z]", lambda it: "!" + it[0].lower(), f"/{path}/@v/{version}")
+
+
+def front():
+    """What nginx has now, or nothing."""
+    try:
+        return json.loads(read("goshelf.json"))
+    except (Refused, ValueError):
+        return {}
+
+
+def put_front(told):
+    write("goshelf.json", json.dumps(told, ensure_ascii=False, indent=1) + "\n")
+
+
+def user_of(it, shelf, right, digest):
+    """A key as nginx knows it."""
+    digest = digest or (it.digest if len(it.digest) == 64 else "")
+    more = {"sha256": digest, "until": it.until, "machine": bool(it.machine)}
+    return {"name": it.name, "shelf": shelf, "right": right, **{key: value for key, value in more.items() if value}}
+
+
+def made(lines, known, paths, generation=None):
+    """The new goshelf.json: names, the keys of goshelf, the company's paths and what was taken out."""
+    before, users = front(), {}
+    for it in lines:
+        if it.fingerprint in known and not it.is_over():
+            users[it.fingerprint] = user_of(it, *known[it.fingerprint])
+    told = {
+        "serial": before.get("serial", 0),
+        "generation": generation or before.get("generation", 1),
+        "deepest": max(path.count("/") + 1 for path in paths),
+        "owners": paths,
+        "users": users,
+    }
+    if gone := taken_out():
+        told["gone"] = {target_of(path, version): shelves for path, version, shelves in gone}
+    if os.path.exists(f"{FOLDER}/before/users.map"):
+        told["before"] = True
+    if told != before:
+        now_ms = time.time_ns() // 1_000_000
+        told["serial"] = now_ms + (now_ms == told["serial"])
+    return told

@@ -1,0 +1,136 @@
+"""nginx's part of the front: it reads new files, and what would stop it."""
+
+import http.client
+import os
+import re
+import shutil
+import socket
+import subprocess
+import sys
+import time
+
+from front_lib import files
+from front_lib.files import FOLDER, Refused
+
+CONF = "/etc/nginx/conf.d/goshelf.conf"
+# its way to the public proxy, by stream.conf
+WAY = "127.0.0.1:8444"
+# where nginx says which goshelf.json it has read
+SAYS = "127.0.0.1:8445"
+# how long it may take to read it, in seconds; and how often in a row it has to say so, because the processes of before
+# go on for a moment
+LIMIT, ROW = 20, 15
+
+
+def conf():
+    try:
+        with open(CONF, encoding="utf-8") as file:
+            return file.read()
+    except OSError as error:
+        raise Refused(f"{CONF} cannot be read: {error.strerror}") from None
+
+
+def host():
+    """The name of the host in nginx's file, for a line of ~/.netrc."""
+    found = re.search(r"listen [^;]*\bssl\b[^;]*;\s*(?:listen [^;]*;\s*)*server_name\s+([\w.-]+)", conf())
+    return found[1] if found else "HOST"
+
+
+def said():
+    """The number of the goshelf.json that a process of nginx has read, or nothing."""
+    conn = http.client.HTTPConnection(SAYS, timeout=5)
+    try:
+        conn.request("GET", "/")
+        return conn.getresponse().read().decode(errors="replace").strip()
+    except (OSError, http.client.HTTPException):
+        return ""
+    finally:
+        conn.close()
+
+
+def wait(serial):
+    """Waits until each process of nginx that takes connections has read the goshelf.json of a number."""
+    begun, row = time.monotonic(), 0
+    while row < ROW:
+        row = row + 1 if said() == str(serial) else 0
+        if time.monotonic() - begun > LIMIT:
+            raise Refused(f"nginx does not say within {LIMIT} s that it has read goshelf.json: does it run, by {CONF}?")
+        time.sleep(0.02)
+
+
+def refusal():
+    """Why nginx refuses its files, or nothing."""
+    tried = subprocess.run(["nginx", "-q", "-t"], capture_output=True, text=True)
+    return (tried.stderr.strip() or "it says no more") if tried.returncode else ""
+
+
+def reload(serial):
+    """Has nginx read goshelf.json, and waits until it obeys."""
+    if why := refusal():
+        raise Refused(f"goshelf.json is written, but nginx refuses its files and goes on by the old ones:\n{why}")
+    if subprocess.run(["nginx", "-s", "reload"], capture_output=True).returncode:
+        print("goshelf-front: nginx does not run: it reads the file when it starts", file=sys.stderr)
+    else:
+        wait(serial)
+    os.remove(f"{FOLDER}/{files.UNREAD}")
+
+
+def certificate_faults(text):
+    """What is wrong with the certificate of nginx's file."""
+    named = re.search(r"ssl_certificate\s+([^;\s]+);", text)
+    if not named:
+        return [f"{CONF} names no certificate"]
+    ends, matches = (x509(named[1], *words) for words in (("-checkend", "86400"), ("-checkhost", host())))
+    if "ertificate" not in ends:
+        return [f"{named[1]} cannot be read as a certificate"]
+    found = [f"{named[1]} ends within a day, or has ended"] if "will not expire" not in ends else []
+    return found + ([f"{named[1]} is not for {host()}"] if "NOT match" in matches else [])
+
+
+def x509(name, *words):
+    """What openssl says of a certificate."""
+    return subprocess.run(["openssl", "x509", "-noout", "-in", name, *words], capture_output=True, text=True).stdout
+
+
+def folder_faults(text):
+    """Which caches have no room, and which logs others may read. (nginx itself makes a cache that is not there.)"""
+    for name, count, unit in re.findall(r"^proxy_cache_path\s+(\S+)\s.*min_free=(\d+)([mg])", text, re.M):
+        room = int(count) << {"m": 20, "g": 30}[unit]
+        if os.path.isdir(name) and shutil.disk_usage(name).free < room:
+            yield f"{name}: its disk has less room than min_free={count}{unit} leaves, so nginx caches next to nothing"
+    for name in sorted(set(re.findall(r"^\s*(?:access|error)_log\s+(/(?!dev/)\S+)", text, re.M))):
+        if os.path.exists(name) and os.stat(name).st_mode & 0o7:
+            yield f"others than root and its group may read {name}: chmod 640 {name}"
+
+
+def port_faults(text):
+    """Which addresses nobody listens on that nginx asks: its own way out, and each goshelf."""
+    asked = re.findall(r"^upstream goshelf[\w-]* \{\s*server ([\w.:-]+);", text, re.M)
+    way = [WAY] if re.search(r"^js_var \$goshelf_others public;", text, re.M) else []
+    for address in (*asked, *way):
+        name, _, port = address.rpartition(":")
+        try:
+            socket.create_connection((name, int(port)), 5).close()
+        except OSError as error:
+            yield f"nobody answers at {address}, which nginx asks: {error.strerror or error}"
+
+
+def clock_faults(told):
+    """A clock that was set back lets keys live whose last day is over."""
+    if told.get("serial", 0) > time.time() * 1000 + 60_000:
+        return ["the clock of this host is behind the last change of goshelf.json: last days count by it"]
+    return []
+
+
+def faults():
+    """What is wrong with nginx's side of the front, apart from names and paths."""
+    try:
+        text = conf()
+    except Refused as why:
+        return [str(why)]
+    found = [*certificate_faults(text), *folder_faults(text), *clock_faults(files.front())]
+    if said():
+        found += port_faults(text)
+    elif os.path.exists(f"{FOLDER}/goshelf.json"):
+        found.append(f"nginx does not answer at {SAYS}: does it run, by {CONF}?")
+    return found

@@ -1,0 +1,74 @@
+"""Orders to the goshelfs of this host: their keys and their shelves."""
+
+import re
+import subprocess
+
+from front_lib.files import Refused
+
+SETTINGS = "/etc/default/goshelf"
+UNITS = re.compile(r"GOSHELF_UNITS=(['\"]?)([a-z0-9 -]+)\1")
+KEY = re.compile(r"[a-z0-9]{16,64}")
+
+
+def units():
+    """The units of the goshelfs: one, or a shard each."""
+    try:
+        with open(SETTINGS, encoding="utf-8") as file:
+            found = [UNITS.fullmatch(it.strip()) for it in file]
+    except OSError:
+        found = []
+    return next((it[2].split() for it in reversed(found) if it), ["goshelf"])
+
+
+def order(unit, command, *words):
+    """Gives a goshelf an order. Returns what it prints, and the word of its refusal or nothing."""
+    ran = subprocess.run(
+        ["goshelf", command, "--control", f"/run/{unit}/control", *words], capture_output=True, text=True
+    )
+    word = ran.stderr.strip().removeprefix("goshelf: ") or "it failed"
+    return ran.stdout, "" if ran.returncode == 0 else word
+
+
+def listed(command):
+    """The words of each line that each goshelf prints of an order, with its unit."""
+    for unit in units():
+        printed, word = order(unit, command)
+        if word:
+            raise Refused(f"{unit} does not say its {command.removesuffix('-list')}s: {word}: is it started?")
+        yield from ((unit, line.split()) for line in printed.splitlines())
+
+
+def keys():
+    """The keys of goshelf: shelf, right, and the SHA-256 where goshelf prints it, by fingerprint."""
+    found = {}
+    for _, (shelf, right, fingerprint, *digest) in listed("key-list"):
+        told = shelf, right, "".join(digest[:1])
+        # two keys with one fingerprint are nobody's, unless they are one key at two shards
+        found[fingerprint] = told if found.get(fingerprint, told) == told else None
+    return {it: told for it, told in found.items() if told}
+
+
+def shelves():
+    """The unit of each shelf. That of common is the first."""
+    found = {}
+    for unit, (name, *_) in listed("shelf-list"):
+        found.setdefault(name, unit)
+    return found
+
+
+def new_key(shelf, right):
+    """Has the goshelf of a shelf make a key."""
+    unit = shelves().get(shelf)
+    if not unit:
+        raise Refused(f"there is no shelf {shelf!r}")
+    printed, word = order(unit, "key-add", "--shelf", shelf, "--new", *(["--read-only"] if right == "read" else []))
+    key = printed.strip()
+    if word or not KEY.fullmatch(key):
+        raise Refused(f"goshelf makes no key for {shelf}: {word or 'it prints none'}")
+    return key
+
+
+def revoke(fingerprint):
+    """Has each goshelf revoke a key. Returns why one still has it, or nothing."""
+    words = [order(unit, "key-revoke", "--fingerprint", fingerprint)[1] for unit in units()]
+    return next((it for it in words if it not in ("", "no-key")), "")

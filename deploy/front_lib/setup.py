@@ -1,0 +1,101 @@
+"""Puts the files of deploy/nginx in their places, and makes the folders and logs that nginx needs."""
+
+import grp
+import os
+import pwd
+import re
+
+from front_lib import before, files, nginx
+from front_lib.files import FOLDER, Refused
+
+DEPLOY = "/usr/share/goshelf/deploy"
+STREAM = "/etc/nginx/modules-enabled/goshelf.conf"
+NAME_SERVERS = "/etc/resolv.conf"
+CACHES = ("/var/cache/nginx/goshelf", "/var/cache/nginx/goshelf-public")
+LOGS = ("/var/log/nginx/goshelf.log", "/var/log/nginx/goshelf-errors.log", "/var/log/goshelf/publishes.log")
+# what each release brings anew, and what the host has of its own
+OURS = ("goshelf.js", "locations.conf", "public.conf")
+# nobody may log in by it
+EMPTY = '{"users": {}}\n'
+HOST = re.compile(r"[a-z0-9-]+(\.[a-z0-9-]+)*")
+
+
+def source(name):
+    try:
+        with open(f"{DEPLOY}/{name}", encoding="utf-8") as file:
+            return file.read()
+    except OSError as error:
+        raise Refused(f"{DEPLOY}/{name} cannot be read: {error.strerror}") from None
+
+
+def own(name, text):
+    """Writes a file of the host's own, unless it is there."""
+    if os.path.exists(name):
+        print(f"kept {name}")
+        return
+    files.replace(name, text, 0o644)
+    print(f"made {name}")
+
+
+def with_name_server(text):
+    """A file of nginx with the name server of this host."""
+    try:
+        with open(NAME_SERVERS, encoding="utf-8") as file:
+            found = re.search(r"^nameserver\s+([\d.]+)\s*$", file.read(), re.M)
+    except OSError:
+        found = None
+    return text.replace("resolver 127.0.0.53 ", f"resolver {found[1]} ") if found else text
+
+
+def conf(host, first):
+    """goshelf.conf of a host, or of one that is warm beside the first."""
+    text = source("nginx/goshelf.conf")
+    if first:
+        above = re.sub(r"(?m)^proxy_cache_path .*keys_zone=goshelf:.*\n", "", text[: text.index("\nserver {") + 1])
+        text = above + source("warm/server.conf").replace("warm.example.com", host)
+    return with_name_server(text.replace("shelf.example.com", first or host))
+
+
+def owners(words):
+    """The text of owners.json for words PATH=SHELF,SHELF."""
+    pairs = [it.partition("=") for it in words]
+    lines = [f'    "{path}": [{", ".join(f"{it!r}" for it in who.split(",") if it)}]' for path, _, who in pairs]
+    text = "{\n" + ",\n".join(lines).replace("'", '"') + "\n}\n"
+    if faults := files.owner_faults(text):
+        raise Refused("\ngoshelf-front: ".join(faults))
+    return text
+
+
+def folders():
+    """Makes nginx's caches and logs, before nginx makes the logs for all to read."""
+    user = next((it for it in ("www-data", "nginx") if it in {found.pw_name for found in pwd.getpwall()}), "root")
+    group = next((it for it in ("adm", user) if it in {found.gr_name for found in grp.getgrall()}), "root")
+    number = pwd.getpwnam(user).pw_uid
+    for name in CACHES:
+        os.makedirs(name, 0o700, exist_ok=True)
+        os.chown(name, number, -1)
+    for name in LOGS:
+        os.makedirs(os.path.dirname(name), 0o755, exist_ok=True)
+        os.close(os.open(name, os.O_WRONLY | os.O_APPEND | os.O_CREAT, 0o640))
+        os.chmod(name, 0o640)
+        os.chown(name, number, grp.getgrnam(group).gr_gid)
+
+
+def set_up(words):
+    """Puts all in place."""
+    for it in filter(None, (words.host, words.warm)):
+        if not HOST.fullmatch(it):
+            raise Refused(f"{it!r} is not the name of a host")
+    text = owners(words.paths) if words.paths else ""
+    if before.is_there():
+        before.set_aside()
+    if not words.warm and not text and not os.path.exists(f"{FOLDER}/owners.json"):
+        raise Refused("no path is named, and then every module would be public: PATH=SHELF")
+    for name in OURS:
+        files.replace(f"{FOLDER}/{name}", source(f"nginx/{name}"), 0o644)
+    own(STREAM, with_name_server(source("nginx/stream.conf")))
+    own(nginx.CONF, conf(words.host, words.warm))
+    for name, content in (("names", ""), ("owners.json", text), ("goshelf.json", EMPTY)):
+        if content or name == "names":
+            own(f"{FOLDER}/{name}", content)
+    folders()

@@ -1,0 +1,158 @@
+// Who asks, and which location answers. goshelf.conf asks `way` once for each request, before anything else.
+// `goshelf_front` is goshelf.json, which goshelf-front writes: it holds sums of keys, and no key.
+
+import crypto from 'crypto';
+
+// A target as the go command writes it, without the marks of capitals: the module path is the first group.
+const MODULE = /^\/(?:sumdb\/sum\.golang\.org\/lookup\/)?([a-z0-9-]+(?:\.[a-z0-9-]+)+(?:\/[a-z0-9_~-](?:[a-z0-9._~-]*[a-z0-9_~-])?)*)(?:\/@latest|\/@v\/[a-z0-9._~+-]+|@[a-z0-9._~+-]+)$/;
+
+// The person of a header Authorization, with the key; nothing for a key that is unknown or whose day is over.
+function known(header) {
+    const sent = /^Basic ([A-Za-z0-9+\/]+=*)$/.exec(header || '');
+    const login = sent ? Buffer.from(sent[1], 'base64').toString() : '';
+    const colon = login.indexOf(':'), key = login.slice(colon + 1);
+    if (colon < 0 || key.length < 16 || key.length > 64) {
+        return null;
+    }
+    const sum = crypto.createHash('sha256').update(key).digest('hex');
+    const it = goshelf_front.users[sum.slice(0, 16)];
+    // 16 digits can be met by trying, so the whole sum counts where the file has it. (`$` also matches before an end of line here,
+    // so no regular expression with it may say what a key is.)
+    if (!it || (it.sha256 ? it.sha256 !== sum : /[^a-z0-9]/.test(key)) || (it.until && isOver(it.until))) {
+        return null;
+    }
+    return {key: key, fingerprint: sum.slice(0, 16), name: it.name, shelf: it.shelf, isMachine: it.machine};
+}
+
+// Whether the last day or minute is over, in UTC.
+function isOver(until) {
+    return new Date().toISOString().slice(0, until.length) > until;
+}
+
+// A target without the marks of capitals, which are `!` or %21 before a small letter. null if it has another escape.
+function plain(target) {
+    if (target.indexOf('!') < 0 && target.indexOf('%') < 0) {
+        return target;
+    }
+    const text = target.replace(/(?:!|%21)([a-z])/g, '$1');
+    return /[!%]/.test(text) ? null : text;
+}
+
+// The shelves that may publish a path: those of the longest path of owners.json that it is at or below. null if it is public.
+function owners(path) {
+    let found = null;
+    if (!(goshelf_front.deepest > 0)) {
+        throw new Error('goshelf.json names no path');
+    }
+    for (let count = goshelf_front.deepest, end = 0; count > 0 && end >= 0; count--) {
+        end = path.indexOf('/', end + 1);
+        found = goshelf_front.owners[end < 0 ? path : path.slice(0, end)] || found;
+    }
+    return found;
+}
+
+// (a list of a preloaded file has no methods)
+function has(list, text) {
+    for (let at = 0; at < list.length; at++) {
+        if (list[at] === text) {
+            return true;
+        }
+    }
+    return false;
+}
+
+// The location that asks the public proxy, by what nginx may cache: the `.info` of a branch changes. '' for what it is not asked.
+function publicly(text, module) {
+    if (!module) {
+        return /^\/sumdb\/sum\.golang\.org\/tile\/[0-9a-z]+(?:\/[0-9a-z]+)*(?:\.p\/[0-9]+)?$/.test(text) ? 'public_kept'
+            : /^\/sumdb\/sum\.golang\.org\/(?:supported|latest)$/.test(text) ? 'public_now' : '';
+    }
+    const whole = /\/@v\/v[0-9]+\.[0-9]+\.[0-9]+(?:[-+][^\/]*)?\.(info|mod|zip)$/.exec(text);
+    if (whole) {
+        return whole[1] === 'zip' ? 'public_zip' : 'public_kept';
+    }
+    return /\/@(?:latest|v\/list|v\/[^\/]+\.info)$/.test(text) ? 'public_now'
+        : /^\/sumdb\/[^@]+[^\/]@[^\/]+$/.test(text) ? 'public_kept' : '';
+}
+
+// The location of what is neither a module nor a lookup of one.
+function other(uri, text) {
+    if (uri.startsWith('/sumdb/')) {
+        return 'no_database';
+    }
+    if (uri === '/login') {
+        return 'known';
+    }
+    if (/^\/(?:index\.html|(?:m|health|parts)\/.*)?$/.test(uri)) {
+        return 'pages';
+    }
+    return text && /^\/-\/gosum\/[a-z0-9._~+@\/-]+$/.test(text) ? 'ours_kept' : 'ours';
+}
+
+function isFile(text) {
+    return text.indexOf('/@v/') > 0 && (text.endsWith('.mod') || text.endsWith('.zip') || text.endsWith('.info'));
+}
+
+// Whether a version was taken out, here or on the caller's shelf. goshelf.json has the target of each, without the end of a file's name.
+function isTakenOut(target, isGet, shelf) {
+    const text = target.indexOf('%') < 0 ? target : target.replace(/%21/g, '!'), start = text.startsWith('/-/gosum/') ? 8 : 0;
+    const from = goshelf_front.gone[text.slice(start, isGet && isFile(text) ? text.lastIndexOf('.') : text.length)];
+    return from && (from.length === 0 || has(from, shelf));
+}
+
+// Sets what the log of publishes has of the target of a module.
+function note(v, target) {
+    const at = target.indexOf('/@v/'), written = (text) => text.replace(/(?:!|%21)([a-z])/g, (_, letter) => letter.toUpperCase());
+    if (at > 0) {
+        v.goshelf_path = written(target.slice(1, at));
+        v.goshelf_version = written(target.slice(at + 4));
+    }
+}
+
+// Sets what the limits, the logs and the locations read of a caller.
+function greet(v, who) {
+    v.goshelf_user = who.name;
+    v.goshelf_fingerprint = who.fingerprint;
+    v.goshelf_shelf = who.shelf;
+    v.goshelf_key = who.key;
+    v[who.isMachine ? 'goshelf_machine' : 'goshelf_person'] = who.name;
+    v.goshelf_part = who.shelf + ' ' + goshelf_front.generation;
+}
+
+function way(r) {
+    const v = r.variables, target = v.request_uri, header = v.http_authorization, who = known(header);
+    if (!who) {
+        return goshelf_front.before && header ? 'before' : 'login';
+    }
+    greet(v, who);
+    const isGet = r.method === 'GET' || r.method === 'HEAD';
+    const text = plain(target), module = text && MODULE.exec(text), shelves = module && owners(module[1]);
+    if (!isGet && module) {
+        note(v, target);
+    }
+    if (goshelf_front.gone && isTakenOut(target, isGet, who.shelf)) {
+        return 'taken_out';
+    }
+    if (!isGet) {
+        return shelves && has(shelves, who.shelf) ? 'ours' : 'not_yours';
+    }
+    if (shelves && !text.startsWith('/sumdb/')) {
+        return isFile(text) ? 'ours_kept' : 'ours';
+    }
+    const found = r.method === 'GET' && text && !shelves && publicly(text, module);
+    if (!found) {
+        return other(v.uri, text);
+    }
+    if (v.goshelf_others !== 'public') {
+        return 'nowhere';
+    }
+    v.goshelf_out = 'out';
+    return found;
+}
+
+// The number of the goshelf.json that this process has read.
+function serial() {
+    return String(goshelf_front.serial);
+}
+
+export default {way, serial};

@@ -6,7 +6,7 @@ One goshelf is asked alone, and then 1, 2 and 4 of them behind nginx by tools/sh
 teams shared out among them, without and with nginx's cache. Each is asked three times: with publishes and an empty
 cache, where every answer is compared with that of the one goshelf; by other builds, as fast as it answers; and at
 --load of that rate, in bursts, for the latencies. Build the program first (`./goshelf --version`); nginx and a C
-compiler are on the path (Debian: nginx-light, gcc).
+compiler are on the path (Debian: nginx-light, libnginx-mod-http-js, libnginx-mod-stream, gcc).
 
 With --public 95, 95 of 100 requests of a build are for public modules, and each deployment behind a cache is asked in
 three ways: goshelf answers 404 and the public proxy stands behind in GOPROXY; nginx answers that 404 itself; or nginx
@@ -15,6 +15,8 @@ is the one URL. The public proxy is an nginx of its own on this machine, which c
 
 import argparse
 import base64
+import hashlib
+import json
 import os
 import random
 import re
@@ -28,14 +30,16 @@ import time
 
 from company_plan import Company, Plan
 from company_plot import plot
-from company_public import ONE, SECOND, WAYS, Outside, files, free_port
+from company_public import BEHIND, ONE, SECOND, WAYS, Outside, files, free_port
 from shared import PROGRAM, ROOT, add_sizes
 
 OUTCOME = struct.Struct("=IIQQ")
 TICK = os.sysconf("SC_CLK_TCK")
 QUANTILES = (0.5, 0.99, 0.999)
 NGINX = """
-daemon off; pcre_jit on; worker_processes {workers}; pid {folder}/pid; error_log {folder}/errors crit; \
+load_module /usr/lib/nginx/modules/ngx_http_js_module.so; load_module /usr/lib/nginx/modules/ngx_stream_module.so;
+include {folder}/stream.conf;
+daemon off; worker_processes {workers}; pid {folder}/pid; error_log {folder}/errors crit; \
 worker_rlimit_nofile 16384;
 events {{ worker_connections 4096; }}
 http {{
@@ -67,6 +71,7 @@ class Front:
     """nginx is asked, by a login."""
 
     def __init__(self, company, port, outside):
+        self.company = company
         self.listens, self.users, self.random = port, company.sizes.users, random.Random(company.sizes.seed)
         # the public proxy's port, where this has no public modules
         self.outside = outside
@@ -75,7 +80,8 @@ class Front:
         return self.listens
 
     def head(self, method, shelf, target, publishes):
-        login = basic(user_of(shelf, "publish" if publishes else "read", self.random.randrange(self.users)))
+        user = user_of(shelf, "publish" if publishes else "read", self.random.randrange(self.users))
+        login = basic(user, (self.company.key if publishes else self.company.reader)(shelf))
         return f"{method} {target} HTTP/1.1\r\nHost: localhost\r\nAuthorization: {login}\r\n".encode()
 
 
@@ -83,8 +89,8 @@ def user_of(shelf, right, number):
     return f"{shelf}-{right}-{number}"
 
 
-def basic(user):
-    return "Basic " + base64.b64encode(f"{user}:{user}password00000000".encode()).decode()
+def basic(user, key):
+    return "Basic " + base64.b64encode(f"{user}:{key}".encode()).decode()
 
 
 class Store:
@@ -158,13 +164,14 @@ def config(company, folder, port, stores, is_cached, way, outside):
             check=True,
         ).stdout.decode()
     text = "\n".join(it for it in told.split("\n") if not re.match(r"\s*(ssl_|limit_)", it))
-    text = text.replace("listen 443 ssl;", f"listen 127.0.0.1:{port} backlog=4096;").replace(
-        "/var/log/nginx/", f"{folder}/"
-    )
+    text = text.replace("listen 443 ssl;", f"listen 127.0.0.1:{port} backlog=4096;")
+    text = text.replace("/var/log/nginx/", f"{folder}/").replace("/var/log/goshelf/", f"{folder}/")
     text = text.replace("/etc/nginx/goshelf/", f"{folder}/").replace("/var/cache/nginx/goshelf", f"{folder}/cache")
-    text = text.replace("server proxy.golang.org:443;", f"server 127.0.0.1:{outside.tls if outside else 9};")
+    for it in ("listen 80;", "listen 127.0.0.1:8445;"):
+        text = text.replace(it, f"listen 127.0.0.1:{free_port()};")
+    text = text.replace("127.0.0.1:8444", outside.way if outside else "127.0.0.1:9")
     if way == SECOND:
-        text = text.replace("default $goshelf_public;", "default nowhere;")
+        text = text.replace("js_var $goshelf_others public;", "js_var $goshelf_others nowhere;")
     return text if is_cached else text.replace("proxy_cache goshelf;", "proxy_cache off;")
 
 
@@ -179,19 +186,15 @@ def write_shards(company, stores, name):
                     file.write(f"{'group' if shelf in company.groups else 'team'} {' '.join([shelf, *members])}\n")
 
 
-def maps(company):
-    """users.map and keys.map."""
-    users = [
-        (user_of(shelf, right, number), shelf, right)
-        for shelf in company.shelves
-        for right in ("read", "publish")
-        for number in range(company.sizes.users)
-    ]
-    lines = "".join(
-        f'"{basic(user)}" "{basic(user).split()[1]} {user} {shelf} {right}";\n' for user, shelf, right in users
-    )
-    keys = "".join(f'"{it} read" {company.reader(it)};\n"{it} publish" {company.key(it)};\n' for it in company.shelves)
-    return {"users.map": lines, "keys.map": keys}
+def front(company, way):
+    """goshelf.json, by which all users of a shelf with one right have one key."""
+    users = {}
+    for shelf in company.shelves:
+        for right, key in (("read", company.reader(shelf)), ("publish", company.key(shelf))):
+            digest = hashlib.sha256(key.encode()).hexdigest()
+            users[digest[:16]] = {"name": f"{shelf}-{right}", "shelf": shelf, "right": right, "sha256": digest}
+    owners = {"example.com": company.shelves, **({"public.example": []} if way == BEHIND else {})}
+    return json.dumps({"serial": 1, "generation": 1, "deepest": 1, "owners": owners, "users": users})
 
 
 class Nginx:
@@ -204,7 +207,7 @@ class Nginx:
             os.chmod(f"{folder}/{name}", 0o777)
         os.chmod(folder, 0o777)
         conf = config(company, folder, self.listens, stores, is_cached, way, outside)
-        texts = {"goshelf.conf": conf, **maps(company), **files(folder, company.shelves, way, outside)}
+        texts = {"goshelf.conf": conf, **files(folder, outside), "goshelf.json": front(company, way)}
         texts["nginx.conf"] = NGINX.format(folder=folder, workers=company.sizes.workers)
         for name, text in texts.items():
             with open(f"{folder}/{name}", "w", encoding="utf-8") as file:
@@ -225,7 +228,7 @@ class Nginx:
 
     def looked_up(self):
         """HIT, or why not, of each request that nginx looked up in its cache."""
-        ends = [line.rsplit(None, 1)[1] for line in read(f"{self.folder}/goshelf.log").splitlines()]
+        ends = [line.split()[9] for line in read(f"{self.folder}/goshelf.log").splitlines()]
         return [it for it in ends if it != "-"]
 
     def stop(self):

@@ -40,6 +40,7 @@ class Outside:
 
     def __init__(self, folder, length):
         self.folder, self.plain, self.tls = folder, free_port(), free_port()
+        self.way = f"127.0.0.1:{free_port()}"
         words = [*CERTIFICATE.split(), "-out", f"{folder}/cert.pem", "-keyout", f"{folder}/key.pem"]
         subprocess.run(words, check=True, capture_output=True)
         with open(f"{folder}/zip", "wb") as file:
@@ -57,13 +58,15 @@ class Outside:
         self.child.wait()
 
 
-def files(folder, shelves, way, outside):
-    """The files of deploy/nginx that goshelf.conf includes, and the map of paths, for a way to have public modules."""
+def files(folder, outside):
+    """The files of deploy/nginx beside goshelf.conf."""
     found = {}
-    for name in ("elsewhere.conf", "public.conf"):
+    for name in ("goshelf.js", "locations.conf", "public.conf", "stream.conf"):
         with open(os.path.join(ROOT, "deploy", "nginx", name), encoding="utf-8") as file:
             lines = [it for it in file.read().split("\n") if not it.lstrip().startswith("limit_")]
         text = "\n".join(lines).replace("/etc/nginx/goshelf/", f"{folder}/")
-        found[name] = text.replace(AUTHORITIES, f"{outside.folder}/cert.pem") if outside else text
-    ours = '"example.com" "{}";\n'.format(" ".join(shelves))
-    return {**found, "paths.map": ours + ('"public.example" "-";\n' if way == BEHIND else "")}
+        if outside:
+            text = text.replace(AUTHORITIES, f"{outside.folder}/cert.pem").replace("127.0.0.1:8444", outside.way)
+            text = text.replace(f"{NAME}:443", f"127.0.0.1:{outside.tls}")
+        found[name] = text.replace("127.0.0.1:8444", f"127.0.0.1:{free_port()}")
+    return found

@@ -19,8 +19,9 @@ bench/RESULTS.md, of six parts, or of those that --only names:
             same load without a copy; and the server's peak memory of both, started as the unit starts it. With
             --beside FILE in turn with that program
   catalog   `catalog --control` of a store of 2,000 paths with 10 versions each, beside `inventory --db` less what the
-            opening takes: the seconds of all processors, while nobody asks; and what it takes while eight clients ask
-            on and on, and how long their requests wait meanwhile, beside the same load without a catalog
+            opening takes: the seconds of all processors, while nobody asks, and the command's peak memory; and what it
+            takes while eight clients ask on and on, and how long their requests wait meanwhile, beside the same load
+            without a catalog
 
 STORES names the folder of the stores, 6 GiB for all parts.
 """
@@ -91,10 +92,10 @@ class Server:
 
     def printed(self):
         """Has a catalog printed. Returns when the command began and when it had ended, the seconds of all processors
-        that it took, its own too, and its bytes."""
+        that it took, its own too, its peak in MiB, and its bytes."""
         before, begun = used(self.child), time.monotonic()
-        own, _, size = lists.run(self.program, ["catalog", "--control", self.control, "--key", KEY], b"")
-        return begun, time.monotonic(), own + (used(self.child) - before) / 1e6, size
+        own, peak, size = lists.run(self.program, ["catalog", "--control", self.control, "--key", KEY], b"")
+        return begun, time.monotonic(), own + (used(self.child) - before) / 1e6, peak, size
 
     def forget_peak(self):
         with open(f"/proc/{self.child.pid}/clear_refs", "w", encoding="ascii") as file:
@@ -375,8 +376,8 @@ def catalog(words, folder, client):
     for _ in range(words.copies):
         load = Load(client, server.port, targets, words.clients, BEFORE + LONGEST)
         time.sleep(BEFORE)
-        begun, ended, _, size = server.printed()
-        if load.child.poll() is not None or size != alone[0][3]:
+        begun, ended, _, _, size = server.printed()
+        if load.child.poll() is not None or size != alone[0][4]:
             sys.exit("the load ended before the catalog did, or the catalog is not whole")
         load.end()
         waits += waits_of(load.outcomes(), begun, ended)
@@ -384,12 +385,13 @@ def catalog(words, folder, client):
     server.stop()
     remove(file)
     less = statistics.median(inventory) - statistics.median(opening)
-    mine = [it for _, _, it, _ in alone]
+    mine, peak = [it for _, _, it, _, _ in alone], max(it for _, _, _, it, _ in alone)
     name = f"`catalog --control` of {words.paths:,} paths with {words.each} versions each"
     ratio = f"{middle(mine)}, {statistics.median(mine) / less:.2f} times the {less:.2f} of `inventory --db`"
     return [
         (f"{name}, nobody asks, all processors", f"{ratio} beside its opening of {statistics.median(opening):.2f}"),
-        (f"{name}, nobody asks", middle([ended - begun for begun, ended, _, _ in alone])),
+        (f"{name}, nobody asks", middle([ended - begun for begun, ended, _, _, _ in alone])),
+        (f"{name}, the command's peak", f"{peak:.0f} MiB for lines of {alone[0][4] / 1_048_576:.1f} MiB"),
         (f"{name}, while {clients(words.clients)} ask", middle(loaded)),
         (f"{name}, a request meanwhile", f"{late(waits)}; without a catalog {late(plain)}"),
     ]

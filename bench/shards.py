@@ -24,7 +24,7 @@ def tool(folder, command):
     """The seconds that tools/shards takes, and its last line."""
     begun = time.monotonic()
     told = subprocess.run(
-        [os.path.join(ROOT, "tools", "shards"), command, f"{folder}/shards.conf", f"{folder}/keys.map"],
+        [os.path.join(ROOT, "tools", "shards"), command, f"{folder}/shards.conf", f"{folder}/shards.keys"],
         capture_output=True,
         text=True,
     )
@@ -34,11 +34,11 @@ def tool(folder, command):
 def write_files(folder, company, stores):
     write_shards(company, stores, f"{folder}/shards.conf")
     keys = [
-        f'"{it} {right}" {key};'
+        f"{it} {right} {key}"
         for it in company.shelves
         for right, key in (("read", company.reader(it)), ("publish", company.key(it)))
     ]
-    with open(f"{folder}/keys.map", "w", encoding="utf-8") as file:
+    with open(os.open(f"{folder}/shards.keys", os.O_WRONLY | os.O_CREAT, 0o600), "w", encoding="utf-8") as file:
         file.write("\n".join(keys) + "\n")
 
 

@@ -24,8 +24,8 @@ SUITE = Suite()
 COMMANDS = sorted(glob.glob("deploy/**/goshelf-*", root_dir=ROOT, recursive=True))
 TOOLS = ["tools/catalog", "tools/publish/build", "tools/release", "tools/shards"]
 SCRIPTS = [*TOOLS, ".ci/gate", ".ci/run", "tests/all", *COMMANDS]
-# runs a program of tools/publish, which answers
-LAUNCHER = "tools/goshelf-publish"
+# run programs of tools/publish, which answer
+LAUNCHERS = ["tools/goshelf-adopt", "tools/goshelf-publish", "tools/publish/run"]
 # what several of the commands source
 COMMON = "deploy/common.sh"
 # folders with files in Python
@@ -104,10 +104,17 @@ def rattle():
             SUITE.holds(f"at most {MOST_WIDE} of a {kind} have more than {LONGEST_LINE}", wide <= MOST_WIDE, wide)
 
 
+def links():
+    """The gate refuses a tree with a link in it."""
+    files = (os.path.join(at, name) for at, folders, names in os.walk(ROOT) for name in (*folders, *names))
+    found = [it for it in files if os.path.islink(it) and not {".git", "out"} & set(it.split(os.sep))]
+    SUITE.equal("no file or folder is a link", found, [])
+
+
 def shell():
     """The files in sh pass shellcheck, and what several commands of deploy/ do alike stands in one of them."""
     installed = [f"deploy/debian/{it}" for it in ("postinst", "prerm", "postrm")]
-    for script in ("goshelf", COMMON, LAUNCHER, *SCRIPTS, *installed):
+    for script in ("goshelf", COMMON, *LAUNCHERS, *SCRIPTS, *installed):
         if script == COMMON or read(script).startswith(SHELLS):
             SUITE.equal(f"shellcheck {script}", ran("shellcheck", "-x", "--source-path=.", script), (0, "", ""))
     homes = {}
@@ -179,6 +186,7 @@ def main():
     SUITE.holds("the commands of deploy/ are found", len(COMMANDS) > 8, COMMANDS)
     installed()
     benches()
+    links()
     shell()
     settings()
     python(in_python())

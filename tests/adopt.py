@@ -297,10 +297,11 @@ def others(room, words, server, url):
     front = [*words[:4], server.url, "--key-file"]
     stopped = "stopped there: run this again, and it goes on"
     told = adopted(room, *front, f"{room.folder}/nobody", "example.com/greet")
-    unknown = (
-        f"{server.url} has no such key, or takes no such path or version: check the key and the URL, then -/modules "
-    )
+    unknown = f"{server.url} has no such key: check the key and the URL"
     SUITE.equal("a key of nobody", told, (1, [], [unknown]))
+    told = adopted(room, *front[:-1], "example.com/greet")
+    unknown = f"{server.url} has lost the key of your user: ask the operator"
+    SUITE.equal("a login without a key", told, (1, [], [unknown]))
     told = adopted(
         room, *front, f"{room.folder}/reader", "example.com/greet@v1.0.0", "example.com/odd@v1.6.0", "a.com/b"
     )

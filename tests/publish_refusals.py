@@ -10,13 +10,14 @@ import io
 import os
 import re
 import shutil
+import signal
 import subprocess
 import sys
 
 from lib.ports import free_port
 from lib.program import run
 from lib.publishing import Refusals
-from lib.repositories import KEY, READER, UNASKED, Repository, Room, gomod, greet_of, module
+from lib.repositories import KEY, PUBLISH, READER, UNASKED, Repository, Room, gomod, greet_of, module
 from lib.scratch import in_a_folder, write
 from lib.servers import Server
 from lib.stores import new_store
@@ -150,6 +151,12 @@ def of_machine(room, greet):
     SUITE.refused(
         room, "no folder for files", f"no folder can be made in {at}: name another by TMPDIR", *words, TMPDIR=at
     )
+    ends, begins = os.pipe()
+    os.close(ends)
+    ran = subprocess.run([PUBLISH, *words], stdout=begins, stderr=begins, env=room.env, timeout=300)
+    os.close(begins)
+    found = ran.returncode in (0, 128 + signal.SIGPIPE), os.listdir(room.tmp)
+    SUITE.equal("nobody reads what it says: its temporary files", found, (True, []))
     os.mkdir(f"{room.folder}/commands")
     for name, other in (("git", "go"), ("go", "git")):
         at = f"{room.folder}/commands/{name}"

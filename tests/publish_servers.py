@@ -6,6 +6,7 @@ those of a server in this file.
 """
 
 import base64
+import contextlib
 import csv
 import http.server
 import io
@@ -22,7 +23,7 @@ import time
 from lib.keys import KEYS
 from lib.modules import h1, zipped
 from lib.peers import Quiet
-from lib.ports import free_port
+from lib.ports import free_port, wait_until
 from lib.program import run
 from lib.publishing import Refusals
 from lib.repositories import KEY, PUBLISH, READER, TIME, Repository, Room, greet_of, module
@@ -169,6 +170,8 @@ def answers(url):
          "the header Mod-Length did not arrive: let the server in front of goshelf pass it on"),
         (401, "", f"{url} wants a user: give --netrc, and a line of ~/.netrc with the host, the user and its password"),
         (404, "<html>", f"{url} answers 404 and is no goshelf: check the URL (<html>)"),
+        (404, f"no /k/{KEY}/example.com/greet", f"{url} answers 404 and is no goshelf: check the URL "
+         "(no /k/.../example.com/greet)"),
         (403, "not your path\n",
          f"{url} does not let you publish example.com/greet: "
          "publish a path of your own, or ask the operator for this one"),
@@ -214,7 +217,8 @@ def of_others(room, greet):
         Answers.answer = status, body.encode()
         code, output, errors = room.publish(*words)
         told = code, output, re.sub(r"of \d+ bytes", "of SIZE bytes", errors)
-        SUITE.equal(f"an answer {status} {body.partition(chr(10))[0]}", told, (1, "", f"publish: {wanted}\n"))
+        name = f"an answer {status} {body.partition(chr(10))[0]}".replace(KEY, "KEY")
+        SUITE.equal(name, told, (1, "", f"publish: {wanted}\n"))
     Answers.answer = 201, b"published\n"
     wanted = f"{url} answers 201 and is no goshelf: check the URL (published)"
     SUITE.refused(room, "a check that a server publishes", wanted, "--check", *words)
@@ -298,6 +302,21 @@ def of_transfers(room, greet):
     told = child.returncode, os.listdir(room.tmp)
     SUITE.equal("a run that is stopped: its status, and its temporary files", told, (143, []))
     held.close()
+    pipes["stdin"] = subprocess.PIPE
+    child = subprocess.Popen([PUBLISH, "--to", url, "--key-file", "-", *words[2:]], env=room.env, **pipes)
+    wait_until(lambda: reads_input(child.pid))
+    child.send_signal(signal.SIGINT)
+    told = child.wait(timeout=30), child.communicate()
+    SUITE.equal("a run that is stopped while it waits for a key", told, (130, (b"", b"")))
+
+
+def reads_input(pid):
+    """Whether a thread of a process waits for its standard input: in the system call 0, a read, of the file 0."""
+    found = []
+    for it in os.listdir(f"/proc/{pid}/task"):
+        with contextlib.suppress(OSError), open(f"/proc/{pid}/task/{it}/syscall", encoding="utf-8") as file:
+            found.append(file.read().split()[:2])
+    return ["0", "0x0"] in found
 
 
 def no_host(room, greet):

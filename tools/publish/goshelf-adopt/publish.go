@@ -51,10 +51,15 @@ type errStop struct{ error }
 // check asks whether goshelf knows the login.
 func (s *shelf) check() error {
 	got, err := s.Ask(s.ctx, server.Get("-/modules"))
-	if err == nil && got.Status != 200 {
-		err = s.refusal(got, &version{path: "-/modules"}, contents{})
+	switch {
+	case err != nil || got.Status == 200:
+		return err
+	case got.Status != 404 || answers.Line(got) != "not found":
+		return s.refusal(got, &version{}, contents{})
+	case s.netrc != "":
+		return fmt.Errorf("%s has lost the key of your user: ask the operator", s.URL)
 	}
-	return err
+	return fmt.Errorf("%s has no such key: check the key and the URL", s.URL)
 }
 
 // has asks goshelf for the .info of a version.

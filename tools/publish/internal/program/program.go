@@ -38,15 +38,43 @@ type UsageError struct{ error }
 func (p Program) Main() {
 	ctx, stop := context.WithCancel(context.Background())
 	caught, ended := make(chan os.Signal, 1), make(chan error, 1)
-	signal.Notify(caught, os.Interrupt, syscall.SIGTERM, syscall.SIGHUP)
-	go func() { ended <- p.Run(ctx, os.Args[1:], os.Stdin, os.Stdout, os.Stderr) }()
+	signal.Notify(caught, os.Interrupt, syscall.SIGTERM, syscall.SIGHUP, syscall.SIGPIPE)
+	go func() { ended <- p.Run(ctx, os.Args[1:], input{ctx, os.Stdin}, os.Stdout, os.Stderr) }()
 	select {
 	case err := <-ended:
 		os.Exit(p.report(os.Stdout, os.Stderr, err))
 	case it := <-caught:
 		stop()
-		<-ended // (it removes its temporary files)
+		select {
+		case <-ended: // (it removes its temporary files)
+		case <-caught: // (from somebody who does not wait for that)
+		}
 		os.Exit(128 + int(it.(syscall.Signal)))
+	}
+}
+
+// An input is read until its context ends. Without that, nobody could stop a run that waits for a terminal.
+type input struct {
+	ctx  context.Context
+	from io.Reader
+}
+
+func (i input) Read(into []byte) (int, error) {
+	type part struct {
+		text []byte
+		err  error
+	}
+	came := make(chan part, 1)
+	go func() {
+		text := make([]byte, len(into))
+		count, err := i.from.Read(text)
+		came <- part{text[:count], err}
+	}()
+	select {
+	case it := <-came:
+		return copy(into, it.text), it.err
+	case <-i.ctx.Done():
+		return 0, i.ctx.Err()
 	}
 }
 

@@ -1,6 +1,7 @@
 package program
 
 import (
+	"context"
 	"errors"
 	"flag"
 	"io"
@@ -24,6 +25,21 @@ func TestReport(t *testing.T) {
 		if got := p.report(&stdout, &stderr, it.err); got != it.status || stdout.String() != it.stdout || stderr.String() != it.stderr {
 			t.Errorf("%v: %d, %q, %q", it.err, got, stdout.String(), stderr.String())
 		}
+	}
+}
+
+// TestInput reads what is there, and ends where nothing comes any more.
+func TestInput(t *testing.T) {
+	ctx, stop := context.WithCancel(context.Background())
+	got, err := io.ReadAll(input{ctx, strings.NewReader("a key")})
+	if string(got) != "a key" || err != nil {
+		t.Errorf("%q, %v", got, err)
+	}
+	silent, end := io.Pipe()
+	defer end.Close()
+	stop()
+	if _, err := io.ReadAll(input{ctx, silent}); !errors.Is(err, context.Canceled) {
+		t.Error(err)
 	}
 }
 

@@ -9,6 +9,7 @@ import (
 	"os"
 	"os/exec"
 	"path/filepath"
+	"runtime"
 	"strings"
 )
 
@@ -43,7 +44,7 @@ func Find() error {
 func (t Tools) output(ctx context.Context, it command) ([]byte, error) {
 	var stdout, stderr bytes.Buffer
 	cmd := exec.CommandContext(ctx, it.words[0], it.words[1:]...)
-	cmd.Dir, cmd.Env = it.folder, append(t.environment(os.Environ()), it.settings...)
+	cmd.Dir, cmd.Env = it.folder, append(t.environment(os.Environ(), runtime.GOOS), it.settings...)
 	cmd.Stdout, cmd.Stderr = &stdout, &stderr
 	err := cmd.Run()
 	if err == nil {
@@ -68,9 +69,9 @@ var dropped = map[string]bool{"GIT_DIR": true, "GIT_WORK_TREE": true, "GIT_INDEX
 	"GIT_OBJECT_DIRECTORY": true, "GIT_ALTERNATE_OBJECT_DIRECTORIES": true, "GIT_PREFIX": true, "GIT_NAMESPACE": true,
 	"GIT_DEFAULT_HASH": true, "REQUEST_METHOD": true}
 
-// environment returns the settings of this process that a child may have.
-func (t Tools) environment(own []string) (kept []string) {
-	hasHome := false
+// environment returns the settings of this process that a child may have, on a system of this name.
+func (t Tools) environment(own []string, system string) (kept []string) {
+	hasHome := system == "windows" // (git finds it without HOME, and in HOME alone where that is set)
 	for _, it := range own {
 		name, value, _ := strings.Cut(it, "=")
 		if !dropped[strings.ToUpper(name)] && !t.isSecret(value) {
@@ -136,9 +137,12 @@ func (t Tools) proxy(folder string) string { return fileURL(filepath.ToSlash(t.a
 
 // fileURL returns the URL of a folder, as the go command of any system reads it. (A comma would end it in GOPROXY.)
 func fileURL(path string) string {
-	if !strings.HasPrefix(path, "/") {
-		path = "/" + path // (a drive letter)
-	}
 	at := url.URL{Scheme: "file", Path: path}
+	switch host, below, _ := strings.Cut(strings.TrimPrefix(path, "//"), "/"); {
+	case strings.HasPrefix(path, "//"): // (a share of a server)
+		at.Host, at.Path = host, "/"+below
+	case !strings.HasPrefix(path, "/"): // (a drive letter)
+		at.Path = "/" + path
+	}
 	return strings.ReplaceAll(at.String(), ",", "%2C")
 }

@@ -1,6 +1,8 @@
 package server
 
 import (
+	"bytes"
+	"encoding/base64"
 	"errors"
 	"fmt"
 	"io"
@@ -12,6 +14,9 @@ import (
 	"strings"
 )
 
+// shortestHidden is the length of a secret from which on it is taken out of texts. A shorter one may be any word.
+const shortestHidden = 8
+
 // A Login is what opens a server: a key, which stands in the path of each request, or a user with a password.
 type Login struct{ Key, User, Password string }
 
@@ -19,6 +24,17 @@ var (
 	oneKey   = regexp.MustCompile(`^[a-z0-9]{16,64}$`)
 	keyInURL = regexp.MustCompile(`/k(/|$)|@`)
 )
+
+// hidden returns a text of a server without this login, which a server that is no goshelf may repeat.
+func (l Login) hidden(text []byte) []byte {
+	header := base64.StdEncoding.EncodeToString([]byte(l.User + ":" + l.Password))
+	for _, it := range []string{l.Key, l.Password, header} {
+		if len(it) >= shortestHidden {
+			text = bytes.ReplaceAll(text, []byte(it), []byte("..."))
+		}
+	}
+	return text
+}
 
 // CheckURL refuses a URL that has a secret, that no server has, or that would show a login to whoever is on the way.
 func CheckURL(option, text string) error {
@@ -66,7 +82,7 @@ func KeyLogin(name string, stdin io.Reader) (Login, error) {
 		stdin = file
 	}
 	text, err := io.ReadAll(io.LimitReader(stdin, 4096))
-	key := strings.TrimSpace(string(text))
+	key := strings.TrimSpace(strings.TrimPrefix(string(text), "\ufeff")) // (editors of Windows begin a file so)
 	if err != nil || !oneKey.MatchString(key) {
 		return Login{}, errors.New("the file of the key does not hold one key: a key is 16 to 64 characters of a-z and 0-9")
 	}

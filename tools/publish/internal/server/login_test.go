@@ -68,7 +68,7 @@ func TestURL(t *testing.T) {
 }
 
 func TestKey(t *testing.T) {
-	for text, isKey := range map[string]bool{key: true, key + "\r\n": true, " " + key + "\n\n": true, "": false, "short": false,
+	for text, isKey := range map[string]bool{key: true, key + "\r\n": true, "\ufeff" + key + "\r\n": true, " " + key + "\n\n": true, "": false, "short": false,
 		key + " " + key: false, strings.ToUpper(key): false, strings.Repeat("a", 65): false} {
 		got, err := KeyLogin("-", strings.NewReader(text))
 		if (err == nil && got.Key == key) != isKey {

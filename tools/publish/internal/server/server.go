@@ -34,6 +34,7 @@ type Server struct {
 	URL    string
 	name   string // of the program
 	wait   time.Duration
+	most   time.Duration // for one exchange
 	pause  time.Duration // before the second try; then twice as long each time
 	client http.Client
 	screen io.Writer // nil where nobody looks
@@ -71,10 +72,11 @@ func Put(target, time string, gomod, zip []byte, doubt string) Request {
 func New(name, url string, login Login, wait time.Duration, stderr io.Writer) *Server {
 	transport := http.DefaultTransport.(*http.Transport).Clone()
 	transport.DisableKeepAlives = true
-	s := &Server{Login: login, URL: url, name: name, wait: wait, pause: firstPause, client: http.Client{
+	s := &Server{Login: login, URL: url, name: name, wait: wait, most: longestTransfer, pause: firstPause}
+	s.client = http.Client{
 		Transport:     transport,
 		CheckRedirect: func(*http.Request, []*http.Request) error { return http.ErrUseLastResponse },
-	}}
+	}
 	if file, ok := stderr.(*os.File); ok {
 		if about, err := file.Stat(); err == nil && about.Mode()&os.ModeCharDevice != 0 {
 			s.screen = stderr
@@ -83,11 +85,14 @@ func New(name, url string, login Login, wait time.Duration, stderr io.Writer) *S
 	return s
 }
 
-// Follow has a server that is not goshelf lead elsewhere, which is told no login, but not from https to http.
+// Follow has a server that is not goshelf lead elsewhere, but not from https to http. Another host is told no login.
 func (s *Server) Follow() *Server {
 	s.client.CheckRedirect = func(next *http.Request, before []*http.Request) error {
 		if len(before) > 9 || IsPlain(next.URL.String()) && !IsPlain(before[0].URL.String()) {
 			return http.ErrUseLastResponse
+		}
+		if next.URL.Host != before[0].URL.Host { // (net/http goes on with a login below the same domain)
+			next.Header.Del("Authorization")
 		}
 		return nil
 	}
@@ -132,7 +137,7 @@ func (s *Server) show(format string, words ...any) {
 
 // askOnce sends a request once.
 func (s *Server) askOnce(ctx context.Context, it Request) (Reply, error) {
-	ctx, cancel := context.WithTimeout(ctx, longestTransfer)
+	ctx, cancel := context.WithTimeout(ctx, s.most)
 	defer cancel()
 	run := &transfer{wait: s.wait}
 	run.timer = time.AfterFunc(s.wait, func() { run.isLate.Store(true); cancel() })
@@ -149,6 +154,9 @@ func (s *Server) askOnce(ctx context.Context, it Request) (Reply, error) {
 	body, err := io.ReadAll(meter{io.LimitReader(got.Body, largestReply), func(int) { run.timer.Reset(run.wait) }})
 	if err != nil {
 		return Reply{}, s.lost(run, it.Doubt, err)
+	}
+	if got.StatusCode >= 300 { // (no file, so it may be shown)
+		body = s.hidden(body)
 	}
 	seconds, _ := strconv.ParseUint(got.Header.Get("Retry-After"), 10, 16)
 	return Reply{got.StatusCode, body, time.Duration(seconds) * time.Second}, nil

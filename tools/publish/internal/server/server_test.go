@@ -8,6 +8,7 @@ import (
 	"net"
 	"net/http"
 	"net/http/httptest"
+	"strconv"
 	"strings"
 	"testing"
 	"time"
@@ -87,6 +88,66 @@ func TestLost(t *testing.T) {
 		if err == nil || !strings.Contains(err.Error(), it.want) || strings.Contains(err.Error(), key) {
 			t.Errorf("%s: %v", it.url, err)
 		}
+	}
+}
+
+// TestHidden has servers that repeat a request. What they say shows no login, and a file stays as it is.
+func TestHidden(t *testing.T) {
+	host := httptest.NewServer(http.HandlerFunc(func(w http.ResponseWriter, r *http.Request) {
+		status, _ := strconv.Atoi(r.URL.Query().Get("status"))
+		w.WriteHeader(status)
+		fmt.Fprint(w, r.URL.Path, " ", r.Header.Get("Authorization"))
+	}))
+	defer host.Close()
+	for _, it := range []struct {
+		login      Login
+		target     string
+		want, file string
+	}{
+		{Login{Key: key}, "a", "/k/.../a ", "/k/" + key + "/a "},
+		{Login{User: "ann", Password: key}, key, "/... Basic ...", "/" + key + " Basic YW5uOmFscGhha2V5MDAwMDAwMDE="},
+		{Login{User: "ann", Password: "a"}, "a", "/a Basic ...", "/a Basic YW5uOmE="},
+	} {
+		s := New("publish", host.URL, it.login, time.Minute, io.Discard)
+		for status, want := range map[int]string{200: it.file, 301: it.want, 404: it.want} {
+			got, err := s.Ask(context.Background(), Get(fmt.Sprint(it.target, "?status=", status)))
+			if err != nil || string(got.Body) != want {
+				t.Errorf("%d: %q, %v", status, got.Body, err)
+			}
+		}
+	}
+}
+
+// TestFollow has a server that leads elsewhere, which hears no login, and nobody does in clear.
+func TestFollow(t *testing.T) {
+	s := New("publish", "", Login{}, time.Minute, io.Discard).Follow()
+	for to, want := range map[string]string{"https://a.example/b": "a login", "https://a.example:8443/b": "",
+		"https://x.a.example/b": "", "http://a.example/b": "no"} {
+		first, _ := http.NewRequest("GET", "https://a.example/", nil)
+		next, _ := http.NewRequest("GET", to, nil)
+		next.Header.Set("Authorization", "a login")
+		err := s.client.CheckRedirect(next, []*http.Request{first})
+		if got := next.Header.Get("Authorization"); (err != nil) != (want == "no") || err == nil && got != want {
+			t.Errorf("%s: %q, %v", to, got, err)
+		}
+	}
+}
+
+// TestLate has a server that sends a little again and again, and never all.
+func TestLate(t *testing.T) {
+	host := httptest.NewServer(http.HandlerFunc(func(w http.ResponseWriter, r *http.Request) {
+		for r.Context().Err() == nil {
+			fmt.Fprintln(w, "more")
+			w.(http.Flusher).Flush()
+			time.Sleep(10 * time.Millisecond)
+		}
+	}))
+	defer host.Close()
+	s := New("publish", host.URL, Login{Key: key}, time.Minute, io.Discard)
+	s.most = time.Second
+	_, err := s.Ask(context.Background(), Get("a"))
+	if want := host.URL + " did not answer within 1 seconds" + NothingDone; err == nil || err.Error() != want {
+		t.Error(err)
 	}
 }
 

@@ -1,6 +1,7 @@
 package server
 
 import (
+	"context"
 	"crypto/tls"
 	"errors"
 	"fmt"
@@ -64,7 +65,7 @@ func (s *Server) lost(run *transfer, doubt string, err error) error {
 	isDial, isName := errors.As(err, &dial), errors.As(err, &name)
 	switch {
 	case run.isLate.Load():
-		return fmt.Errorf("%s did not answer within %d seconds%s", s.URL, int(s.wait.Seconds()), doubt)
+		return s.late(s.wait, doubt)
 	case isDial && dial.Op == "proxyconnect":
 		why := "nobody listens at"
 		if isName {
@@ -78,10 +79,17 @@ func (s *Server) lost(run *transfer, doubt string, err error) error {
 		return fmt.Errorf("nobody listens at %s: check the URL, and that goshelf serves", s.URL)
 	case run.noTLS.Load():
 		return fmt.Errorf("no TLS with %s: %s, or check the URL (%w)", s.URL, trust(runtime.GOOS), err)
+	case errors.Is(err, context.DeadlineExceeded):
+		return s.late(s.most, doubt)
 	case run.connected.Load():
 		return fmt.Errorf("%s closed the connection%s", s.URL, doubt)
 	}
 	return fmt.Errorf("%s cannot be asked: %w", s.URL, err)
+}
+
+// late says that there was no answer, or no whole one, within a time.
+func (s *Server) late(within time.Duration, doubt string) error {
+	return fmt.Errorf("%s did not answer within %d seconds%s", s.URL, int(within.Seconds()), doubt)
 }
 
 // trust says how a user of a system has a certificate trusted.

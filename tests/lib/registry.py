@@ -91,6 +91,7 @@ SUITES = (
     listed("proofs_page"),
     listed("public_proxy", "nginx nginx-js nginx-stream openssl go umount"),
     listed("publish", "git go"),
+    listed("publish_checks", "git go nginx nginx-js nginx-stream openssl"),
     listed("publish_go", "git go gofmt"),
     listed("publish_gomod", "go"),
     listed("publish_refusals", "git go"),

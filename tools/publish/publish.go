@@ -120,8 +120,8 @@ func (p *publisher) checkThere(ctx context.Context, made *release.Release) (stri
 }
 
 // checkPublish makes two publishes that are always refused. The first has no go.mod, which is never valid, and an
-// invalid time, which goshelf refuses before that. The second has this go.mod, under a path that ends in its hash, so
-// the go.mod cannot name that path.
+// invalid time, which goshelf refuses before that. The second has this go.mod and zip, so a server in front meets their
+// size, under a path that ends in the hash of the go.mod, so the go.mod cannot name that path.
 func (p *publisher) checkPublish(ctx context.Context, file string, made *release.Release) error {
 	asked := server.Put(file, "none", nil, nil, server.NothingDone)
 	got, err := p.server.Ask(ctx, asked)
@@ -136,7 +136,7 @@ func (p *publisher) checkPublish(ctx context.Context, file string, made *release
 		return p.refusal(got, made, asked)
 	}
 	file = names.Target(otherPath(p.Module, made.GoModBytes), "v1.0.0")
-	asked = server.Put(file, made.Time, made.GoModBytes, nil, server.NothingDone)
+	asked = server.Put(file, made.Time, made.GoModBytes, made.ZipBytes, server.NothingDone)
 	if got, err = p.server.Ask(ctx, asked); err != nil {
 		return err
 	}

@@ -103,6 +103,8 @@ def programs(suite, folder, about):
     words = [f"{folder}/goshelf-publish-{about['version']}-linux-amd64", "--version"]
     printed = subprocess.run(words, capture_output=True, text=True).stdout
     suite.equal("its version", printed, f"goshelf-publish {about['version']}\n")
+    printed = subprocess.run(["go", "version", words[0]], capture_output=True, text=True).stdout
+    suite.equal("BUILD names the Go that built it", about["go"], printed.split()[-1])
 
 
 def is_instrumented():

@@ -1,9 +1,9 @@
 #!/usr/bin/env python3
 """The jobs of docs/CI.md build with a shelf's modules and publish, through nginx with TLS, as the page has them.
 
-Each runs on a clone of a tag as its service would run it: with the service's variables, and with what an earlier job
+A job runs on a clone of a tag as its service would run it: with the service's variables, and with what an earlier job
 kept. goshelf-publish comes from the shelf, where goshelf-offer put it by the command of docs/OPERATING.md. Only the
-name of the server is put in.
+name of the server is put in. A developer and a colleague do what docs/TUTORIAL.md says at its start.
 """
 
 import os
@@ -264,6 +264,34 @@ def shell(company, text):
     SUITE.holds("by a wrong password", told[0] == 1 and "knows no such user: mend the line" in told[2], told)
 
 
+def first_version(company):
+    """A developer who has go and a login publishes a first version by the tutorial, and a colleague gets it."""
+    (line,) = blocks("docs/TUTORIAL.md", "text")
+    settings, install, publish, get = blocks("docs/TUTORIAL.md", "sh")
+    greet = Repository(company.room, "greet")
+    first = greet.commit(module("example.com/greet"))
+    # (what an earlier job compiled)
+    own = {"GOCACHE": f"{company.folder}/github/.cache/go-build"}
+
+    def person(name, login, script, at=None):
+        home = f"{company.folder}/{name}"
+        os.makedirs(f"{home}/using")
+        netrc = line.replace("shelf.example.com", "localhost").replace(" ann ", f" {login} ")
+        write({f"{home}/.netrc": netrc.replace("KEY", company.client.passwords[login])})
+        told = company.run(settings + script, at or f"{home}/using", home, **own)
+        SUITE.equal(f"{name}: who may read the login", os.stat(f"{home}/.netrc").st_mode & 0o777, 0o600)
+        return told
+
+    tag, command = publish.splitlines()
+    check = command.replace("--to", "--check --to")
+    told = person("a developer", "ci", f"{install}{tag}\n{check}\n{command}\n", greet.folder)
+    lines = greet.lines("example.com/greet", "v0.1.0", first)
+    SUITE.equal("a developer's first version", told[:2], (0, f"checked {lines}published {lines}")) or print(told)
+    told = person("a colleague", "ci-read", f"go mod init example.com/using\n{get}cat go.mod\n")
+    found = told[0], told[1].endswith("require example.com/greet v0.1.0 // indirect\n")
+    SUITE.equal("a colleague gets it", found, (0, True)) or print(told)
+
+
 def session(folder):
     company = Company(folder)
     with closed_on_failure(company.machine):
@@ -274,6 +302,7 @@ def session(folder):
         github(company, texts[1])
         gitlab(company, texts[0])
         shell(company, blocks("docs/CI.md", "sh")[0])
+        first_version(company)
     company.machine.close()
 
 

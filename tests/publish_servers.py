@@ -348,7 +348,9 @@ def in_clear(room, greet):
     """No key and no password goes over plain http to another machine, whatever its name looks like."""
     write({f"{room.folder}/netrc": f"default login alpha password {KEY}\n"})
     words = ["--repository", greet.folder, "example.com/greet", "v1.0.0"]
-    for host in ("shelf.example", "10.0.0.1:8080", "127.0.0.1.shelf.example", "localhost.shelf.example"):
+    # (net/http takes LOCALHOST for another machine, and asks a proxy for it)
+    others = ("shelf.example", "10.0.0.1:8080", "127.0.0.1.shelf.example", "localhost.shelf.example", "LOCALHOST")
+    for host in others:
         wanted = (
             f"http://{host} would show the key or the password to everybody on the way: give --to a URL with https://"
         )

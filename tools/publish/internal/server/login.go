@@ -50,13 +50,14 @@ func CheckURL(option, text string) error {
 	return nil
 }
 
-// IsPlain says whether a URL sends what it is told over a network in clear.
+// IsPlain says whether a URL sends what it is told over a network in clear, which may be that of a proxy: net/http asks
+// none for an address of this machine, or for the name localhost as it is written here.
 func IsPlain(text string) bool {
 	at, err := url.Parse(text)
 	if err != nil || at.Scheme == "https" {
 		return false
 	}
-	return !strings.EqualFold(at.Hostname(), "localhost") && !net.ParseIP(at.Hostname()).IsLoopback()
+	return at.Hostname() != "localhost" && !net.ParseIP(at.Hostname()).IsLoopback()
 }
 
 // NetrcFile names the file of logins as the go command does, on a system of this name.

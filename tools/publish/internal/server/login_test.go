@@ -45,7 +45,7 @@ func TestNetrcFile(t *testing.T) {
 // TestIsPlain says which URLs show a login to somebody.
 func TestIsPlain(t *testing.T) {
 	for to, is := range map[string]bool{"https://shelf.example.com": false, "http://127.0.0.1:80": false, "http://[::1]": false,
-		"http://localhost:1": false, "http://LOCALHOST": false, "http://127.8.8.8/x": false, "http://shelf.example.com": true,
+		"http://localhost:1": false, "http://LOCALHOST": true, "http://127.8.8.8/x": false, "http://shelf.example.com": true,
 		"http://127.0.0.1.example.com": true, "http://10.0.0.1": true, "http://localhost.example.com": true, "http://0.0.0.0": true} {
 		if IsPlain(to) != is {
 			t.Errorf("%s: %v", to, !is)

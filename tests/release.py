@@ -189,7 +189,7 @@ class Gated:
         path = f"{self.bin}:{os.environ['PATH']}"
         env = {**os.environ, "PATH": path, "LC_ALL": "C", **PASSED, **settings}
         words = [f"{self.clone}/tools/release", *words]
-        ran = subprocess.run(words, cwd=self.clone, capture_output=True, text=True, timeout=300, env=env)
+        ran = subprocess.run(words, cwd=self.clone, capture_output=True, text=True, timeout=1_000, env=env)
         return ran.returncode, ran.stderr
 
 

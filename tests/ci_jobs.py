@@ -169,11 +169,18 @@ def values(text):
     return {name: value.strip("\"'") for name, value in re.findall(r"^ *(\w+): (.*)$", text, re.M)}
 
 
+def short(jobs, service):
+    """Rows: a job has few enough lines to be read at a glance."""
+    for name in ("build", "publish"):
+        SUITE.holds(f"{service}: the job {name} has at most 15 lines", jobs[name].count("\n") < 15, jobs[name])
+
+
 def gitlab(company, text):
     """The jobs of GitLab. Its cache is below the clone, and comes back in the next job."""
     top = parts(text, 0)
     rule = re.search(r"\$CI_COMMIT_TAG =~ /(.*)/'?$", top["publish"], re.M)[1]
     SUITE.equal("GitLab: the tags", [it for it in VERSION_TAGS + OTHER_TAGS if re.search(rule, it)], VERSION_TAGS)
+    short(top, "GitLab")
     SUITE.equal("GitLab: what is kept", re.findall(r"paths: \[(.*?)\]", text), [".go"])
     kept, home = f"{company.folder}/kept", f"{company.folder}/gitlab"
     os.mkdir(home)
@@ -214,6 +221,7 @@ def github(company, text):
     SUITE.equal("GitHub: the tags", found, VERSION_TAGS)
     top = parts(text, 0)
     jobs, home = parts(top["jobs"], 2), f"{company.folder}/github"
+    short(jobs, "GitHub")
     os.mkdir(home)
 
     def run_job(tag, name="publish"):

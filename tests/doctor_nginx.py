@@ -4,6 +4,7 @@
 They are made on a machine in a folder (lib/machine.py), whose nginx has the files of deploy/ as the page puts them.
 """
 
+import http.client
 import os
 import re
 import shutil
@@ -13,6 +14,7 @@ import sys
 import threading
 
 from lib.front import start
+from lib.keys import KEY
 from lib.machine import Machine
 from lib.pages import read_page
 from lib.ports import free_port, wait_for
@@ -60,7 +62,7 @@ def made(folder):
     """A machine whose goshelf and nginx answer."""
     machine = Machine(folder)
     with closed_on_failure(machine):
-        new_store(machine.store, ("alpha", "alphakey00000001"))
+        new_store(machine.store, ("alpha", KEY))
         start(machine, {"example.com": ["alpha"]})
     return machine
 
@@ -127,6 +129,47 @@ def ports(suite, machine):
     suite.holds("goshelf is stopped: nginx has no fault", is_right, printed)
     machine.does("systemctl start goshelf")
     well(suite, machine, "goshelf was started")
+
+
+def full_disk(suite, machine):
+    """The disk of the store is full: goshelf and nginx answer, and publishes fail."""
+    at = f"{machine.folder}/var/lib/goshelf"
+    machine.does("systemctl stop goshelf; mkdir aside; mv /var/lib/goshelf/* aside")
+    with small_disk(at, "6m") as is_there:
+        if is_there:
+            machine.does("cp aside/shelves.db aside/shelves.db-wal /var/lib/goshelf; systemctl start goshelf")
+            filled(suite, machine, at)
+            machine.does("systemctl stop goshelf")
+        else:
+            suite.skip("a full disk", "this needs to mount a tmpfs")
+    machine.does("mv aside/* /var/lib/goshelf; systemctl start goshelf")
+    well(suite, machine, "the disk is as it was")
+
+
+def filled(suite, machine, at):
+    """Publishes fill the disk of a store, which gets room again."""
+    well(suite, machine, "a small disk")
+    gomod = b"module example.com/lib\n"
+    told = [put(machine, f"v1.{it}.0", gomod + os.urandom(500_000)) for it in range(12)]
+    suite.equal("publishes fill the disk", (told[0], told[-3:]), (201, [503] * 3))
+    status, printed, errors = machine.sh("goshelf-doctor")
+    wanted = rf"device: the disk of {at} has \d MiB left, and publishes failed\n    free space: df {at}; .*\n"
+    suite.holds("a full disk: it is the only cause", status == 1 and re.fullmatch(wanted, printed), printed + errors)
+    text = machine.read(CONF)
+    machine.write(CONF, text.replace(f"127.0.0.1:{machine.behind}", f"127.0.0.1:{free_port()}"))
+    read_anew(machine)
+    finds(suite, machine, "a full disk and a wrong port", r"nginx asks 127\.0\.0\.1:\d+, where nobody listens, ")
+    machine.write(CONF, text)
+    read_anew(machine)
+    subprocess.run(["mount", "-o", "remount,size=200m", at], check=True)
+    well(suite, machine, "the disk has room again")
+
+
+def put(machine, version, body):
+    """Publishes a version of example.com/lib at goshelf itself, and returns the status."""
+    conn = http.client.HTTPConnection("127.0.0.1", machine.behind, timeout=60)
+    conn.request("PUT", f"/k/{KEY}/example.com/lib/@v/{version}", body, {"Mod-Length": "23"})
+    return conn.getresponse().status
 
 
 def certificates(suite, machine):
@@ -222,7 +265,7 @@ def without(suite, machine):
 
 
 def main():
-    parts = (stopped, files, ports, certificates, caches, name_servers, without)
+    parts = (stopped, files, ports, full_disk, certificates, caches, name_servers, without)
     return play(Suite(), "the machine", "an operator's commands need root", made, parts)
 
 

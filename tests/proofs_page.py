@@ -1,12 +1,16 @@
 #!/usr/bin/env python3
 """docs/PROOFS.md names only promises of the sources, and these have a comment, say something and are of code that runs.
 
+It and README say where the theorems stop.
+
 usage: python3 tests/proofs_page.py
 """
 
+import glob
 import importlib.machinery
 import importlib.util
 import os
+import re
 import subprocess
 import sys
 
@@ -40,6 +44,22 @@ def check_refusals(suite, proofs):
     ):
         found = list(proofs.faults(page.replace(old, new), sheets, known))
         suite.holds(f"it refuses {what}", f"docs/PROOFS.md: {wanted}" in found, found)
+
+
+STEPS = "From these functions to the program"
+
+
+def check_steps(suite, proofs):
+    """docs/PROOFS.md names the functions between the theorems and `main`, and README says that they are tested."""
+    page = proofs.read(proofs.PAGE)
+    named = re.findall(r"^\| (`.*?) \|", page.partition(f"### {STEPS}\n")[2].partition("\n#")[0], re.M)
+    names = {it.rpartition("::")[2] for row in named for it in re.findall(r"`([\w:]+)`", row)}
+    sources = "\n".join(proofs.read(it) for it in glob.glob("crates/*/src/**/*.rt", root_dir=ROOT, recursive=True))
+    known = set(re.findall(r"\b(?:fn|trait|struct) (\w+)", sources)) | set(os.listdir(os.path.join(ROOT, "crates")))
+    suite.holds("PROOFS names functions between the theorems and main", {"serve_both", "order_at"} <= names, names)
+    suite.equal("the sources have each of them", names - known, set())
+    link = "docs/PROOFS.md#from-these-functions-to-the-program"
+    suite.holds("README says so where it says what is proved", link in proofs.read("README.md"))
 
 
 # a program that reaches some functions of a crate, by the ways that there are
@@ -122,6 +142,7 @@ def main():
         ran = subprocess.run([os.path.join(ROOT, "tools", words[0]), *words[1:]], capture_output=True, text=True)
         suite.equal(what, (ran.returncode, ran.stdout), (0, ""))
     check_refusals(suite, tool("proofs"))
+    check_steps(suite, tool("proofs"))
     check_unreached(suite, tool("unreached"))
     for words, status in ((["--help"], 0), (["-h"], 0), (["--nosuch"], 2), (["goshelf"], 2), ([""], 2)):
         ran = subprocess.run([os.path.join(ROOT, "tools", "unreached"), *words], capture_output=True, text=True)

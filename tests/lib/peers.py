@@ -105,11 +105,12 @@ def by_false_server(words, told, before=()):
     with socket.socket(socket.AF_UNIX) as listener:
         listener.bind("false")
         listener.listen()
-        # (a command that does not connect)
-        listener.settimeout(60)
         thread = threading.Thread(target=tell)
         thread.start()
         ran = run([*words, "false"], before=before)
+        # (whom the thread takes if the command did not connect)
+        with socket.socket(socket.AF_UNIX) as nobody:
+            nobody.connect("false")
         thread.join()
     os.unlink("false")
     return ran, b"".join(sent)

@@ -209,7 +209,8 @@ def under_load(suite, copy):
     before = first_process(copy)
     told = copy.sh(LOAD.replace("ASKING", ASKING).replace("URL", url))[1].splitlines()
     failed = [it for it in told if it != "200 0"]
-    suite.holds(f"{len(told)} requests around five restarts", len(told) > 100 and first_process(copy) != before, told)
+    # (each of the six meets each restart, however slow the machine is)
+    suite.holds(f"{len(told)} requests around five restarts", len(told) >= 30 and first_process(copy) != before, told)
     suite.equal("none of them fails", failed, [])
     stopped(suite, copy)
     copy.sh("systemctl enable goshelf")

@@ -1,6 +1,7 @@
 #!/usr/bin/env python3
 """What goshelf-doctor says of nginx in front of goshelf: each cause is made, found with its row, and undone.
 
+So is a full disk of the store, over which both answer.
 They are made on a machine in a folder (lib/machine.py), whose nginx has the files of deploy/ as the page puts them.
 """
 

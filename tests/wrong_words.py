@@ -33,6 +33,8 @@ goshelf-forget --yes alpha example.com/lib | VERSION is missing
 goshelf-forget alpha '' v1.0.0 | MODULE is empty
 goshelf-forget alpha example.com/lib v1.0.0 v1.1.0 | one word too many: v1.1.0
 goshelf-forget --no alpha example.com/lib v1.0.0 | there is no option --no
+goshelf-keys all | one word too many: all
+goshelf-keys --now | there is no option --now
 goshelf-metrics all | one word too many: all
 goshelf-metrics --to | FILE.prom is missing
 goshelf-metrics --to '' | FILE.prom is empty

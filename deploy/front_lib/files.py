@@ -11,9 +11,13 @@ import re
 import time
 
 FOLDER = "/etc/nginx/goshelf"
-NAME_LINE = re.compile(r"([0-9a-f]{64}|[0-9a-f]{16})\t([^\t\n\r]+)\t(|\d{4}-\d\d-\d\d(?:T\d\d:\d\d)?)(?:\t(machine))?")
+NAME_LINE = re.compile(
+    r"([0-9a-f]{64}|[0-9a-f]{16})\t([^\t\n\r]+)\t(|\d{4}-\d\d-\d\d(?:T\d\d:\d\d)?)(?:\t(|machine)(?:\t([^\t\n\r]+))?)?"
+)
 # (a name is one word of a line of a log, in quotes)
 NAME = re.compile(r"[^\x00-\x1f\x7f-\x9f\u2028\u2029\u202a-\u202e\u2066-\u2069]{1,128}")
+# what a person calls a machine
+LABEL = re.compile(NAME.pattern.replace("128", "64"))
 SHELF = re.compile(r"[a-z][a-z0-9-]{0,31}")
 HOST = re.compile(r"[a-z0-9-]+(\.[a-z0-9-]+)+")
 ELEMENT = re.compile(r"[a-z0-9_~-]([a-z0-9._~-]*[a-z0-9_~-])?")
@@ -80,17 +84,27 @@ def last(text, place=""):
     return ""
 
 
-class Name:
-    """A line of names: a key, by its SHA-256 or the 16 digits of it that goshelf prints, and whose it is."""
+def is_over(until):
+    """Whether a last day or minute is over."""
+    return bool(until) and until < now().isoformat()[: len(until)]
 
-    def __init__(self, digest, name, until="", machine=None):
-        self.digest, self.fingerprint, self.name, self.until, self.machine = digest, digest[:16], name, until, machine
+
+class Name:
+    """A line of names: a key, by its SHA-256 or the 16 digits of it that goshelf prints, whose it is, and what its
+    owner calls the machine that has it."""
+
+    def __init__(self, digest, name, until="", machine=None, label=None):
+        self.digest, self.fingerprint, self.name, self.until = digest, digest[:16], name, until
+        self.machine, self.label = machine, label
 
     def is_over(self):
-        return bool(self.until) and self.until < now().isoformat()[: len(self.until)]
+        return is_over(self.until)
 
     def line(self):
-        return f"{self.digest}\t{self.name}\t{self.until}" + (f"\t{self.machine}\n" if self.machine else "\n")
+        words = [self.digest, self.name, self.until]
+        if self.machine or self.label:
+            words.append(self.machine or "")
+        return "\t".join([*words, self.label] if self.label else words) + "\n"
 
 
 def names():
@@ -100,7 +114,7 @@ def names():
         if not line or line.startswith("#"):
             continue
         it = NAME_LINE.fullmatch(line)
-        if not it or not NAME.fullmatch(it[2]):
+        if not it or not NAME.fullmatch(it[2]) or it[5] and not LABEL.fullmatch(it[5]):
             raise Refused(f"names:{number}: not of the form SHA256<tab>NAME<tab>LAST DAY")
         last(it[3], f"names:{number}: ")
         if it[1][:16] in seen:

@@ -1,18 +1,22 @@
 """nginx's part of the front: it reads new files, and what would stop it."""
 
+import glob
 import http.client
 import os
 import re
 import shutil
 import socket
+import ssl
 import subprocess
 import sys
 import time
 
+import doctor_nginx
 from front_lib import files
 from front_lib.files import FOLDER, Refused
 
 CONF = "/etc/nginx/conf.d/goshelf.conf"
+STREAM = "/etc/nginx/modules-enabled/goshelf.conf"
 # its way to the public proxy, by stream.conf
 WAY = "127.0.0.1:8444"
 # where nginx says which goshelf.json it has read
@@ -84,6 +88,9 @@ def certificate_faults(text):
     if "ertificate" not in ends:
         return [f"{named[1]} cannot be read as a certificate"]
     found = [f"{named[1]} ends within a day, or has ended"] if "will not expire" not in ends else []
+    begins = x509(named[1], "-startdate").strip().removeprefix("notBefore=")
+    if ssl.cert_time_to_seconds(begins) > time.time():
+        found.append(f"{named[1]} begins on {begins}, or the clock of this host is behind")
     return found + ([f"{named[1]} is not for {host()}"] if "NOT match" in matches else [])
 
 
@@ -103,16 +110,37 @@ def folder_faults(text):
             yield f"others than root and its group may read {name}: chmod 640 {name}"
 
 
+def is_asked_outside(text):
+    """Whether nginx asks the public proxy."""
+    return bool(re.search(r"^js_var \$goshelf_others public;", text, re.M))
+
+
 def port_faults(text):
     """Which addresses nobody listens on that nginx asks: its own way out, and each goshelf."""
     asked = re.findall(r"^upstream goshelf[\w-]* \{\s*server ([\w.:-]+);", text, re.M)
-    way = [WAY] if re.search(r"^js_var \$goshelf_others public;", text, re.M) else []
+    way = [WAY] if is_asked_outside(text) else []
     for address in (*asked, *way):
         name, _, port = address.rpartition(":")
         try:
             socket.create_connection((name, int(port)), 5).close()
         except OSError as error:
             yield f"nobody answers at {address}, which nginx asks: {error.strerror or error}"
+
+
+def name_faults(text):
+    """Which name server of nginx's files does not know the public proxy, if nginx asks it."""
+    if not is_asked_outside(text):
+        return
+    try:
+        with open(STREAM, encoding="utf-8", errors="replace") as file:
+            stream = file.read()
+    except OSError as error:
+        yield f"{STREAM} cannot be read: {error.strerror}"
+        return
+    host = re.search(r"^\s*set \$goshelf_public ([\w.-]+\.[a-z]+):\d+;", stream, re.M)
+    for server in sorted({*re.findall(r"^\s*resolver (\S+) ", f"{text}\n{stream}", re.M)} if host else ()):
+        if why := doctor_nginx.unknown(server, host[1]):
+            yield f"the name server {server}, which nginx asks, {why} {host[1]}"
 
 
 def clock_faults(told):
@@ -122,13 +150,31 @@ def clock_faults(told):
     return []
 
 
+def page_faults():
+    """Which locations of goshelf-keys let a caller name a person: one needs auth_request, which alone says who it is,
+    or else to take nobody but the company's proxy."""
+    for name in sorted(glob.glob(f"{FOLDER}/login*.conf")):
+        with open(name, encoding="utf-8", errors="replace") as file:
+            found = doctor_nginx.Directive([], doctor_nginx.parsed(file.read()))
+        for it in found.all("location"):
+            held = {tuple(one.words) for one in it.block}
+            sets = {one.words[0] for one in it.block if one.words[1:2] == ["$goshelf_name"]}
+            is_asked = any(one[0] == "auth_request" and one[1] != "off" for one in held) and sets == {
+                "auth_request_set"
+            }
+            is_closed = ("deny", "all") in held and ("satisfy", "any") not in held
+            if ("include", f"{FOLDER}/keys.conf") in held and not is_asked and not is_closed:
+                yield f"{name}: anybody may name a person at {it.words[-1]}: docs/NGINX.md has its two forms"
+
+
 def faults():
     """What is wrong with nginx's side of the front, apart from names and paths."""
     try:
         text = conf()
     except Refused as why:
         return [str(why)]
-    found = [*certificate_faults(text), *folder_faults(text), *clock_faults(files.front())]
+    found = [*certificate_faults(text), *folder_faults(text), *page_faults(), *clock_faults(files.front())]
+    found += name_faults(text)
     if said():
         found += port_faults(text)
     elif os.path.exists(f"{FOLDER}/goshelf.json"):

@@ -1,12 +1,15 @@
 """People, by their words and by a list."""
 
 import csv
+import io
 import os
 
 from front_lib import files
 from front_lib.files import Refused
 
 RIGHTS = ("read", "publish")
+# the people of the last list, in its form
+LAST = f"{files.FOLDER}/people"
 
 
 def checked(place, name, shelf, right, until=""):
@@ -21,7 +24,15 @@ def checked(place, name, shelf, right, until=""):
 
 
 def listed(name):
-    """The people of a file: right and last day, by name and shelf."""
+    """The people of a file, at least one: right and last day, by name and shelf."""
+    found = read(name)
+    if not found:
+        raise Refused(f"{name} names nobody")
+    return found
+
+
+def read(name):
+    """The people of a file."""
     try:
         with open(name, encoding="utf-8-sig", newline="") as file:
             rows = list(enumerate(csv.reader(file, strict=True), 1))
@@ -38,9 +49,44 @@ def listed(name):
         if (person, shelf) in found:
             raise Refused(f"{name}:{number}: {person} has a line for {shelf} already")
         found[person, shelf] = right, until
-    if not found:
-        raise Refused(f"{name} names nobody")
     return found
+
+
+def last():
+    """The people of the last list, and who revoked a key since."""
+    return read(LAST) if os.path.exists(LAST) else {}
+
+
+def keep(people):
+    """Writes who may have keys, also those who have none."""
+    text = io.StringIO()
+    csv.writer(text, lineterminator="\n").writerows((*who, *what) for who, what in people.items())
+    files.replace(LAST, text.getvalue())
+
+
+def is_listed(name):
+    return any(it == name for it, _ in last())
+
+
+def drop(name):
+    """Removes a name from the last list. Returns whether it was there."""
+    people = last()
+    left = {who: what for who, what in people.items() if who[0] != name}
+    if len(left) == len(people):
+        return False
+    keep(left)
+    return True
+
+
+def rights(name):
+    """What a person may have keys for: right and last day, by shelf. The last list counts, then the person's keys."""
+    found = {}
+    for it in files.front().get("users", {}).values():
+        told = it["right"], it.get("until", "")
+        if it["name"] == name and not it.get("machine"):
+            found[it["shelf"]] = max(told, found.get(it["shelf"], told), key=lambda it: it[1] or "9")
+    found.update({shelf: what for (who, shelf), what in last().items() if who == name})
+    return {shelf: what for shelf, what in found.items() if not files.is_over(what[1])}
 
 
 def new_file(name):

@@ -2,6 +2,7 @@
 
 import json
 import os
+import subprocess
 import sys
 
 from front_lib import files
@@ -10,9 +11,9 @@ LOG = "/var/log/goshelf/publishes.log"
 COLUMNS = ("time", "name", "fingerprint", "shelf", "path", "version", "status")
 
 
-def note(order, **told):
+def note(order, by="", **told):
     """Appends an order of goshelf-front. A log that cannot be written stops no order, and is told."""
-    by = os.environ.get("SUDO_USER") or "root"
+    by = by or os.environ.get("SUDO_USER") or "root"
     line = json.dumps({"time": files.now().isoformat(timespec="seconds"), "order": order, "by": by, **told})
     try:
         descriptor = os.open(LOG, os.O_WRONLY | os.O_APPEND | os.O_CREAT, 0o640)
@@ -20,6 +21,15 @@ def note(order, **told):
             file.write(f"{line}\n")
     except OSError as error:
         print(f"goshelf-front: {LOG} cannot be written: {error.strerror}", file=sys.stderr)
+
+
+def seal(is_open=False):
+    """Has the file system refuse to change or remove what the log has, or lets it again. Returns why it cannot."""
+    try:
+        ran = subprocess.run(["chattr", "-a" if is_open else "+a", LOG], capture_output=True, text=True)
+    except OSError as error:
+        return f"chattr: {error.strerror}"
+    return ran.stderr.strip() if ran.returncode else ""
 
 
 def lines():

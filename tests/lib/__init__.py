@@ -8,6 +8,6 @@ and by which words. `scratch`, `ports`, `pages` and `terminal` are folders, port
 goshelf-publish.
 `catalog_lines`, `catalog_store`, `catalog_pages`, `catalog_front` and `browser` are the pages of a shelf, from their
 lines to those who look at them. `machine`, `systemd`, `front`, `shards`, `operating`, `hosts`, `company`, `warm`,
-`outside`, `logins` and `developers` are machines, hosts behind nginx and those who use them, `releases` what is
-installed there.
+`outside`, `logins`, `developers`, `own_keys` and `keys_unit` are machines, hosts behind nginx and those who use them,
+`releases` what is installed there.
 """

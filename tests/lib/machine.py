@@ -94,6 +94,10 @@ http {
 """
 
 
+# chattr of a file system that has nothing append-only, so that the folder can be removed
+CHATTR = '#!/bin/sh\necho "chattr: Operation not supported while reading flags on $2" >&2\nexit 1\n'
+
+
 class Machine:
     """A machine in a folder."""
 
@@ -109,6 +113,7 @@ class Machine:
         os.symlink(PROGRAM, f"{folder}/usr/local/bin/goshelf")
         os.symlink(AUTHORITIES, f"{folder}{AUTHORITIES}")
         self.command("systemctl", SYSTEMCTL.replace("PORT", str(self.behind)))
+        self.command("chattr", CHATTR)
         nginx = shutil.which("nginx") or "/usr/sbin/nginx"
         self.command("nginx", f'#!/bin/sh\nexec {nginx} -c "@/nginx.conf" -e "@/var/log/nginx/start.log" "$@"\n')
         self.write("nginx.conf", NGINX_CONF.replace("@/", f"{folder}/"))
@@ -195,7 +200,7 @@ class Machine:
                 with open(os.path.join(at, name), encoding="utf-8") as file:
                     self.write(f"{below}/{name}", self.placed(file.read()))
                 shutil.copymode(os.path.join(at, name), f"{self.folder}/{below}/{name}")
-                if name.startswith("goshelf-"):
+                if name.startswith("goshelf-") and "." not in name:
                     shutil.copy(f"{self.folder}/{below}/{name}", f"{self.folder}/usr/local/bin/{name}")
 
     def close(self):

@@ -57,6 +57,25 @@ own_files() {
     chown -Rh --reference="$home" "$home" || :
 }
 
+# nginx's log of publishes, which only grows
+publishes=/var/log/goshelf/publishes.log
+
+# Appends to the log of publishes, which may be append-only, the lines of its copy beside the backups that it lacks, and
+# sets `count`. The copy is the log again.
+mend_log() {
+    kept=$backups/publishes.log
+    room=$(mktemp -d "$backups/new-log-XXXXXX")
+    [ -d "${publishes%/*}" ] || install -d -m 755 "${publishes%/*}"
+    [ -e "$publishes" ] || install -m 640 /dev/null "$publishes"
+    sort "$publishes" > "$room/log"
+    sort "$kept" | comm -13 "$room/log" - > "$room/lines"
+    cat "$room/lines" >> "$publishes"
+    cat "$publishes" > "$room/whole"
+    mv "$room/whole" "$kept"
+    count=$(wc -l < "$room/lines")
+    rm -r "$room"
+}
+
 # the name of a backup
 stamp='2[0-9][0-9][0-9]-[0-9][0-9]-[0-9][0-9]T[0-9][0-9][0-9][0-9][0-9][0-9]Z'
 

@@ -9,11 +9,13 @@ import datetime
 import http.client
 import json
 import os
+import resource
 import sys
 import time
 
 from lib.developers import SPELLINGS, Developers
 from lib.front import fingerprint
+from lib.ports import wait_until
 from lib.scratch import play
 from lib.suite import Suite
 
@@ -361,6 +363,35 @@ def at_once(suite, company):
             it.close()
 
 
+def machine_at_once(suite, company):
+    """All jobs that share a machine's name have 2,000 requests at a time, and nobody else waits for them."""
+    _, most = resource.getrlimit(resource.RLIMIT_NOFILE)
+    if most < 4096:
+        suite.skip("2,000 requests at once", f"a process may open {most} files here")
+        return
+    resource.setrlimit(resource.RLIMIT_NOFILE, (most, most))
+    before = company.machine.read("nginx.conf")
+    company.machine.edit("nginx.conf", ("worker_connections 768", "worker_connections 4096"))
+    company.machine.write("nginx.conf", f"worker_rlimit_nofile 16384;\n{company.machine.read('nginx.conf')}")
+    company.machine.does("systemctl restart nginx")
+    key, other = (given(company, f"add {it} alpha publish --machine") for it in ("ci", "ci2"))
+    head = f"PUT /{CORE}/@v/v9.0.0 HTTP/1.1\r\nHost: localhost\r\nAuthorization: {header(key)}\r\n"
+    head += "Mod-Length: 9\r\nContent-Length: 9\r\n\r\n"
+    held = [company.client.begin(head.encode()) for _ in range(1990)]
+    time.sleep(2)
+    suite.equal("a machine's request beside 1,990 others", status(company, key), 200)
+    held += [company.client.begin(head.encode()) for _ in range(10)]
+    wait_until(lambda: status(company, key) == 429)
+    told = status(company, key), status(company, other), status(company, company.client.passwords["ann"])
+    suite.equal("beside 2,000; another machine; a person", told, (429, 200, 200))
+    for it in held:
+        it.close()
+    wait_until(lambda: status(company, key) == 200)
+    suite.equal("the machine again", status(company, key), 200)
+    company.machine.write("nginx.conf", before)
+    company.machine.does("systemctl restart nginx")
+
+
 def refused(suite, company):
     """nginx refuses its files for another reason: add leaves nothing. sync is idle if nothing is new."""
     folder = f"{company.machine.folder}/etc/nginx/goshelf"
@@ -426,6 +457,7 @@ def main():
         in_clear,
         pages,
         at_once,
+        machine_at_once,
         refused,
         broken,
     )

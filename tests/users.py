@@ -9,13 +9,14 @@ import os
 import sys
 import time
 
-from lib.front import AT, GOMOD, UNUSED, USERS, ZIP, fingerprint, set_up, users_of
+from lib.front import AT, GOMOD, USERS, ZIP, fingerprint, set_up, users_of
 from lib.peers import rest_of
 from lib.ports import wait_until
 from lib.scratch import play
 from lib.suite import Suite
 
 FOLDER = "etc/nginx/goshelf"
+LOG = "var/log/goshelf/publishes.log"
 # words of goshelf-front that are refused, the status, and what is said
 MISUSES = (
     ("add ann alpha read", 1, "ann has a key of alpha"),
@@ -140,83 +141,6 @@ def unlucky(suite, client):
     machine.does("systemctl start goshelf")
 
 
-def faults(suite, client):
-    """Lines that were written by hand, and all else that is wrong, and what `check` says of it."""
-    machine, before = client.machine, client.machine.read(f"{FOLDER}/names")
-    told = lambda: machine.sh("goshelf-front check")
-    for line, said in (
-        ("0123456789abcdef\teve\t", "eve: goshelf has no key 0123456789abcdef"),
-        (f"{fingerprint(UNUSED)}\teve\t", "names has 16 digits of"),
-        (f"{fingerprint(UNUSED)}\teve\t2020-01-01", f"eve: the day of {fingerprint(UNUSED)} is over"),
-        ("half a line", "names:6: not of the form"),
-        (f"{'0' * 64}\tann\t2027-02-30", "names:6: no day YYYY-MM-DD: 2027-02-30"),
-        (before.splitlines()[0], "has a line already"),
-    ):
-        machine.write(f"{FOLDER}/names", f"{before}{line}\n")
-        status, printed, errors = told()
-        suite.holds(f"check of {line!r}", status == 1 and said in printed + errors, (status, printed, errors))
-    machine.write(f"{FOLDER}/names", before)
-    edited(suite, machine, told)
-    broken(suite, machine, told)
-
-
-def edited(suite, machine, told):
-    """What is wrong in owners.json and in nginx's own file."""
-    owners, conf = f"{FOLDER}/owners.json", "etc/nginx/conf.d/goshelf.conf"
-    for name, file, pair, said in (
-        ("who publishes for a shelf without a path", owners, ('"beta", ', ""), "bob can publish nothing"),
-        ("a shelf that is not there", owners, ("beta", "gamma"), "example.com: there is no shelf gamma"),
-        ("what nginx has not read", owners, ("example.com", "example.org"), "nginx does not have what these files say"),
-        (
-            "a certificate of another",
-            conf,
-            ("server_name localhost;", "server_name other.example;"),
-            "is not for other",
-        ),
-        ("no certificate", conf, ("ssl/goshelf.pem;", "ssl/nosuch.pem;"), "cannot be read as a certificate"),
-        (
-            "a cache without room",
-            conf,
-            ("min_free=2g", "min_free=90000g"),
-            "its disk has less room than min_free=90000g",
-        ),
-        ("a file that nginx refuses", conf, ("upstream goshelf {", "upstream {"), "invalid number of arguments"),
-        (
-            "a goshelf elsewhere",
-            conf,
-            (f"server 127.0.0.1:{machine.behind};", "server 127.0.0.1:9;"),
-            "127.0.0.1:9, which",
-        ),
-    ):
-        text = machine.read(file)
-        machine.edit(file, pair)
-        status, printed, errors = told()
-        suite.holds(f"check of {name}", status == 1 and said in printed, (status, printed, errors))
-        machine.write(file, text)
-
-
-def broken(suite, machine, told):
-    """What is wrong beside the files of the front."""
-    for name, breaks, mends, said in (
-        (
-            "a log for all to read",
-            "chmod 644 /var/log/nginx/goshelf.log",
-            "chmod 640 /var/log/nginx/goshelf.log",
-            "others",
-        ),
-        (
-            "a clock that was set back",
-            "sed -i 's/: 1[0-9]*,/: 9&/; s/: 9: /: 9/' FILE",
-            "goshelf-front uncache",
-            "clock",
-        ),
-    ):
-        machine.does(breaks.replace("FILE", f"/{FOLDER}/goshelf.json"))
-        status, printed, errors = told()
-        suite.holds(f"check of {name}", status == 1 and said in printed, (status, printed, errors))
-        machine.does(mends)
-
-
 def sync(machine, text, options="--keys new"):
     """What goshelf-front sync does with a list."""
     machine.write("root/list", text)
@@ -229,7 +153,11 @@ def kept_in_step(suite, client):
     machine = client.machine
     machine.does("goshelf-front add 'build 1' beta read --machine > /dev/null")
     before = files_of(machine)
-    suite.equal("the same people: nothing is printed", (sync(machine, OWN), files_of(machine)), ((0, "", ""), before))
+    suite.equal("the same people: nothing is printed", sync(machine, OWN), (0, "", ""))
+    suite.equal(
+        "nothing changed but that they are kept", files_of(machine), (before[0], sorted([*before[1], "people"]))
+    )
+    before = files_of(machine)
     for text, said in LISTS:
         told = sync(machine, text, "")
         is_right = told[0] == 1 and said in told[2] and files_of(machine) == before
@@ -374,7 +302,7 @@ def logged(suite, client):
     evil = 'x", "status": "201"} \\ Ö'
     machine.does(f"goshelf-front add '{evil}' beta read > key; goshelf-front add mallory beta read > key2")
     client.passwords["evil"] = machine.read("root/key").split()[5]
-    begun = len(machine.read("var/log/goshelf/publishes.log").splitlines())
+    begun = len(machine.read(LOG).splitlines())
     for target in ('/example.com/a"},{"x":"/@v/v1.0.0', "/example.com/a/@v/v1\\n.0.0", "/example.com/forged/@v/v1.0.0"):
         client.ask("PUT", target.replace("\\n", "%0a"), client.login("evil"), GOMOD, {"Mod-Length": "24", "X-A": 'a"}'})
     client.put("v1.70.0", GOMOD)
@@ -390,7 +318,7 @@ def logged(suite, client):
 def found(suite, client, evil, begun):
     """What the log of publishes has of these, and how it is printed."""
     machine, log = client.machine, lambda words="": client.machine.does(f"goshelf-front log {words}").splitlines()
-    lines = [json.loads(it) for it in machine.read("var/log/goshelf/publishes.log").splitlines()[begun:]]
+    lines = [json.loads(it) for it in machine.read(LOG).splitlines()[begun:]]
     told = [(it["name"], it["path"], it["version"], it["status"]) for it in lines]
     lib = "example.com/lib"
     wanted = [
@@ -412,17 +340,78 @@ def found(suite, client, evil, begun):
     suite.holds(
         "so is each order", ["mallory", "add by root"] in orders and ["ann-b", "remove by root"] in orders, orders
     )
-    text = machine.read("var/log/goshelf/publishes.log")
+    text = machine.read(LOG)
     suite.equal("no key is in it", [it for it in client.passwords.values() if it in text], [])
-    machine.write("var/log/goshelf/publishes.log", text + "half a line\n")
+    machine.write(LOG, text + "half a line\n")
     told = machine.sh("goshelf-front log")
     suite.holds("a line that is none is counted", told[0] == 1 and "has 1 lines" in told[2], told)
-    machine.write("var/log/goshelf/publishes.log", text)
+    machine.write(LOG, text)
+
+
+def sealed(suite, client):
+    """The log of publishes is append-only where the file system can, and nginx, backups and restores agree with it."""
+    machine, name = client.machine, f"{client.machine.folder}/{LOG}"
+    told = machine.does("goshelf-front set-up localhost")
+    suite.holds("set-up says where it cannot be", "not append-only: chattr: Operation not supported" in told, told)
+    os.remove(f"{machine.folder}/usr/local/bin/chattr")
+    try:
+        os.chmod(name, 0o644)
+        told = machine.sh("goshelf-front set-up localhost")
+        if "is append-only from now on" not in told[1]:
+            suite.skip("an append-only log", told[1])
+            return
+        suite.equal("set-up makes it append-only", (told[0], os.stat(name).st_mode & 0o777), (0, 0o640))
+        attacked(suite, client, name)
+        of_backups(suite, client, name)
+    finally:
+        machine.sh("chattr -a /var/log/goshelf/publishes.log")
+
+
+def attacked(suite, client, name):
+    """What root does to an append-only log by mistake, as a wrong rule of logrotate."""
+    machine, text = client.machine, client.machine.read(LOG)
+    for what in ("mv LOG LOG.1", "rm -f LOG", ": > LOG", "truncate -s 0 LOG", "cp /dev/null LOG", "sed -i d LOG"):
+        status = machine.sh(what.replace("LOG", name))[0]
+        suite.equal(f"{what} fails", (status != 0, machine.read(LOG)), (True, text))
+    suite.equal("a publish", client.put("v1.80.0", GOMOD)[0], 201)
+    machine.does("nginx -s reopen; goshelf-front add 'late one' beta read > /dev/null")
+    suite.equal("another, once nginx opened it anew", client.put("v1.81.0", GOMOD)[0], 201)
+    added = [json.loads(it) for it in machine.read(LOG).removeprefix(text).splitlines()]
+    told = [it.get("version") or it["order"] for it in added]
+    suite.equal("are in it, and nothing is lost", (told, name), (["v1.80.0", "add", "v1.81.0"], name))
+    suite.equal("set-up runs again", machine.sh("goshelf-front set-up localhost")[0], 0)
+
+
+def of_backups(suite, client, name):
+    """The copy of the log beside the backups grows with it; what a log lacks comes back, also on a new host."""
+    machine, kept = client.machine, "var/backups/goshelf/publishes.log"
+    machine.does("goshelf-backup")
+    client.put("v1.82.0", GOMOD)
+    suite.equal("a backup prints nothing", machine.sh("goshelf-backup"), (0, "", ""))
+    suite.equal("and has the log", machine.read(kept), machine.read(LOG))
+    text = machine.read(LOG)
+    told = machine.sh("goshelf-restore --yes last")
+    suite.holds("a restore does not touch it", told[0] == 0 and machine.read(LOG).startswith(text), told)
+    lines = machine.read(LOG).splitlines(True)
+    machine.does("chattr -a /var/log/goshelf/publishes.log")
+    machine.write(LOG, "".join(lines[:3] + lines[5:]))
+    machine.does("chattr +a /var/log/goshelf/publishes.log")
+    told = machine.sh("goshelf-backup")
+    suite.holds("a backup says which lines were removed", told[0] == 1 and "lacked 2 lines" in told[1], told)
+    suite.equal("and puts them back", sorted(machine.read(LOG).splitlines(True)), sorted(lines))
+    suite.equal("once", machine.sh("goshelf-backup"), (0, "", ""))
+    machine.does("chattr -a /var/log/goshelf/publishes.log; rm -r /var/log/goshelf; goshelf-front set-up localhost")
+    told = machine.sh("goshelf-restore --yes last")
+    suite.holds("a new host has none", told[0] == 0 and f"lacked {len(lines)} lines" in told[1], told)
+    suite.equal("and gets all", {*lines} - {*machine.read(LOG).splitlines(True)}, set())
+    audit = machine.does("goshelf-front log --name pub").splitlines()
+    suite.holds("which goshelf-front reads", any("v1.82.0" in it for it in audit), audit[-3:])
+    suite.equal("for the group alone", os.stat(name).st_mode & 0o777, 0o640)
 
 
 def main():
     suite = Suite()
-    parts = (misused, unlucky, faults, kept_in_step, uncached, lost, taken_out, logged)
+    parts = (misused, unlucky, kept_in_step, uncached, lost, taken_out, logged, sealed)
     return play(suite, "nginx", "its users and folders need root", lambda folder: set_up(suite, folder), parts)
 
 

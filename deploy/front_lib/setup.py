@@ -5,16 +5,15 @@ import os
 import pwd
 import re
 
-from front_lib import before, files, nginx
+from front_lib import before, files, nginx, publishes
 from front_lib.files import FOLDER, Refused
 
 DEPLOY = "/usr/share/goshelf/deploy"
-STREAM = "/etc/nginx/modules-enabled/goshelf.conf"
 NAME_SERVERS = "/etc/resolv.conf"
 CACHES = ("/var/cache/nginx/goshelf", "/var/cache/nginx/goshelf-public")
-LOGS = ("/var/log/nginx/goshelf.log", "/var/log/nginx/goshelf-errors.log", "/var/log/goshelf/publishes.log")
+LOGS = ("/var/log/nginx/goshelf.log", "/var/log/nginx/goshelf-errors.log", publishes.LOG)
 # what each release brings anew, and what the host has of its own
-OURS = ("goshelf.js", "locations.conf", "public.conf")
+OURS = ("goshelf.js", "locations.conf", "public.conf", "keys.conf")
 # nobody may log in by it
 EMPTY = '{"users": {}}\n'
 HOST = re.compile(r"[a-z0-9-]+(\.[a-z0-9-]+)*")
@@ -77,8 +76,20 @@ def folders():
     for name in LOGS:
         os.makedirs(os.path.dirname(name), 0o755, exist_ok=True)
         os.close(os.open(name, os.O_WRONLY | os.O_APPEND | os.O_CREAT, 0o640))
-        os.chmod(name, 0o640)
-        os.chown(name, number, grp.getgrnam(group).gr_gid)
+        own_log(name, number, grp.getgrnam(group).gr_gid)
+    why = publishes.seal()
+    print(f"{publishes.LOG} is {f'not append-only: {why}' if why else 'append-only from now on: chattr -a undoes it'}")
+
+
+def own_log(name, user, group):
+    """Gives a log to nginx. Of one that is append-only neither the mode nor the owner can be changed."""
+    it = os.stat(name)
+    if (it.st_mode & 0o7777, it.st_uid, it.st_gid) == (0o640, user, group):
+        return
+    if name == publishes.LOG:
+        publishes.seal(is_open=True)
+    os.chmod(name, 0o640)
+    os.chown(name, user, group)
 
 
 def set_up(words):
@@ -93,7 +104,7 @@ def set_up(words):
         raise Refused("no path is named, and then every module would be public: PATH=SHELF")
     for name in OURS:
         files.replace(f"{FOLDER}/{name}", source(f"nginx/{name}"), 0o644)
-    own(STREAM, with_name_server(source("nginx/stream.conf")))
+    own(nginx.STREAM, with_name_server(source("nginx/stream.conf")))
     own(nginx.CONF, conf(words.host, words.warm))
     for name, content in (("names", ""), ("owners.json", text), ("goshelf.json", EMPTY)):
         if content or name == "names":

@@ -146,6 +146,45 @@ def from_host(room, server):
         SUITE.equal(f"from its host, in a clone: {path}", found, wanted)
 
 
+def past_tags(room, server):
+    """Who publishes a tag that HEAD is past is told how many commits the version lacks, of its module alone."""
+    past = Repository(room, "past")
+    files = {**module("example.com/past"), **module("example.com/past/in", "in"), **module("example.com/past/v2", "v2")}
+    first = past.commit(files, "v0.1.0", "in/v0.1.0", "v2.0.0", "v0.1.1")
+    words = ["--to", server.url, "--key-file", f"{room.folder}/key", "--repository", past.folder]
+    folders, there = {"example.com/past": "", "example.com/past/in": "in", "example.com/past/v2": "v2"}, set()
+
+    def told(name, path, ref, result, count, *more, at=first):
+        version, folder = ref.rpartition("/")[2], folders[path]
+        there.add((path, version))
+        status, output, errors = room.publish(*more, *words, path, ref)
+        commits, them = ("commit", "it") if count == 1 else ("commits", "them")
+        note = f"publish: HEAD has {count} {commits} to {path} that {version} does not have: make a new tag for {them}"
+        found = status, output, [it for it in errors.splitlines() if "HEAD" in it]
+        wanted = 0, f"{result} {past.lines(path, version, at, folder)}", [note] if count else []
+        SUITE.equal(f"HEAD is past the tag: {name}", found, wanted)
+
+    past.commit({"in/in.go": code("in", "\n// changed\n")})
+    told("by a commit to another module", "example.com/past", "v0.1.0", "published", 0)
+    told("of a module in a folder", "example.com/past/in", "in/v0.1.0", "published", 1)
+    past.git("rm", "-q", "in/go.mod")
+    past.commit({"past.go": code("past", "\n// changed\n")})
+    told("already published", "example.com/past", "v0.1.0", "already published", 2)
+    told("a check", "example.com/past", "v0.1.0", "checked", 2, "--check")
+    told("of a major version in a folder", "example.com/past/v2", "v2.0.0", "published", 0)
+    past.commit({"v2/past.go": code("past", "\n// changed\n")})
+    told("of that, with a commit", "example.com/past/v2", "v2.0.0", "already published", 1)
+    at = past.commit({}, "v0.2.0")
+    told("at the tag", "example.com/past", "v0.2.0", "published", 0, at=at)
+    past.git("checkout", "-q", "--orphan", "other")
+    past.commit({"past.go": code("past")})
+    told("on another branch", "example.com/past", "v0.1.1", "published", 0)
+    past.git("checkout", "-q", "main")
+    past.git("config", "core.bare", "true")
+    told("without a working tree", "example.com/past", "v0.1.1", "already published", 0)
+    return there
+
+
 def consumes(room, server, rows):
     """A user downloads each version from the shelf with the sums of the repository, and builds with some."""
     os.mkdir(f"{room.folder}/user")
@@ -204,11 +243,12 @@ def session(folder):
     publishes(room, server, rows)
     ways(room, server, greet)
     from_host(room, server)
+    past = past_tags(room, server)
     consumes(room, server, rows)
     readme(room, server, greet)
     server.stop()
     SUITE.equal("the clone is unchanged", unchanged(greet), before)
-    SUITE.equal("nothing else was published", {tuple(it[:2]) for it in inventory(store)}, published(rows))
+    SUITE.equal("nothing else was published", {tuple(it[:2]) for it in inventory(store)}, published(rows) | past)
 
 
 def inventory(store):
@@ -216,7 +256,7 @@ def inventory(store):
 
 
 def published(rows):
-    """Each path and version that was published."""
+    """Each path and version that was published, but of past tags."""
     found = {(path, version) for path, _, version, *_ in rows}
     return found | {("github.com/acme/tool", "v1.0.0"), ("github.com/acme/tool/sub", "v0.1.0")}
 

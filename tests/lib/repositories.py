@@ -146,7 +146,8 @@ def module(path, folder="", more=""):
 
 
 def greet_of(room):
-    """A repository of modules: at its top, in folders, of another major version, with a capital."""
+    """A repository of modules: at its top, in folders, of another major version, with a capital. HEAD is at the first
+    commit, as in a job, and main a commit after it."""
     greet = Repository(room, "a repository/greet")
     files = {
         **module("example.com/greet"),
@@ -166,6 +167,7 @@ def greet_of(room):
     greet.first = greet.commit(files, "v1.0.0", "sub/v0.1.0", "v2.0.0", "Words/v1.0.0-RC.1", "sub/v3.0.0", "v1.1")
     greet.git("tag", "-a", "-m", "annotated", "v1.0.1")
     greet.last = greet.commit({"greet.go": code("greet", "\n// changed\n")})
+    greet.git("checkout", "-q", greet.first)
     return greet
 
 

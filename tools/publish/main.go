@@ -102,7 +102,13 @@ func run(ctx context.Context, words []string, stdin io.Reader, stdout, stderr io
 // say writes a sentence about a run that goes on.
 func (p *publisher) say(text string) { program.Say(p.stderr, own, text) }
 
-// tell writes the result, and the lines of go.sum.
+// tell writes the result and the lines of go.sum, and says which commits the version does not have.
 func (p *publisher) tell(result string, made *release.Release) {
+	if made.After == 1 {
+		p.say(fmt.Sprintf("HEAD has 1 commit to %s that %s does not have: make a new tag for it", p.Module, made.Version))
+	} else if made.After > 1 {
+		p.say(fmt.Sprintf("HEAD has %d commits to %s that %s does not have: make a new tag for them",
+			made.After, p.Module, made.Version))
+	}
 	fmt.Fprintf(p.stdout, "%s %s %s\n%s", result, p.Module, made.Version, made.Lines(""))
 }

@@ -5,6 +5,7 @@ import (
 	"fmt"
 	"path"
 	"path/filepath"
+	"strconv"
 	"strings"
 
 	"example.com/goshelf-publish/internal/names"
@@ -14,6 +15,7 @@ import (
 type clone struct {
 	Tools
 	folder, copy string
+	hasTree      bool // a working tree, so HEAD is what a developer sees
 }
 
 // told returns what git says in the clone, or "" if it fails.
@@ -32,7 +34,8 @@ func (c *clone) take(ctx context.Context) error {
 		return fmt.Errorf("%s is not a git repository that can be read: %w", c.folder, err)
 	}
 	inside, from, _ := strings.Cut(strings.TrimSpace(string(about)), "\n")
-	if names := c.changes(ctx); strings.TrimSpace(inside) == "true" && names != nil {
+	c.hasTree = strings.TrimSpace(inside) == "true"
+	if names := c.changes(ctx); c.hasTree && names != nil {
 		return fmt.Errorf("%s has changes that no commit has, and a version holds commits: commit or stash them (%s)",
 			c.folder, strings.Join(names, " "))
 	}
@@ -88,6 +91,26 @@ func (c *clone) goMods(ctx context.Context, commit string) (names []string) {
 		}
 	}
 	return names
+}
+
+// after counts the commits of HEAD that a commit before it lacks and that change the module in a folder. A folder with
+// a go.mod of its own, at both, is of another module.
+func (c *clone) after(ctx context.Context, commit, folder string) (count int) {
+	if !c.hasTree || commit == "" || strings.TrimSpace(c.told(ctx, "merge-base", commit, "HEAD")) != commit {
+		return 0
+	}
+	words := []string{"rev-list", "--count", commit + "..HEAD", "--", ":(top,literal)" + folder}
+	own, isThere := path.Join(folder, "go.mod"), map[string]bool{}
+	for _, name := range c.goMods(ctx, commit) {
+		isThere[name] = name != own && strings.HasPrefix(name, strings.TrimSuffix(own, "go.mod"))
+	}
+	for _, name := range c.goMods(ctx, "HEAD") {
+		if isThere[name] {
+			words = append(words, ":(top,exclude,literal)"+path.Dir(name))
+		}
+	}
+	count, _ = strconv.Atoi(strings.TrimSpace(c.told(ctx, words...)))
+	return count
 }
 
 // name gives a commit that no tag names a branch in the copy. The go command finds it there, and needs the commits

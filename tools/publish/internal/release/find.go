@@ -9,8 +9,9 @@ import (
 	"example.com/goshelf-publish/internal/names"
 )
 
-// A place is what the go command is asked for, and the folder in which the module lies.
-type place struct{ query, folder string }
+// A place is what the go command is asked for, the folder in which the module lies, and in a clone the commit and the
+// folder of the go.mod, which may be a folder of a major version in the other.
+type place struct{ query, folder, commit, at string }
 
 // A search is for what a REF means for a module.
 type search struct {
@@ -20,6 +21,7 @@ type search struct {
 	only        string // the folder of the tag, if REF names it
 	fixed       string // the commit, if REF is no tag
 	seen        string // the last commit that was looked at
+	at          string // the folder of the go.mod there
 }
 
 // find returns what REF means for a module in the clone.
@@ -30,7 +32,7 @@ func (c *clone) find(ctx context.Context, module, ref string) (place, error) {
 	}
 	for _, folder := range names.Folders(module) {
 		if it.isIn(ctx, folder) {
-			return place{it.query, folder}, c.name(ctx, it.fixed)
+			return place{it.query, folder, it.seen, it.at}, c.name(ctx, it.fixed)
 		}
 	}
 	return place{}, it.refusal(ctx)
@@ -81,8 +83,8 @@ func (s *search) isIn(ctx context.Context, folder string) bool {
 	}
 	s.seen = at
 	_, ending := names.SplitMajor(s.module)
-	for _, place := range []string{folder, path.Join(folder, ending)} {
-		if s.moduleAt(ctx, at, path.Join(place, "go.mod")) == s.module {
+	for _, s.at = range []string{folder, path.Join(folder, ending)} {
+		if s.moduleAt(ctx, at, path.Join(s.at, "go.mod")) == s.module {
 			return true
 		}
 	}

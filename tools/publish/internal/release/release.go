@@ -24,12 +24,14 @@ type Asked struct {
 }
 
 // A Release is a version of a module as the go command made it: what `go mod download -json` says, and the bytes.
+// After counts the commits of HEAD that a tag's version lacks.
 type Release struct {
 	Path, Version, Error string
 	Info, GoMod, Zip     string
 	Sum, GoModSum        string
 	Time                 string `json:"-"`
 	GoModBytes, ZipBytes []byte `json:"-"`
+	After                int    `json:"-"`
 }
 
 // Lines returns the lines of go.sum, each after a text.

@@ -27,7 +27,11 @@ func (t Tools) FromClone(ctx context.Context, folder string, asked Asked) (*Rele
 		return nil, err
 	}
 	defer stop()
-	return t.make(ctx, asked, it, settings)
+	made, err := t.make(ctx, asked, it, settings)
+	if err == nil && names.Revision(made.Version) == "" {
+		made.After = from.after(ctx, it.commit, it.at)
+	}
+	return made, err
 }
 
 // answer returns settings by which the go command finds the module in the copy, whatever the user's: this process

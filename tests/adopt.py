@@ -307,10 +307,16 @@ def others(room, words, server, url):
     )
     reads = "left out example.com/odd v1.6.0: the key only reads: use a key that was added without --read-only"
     SUITE.equal("a key that only reads", told, (1, [], [reads, "0 published, 1 there before, 1 left out", stopped]))
-    write({f"{room.folder}/wrong": "machine 127.0.0.1 login reader password wrong\n"})
-    told = adopted(room, *words, "example.com/greet", "example.com/Greet/Words", NETRC=f"{room.folder}/wrong")
-    wrong = f"left out example.com/greet: {url} knows no such user: mend the line for its host in {room.folder}/wrong"
-    SUITE.equal("a wrong password", told, (1, [], [wrong, "0 published, 0 there before, 1 left out", stopped]))
+    at, counts = f"{room.folder}/wrong", "0 published, 0 there before, 1 left out"
+    for name, line, sentence in (
+        ("a wrong password", "127.0.0.1 login reader password wrong", f"{url} does not take the password of reader: "
+         f"mend the line for 127.0.0.1 in {at}, or ask the operator whether it still holds"),
+        ("no line for the host", "localhost login reader password wrong", f"{at} has no line with a login for "
+         "127.0.0.1: add one, with the name and the key from the operator"),
+    ):  # fmt: skip
+        write({at: f"machine {line}\n"})
+        told = adopted(room, *words, "example.com/greet", "example.com/Greet/Words", NETRC=at)
+        SUITE.equal(name, told, (1, [], [f"left out example.com/greet: {sentence}", counts, stopped]))
     nobody = f"http://127.0.0.1:{free_port()}"
     told = adopted(room, "--from", nobody, *words[2:], "a.com/b", "a.com/c")
     gone = f"left out a.com/b: nobody listens at {nobody}: check the URL, and that goshelf serves"

@@ -269,7 +269,9 @@ def shell(company, text):
     trust = f"publish: no TLS with {company.url}: name its certificates by SSL_CERT_FILE, or check the URL ("
     untrusted = company.run(f"unset SSL_CERT_FILE; {script}", company.dependency.folder, home)
     SUITE.holds("without the authority", untrusted[0] == 1 and untrusted[2].startswith(trust), untrusted)
-    SUITE.holds("by a wrong password", told[0] == 1 and "knows no such user: mend the line" in told[2], told)
+    SUITE.holds(
+        "by a wrong password", told[0] == 1 and "does not take the password of ci: mend the line" in told[2], told
+    )
 
 
 def first_version(company):

@@ -61,10 +61,10 @@ class Company:
         if self.is_small:
             subprocess.run(["umount", self.disk], check=True)
 
-    def publish(self, *words, user="ann", password=None):
+    def publish(self, *words, user="ann", password=None, host="localhost"):
         """Runs goshelf-publish as a user."""
         netrc = f"{self.folder}/netrc"
-        line = f"machine localhost login {user} password {password or self.client.passwords[user]}\n"
+        line = f"machine {host} login {user} password {password or self.client.passwords[user]}\n"
         write({netrc: line})
         words = ["--to", self.url, "--netrc", *words]
         return self.room.publish(*words, NETRC=netrc, SSL_CERT_FILE=self.client.pem)
@@ -98,8 +98,11 @@ def accepted(company, name, repository, path, version):
 def of_logins(company):
     """Who may not publish, or not there."""
     words, netrc = ["--repository", company.own.folder, OWN, "v1.0.0"], f"{company.folder}/netrc"
-    knows = f"{company.url} knows no such user: mend the line for its host in {netrc}\n"
-    refused(company, "a wrong password", knows, *words, password="wrong")
+    takes = f"{company.url} does not take the password of ann: mend the line for localhost in {netrc}, or ask the "
+    refused(company, "a wrong password", f"{takes}operator whether it still holds\n", *words, password="wrong")
+    none = f"{netrc} has no line with a login for localhost: add one, with the name and the key from the operator\n"
+    refused(company, "a login for another host", none, *words, host="localhost.example")
+    by_key(company, words)
     reads = f"{netrc} logs in as a user who only reads: ask the operator of {company.url} for the right to publish\n"
     refused(company, "a user who only reads", reads, *words, user="rob")
     lost = f"goshelf key-revoke --control /run/goshelf/control --key {company.client.passwords['lou']}"
@@ -110,6 +113,18 @@ def of_logins(company):
     others.commit(module(path), "v1.0.0")
     yours = f"{company.url} does not let you publish {path}: publish a path of your own, or ask the operator for this"
     refused(company, "another's path", yours, "--repository", others.folder, path, "v1.0.0")
+
+
+def by_key(company, words):
+    """A key in a file opens goshelf itself, and not nginx."""
+    write({f"{company.folder}/key": company.client.passwords["ann"]})
+    words = ["--to", company.url, "--key-file", f"{company.folder}/key", *words]
+    told = [company.room.publish(*check, *words, SSL_CERT_FILE=company.client.pem) for check in (["--check"], [])]
+    takes = (
+        f"publish: {company.url} takes the key from ~/.netrc: give --netrc in place of --key-file, and a line there "
+    )
+    wanted = 1, "", f"{takes}with the host, your name and the key as the password\n"
+    SUITE.equal("a key in a file: a check and a publish", told, [wanted] * 2)
 
 
 def of_versions(company):

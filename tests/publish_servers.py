@@ -172,6 +172,9 @@ def answers(url):
         (404, "<html>", f"{url} answers 404 and is no goshelf: check the URL (<html>)"),
         (404, f"no /k/{KEY}/example.com/greet", f"{url} answers 404 and is no goshelf: check the URL "
          "(no /k/.../example.com/greet)"),
+        (404, "the key does not go into the URL, but into ~/.netrc, as the password\n",
+         f"{url} takes the key from ~/.netrc: give --netrc in place of --key-file, and a line there with the host, "
+         "your name and the key as the password"),
         (403, "not your path\n",
          f"{url} does not let you publish example.com/greet: "
          "publish a path of your own, or ask the operator for this one"),
@@ -262,15 +265,20 @@ def by_netrc(room, url, words):
     Answers.answer = 404, b"not found\n"
     SUITE.refused(room, "a user whose key is revoked", f"{wanted}then ask the operator", *words, "--netrc", **netrc)
     Answers.answer = 401, b""
-    netrc = f"{room.folder}/netrc"
-    SUITE.refused(
-        room,
-        "another user",
-        f"{url} knows no such user: mend the line for its host in {netrc}",
-        *words,
-        "--netrc",
-        NETRC=netrc,
-    )
+    netrc, mend = f"{room.folder}/netrc", "mend the line for 127.0.0.1 in"
+    for name, user, shown in (("another password", "alpha", "alpha"), ("a key in place of the user", KEY, "...")):
+        write({netrc: f"machine 127.0.0.1 login {user} password other\n"})
+        wanted = (
+            f"{url} does not take the password of {shown}: {mend} {netrc}, or ask the operator whether it still holds"
+        )
+        SUITE.refused(room, name, wanted, *words, "--netrc", NETRC=netrc)
+    wanted = f"{netrc} has no line with a login for 127.0.0.1: add one, with the name and the key from the operator"
+    for name, line in (
+        ("a misspelt host", "127.0.0.2 login alpha password other"),
+        ("no user", "127.0.0.1 password other"),
+    ):
+        write({netrc: f"machine {line}\n"})
+        SUITE.refused(room, name, wanted, *words, "--netrc", NETRC=netrc)
     missing = f"{room.folder}/nosuch"
     SUITE.refused(
         room,

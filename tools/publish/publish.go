@@ -76,8 +76,8 @@ func (p *publisher) send(ctx context.Context, made *release.Release) error {
 
 // refusal says what an answer against a request means.
 func (p *publisher) refusal(got server.Reply, made *release.Release, asked server.Request) error {
-	return answers.Refusal(got, answers.Ask{To: p.To, Netrc: p.Netrc, Module: p.Module, Version: made.Version,
-		Time: made.Time, GoMod: made.GoModBytes, Sent: len(asked.Body)})
+	return answers.Refusal(got, answers.Ask{To: p.To, Netrc: p.Netrc, User: p.server.Name(), Module: p.Module,
+		Version: made.Version, Time: made.Time, GoMod: made.GoModBytes, Sent: len(asked.Body)})
 }
 
 // compare fetches what is there, and refuses unless its sums and its time are the same.

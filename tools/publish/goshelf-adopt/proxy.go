@@ -28,7 +28,7 @@ func (p *proxy) read(name string, _ int64) ([]byte, error) {
 	case err != nil:
 		return nil, errStop{err}
 	case got.Status == 401:
-		return nil, errStop{answers.Refusal(got, answers.Ask{To: p.URL, Netrc: p.netrc})}
+		return nil, errStop{answers.Refusal(got, answers.Ask{To: p.URL, Netrc: p.netrc, User: p.Name()})}
 	case got.Status == 404 || got.Status == 410:
 		return nil, errNone
 	case got.Status != 200:

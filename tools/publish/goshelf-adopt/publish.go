@@ -97,6 +97,6 @@ func (s *shelf) take(it *version, held contents) error {
 }
 
 func (s *shelf) refusal(got server.Reply, it *version, held contents) error {
-	return answers.Refusal(got, answers.Ask{To: s.URL, Netrc: s.netrc, Module: it.path, Version: it.version,
-		Time: held.time, GoMod: held.gomod, Sent: len(held.gomod) + len(held.zip)})
+	return answers.Refusal(got, answers.Ask{To: s.URL, Netrc: s.netrc, User: s.Name(), Module: it.path,
+		Version: it.version, Time: held.time, GoMod: held.gomod, Sent: len(held.gomod) + len(held.zip)})
 }

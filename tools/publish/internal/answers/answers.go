@@ -12,15 +12,28 @@ import (
 	"example.com/goshelf-publish/internal/server"
 )
 
-// An Ask is what a request was about. Netrc is the file of the login, if there is one.
+// An Ask is what a request was about. Netrc is the file of the login, if there is one, and User what it has for the
+// host, or "".
 type Ask struct {
-	To, Netrc, Module, Version, Time string
-	GoMod                            []byte
-	Sent                             int
+	To, Netrc, User, Module, Version, Time string
+	GoMod                                  []byte
+	Sent                                   int
+}
+
+// fronts returns what the names of meanings may begin with, the first of them first.
+func (a Ask) fronts() []string {
+	switch {
+	case a.Netrc == "":
+		return []string{""}
+	case a.User == "":
+		return []string{"no line ", "netrc ", ""}
+	}
+	return []string{"netrc ", ""}
 }
 
 // meanings says what an answer against a publish means, and what to do: by the status and the body of goshelf, by the
-// status alone, and by its first digit. With `netrc` in front it is that of a user. What stands in {} differs.
+// status alone, and by its first digit. With `netrc` in front it is that of a user, and with `no line` that of one whom
+// the file does not name. What stands in {} differs.
 var meanings = map[string]string{
 	"400 bad mod-length":  "the header Mod-Length did not arrive: let the server in front of goshelf pass it on",
 	"403 forbidden":       "the key only reads: use a key that was added without --read-only",
@@ -32,6 +45,8 @@ var meanings = map[string]string{
 		"then {module} {version}",
 	"netrc 404 not found": "{to} takes no such path or version, or has lost the key of your user: " +
 		"check {module} {version}, then ask the operator",
+	"404 the key does not go into the URL, but into ~/.netrc, as the password": "{to} takes the key from ~/.netrc: " +
+		"give --netrc in place of --key-file, and a line there with the host, your name and the key as the password",
 	"422 major-mismatch": "{version} does not fit the path {module}: version 2 and higher need a path that ends in /v2 " +
 		"and so on",
 	"422 bad-time":      "the time {time} does not fit {version}: check the clock of whoever made the commit",
@@ -42,12 +57,14 @@ var meanings = map[string]string{
 	"503 unavailable": "the store met a fault and published nothing: run this again, and tell the operator if it stays",
 	"507 full":        "the shelf has 4096 versions of {module} and takes no more: go on under a new path",
 	"401":             "{to} wants a user: give --netrc, and a line of ~/.netrc with the host, the user and its password",
-	"netrc 401":       "{to} knows no such user: mend the line for its host in {netrc}",
-	"413":             "{to} takes no body of {sent} bytes: raise client_max_body_size of the server in front",
-	"429":             "{to} gets too many requests at once: run this again in a minute",
-	"3":               "{to} leads to another URL: give that to --to",
-	"5":               "{to} answers {status}: goshelf behind it is down or busy, so run this again",
-	"":                "{to} answers {status} and is no goshelf: check the URL ({body})",
+	"netrc 401": "{to} does not take the password of {user}: mend the line for {host} in {netrc}, " +
+		"or ask the operator whether it still holds",
+	"no line 401": "{netrc} has no line with a login for {host}: add one, with the name and the key from the operator",
+	"413":         "{to} takes no body of {sent} bytes: raise client_max_body_size of the server in front",
+	"429":         "{to} gets too many requests at once: run this again in a minute",
+	"3":           "{to} leads to another URL: give that to --to",
+	"5":           "{to} answers {status}: goshelf behind it is down or busy, so run this again",
+	"":            "{to} answers {status} and is no goshelf: check the URL ({body})",
 }
 
 // Refusal says what an answer against a request means.
@@ -59,15 +76,14 @@ func Refusal(got server.Reply, asked Ask) error {
 		}
 	}
 	major, _, _ := strings.Cut(asked.Version, ".")
-	words := strings.NewReplacer("{to}", asked.To, "{netrc}", asked.Netrc, "{module}", asked.Module,
-		"{version}", asked.Version, "{major}", major, "{time}", asked.Time, "{status}", status, "{body}", body,
-		"{sent}", strconv.Itoa(asked.Sent))
+	words := strings.NewReplacer("{to}", asked.To, "{host}", server.Host(asked.To), "{netrc}", asked.Netrc,
+		"{user}", printable(asked.User), "{module}", asked.Module, "{version}", asked.Version, "{major}", major,
+		"{time}", asked.Time, "{status}", status, "{body}", body, "{sent}", strconv.Itoa(asked.Sent))
 	for _, name := range []string{status + " " + body, status, status[:1], ""} {
-		if text := meanings["netrc "+name]; text != "" && asked.Netrc != "" {
-			return errors.New(words.Replace(text))
-		}
-		if text := meanings[name]; text != "" {
-			return errors.New(words.Replace(text))
+		for _, front := range asked.fronts() {
+			if text := meanings[front+name]; text != "" {
+				return errors.New(words.Replace(text))
+			}
 		}
 	}
 	return nil // (not reached: the last name is in the table)

@@ -25,6 +25,14 @@ var (
 	keyInURL = regexp.MustCompile(`/k(/|$)|@`)
 )
 
+// Name returns the user as it may be shown: not where it has the form of a key, which may stand in the wrong place.
+func (l Login) Name() string {
+	if oneKey.MatchString(l.User) {
+		return "..."
+	}
+	return l.User
+}
+
 // hidden returns a text of a server without this login, which a server that is no goshelf may repeat.
 func (l Login) hidden(text []byte) []byte {
 	header := base64.StdEncoding.EncodeToString([]byte(l.User + ":" + l.Password))
@@ -96,11 +104,16 @@ func NetrcLogin(name, to string) (Login, error) {
 	if err != nil {
 		return Login{}, fmt.Errorf("%s cannot be read: make it, with a line for the host of %s", name, to)
 	}
-	at, err := url.Parse(to)
+	return loginFor(netrcWords(string(text)), Host(to)), nil
+}
+
+// Host returns the name of the host of a URL, as a .netrc has it, or "" where a text is no URL.
+func Host(text string) string {
+	at, err := url.Parse(text)
 	if err != nil {
-		return Login{}, fmt.Errorf("%s is not a URL: %w", to, err)
+		return ""
 	}
-	return loginFor(netrcWords(string(text)), at.Hostname()), nil
+	return at.Hostname()
 }
 
 // netrcWords returns the words of a .netrc, without comments and macros, as the go command reads it.

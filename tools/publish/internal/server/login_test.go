@@ -23,6 +23,11 @@ func TestNetrc(t *testing.T) {
 			t.Errorf("%s: %+v, %v", host, got, err)
 		}
 	}
+	for user, want := range map[string]string{"ann": "ann", key: "...", "": ""} {
+		if got := (Login{User: user}).Name(); got != want {
+			t.Errorf("%s: %s", user, got)
+		}
+	}
 	if got := loginFor(netrcWords("machine a login"), "b"); got != (Login{}) {
 		t.Errorf("%+v", got)
 	}

@@ -45,11 +45,23 @@ func (p Program) Main() {
 		os.Exit(p.report(os.Stdout, os.Stderr, err))
 	case it := <-caught:
 		stop()
-		select {
-		case <-ended: // (it removes its temporary files)
-		case <-caught: // (from somebody who does not wait for that)
-		}
+		finish(ended, caught)
 		os.Exit(128 + int(it.(syscall.Signal)))
+	}
+}
+
+// finish waits until a run that was stopped has removed its temporary files, unless it is stopped once more. (Each line
+// to a pipe that nobody reads is a SIGPIPE.)
+func finish(ended <-chan error, caught <-chan os.Signal) {
+	for {
+		select {
+		case <-ended:
+			return
+		case it := <-caught:
+			if it != syscall.SIGPIPE {
+				return
+			}
+		}
 	}
 }
 

@@ -5,8 +5,10 @@ import (
 	"errors"
 	"flag"
 	"io"
+	"os"
 	"reflect"
 	"strings"
+	"syscall"
 	"testing"
 )
 
@@ -25,6 +27,21 @@ func TestReport(t *testing.T) {
 		if got := p.report(&stdout, &stderr, it.err); got != it.status || stdout.String() != it.stdout || stderr.String() != it.stderr {
 			t.Errorf("%v: %d, %q, %q", it.err, got, stdout.String(), stderr.String())
 		}
+	}
+}
+
+// TestFinish has lines to a pipe that nobody reads not end a run before it has ended, as somebody who stops it twice does.
+func TestFinish(t *testing.T) {
+	ended, caught, done := make(chan error), make(chan os.Signal), make(chan bool)
+	for _, last := range []func(){func() { ended <- nil }, func() { caught <- os.Interrupt }} {
+		go func() {
+			finish(ended, caught)
+			done <- true
+		}()
+		caught <- syscall.SIGPIPE
+		caught <- syscall.SIGPIPE
+		last()
+		<-done
 	}
 }
 

@@ -45,6 +45,9 @@ def of_names(room, greet, words):
          "v2/"))),
         ("an escaped path", "example.com/greet/!words", "v1.0.0",
          "example.com/greet/!words is not a module path: write it as the go.mod does, with capitals and without !"),
+        ("no go.mod", "command-line-arguments", "v1.0.0",
+         "command-line-arguments is no module, but what `go list -m` prints where no go.mod is: run it in the "
+         "repository, in the folder of the module's go.mod"),
         ("a path with a space", "example.com/a b", "v1.0.0",
         "example.com/a b is not a module path: write it as the go.mod does"),
     ]  # fmt: skip
@@ -69,15 +72,22 @@ def of_branches(room, greet, words):
 def of_folders(room, greet, words):
     """A repository with changes that no commit has, and a folder that is none."""
     write({f"{greet.folder}/greet.go": "package greet\n"})
-    wanted = f"{greet.folder} has changes that no commit has, and a version holds commits: commit or stash them (%s)"
-    SUITE.refused(room, "a dirty tree", wanted % "greet.go", *words, "example.com/greet", "v1.0.0")
+    wanted = f"{greet.folder} has changes that no commit has, and a version holds commits: %s (%s)"
+    told = wanted % ("commit or stash them", "greet.go")
+    SUITE.refused(room, "a dirty tree", told, *words, "example.com/greet", "v1.0.0")
+    write({f"{greet.folder}/a.go": "package greet\n"})
+    SUITE.refused(room, "that, and a new file", told, *words, "example.com/greet", "v1.0.0")
+    os.remove(f"{greet.folder}/a.go")
     greet.git("checkout", "-q", "greet.go")
-    write({f"{greet.folder}/new.go": "package greet\n"})
-    SUITE.refused(room, "a new file", wanted % "new.go", *words, "example.com/greet", "v1.0.0")
-    os.remove(f"{greet.folder}/new.go")
+    new = [f"new{it}.go" for it in range(4)]
+    write({f"{greet.folder}/{it}": "package greet\n" for it in new})
+    told = wanted % ("commit, ignore or remove them", " ".join(new[:3]))
+    SUITE.refused(room, "new files", told, *words, "example.com/greet", "v1.0.0")
+    for it in new:
+        os.remove(f"{greet.folder}/{it}")
     wanted = (
-        f"{room.folder} is not a git repository that can be read: not a git repository (or any of the parent"
-        " directories): .git"
+        f"{room.folder} is not a git repository that can be read: name the one of the module by --repository (not a git"
+        " repository (or any of the parent directories): .git)"
     )
     SUITE.refused(room, "no repository", wanted, *words[:4], "--repository", room.folder, "example.com/greet", "v1.0.0")
 

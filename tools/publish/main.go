@@ -5,6 +5,7 @@ package main
 import (
 	"context"
 	_ "embed"
+	"errors"
 	"flag"
 	"fmt"
 	"io"
@@ -56,6 +57,9 @@ func parse(words []string) (it options, err error) {
 		return it, err
 	}
 	switch {
+	case it.Module == "command-line-arguments":
+		return it, errors.New("command-line-arguments is no module, but what `go list -m` prints where no go.mod is: " +
+			"run it in the repository, in the folder of the module's go.mod")
 	case strings.Contains(it.Module, "!"):
 		return it, fmt.Errorf("%s is not a module path: write it as the go.mod does, with capitals and without !", it.Module)
 	case !names.IsPath(it.Module):

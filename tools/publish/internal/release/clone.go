@@ -18,6 +18,8 @@ type clone struct {
 	hasTree      bool // a working tree, so HEAD is what a developer sees
 }
 
+const unreadable = "%s is not a git repository that can be read: name the one of the module by --repository (%w)"
+
 // told returns what git says in the clone, or "" if it fails.
 func (c *clone) told(ctx context.Context, words ...string) string {
 	text, err := c.git(ctx, c.folder, words...)
@@ -31,13 +33,12 @@ func (c *clone) told(ctx context.Context, words ...string) string {
 func (c *clone) take(ctx context.Context) error {
 	about, err := c.git(ctx, c.folder, "rev-parse", "--is-inside-work-tree", "--git-common-dir")
 	if err != nil {
-		return fmt.Errorf("%s is not a git repository that can be read: %w", c.folder, err)
+		return fmt.Errorf(unreadable, c.folder, err)
 	}
 	inside, from, _ := strings.Cut(strings.TrimSpace(string(about)), "\n")
 	c.hasTree = strings.TrimSpace(inside) == "true"
-	if names := c.changes(ctx); c.hasTree && names != nil {
-		return fmt.Errorf("%s has changes that no commit has, and a version holds commits: commit or stash them (%s)",
-			c.folder, strings.Join(names, " "))
+	if err := c.changes(ctx); c.hasTree && err != nil {
+		return err
 	}
 	if c.isPartial(ctx) {
 		return fmt.Errorf("%s is a partial clone, which lacks files of its commits: clone it without --filter", c.folder)
@@ -46,7 +47,7 @@ func (c *clone) take(ctx context.Context) error {
 		from = filepath.Join(c.folder, from)
 	}
 	if from, err = filepath.Abs(from); err != nil {
-		return fmt.Errorf("%s is not a git repository that can be read: %w", c.folder, err)
+		return fmt.Errorf(unreadable, c.folder, err)
 	}
 	words := strings.Fields("git -c protocol.file.allow=always clone -q --bare --shared --")
 	words = append(words, from, c.copy+".git")
@@ -56,14 +57,32 @@ func (c *clone) take(ctx context.Context) error {
 	return nil
 }
 
-// changes returns the first files that are not as the commit has them.
-func (c *clone) changes(ctx context.Context) (names []string) {
+// changes refuses files that are not as the commit has them, and names the first. New ones may be there by mistake.
+func (c *clone) changes(ctx context.Context) error {
+	var changed, untracked []string
 	for _, line := range strings.Split(c.told(ctx, "--no-optional-locks", "status", "--porcelain"), "\n") {
-		if len(line) > 3 && len(names) < 3 {
-			names = append(names, line[3:])
+		switch {
+		case len(line) <= 3:
+		case strings.HasPrefix(line, "??"):
+			untracked = append(untracked, line[3:])
+		default:
+			changed = append(changed, line[3:])
 		}
 	}
-	return names
+	const most = 3
+	for _, it := range []struct {
+		names []string
+		do    string
+	}{{changed, "commit or stash them"}, {untracked, "commit, ignore or remove them"}} {
+		if len(it.names) > most {
+			it.names = it.names[:most]
+		}
+		if it.names != nil {
+			return fmt.Errorf("%s has changes that no commit has, and a version holds commits: %s (%s)",
+				c.folder, it.do, strings.Join(it.names, " "))
+		}
+	}
+	return nil
 }
 
 // isPartial says whether files of the commits are missing, which the copy could not fetch.

@@ -277,18 +277,19 @@ def shell(company, text):
 def first_version(company):
     """A developer who has go and a login publishes a first version by the tutorial, and a colleague gets it."""
     (line,) = blocks("docs/TUTORIAL.md", "text")
-    settings, install, publish, get = blocks("docs/TUTORIAL.md", "sh")
+    append, settings, install, publish, use = blocks("docs/TUTORIAL.md", "sh")
     greet = Repository(company.room, "greet")
-    first = greet.commit(module("example.com/greet"))
+    first = greet.commit({**module("example.com/greet"), "greet.go": 'package greet\n\nconst Hello = "hello"\n'})
     # (what an earlier job compiled)
     own = {"GOCACHE": f"{company.folder}/github/.cache/go-build"}
 
     def person(name, login, script, at=None):
         home = f"{company.folder}/{name}"
-        os.makedirs(f"{home}/using")
+        os.mkdir(home)
         netrc = line.replace("shelf.example.com", "localhost").replace(" ann ", f" {login} ")
-        write({f"{home}/.netrc": netrc.replace("KEY", company.client.passwords[login])})
-        told = company.run(settings + script, at or f"{home}/using", home, **own)
+        netrc = netrc.replace("KEY", company.client.passwords[login])
+        typed = f"{append.rstrip()} << 'END'\n{netrc}END\n"
+        told = company.run(typed + settings + script, at or home, home, **own)
         SUITE.equal(f"{name}: who may read the login", os.stat(f"{home}/.netrc").st_mode & 0o777, 0o600)
         return told
 
@@ -297,9 +298,8 @@ def first_version(company):
     told = person("a developer", "ci", f"{install}{tag}\n{check}\n{command}\n", greet.folder)
     lines = greet.lines("example.com/greet", "v0.1.0", first)
     SUITE.equal("a developer's first version", told[:2], (0, f"checked {lines}published {lines}")) or print(told)
-    told = person("a colleague", "ci-read", f"go mod init example.com/using\n{get}cat go.mod\n")
-    found = told[0], told[1].endswith("require example.com/greet v0.1.0 // indirect\n")
-    SUITE.equal("a colleague gets it", found, (0, True)) or print(told)
+    told = person("a colleague", "ci-read", use)
+    SUITE.equal("a colleague's program", (told[0], told[2].splitlines()[-1:]), (0, ["hello"])) or print(told)
 
 
 def session(folder):

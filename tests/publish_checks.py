@@ -184,7 +184,8 @@ def of_stores(company):
     words = ["--repository", company.own.folder, OWN, "v1.4.0"]
     company.machine.does("systemctl stop goshelf")
     told = [company.publish(*check, *words) for check in (["--check"], [])]
-    wanted = 1, "", f"publish: {company.url} answers 502: goshelf behind it is down or busy, so run this again\n"
+    busy = f"publish: {company.url} answers 502: goshelf behind it is down or busy, so run this again in a minute, "
+    wanted = 1, "", f"{busy}and if it stays, tell the operator\n"
     SUITE.equal("a goshelf that is stopped: a check and a publish", told, [wanted] * 2)
     company.machine.does("systemctl start goshelf")
 

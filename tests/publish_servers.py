@@ -194,7 +194,8 @@ def answers(url):
         (422, "incompatible-gomod\n",
          "v1.0.0 is +incompatible, which only a go.mod with a module line alone can be: "
          "name the module example.com/greet/v1"),
-        (502, "", f"{url} answers 502: goshelf behind it is down or busy, so run this again"),
+        (502, "", f"{url} answers 502: goshelf behind it is down or busy, so run this again in a minute, "
+         "and if it stays, tell the operator"),
         (503, "unavailable\n",
          "the store met a fault and published nothing: run this again, and tell the operator if it stays"),
         (507, "full\n", "the shelf has 4096 versions of example.com/greet and takes no more: go on under a new path"),

@@ -63,8 +63,9 @@ var meanings = map[string]string{
 	"413":         "{to} takes no body of {sent} bytes: raise client_max_body_size of the server in front",
 	"429":         "{to} gets too many requests at once: run this again in a minute",
 	"3":           "{to} leads to another URL: give that to --to",
-	"5":           "{to} answers {status}: goshelf behind it is down or busy, so run this again",
-	"":            "{to} answers {status} and is no goshelf: check the URL ({body})",
+	"5": "{to} answers {status}: goshelf behind it is down or busy, so run this again in a minute, " +
+		"and if it stays, tell the operator",
+	"": "{to} answers {status} and is no goshelf: check the URL ({body})",
 }
 
 // Refusal says what an answer against a request means.

@@ -38,8 +38,10 @@ type UsageError struct{ error }
 func (p Program) Main() {
 	ctx, stop := context.WithCancel(context.Background())
 	caught, ended := make(chan os.Signal, 1), make(chan error, 1)
-	signal.Notify(caught, os.Interrupt, syscall.SIGTERM, syscall.SIGHUP, syscall.SIGPIPE)
-	go func() { ended <- p.Run(ctx, os.Args[1:], input{ctx, os.Stdin}, os.Stdout, os.Stderr) }()
+	signal.Notify(caught, os.Interrupt, syscall.SIGTERM, syscall.SIGHUP)
+	signal.Notify(make(chan os.Signal, 1), syscall.SIGPIPE) // (unheeded: a server that hangs up gives it too)
+	stdout := output{os.Stdout, caught}
+	go func() { ended <- p.Run(ctx, os.Args[1:], input{ctx, os.Stdin}, stdout, os.Stderr) }()
 	select {
 	case err := <-ended:
 		os.Exit(p.report(os.Stdout, os.Stderr, err))
@@ -50,8 +52,25 @@ func (p Program) Main() {
 	}
 }
 
+// An output is standard output. Where nobody reads that any more, it stops the run, as SIGPIPE does.
+type output struct {
+	to     io.Writer
+	caught chan<- os.Signal
+}
+
+func (o output) Write(text []byte) (int, error) {
+	count, err := o.to.Write(text)
+	if errors.Is(err, syscall.EPIPE) {
+		select {
+		case o.caught <- syscall.SIGPIPE:
+		default:
+		}
+	}
+	return count, err
+}
+
 // finish waits until a run that was stopped has removed its temporary files, unless it is stopped once more. (Each line
-// to a pipe that nobody reads is a SIGPIPE.)
+// that nobody reads is a SIGPIPE.)
 func finish(ended <-chan error, caught <-chan os.Signal) {
 	for {
 		select {

@@ -6,6 +6,7 @@ import (
 	"flag"
 	"io"
 	"os"
+	"os/signal"
 	"reflect"
 	"strings"
 	"syscall"
@@ -42,6 +43,30 @@ func TestFinish(t *testing.T) {
 		caught <- syscall.SIGPIPE
 		last()
 		<-done
+	}
+}
+
+// TestOutput has a pipe that nobody reads stop a run, and no run wait for that.
+func TestOutput(t *testing.T) {
+	signal.Notify(make(chan os.Signal, 1), syscall.SIGPIPE)
+	reader, writer, err := os.Pipe()
+	if err != nil {
+		t.Fatal(err)
+	}
+	defer writer.Close()
+	caught := make(chan os.Signal, 1)
+	it := output{writer, caught}
+	if count, err := it.Write([]byte("a")); count != 1 || err != nil || len(caught) != 0 {
+		t.Errorf("%d, %v, %d", count, err, len(caught))
+	}
+	reader.Close()
+	for range []int{1, 2} {
+		if _, err := it.Write([]byte("a")); err == nil || len(caught) != 1 {
+			t.Errorf("%v, %d", err, len(caught))
+		}
+	}
+	if got := <-caught; got != syscall.SIGPIPE {
+		t.Error(got)
 	}
 }
 

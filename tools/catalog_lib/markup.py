@@ -136,3 +136,28 @@ def table(name, heads, rows):
 def count(number, one, many=None):
     """`1 module`, `2 modules`."""
     return f"{number:,} {one if number == 1 else many or one + 's'}"
+
+
+def row(first, *cells):
+    return html('<tr><th scope="row">{}</th>{}</tr>\n', first, cells)
+
+
+def cell(value):
+    return html("<td>{}</td>", value)
+
+
+def code(value):
+    return html('<td class="code">{}</td>', value)
+
+
+def number(value):
+    return html('<td class="number">{}</td>', f"{value:,}")
+
+
+def section(name, title, body):
+    return html('<section aria-labelledby="{}">\n<h2 id="{}">{}</h2>\n{}</section>\n', name, name, title, body)
+
+
+def linked(place, shelf, path):
+    """A path, as a link if the shelf sees the module."""
+    return link(place, path) if path in shelf.modules else broken(path)

@@ -1,0 +1,92 @@
+"""The page of what needs attention on a shelf, and of what changed."""
+from catalog_lib.markup import Html, cell, code, count, date, html, link, linked, number, page, row, section, table
+
+
+def findings(shelf, differences):
+    """The findings of the health page, each with its name, what to do, the heads of its table and what was found."""
+    required = ("Module", "Latest", "Requires", "Version")
+    return (
+        (
+            "retracted",
+            "Requires a retracted version",
+            "Require a version that is not retracted.",
+            required,
+            shelf.requiring("retracted"),
+        ),
+        (
+            "missing",
+            "Requires a version that is not on this shelf",
+            "Publish it to a shelf that this one sees, or require another.",
+            required,
+            shelf.requiring("missing"),
+        ),
+        (
+            "differing",
+            "The same version with other content on two shelves",
+            "Publish the next version to one shelf only. Compared are go.mod, time and the zip's size.",
+            ("Module", "Version", "Here", "And on"),
+            differences,
+        ),
+        (
+            "retired",
+            "All versions are retracted",
+            "Publish a version that is not retracted: @latest is a 404.",
+            ("Module", "#Versions"),
+            shelf.without_latest(),
+        ),
+        (
+            "unreleased",
+            "No release",
+            "Tag a release: users get a pre-release or a pseudo-version.",
+            ("Module", "Latest", "Has only"),
+            shelf.without_release(),
+        ),
+    )
+
+
+def finding_rows(place, shelf, name, found):
+    """The rows of the table of a finding."""
+    if name in ("retracted", "missing"):
+        return [
+            row(link(place, it.path), code(it.latest), code(linked(place, shelf, path)), code(version))
+            for it, path, version in found
+        ]
+    if name == "differing":
+        return [row(link(place, path), code(version), cell(own), cell(above)) for path, version, own, above in found]
+    if name == "retired":
+        return [row(link(place, it.path), number(len(it.versions))) for it in found]
+    return [row(link(place, it.path), code(it.latest or ""), cell(kinds_of(it))) for it in found]
+
+
+def kinds_of(module):
+    return " and ".join(f"{it}s" for it in sorted(module.kinds()))
+
+
+def health_page(place, shelf, found):
+    """The page of what needs attention, and of what changed."""
+    main = [
+        html('<h1>Health of {}</h1>\n<p class="facts">{}</p>\n', shelf.name, count(place.findings, "finding")),
+        [finding_section(place, shelf, *it) for it in found],
+        changed_section(place, shelf),
+    ]
+    return page(place, f"{shelf.name}: health", main, "health")
+
+
+def changed_section(place, shelf):
+    """The section of the versions of the last days, a row for each module."""
+    rows = [
+        row(link(place, it.path), code(them[0][1]), cell(date(them[0][0])), number(len(them)))
+        for it, them in shelf.changed()
+    ]
+    heads = ("Module", "Newest version", "Date", "#Versions")
+    told = html("<p>Versions whose time is in the 30 days before {}.</p>\n", date(shelf.today.isoformat()))
+    body = [told, table("changed", heads, rows)] if rows else Html("<p>Nothing.</p>\n")
+    return section("changed", "Changed in the last 30 days", body)
+
+
+def finding_section(place, shelf, name, title, advice, heads, found):
+    """The section of a finding. What is well has a line."""
+    words = html('{} <span class="count {}">{}</span>', title, "bad" if found else "good", f"{len(found):,}")
+    rows = finding_rows(place, shelf, name, found)
+    body = [html("<p>{}</p>\n", advice), table(name, heads, rows)] if rows else ""
+    return section(name, words, body)

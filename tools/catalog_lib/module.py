@@ -1,0 +1,135 @@
+"""The page of a module: what it is, what it requires, who uses it, and its versions."""
+from itertools import groupby
+
+from catalog_lib.graph import MOST, graph
+from catalog_lib.lines import kind
+from catalog_lib.markup import (
+    Html,
+    broken,
+    cell,
+    chip,
+    code,
+    date,
+    gomod_link,
+    html,
+    link,
+    linked,
+    page,
+    row,
+    section,
+    size,
+    table,
+)
+
+STATES = {
+    "behind": "behind the latest",
+    "retracted": "retracted",
+    "missing": "not on this shelf",
+}
+
+
+def module_page(place, shelf, module, names):
+    """The page of a module."""
+    lines = shelf.lines(module)[::-1]
+    shown = next((it for it in lines if it.is_latest), lines[0])
+    users = shelf.users_of(module.path)
+    parts = (
+        ("requires", "Requires", len(shown.requires), requires(place, shelf, shown)),
+        ("users", "Used by", len({it.module.path for it in users}), used_by(place, shelf, module, users)),
+        ("versions", "Versions", len(lines), versions(place, lines, names)),
+    )
+    jumps = [
+        html('<li><a href="#{}">{} <span class="count">{}</span></a></li>\n', it, name, f"{number:,}")
+        for it, name, number, _ in parts
+    ]
+    main = [
+        html("<h1>{}</h1>\n", broken(module.path)),
+        about(module, shown, names),
+        html('<nav class="jumps" aria-label="On this page"><ul>\n{}</ul></nav>\n', jumps),
+        [section(it, name, body) for it, name, _, body in parts],
+    ]
+    return page(place, f"{module.path} · {shelf.name}", main)
+
+
+def about(module, shown, names):
+    """What a module is at its latest version, and how to get it."""
+    if module.latest is None:
+        return Html('<p class="facts">All versions are retracted, so there is no latest version.</p>\n')
+    facts = [html('<b class="code">{}</b> ', shown.version), date(shown.time)]
+    if shown.go:
+        facts.append(html(" · Go {}", shown.go))
+    get = f"go get {module.path}@{shown.version}"
+    return html(
+        (
+            '<p class="facts">{} {}</p>\n<div class="get"><pre id="get" tabindex="0"><code>{}</code></pre>\n'
+            '<button type="button" class="copy" data-from="get" hidden>Copy</button></div>\n'
+        ),
+        facts,
+        chip(shown.shelf, names[shown.shelf]),
+        get,
+    )
+
+
+def requires(place, shelf, shown):
+    """What the latest version requires."""
+    told = html("<p>{} of {}</p>\n", gomod_link(place, shown.path, shown.version), shown.version)
+    if not shown.requires:
+        return html("<p>Nothing. See its {}.</p>\n", gomod_link(place, shown.path, shown.version))
+    rows = [required_row(place, shelf, *it) for it in shown.requires]
+    return [told, table("requires", ("Module", "Version", "Remark"), rows)]
+
+
+def required_row(place, shelf, path, version):
+    return row(linked(place, shelf, path), code(version), cell(remark(shelf, path, shelf.state(path, version))))
+
+
+def remark(shelf, path, state):
+    """What is to be said of a required version."""
+    if not state:
+        return ""
+    text = f"behind {shelf.modules[path].latest}" if state == "behind" else STATES[state]
+    return chip(state, text)
+
+
+def used_by(place, shelf, module, users):
+    """Who requires the module: a graph if there are few, and a table."""
+    if not users:
+        return Html("<p>No module that this shelf sees requires it.</p>\n")
+    states = [shelf.state(module.path, it.required) for it in users]
+    groups = [list(it) for _, it in groupby(zip(users, states), key=lambda it: it[0].module.path)]
+    heights = [len(group) if it is group[0] else 0 for group in groups for it in group]
+    rows = [user_row(place, shelf, module, *it) for it in zip(users, states, heights)]
+    firsts = [(it.module.path, it.version, it.required, state) for (it, state), *_ in groups]
+    drawn = graph(place, module, firsts) if len(groups) < MOST else ""
+    return [drawn, table("users", ("Module", "Its version", "Requires", "Remark"), rows)]
+
+
+def user_row(place, shelf, module, user, state, height):
+    """The row of a user; the first of `height` rows names it."""
+    span = html(' rowspan="{}"', height) if height > 1 else ""
+    name = html('<th scope="row"{}>{}</th>', span, link(place, user.module.path)) if height else ""
+    version = [html('<span class="code">{}</span>', user.version)]
+    if user.version == user.module.latest:
+        version += [" ", chip("latest")]
+    if user.others:
+        version.append(html(' <span class="quiet">and {} older</span>', f"{user.others:,}"))
+    cells = [cell(version), code(user.required), cell(remark(shelf, module.path, state))]
+    return html("<tr>{}{}</tr>\n", name, cells)
+
+
+def versions(place, lines, names):
+    """The versions, the highest first."""
+    rows = [version_row(place, it, names) for it in lines]
+    return table("versions", ("Version", "Remark", "Date", "#Zip", "Go", "Shelf", "go.mod"), rows)
+
+
+def version_row(place, line, names):
+    words = [it for it, holds in (("latest", line.is_latest), ("retracted", line.is_retracted)) if holds]
+    if kind(line.version) != "release":
+        words.append(kind(line.version))
+    remarks = [[chip(it), " "] for it in words]
+    length = html('<td class="number">{}</td>', size(line.size))
+    where = chip(line.shelf, names[line.shelf])
+    gomod = gomod_link(place, line.path, line.version)
+    cells = cell(remarks), cell(date(line.time)), length, cell(line.go or ""), cell(where), cell(gomod)
+    return row(line.version, *cells)

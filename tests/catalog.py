@@ -17,7 +17,7 @@ import time
 
 from lib import catalog_lines
 from lib.catalog_pages import Page, pages_in
-from lib.catalog_store import SHELF_KEYS, line_of, make, make_store, rows_of, tool, write_lines
+from lib.catalog_store import HOST, SHELF_KEYS, line_of, make, make_store, rows_of, tool, write_lines
 from lib.keys import KEYS, SHELVES
 from lib.messages import get, put
 from lib.modules import escaped
@@ -42,8 +42,8 @@ alpha/index.html modules
     example.com/both|v1.0.1|2026-11-27|2|alpha
     example.com/log|v1.2.0|2026-11-01|4|common
 beta/index.html modules
-    example.com/Beta/UI/v2|v2.0.0|2026-11-28|1|beta
     example.com/beta|all retracted||1|
+    example.com/Beta/UI/v2|v2.0.0|2026-11-28|1|beta
     example.com/both|v1.0.1|2026-11-27|2|common
     example.com/index.html|v1.0.0|no time|1|beta
     example.com/index.html/index.html|v1.0.0|no time|1|beta
@@ -138,7 +138,12 @@ ODD = (
     "replace (\ngo => ./x\n) // go 1.20\ngo `1.18`",
     "// go 1.17\nretract (\n[v1.0.0, v1.2.0]\nv1.4.0\n)\n",
 )
-LOADED = ["parts/catalog.css", "parts/catalog.js", "parts/icon.svg"]
+LOADED = ["parts/catalog.css", "parts/catalog.js", "parts/icon.svg", "parts/narrow.css"]
+# the paths that the set-up of each shelf names: no path where only others publish
+NAMED = {
+    "alpha": "example.com", "beta": "example.com,gopkg.in", "gamma": "example.com,forge.test/Gamma",
+    "delta": "example.com", "platform": "example.com", "common": "example.com",
+}  # fmt: skip
 # what would load something, or make HTML of a text
 LOADS = re.compile(r"url\(|@import|https?:|fetch|XMLHttp|import\(|eval|innerHTML|document\.write")
 
@@ -227,6 +232,7 @@ def go_agrees(suite):
 def make_all(suite):
     write_lines()
     group, common = ["--group", "platform=platform.lines"], ["--common", "common.lines", "--paths", "owners.json"]
+    common += ["--host", HOST]
     for shelf, count, words in (
         ("gamma", 7, [*group, *common]),
         ("delta", 5, [*group, *common]),
@@ -245,6 +251,57 @@ def rows_and_texts(suite):
         suite.equal(f"table {name}", Page(page).table_of(heading), rows)
     for name, texts in rows_of(TEXTS):
         suite.equal(f"{name}: its texts", [it for it in texts if it not in Page(name).text], [])
+
+
+def set_up(suite):
+    """The first page tells how a machine is set up, and that of a module how its next version is published."""
+    for shelf, paths in NAMED.items():
+        lines = f"GOPROXY=https://{HOST}", f"GONOSUMDB={paths}", "GONOPROXY=none"
+        page = Page(f"{shelf}/index.html")
+        wanted = ["".join(f"go env -w {it}\n" for it in lines), "go env -u GOPROXY GONOSUMDB GONOPROXY"]
+        suite.equal(f"{shelf}: what go is told", [page.pre[it] for it in ("setup-go", "setup-unset")], wanted)
+        netrc = f"machine {HOST} login YOUR-NAME password YOUR-KEY"
+        suite.equal(f"{shelf}: the line of ~/.netrc", page.pre["setup-netrc"], netrc)
+        run = f"goshelf-publish --to https://{HOST} --netrc --repository . {{}} TAG"
+        suite.equal(f"{shelf}: a publish", page.pre["setup-run"], run.format("MODULE"))
+        log = Page(f"{shelf}/m/example.com/log/index.html").pre["setup-run"]
+        suite.equal(f"{shelf}: a publish of a module", log, run.format("example.com/log"))
+        said = [it.split("|")[0].split()[0].strip(",") for it in page.table_of("setup-answers")]
+        suite.equal(f"{shelf}: what it explains", said, "401 403 403 403 404 404 409 429 502".split())
+    offered = line_of(Path="example.com/tools/goshelf-publish", Shelf="common", Latest=True)
+    elsewhere = line_of(Path="example.com/a/goshelf-publish", Latest=True)
+    words = ["--to", "offer", "--shelf", "alpha", "--paths", "owners.json", "--host", HOST]
+    words += ["--goproxy", f"https://{HOST},https://proxy.golang.org,direct"]
+    for name, lines, wanted in (
+        ("offered on common", elsewhere + offered, "go install example.com/tools/goshelf-publish@latest"),
+        ("on a team's shelf", elsewhere, None),
+    ):
+        told = tool(*words, lines=lines)
+        page = Page("offer/index.html")
+        suite.equal(f"goshelf-publish {name}", (told[0], page.pre.get("setup-get")), (0, wanted))
+        first = page.pre["setup-go"].split("\n")[0]
+        suite.equal("the second way", first, f"go env -w GOPROXY=https://{HOST},https://proxy.golang.org,direct")
+    told = tool("--to", "offer", "--shelf", "alpha", lines=offered)
+    found = (
+        told[0],
+        list(Page("offer/index.html").pre),
+        Page("offer/m/example.com/tools/goshelf-publish/index.html").pre,
+    )
+    suite.equal("without a host there is no box", found[:2], (0, []))
+    suite.equal("without a host, of a module", list(found[2]), ["get"])
+
+
+def in_order(suite):
+    """Modules are sorted as people read them: capitals stand beside small letters."""
+    paths = ["example.com/B", "example.com/Z", "example.com/a", "example.com/b", "example.com/c"]
+    need = [{"Path": "example.com/c", "Version": "v1.0.0"}]
+    lines = "".join(line_of(Path=it, Latest=True, Require=need if it != "example.com/c" else []) for it in paths)
+    told = tool("--to", "sorted", "--shelf", "alpha", lines=lines)
+    wanted = ["example.com/a", "example.com/B", "example.com/b", "example.com/c", "example.com/Z"]
+    rows = [it.split("|")[0] for it in Page("sorted/index.html").table_of("modules")]
+    suite.equal("the modules", (told[0], rows), (0, wanted))
+    rows = [it.split("|")[0] for it in Page("sorted/m/example.com/c/index.html").table_of("users")]
+    suite.equal("the users of one", rows, [it for it in wanted if it != "example.com/c"])
 
 
 def isolation(suite):
@@ -354,7 +411,18 @@ def large(suite):
 
 def played(suite):
     make_store(suite, "store.db")
-    parts = [reference_agrees, command_agrees, go_agrees, make_all, rows_and_texts, isolation, every_page, graphs]
+    parts = [
+        reference_agrees,
+        command_agrees,
+        go_agrees,
+        make_all,
+        rows_and_texts,
+        set_up,
+        in_order,
+        isolation,
+        every_page,
+        graphs,
+    ]
     for part in (*parts, large) if "--long" in sys.argv[1:] else parts:
         part(suite)
 

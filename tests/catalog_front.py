@@ -10,6 +10,7 @@ import fcntl
 import grp
 import os
 import re
+import shlex
 import subprocess
 import sys
 
@@ -67,10 +68,36 @@ def extracted(reader, suite, user, shelf, team, letters):
             file.write(lines_of(reader.machine, copy, KEYS[it]))
     own, *above = names.values()
     words = ["--common", above[-1], "--paths", f"{reader.machine.folder}/etc/nginx/goshelf/owners.json"]
+    words += ["--host", "localhost"]
     group = [f"--group=platform={above[0]}"] if len(above) == 2 else []
     told = tool("--to", f"{folder}/{shelf}", "--shelf", shelf, "--today", TODAY, *words, *group, own)
     suite.holds(f"{user}: the pages of a store of {team} alone are made", told[0] == 0, told)
     return files_below(f"{folder}/{shelf}")
+
+
+def named(content, user):
+    """A page with the name of its reader in the line of ~/.netrc."""
+    return content.replace(b'<var class="login">YOUR-NAME</var>', f'<var class="login">{user}</var>'.encode())
+
+
+def own_names(suite, reader):
+    """Each reader finds the own name in the line of ~/.netrc, as goshelf-front printed it, and no HTML in it."""
+    for name, wanted in (
+        ("Ann O'Neil", "Ann-O-Neil"),
+        ("<script>alert(1)</script>", "-script-alert-1-script-"),
+        ('"&lt;$goshelf_key\\', "-lt-goshelf_key-"),
+        ("Jörg Müller-Ω", "J-rg-M-ller-"),
+        ("<!--# echo var='goshelf_key' -->", "-echo-var-goshelf_key-"),
+    ):
+        line = reader.machine.does(f"goshelf-front add {shlex.quote(name)} alpha read").strip()
+        key = line.split()[5]
+        reader.passwords[name] = key
+        status, _, body = reader.read("/", name)
+        found = re.findall(b"machine localhost login (.*) password YOUR-KEY", body)
+        suite.equal(f"{name!r}", (status, found), (200, [f'<var class="login">{wanted}</var>'.encode()]))
+        suite.equal("that is the line of goshelf-front", line, f"machine localhost login {wanted} password {key}")
+        suite.holds("and the page has no key", key.encode() not in body)
+        reader.machine.does(f"goshelf-front remove {shlex.quote(name)}")
 
 
 def own_catalogs(suite, reader):
@@ -81,10 +108,10 @@ def own_catalogs(suite, reader):
         shelf = USERS[user]
         wanted = extracted(reader, suite, user, shelf, team, letters)
         found = {it: reader.read(it, user) for it in wanted}
-        unlike = [it for it in wanted if (found[it][0], found[it][2]) != (200, wanted[it])]
+        unlike = [it for it in wanted if (found[it][0], found[it][2]) != (200, named(wanted[it], user))]
         suite.equal(f"{user} gets these {len(wanted)} files", unlike, [])
         suite.equal(f"{user}: nothing else is in the folder", sorted(pages_of(reader, shelf)), sorted(wanted))
-        seen[user] = found["/"][2]
+        seen[user] = found["/"][2].replace(user.encode(), b"")
     suite.equal("no two of them are the same", len({*seen.values()}), 3)
 
 
@@ -94,7 +121,7 @@ def other_shelves(suite, reader):
     targets = sorted({it for files in folders.values() for it in files})
     for user, shelf in USERS.items():
         own, told = folders[shelf], {it: reader.read(it, user) for it in targets}
-        wrong = [it for it in own if (told[it][0], told[it][2]) != (200, own[it])]
+        wrong = [it for it in own if (told[it][0], told[it][2]) != (200, named(own[it], user))]
         suite.equal(f"{user} gets the {len(own)} files of {shelf}", wrong, [])
         others = [it for it in targets if it not in own]
         wrong = [it for it in others if told[it][0] != 404 or not told[it][2].startswith(b"no such page; ")]
@@ -106,7 +133,7 @@ def spellings(suite, reader):
     own = pages_of(reader, "alpha").values()
     for target in ODD:
         status, _, body = reader.read(target)
-        is_right = status in (400, 404) or (status == 200 and body in own)
+        is_right = status in (400, 404) or (status == 200 and body in [named(it, "ann") for it in own])
         suite.holds(f"{target}: {status}", is_right, (status, body[:200]))
     status, headers, _ = reader.read("/m/example.com/log")
     suite.equal("a folder without its slash", (status, headers["Location"]), (301, "/m/example.com/log/"))
@@ -150,7 +177,9 @@ def strangers(suite, reader):
     machine.does("goshelf team-add --control /run/goshelf/control --team omega")
     for user, shelf in (("eve", "alpha"), ("oda", "omega")):
         reader.add(user, shelf, "publish")
-    suite.equal("a user who publishes", reader.read("/", "eve")[::2], (200, pages_of(reader, "alpha")["/"]))
+    suite.equal(
+        "a user who publishes", reader.read("/", "eve")[::2], (200, named(pages_of(reader, "alpha")["/"], "eve"))
+    )
     status, _, body = reader.read("/", "oda")
     suite.holds("a shelf without pages", (status, body[:13]) == (404, b"no such page;"), (status, body))
     machine.does("goshelf-front remove eve")
@@ -309,6 +338,12 @@ BREAKS = (
         "systemctl start goshelf",
         "does not answer: goshelf: device",
     ),
+    (
+        "no nginx",
+        "mv /etc/nginx/conf.d/goshelf.conf /root/aside",
+        "mv /root/aside /etc/nginx/conf.d/goshelf.conf",
+        "nginx's host is not known: ",
+    ),
     ("a folder of the name of the key", "mkdir @AT@/.goshelf.key", "rmdir @AT@/.goshelf.key", "Is a directory"),
     (
         "nothing that asks",
@@ -442,7 +477,7 @@ def in_the_way(suite, reader, beside):
 
 
 def main():
-    suite, parts = Suite(), (own_catalogs, other_shelves, spellings, headers, strangers)
+    suite, parts = Suite(), (own_names, own_catalogs, other_shelves, spellings, headers, strangers)
     parts += (runs, of_backups, misused, broken)
     return play(suite, "nginx", "its users and folders need root", lambda folder: set_up(suite, folder), parts)
 

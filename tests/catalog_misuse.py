@@ -6,6 +6,7 @@ And what asks goshelf for these lines, where none answers.
 
 import fcntl
 import hashlib
+import json
 import os
 import shlex
 import subprocess
@@ -15,7 +16,7 @@ from lib import catalog_lines
 from lib.catalog_pages import Page
 from lib.catalog_store import EVIL, TODAY, TOOL, line_of, make, make_store, tool, write_lines
 from lib.program import ROOT, columns
-from lib.scratch import in_new_folders, read
+from lib.scratch import in_new_folders, read, write
 from lib.suite import Suite, shown
 
 COMMON = ("--common", "common.lines", "--paths", "owners.json")
@@ -61,6 +62,12 @@ WORDS = """
 --to x --shelf alpha --group platform
 --to x --shelf alpha --group =file
 --to x --shelf alpha --anew=1
+--to x --shelf alpha --host shelf.example.com
+--to x --shelf alpha --paths owners.json --goproxy https://shelf.example.com
+--to x --shelf alpha --paths owners.json --host https://shelf.example.com
+--to x --shelf alpha --paths owners.json --host "><b>
+--to x --shelf alpha --paths owners.json --host shelf --goproxy https://a|https://b
+--to x --shelf alpha --paths owners.json --host shelf --goproxy $(reboot)
 --to x --shelf alpha -
 --help more
 -x
@@ -71,6 +78,8 @@ REFUSED = """
 --to alpha --shelf alpha --common nosuch alpha.lines | No such file
 --to alpha --shelf alpha --paths nosuch alpha.lines | No such file
 --to alpha --shelf alpha --paths alpha.lines alpha.lines | alpha.lines: 
+--to alpha --shelf alpha --paths listed.json alpha.lines | listed.json: not of the form
+--to alpha --shelf alpha --paths evil.json --host shelf alpha.lines | no module path: 
 --to no/such --shelf alpha alpha.lines | there is no folder
 --to store.db --shelf alpha alpha.lines | was not made by
 --to . --shelf alpha alpha.lines | was not made by
@@ -248,6 +257,7 @@ def odd(suite):
 def played(suite):
     make_store(suite, "store.db")
     write_lines()
+    write({"listed.json": b'{"example.com": "common"}', "evil.json": json.dumps({f"a.com/{EVIL}": ["alpha"]}).encode()})
     os.mkdir("mine")
     make("gamma")
     suite.equal("the pages", make("alpha", *COMMON), "4 pages, 4 new or changed\n")

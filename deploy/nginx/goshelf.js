@@ -155,4 +155,9 @@ function serial() {
     return String(goshelf_front.serial);
 }
 
-export default {way, serial};
+// The name of the caller as the line of ~/.netrc has it, which goshelf-front printed: it has no letter that HTML or a shell reads.
+function login(r) {
+    return r.variables.goshelf_user.replace(/[^A-Za-z0-9._@-]+/g, '-');
+}
+
+export default {way, serial, login};

@@ -14,6 +14,8 @@ class Page(HTMLParser):
         self.name, self.open, self.tables, self.headings = name, [], {}, []
         self.title, self.ids, self.links, self.loads, self.scripts, self.tags = "", [], [], [], [], []
         self.rows = self.table = None
+        # each text to copy, by its id
+        self.pre = {}
         with open(name, encoding="utf-8") as file:
             self.text = file.read()
         self.feed(self.text)
@@ -27,6 +29,8 @@ class Page(HTMLParser):
             self.open.append((tag, values))
         if "id" in values:
             self.ids.append(values["id"])
+        if tag == "pre":
+            self.pre[values["id"]] = ""
         if tag == "a":
             self.links.append(values["href"])
         if tag in ("link", "script", "img"):
@@ -55,6 +59,8 @@ class Page(HTMLParser):
             self.tables[self.table][-1][-1] += data
         if self.is_in("h1", "h2"):
             self.headings[-1][1] += data
+        if self.is_in("pre"):
+            self.pre[[*self.pre][-1]] += data
         if self.is_in("title") and not self.is_in("svg"):
             self.title += data
         if self.is_in("script") and data.strip():

@@ -67,6 +67,11 @@ B example.com/mark v2.0.0+incompatible 2026-10-28 5
 SUM = "h1:" + base64.b64encode(hashlib.sha256(b"").digest()).decode()
 
 
+# the company's paths, and who publishes there
+OWNERS = {"example.com": ["common"], "gopkg.in": ["beta", "omega"], "forge.test/Gamma": ["gamma"], "forge.test/no": []}
+HOST = "shelf.example.com"
+
+
 def rows_of(text):
     """The rows of a text, each with the lines that stand indented below it."""
     rows = []
@@ -116,7 +121,7 @@ def write_lines():
         with open(f"{shelf}.lines", "w", encoding="utf-8") as file:
             file.write(catalog_lines.lines("store.db", shelf))
     with open("owners.json", "w", encoding="utf-8") as file:
-        file.write('{"example.com": ["common"]}\n')
+        json.dump(OWNERS, file)
 
 
 def line_of(**fields):

@@ -1,4 +1,4 @@
-// The search box of the page of modules, and the button that copies. The pages do without either.
+// The search box of the page of modules, the button that copies, and the box that stays shut. The pages do without them.
 "use strict";
 
 // how many rows the page of modules shows, unless it is asked for all: a browser takes seconds to lay out 10,000
@@ -8,7 +8,7 @@ function filtering(form) {
   const input = form.querySelector("input");
   const found = form.querySelector("[role=status]");
   const all = form.querySelector("button");
-  const region = document.querySelector(".wide") || form;
+  const region = document.querySelector("#modules ~ .wide") || form;
   const rows = Array.from(region.querySelectorAll("tbody tr"), (row) => [row, row.cells[0].textContent.toLowerCase()]);
   let most = MOST;
 
@@ -69,5 +69,22 @@ function copying(button) {
   );
 }
 
+// The box of the first page stands open until its reader has shut it once. A link from another page opens it too.
+function remembering(box) {
+  const name = "setup";
+  const isAsked = location.hash.startsWith("#setup-");
+  try {
+    box.open = isAsked || localStorage.getItem(name) === null;
+    box.addEventListener("toggle", () => box.open || localStorage.setItem(name, "shut"));
+  } catch {
+    // (a browser that keeps nothing: the box stays as it is)
+    box.open = isAsked;
+  }
+  if (isAsked) {
+    document.getElementById(location.hash.slice(1))?.scrollIntoView();
+  }
+}
+
+document.querySelectorAll("details[data-opens]").forEach(remembering);
 document.querySelectorAll("form.search").forEach(filtering);
 document.querySelectorAll("button.copy").forEach(copying);

@@ -1,5 +1,6 @@
 """The first page of a shelf: its modules."""
 from catalog_lib.markup import Html, cell, chip, code, count, date, html, link, number, page, row, table
+from catalog_lib.setup import box
 
 NOTHING = Html("<p>Nothing is published here yet.</p>\n")
 
@@ -13,6 +14,7 @@ def shelf_page(place, shelf, names):
         told.append(f"{shelf.retracted_count:,} retracted")
     main = [
         html('<h1 id="modules">Modules of {}</h1>\n<p class="facts">{}</p>\n', shelf.name, " · ".join(told)),
+        box(place, shelf),
         html(
             (
                 '<form class="search" role="search" hidden><label for="search">Filter by any part of a path</label>\n'
@@ -28,7 +30,7 @@ def shelf_page(place, shelf, names):
 
 
 def shelf_row(place, module, names):
-    count_cell = number(len(module.versions))
+    count_cell = number(len(module.versions), "versions")
     if module.latest is None:
         none = Html('<span class="quiet">all retracted</span>')
         return row(link(place, module.path), cell(none), cell(""), count_cell, cell(""))

@@ -48,14 +48,17 @@ def finding_rows(place, shelf, name, found):
     """The rows of the table of a finding."""
     if name in ("retracted", "missing"):
         return [
-            row(link(place, it.path), code(it.latest), code(linked(place, shelf, path)), code(version))
+            row(link(place, it.path), code(it.latest), code(linked(place, shelf, path), "requires"), code(version))
             for it, path, version in found
         ]
     if name == "differing":
-        return [row(link(place, path), code(version), cell(own), cell(above)) for path, version, own, above in found]
+        return [
+            row(link(place, path), code(version), cell(own, "here"), cell(above, "and on"))
+            for path, version, own, above in found
+        ]
     if name == "retired":
-        return [row(link(place, it.path), number(len(it.versions))) for it in found]
-    return [row(link(place, it.path), code(it.latest or ""), cell(kinds_of(it))) for it in found]
+        return [row(link(place, it.path), number(len(it.versions), "versions")) for it in found]
+    return [row(link(place, it.path), code(it.latest or ""), cell(kinds_of(it), "has only")) for it in found]
 
 
 def kinds_of(module):
@@ -75,7 +78,7 @@ def health_page(place, shelf, found):
 def changed_section(place, shelf):
     """The section of the versions of the last days, a row for each module."""
     rows = [
-        row(link(place, it.path), code(them[0][1]), cell(date(them[0][0])), number(len(them)))
+        row(link(place, it.path), code(them[0][1]), cell(date(them[0][0])), number(len(them), "versions"))
         for it, them in shelf.changed()
     ]
     heads = ("Module", "Newest version", "Date", "#Versions")

@@ -37,6 +37,7 @@ FRAME = """<!DOCTYPE html>
 <title>{}</title>
 <link rel="icon" href="{}parts/icon.svg" type="image/svg+xml">
 <link rel="stylesheet" href="{}parts/catalog.css">
+<link rel="stylesheet" href="{}parts/narrow.css">
 <script src="{}parts/catalog.js" defer></script>
 </head>
 <body>
@@ -68,7 +69,7 @@ def page(place, title, main, here=""):
     on_modules, on_health = (HERE if here == it else "" for it in ("modules", "health"))
     found = html(' <span class="count">{}</span><span class="unseen"> findings</span>', place.findings)
     links = top, place.shelf, top, on_modules, root, on_health, found if place.findings else ""
-    return html(FRAME, title, root, root, root, *links, main, place.shelf).encode()
+    return html(FRAME, title, *[root] * 4, *links, main, place.shelf).encode()
 
 
 def module_folder(path):
@@ -142,16 +143,22 @@ def row(first, *cells):
     return html('<tr><th scope="row">{}</th>{}</tr>\n', first, cells)
 
 
-def cell(value):
-    return html("<td>{}</td>", value)
+def cell(value, word=""):
+    """A cell. On a phone, which shows no heads, `word` says what its value is."""
+    return html("<td{}>{}</td>", labelled(word), value)
 
 
-def code(value):
-    return html('<td class="code">{}</td>', value)
+def code(value, word=""):
+    return html('<td class="code"{}>{}</td>', labelled(word), value)
 
 
-def number(value):
-    return html('<td class="number">{}</td>', f"{value:,}")
+def number(value, word=""):
+    return html('<td class="number"{}>{}</td>', labelled(word), f"{value:,}")
+
+
+@lru_cache(maxsize=64)
+def labelled(word):
+    return html(' data-is="{}"', word) if word else Html("")
 
 
 def section(name, title, body):

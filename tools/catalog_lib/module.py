@@ -20,6 +20,7 @@ from catalog_lib.markup import (
     size,
     table,
 )
+from catalog_lib.setup import box
 
 STATES = {
     "behind": "behind the latest",
@@ -45,6 +46,7 @@ def module_page(place, shelf, module, names):
     main = [
         html("<h1>{}</h1>\n", broken(module.path)),
         about(module, shown, names),
+        box(place, shelf, module),
         html('<nav class="jumps" aria-label="On this page"><ul>\n{}</ul></nav>\n', jumps),
         [section(it, name, body) for it, name, _, body in parts],
     ]
@@ -113,7 +115,7 @@ def user_row(place, shelf, module, user, state, height):
         version += [" ", chip("latest")]
     if user.others:
         version.append(html(' <span class="quiet">and {} older</span>', f"{user.others:,}"))
-    cells = [cell(version), code(user.required), cell(remark(shelf, module.path, state))]
+    cells = [cell(version), code(user.required, "requires"), cell(remark(shelf, module.path, state))]
     return html("<tr>{}{}</tr>\n", name, cells)
 
 
@@ -131,5 +133,12 @@ def version_row(place, line, names):
     length = html('<td class="number">{}</td>', size(line.size))
     where = chip(line.shelf, names[line.shelf])
     gomod = gomod_link(place, line.path, line.version)
-    cells = cell(remarks), cell(date(line.time)), length, cell(line.go or ""), cell(where), cell(gomod)
+    cells = (
+        cell(remarks),
+        cell(date(line.time)),
+        length,
+        cell(line.go or "", "Go" if line.go else ""),
+        cell(where),
+        cell(gomod),
+    )
     return row(line.version, *cells)

@@ -54,6 +54,8 @@ class Shelf:
         self.file, self.name, self.today, self.ours = file, name, today, ours
         self.modules, self.recent = {}, {}
         self.users, self.words, self.numbers = {}, [], {}
+        # how to set a machine up for the shelf, if that is known
+        self.setup = None
         self.version_count = self.retracted_count = 0
 
     def fill(self, source):
@@ -105,7 +107,7 @@ class Shelf:
         """The users of a module by their paths, and of each the highest version first."""
         numbers = self.users.get(path, array("I"))
         rows = (numbers[at : at + 4] for at in range(0, len(numbers), 4))
-        order = sorted(rows, key=lambda it: (it[0], -it[1], it[2]))
+        order = sorted(rows, key=lambda it: (*as_read(self.in_order[it[0]][0].path), -it[1], it[2]))
         return [self.user(*it) for it in order]
 
     def user(self, number, row, required, others):
@@ -113,8 +115,9 @@ class Shelf:
         return User(module, versions[row], self.words[required], others)
 
     def index(self):
-        """Makes ready to look modules and their versions up by their numbers."""
+        """Makes ready to look modules and their versions up by their numbers, and sorts them as people read them."""
         self.in_order = [(it, tuple(it.versions)) for it in self.modules.values()]
+        self.modules = dict(sorted(self.modules.items(), key=lambda it: as_read(it[0])))
 
     def is_ours(self, path):
         """Whether a module is the company's: the shelf sees some version of it, or a line of the map has it."""
@@ -150,7 +153,12 @@ class Shelf:
     def changed(self):
         """The modules with a version of the last days, the latest first, each with those versions, the latest first."""
         found = [(self.modules[path], sorted(rows, reverse=True)) for path, rows in self.recent.items()]
-        return sorted(sorted(found, key=lambda it: it[0].path), key=lambda it: it[1][0][0], reverse=True)
+        return sorted(sorted(found, key=lambda it: as_read(it[0].path)), key=lambda it: it[1][0][0], reverse=True)
+
+
+def as_read(path):
+    """What a path is sorted by: capitals stand beside small letters."""
+    return path.lower(), path
 
 
 def differing(file, above, word, source):
@@ -173,13 +181,17 @@ def differing(file, above, word, source):
     return found
 
 
-def paths_of(name):
-    """The paths of nginx's owners.json, in small letters."""
+def owners_of(name):
+    """nginx's owners.json: the company's paths, each with the names of the shelves that publish there."""
     try:
         with open(name, encoding="utf-8") as file:
             told = json.load(file)
     except (OSError, ValueError) as error:
         raise Refused(f"{name}: {error}") from None
-    if not isinstance(told, dict):
+    if not isinstance(told, dict) or not all(map(is_list_of_texts, told.values())):
         raise Refused(f'{name}: not of the form {{"PATH": ["SHELF", ..], ..}}')
-    return {it.lower() for it in told}
+    return told
+
+
+def is_list_of_texts(value):
+    return isinstance(value, list) and all(isinstance(it, str) for it in value)

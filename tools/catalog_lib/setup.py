@@ -1,0 +1,166 @@
+"""The box that tells a reader how to set a machine up, how to publish, how to undo it, and what a refusal means."""
+import re
+from collections import namedtuple
+
+from catalog_lib.lines import PATH, Refused
+from catalog_lib.markup import Html, cell, html, row, table
+
+HOST = re.compile(r"(?=.{1,253}$)[A-Za-z0-9-]+(\.[A-Za-z0-9-]+)*")
+PROXIES = re.compile(r"[A-Za-z0-9.:/-]+(,[A-Za-z0-9.:/-]+)*")
+# the last element of the module that goshelf-offer publishes
+PUBLISHER = "goshelf-publish"
+# what the box is made of: the host, what goes into GOPROXY, the company's paths, and the module of the publisher or None
+Setup = namedtuple("Setup", "host proxies paths publisher")
+
+# nginx puts the reader's own name in its place (`sub_filter` of goshelf.conf); no text of a module has such a tag
+LOGIN = Html('<var class="login">YOUR-NAME</var>')
+# what a refusal says, what it means, and what to do
+ANSWERS = (
+    (
+        "401 log in",
+        "nginx does not know the key, or its last day is over",
+        Html("Look at the line of <code>~/.netrc</code>. An operator gives you a new one."),
+    ),
+    ("403 not your path", "Your shelf may not publish at this path", "Ask an operator whose path it is."),
+    ("403 forbidden", "Your key only reads", "Ask an operator for a key that publishes."),
+    ("403 taken out", "The version held a secret, so nobody gets it any more", "Require another version."),
+    (
+        "404 not found",
+        "Your shelf does not see the module or the version",
+        "Look here for its spelling. It may be on another team's shelf, or not published yet.",
+    ),
+    (
+        "404 no checksum database",
+        "The go command asked for the sum of a module that only the company has",
+        Html("Set <code>GONOSUMDB</code> as above."),
+    ),
+    (
+        "409 conflict",
+        "The version is there, on this shelf or above it, with another go.mod, zip or time",
+        "Publish the next version: what a version has never changes.",
+    ),
+    ("429 too many requests", "You, or all together, asked for too much at once", "Wait a minute, and ask again."),
+    ("502, 503, 504", "goshelf or the public proxy does not answer", "Ask again in a minute, then tell an operator."),
+)
+
+
+def checked_host(host, proxies):
+    """The host and what goes into GOPROXY, if they are of their forms; otherwise None."""
+    proxies = proxies or f"https://{host}"
+    return (host, proxies) if HOST.fullmatch(host) and PROXIES.fullmatch(proxies) else None
+
+
+def setup_of(shelf, host, proxies, owners, chain):
+    """The Setup of a shelf. `owners` has the company's paths, each with the shelves that publish there, and `chain` the
+    names of the shelf and of those above it."""
+    if wrong := [it for it in owners if not PATH.fullmatch(it)]:
+        raise Refused(f"the company's paths: no module path: {wrong[0]!r}")
+    return Setup(host, proxies, paths_for(shelf, owners, chain), publisher_of(shelf))
+
+
+def paths_for(shelf, owners, chain):
+    """The company's paths that the shelf may name: those where it, its group or `common` publishes, and those above a
+    module that it sees. One below another is left out."""
+    known = {it.lower() for it in owners}
+    found = {path for path, who in owners.items() if not chain.isdisjoint(who)}
+    for path in shelf.modules:
+        parts = path.split("/")
+        tops = ("/".join(parts[:it]) for it in range(1, len(parts) + 1))
+        found.update([next((it for it in tops if it.lower() in known), None)])
+    found.discard(None)
+    return sorted((it for it in found if not is_below_any(it, found)), key=lambda it: (it.lower(), it))
+
+
+def is_below_any(path, found):
+    parts = path.split("/")
+    return any("/".join(parts[:it]) in found for it in range(1, len(parts)))
+
+
+def publisher_of(shelf):
+    """The module of goshelf-publish on the shelf `common`, if it is offered there."""
+    word = "own" if shelf.name == "common" else "common"
+    offered = (it for it in shelf.modules.values() if it.path.endswith(f"/{PUBLISHER}") and it.shelf == word)
+    return next((it.path for it in offered), None)
+
+
+def copied(name, text):
+    """Lines to copy, by the name of their element."""
+    button = html('<button type="button" class="copy" data-from="{}" hidden>Copy</button>', name)
+    return html('<div class="get"><pre id="{}" tabindex="0"><code>{}</code></pre>\n{}</div>\n', name, text, button)
+
+
+def box(place, shelf, module=None):
+    """The box of the first page, or that of a module's page. Without the name of the host there is none."""
+    it = shelf.setup
+    if not it:
+        return ""
+    if module:
+        more = html(MORE, place.root)
+        return html(BOX, "", "Publish the next version", [publishing(it, module.path), more])
+    # (it stands open until its reader has shut it: catalog.js)
+    return html(BOX, Html(" data-opens"), "Set me up", [fetching(it), publishing(it), undoing(it), *answers()])
+
+
+BOX = '<details class="setup"{}>\n<summary>{}</summary>\n{}</details>\n'
+MORE = (
+    '<p><a href="{0}#setup-fetch">How a machine is set up</a>, <a href="{0}#setup-undo">how to undo it</a>, and '
+    '<a href="{0}#setup-answers">what a refusal means</a>.</p>\n'
+)
+
+
+def fetching(it):
+    """How a machine gets modules of the shelf."""
+    netrc = html("machine {} login {} password YOUR-KEY", it.host, LOGIN)
+    settings = [f"go env -w GOPROXY={it.proxies}\n"]
+    if it.paths:
+        settings.append(f"go env -w GONOSUMDB={','.join(it.paths)}\n")
+    settings.append("go env -w GONOPROXY=none\n")
+    return html(
+        (
+            '<h2 id="setup-fetch">Fetch</h2>\n'
+            "<p>An operator gives you this line, with your key in it. Put it into <code>~/.netrc</code>, on Windows "
+            "<code>%USERPROFILE%\\_netrc</code>, and let nobody else read the file: "
+            "<code>chmod 600 ~/.netrc</code>.</p>\n{}"
+            "<p>Then, with Go 1.19 or later:</p>\n{}"
+            "<p><code>GONOSUMDB</code> names what no public checksum database knows; the go command still checks all "
+            "other modules. <code>GONOPROXY=none</code> counts where <code>GOPRIVATE</code> is set. "
+            "Put no key into <code>GOPROXY</code>, which the go command prints.</p>\n"
+        ),
+        copied("setup-netrc", netrc),
+        copied("setup-go", settings),
+    )
+
+
+def publishing(it, path="MODULE"):
+    """How a version of a module is published."""
+    if it.publisher:
+        get = [Html("<p>Once, with git and go:</p>\n"), copied("setup-get", f"go install {it.publisher}@latest")]
+    else:
+        get = Html("<p>An operator has <code>goshelf-publish</code>, which needs git and go.</p>\n")
+    run = f"goshelf-publish --to https://{it.host} --netrc --repository . {path} TAG"
+    tag = (
+        "<p>In a clone, with a key that publishes. <code>TAG</code> is a tag of a version, such as "
+        "<code>v1.2.3</code>, or <code>log/v1.2.3</code> for a module in the folder <code>log</code>. "
+        "With <code>--check</code> it tries all and publishes nothing.</p>\n"
+    )
+    return html('<h2 id="setup-publish">Publish</h2>\n{}{}{}', get, Html(tag), copied("setup-run", run))
+
+
+def undoing(it):
+    """How both are undone."""
+    names = "GOPROXY GONOSUMDB GONOPROXY" if it.paths else "GOPROXY GONOPROXY"
+    return html(
+        (
+            '<h2 id="setup-undo">Undo</h2>\n{}'
+            "<p>And take the line out of <code>~/.netrc</code>. A version that was published stays: "
+            "<code>retract</code> it in the go.mod of the next one.</p>\n"
+        ),
+        copied("setup-unset", f"go env -u {names}"),
+    )
+
+
+def answers():
+    """What a refusal means, and what to do."""
+    rows = [row(said, cell(means), cell(does)) for said, means, does in ANSWERS]
+    heads = "Answer", "It means", "What to do"
+    return [Html('<h2 id="setup-answers">What an answer means</h2>\n'), table("setup-answers", heads, rows)]

@@ -3,7 +3,9 @@
 import os
 from html.parser import HTMLParser
 
-EMPTY = {"meta", "link", "input", "wbr", "img", "br"}
+EMPTY = {"meta", "link", "input", "wbr", "img", "br", "hr"}
+# what a link to another host says, so that the host learns nothing
+OUTWARD = "noopener noreferrer"
 
 
 class Page(HTMLParser):
@@ -13,6 +15,7 @@ class Page(HTMLParser):
         super().__init__()
         self.name, self.open, self.tables, self.headings = name, [], {}, []
         self.title, self.ids, self.links, self.loads, self.scripts, self.tags = "", [], [], [], [], []
+        self.outward = []
         self.rows = self.table = None
         # each text to copy, by its id
         self.pre = {}
@@ -30,9 +33,10 @@ class Page(HTMLParser):
         if "id" in values:
             self.ids.append(values["id"])
         if tag == "pre":
-            self.pre[values["id"]] = ""
+            self.pre[values.get("id", len(self.pre))] = ""
         if tag == "a":
-            self.links.append(values["href"])
+            is_outward = values.get("rel") == OUTWARD and values["href"].startswith(("https://", "http://"))
+            (self.outward if is_outward else self.links).append(values["href"])
         if tag in ("link", "script", "img"):
             self.loads.append(values.get("href") or values.get("src"))
         if values.get("role") == "region":

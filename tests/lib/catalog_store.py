@@ -102,8 +102,10 @@ def make_store(suite, name):
 
 
 def tool(*words, lines=None):
-    """Runs the tool on lines. Returns its status, what it prints, and the last line of its errors."""
-    ran = subprocess.run([TOOL, *words], input=lines, capture_output=True, text=True, timeout=600)
+    """Runs the tool on lines, with the program as `goshelf`. Returns its status, what it prints, and the last line of
+    its errors."""
+    where = {**os.environ, "PATH": f"{os.path.abspath('bin')}:{os.environ['PATH']}"}
+    ran = subprocess.run([TOOL, *words], input=lines, capture_output=True, text=True, timeout=600, env=where)
     return ran.returncode, ran.stdout, (ran.stderr.splitlines() or [""])[-1]
 
 

@@ -42,6 +42,7 @@ SUITES = (
     listed("catalog_control"),
     listed("catalog_front", "flock nginx nginx-js nginx-stream openssl sqlite3"),
     listed("catalog_misuse"),
+    listed("catalog_read", "go"),
     listed("ci_jobs", "git go nginx nginx-js nginx-stream openssl"),
     listed("commands"),
     listed("commands_groups"),

@@ -33,6 +33,10 @@ class Folder:
         self.old = self.before()
         self.clean()
 
+    def beside(self, name):
+        """The file of a name beside the folder, which outlives it."""
+        return os.path.join(self.parent, f".{self.name}.{name}")
+
     def before(self):
         """The folder of the last run, or None if there is none."""
         if not os.path.lexists(self.at):

@@ -126,6 +126,14 @@ def kind(version):
     return "pseudo-version" if any(forms) and is_stamp(last) else "pre-release"
 
 
+@lru_cache(maxsize=16_384)
+def rank(version):
+    """A value whose order decides of the latest version: docs/REFERENCE.md, Versions."""
+    of_kind = ("pseudo-version", "pre-release", "release").index(kind(version))
+    stamp = int(version.removesuffix("+incompatible")[-27:-13]) if of_kind == 0 else 0
+    return of_kind, stamp, precedence(version)
+
+
 def is_stamp(text):
     """Whether the last identifier of a version has a date that exists, a time of day, and the name of a commit."""
     if not STAMP.fullmatch(text):

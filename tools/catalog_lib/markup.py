@@ -72,9 +72,14 @@ def page(place, title, main, here=""):
     return html(FRAME, title, *[root] * 4, *links, main, place.shelf).encode()
 
 
+# the pages of a module by their files, and what their links say
+TABS = (("index.html", "Overview"), ("readme.html", "README"), ("packages.html", "Packages"), ("files.html", "Files"))
+
+
 def module_folder(path):
-    """The folder of a module's page. No two paths have the same, and none has an element `index.html`."""
-    return "/".join("!index.html" if it == "index.html" else it for it in path.split("/"))
+    """The folder of a module's pages. No two paths have the same, and no element of one is one of these pages."""
+    names = {name for name, _ in TABS}
+    return "/".join(f"!{it}" if it in names else it for it in path.split("/"))
 
 
 def link(place, path):

@@ -1,9 +1,13 @@
 """The page of a module: what it is, what it requires, who uses it, and its versions."""
+import re
 from itertools import groupby
 
+from catalog_lib import documents
 from catalog_lib.graph import MOST, graph
 from catalog_lib.lines import kind
 from catalog_lib.markup import (
+    HERE,
+    TABS,
     Html,
     broken,
     cell,
@@ -29,8 +33,37 @@ STATES = {
 }
 
 
-def module_page(place, shelf, module, names):
-    """The page of a module."""
+def module_pages(place, shelf, module, names, found):
+    """The pages of a module: the name of the file of each, and its content. `found` is what was read of its latest
+    version, or None."""
+    found = found or {}
+    bodies = {"index.html": overview(place, shelf, module, names)}
+    if "readme" in found:
+        bodies["readme.html"] = documents.readme_of(found)
+    if found.get("packages"):
+        bodies["packages.html"] = documents.packages_of(module.path, found)
+    if found.get("files"):
+        bodies["files.html"] = documents.files_of(found)
+    tabs = [(name, words) for name, words in TABS if name in bodies]
+    for name, words in tabs:
+        title = module.path if name == "index.html" else f"{module.path}: {words}"
+        yield name, page(place, f"{title} · {shelf.name}", [head(module, tabs, name), bodies[name]])
+
+
+def head(module, tabs, here):
+    """What all pages of a module begin with."""
+    told = module.told
+    synopsis = html('<p class="synopsis" dir="auto">{}</p>\n', told["synopsis"]) if told.get("synopsis") else ""
+    items = [
+        html('<li><a href="{}"{}>{}</a></li>\n', "./" if it == "index.html" else it, HERE if it == here else "", words)
+        for it, words in tabs
+    ]
+    nav = html('<nav class="tabs" aria-label="Of this module"><ul>\n{}</ul></nav>\n', items) if len(tabs) > 1 else ""
+    return [html("<h1>{}</h1>\n", broken(module.path)), synopsis, nav]
+
+
+def overview(place, shelf, module, names):
+    """The first page of a module: what it is, what it requires, who uses it, and its versions."""
     lines = shelf.lines(module)[::-1]
     shown = next((it for it in lines if it.is_latest), lines[0])
     users = shelf.users_of(module.path)
@@ -43,14 +76,12 @@ def module_page(place, shelf, module, names):
         html('<li><a href="#{}">{} <span class="count">{}</span></a></li>\n', it, name, f"{number:,}")
         for it, name, number, _ in parts
     ]
-    main = [
-        html("<h1>{}</h1>\n", broken(module.path)),
+    return [
         about(module, shown, names),
         box(place, shelf, module),
         html('<nav class="jumps" aria-label="On this page"><ul>\n{}</ul></nav>\n', jumps),
         [section(it, name, body) for it, name, _, body in parts],
     ]
-    return page(place, f"{module.path} · {shelf.name}", main)
 
 
 def about(module, shown, names):
@@ -60,15 +91,34 @@ def about(module, shown, names):
     facts = [html('<b class="code">{}</b> ', shown.version), date(shown.time)]
     if shown.go:
         facts.append(html(" · Go {}", shown.go))
+    if licence := module.told.get("licence"):
+        facts.append(html(' · licence <span title="by the file {}">{}</span>', licence[0], licence[1] or licence[0]))
     get = f"go get {module.path}@{shown.version}"
-    return html(
-        (
-            '<p class="facts">{} {}</p>\n<div class="get"><pre id="get" tabindex="0"><code>{}</code></pre>\n'
-            '<button type="button" class="copy" data-from="get" hidden>Copy</button></div>\n'
+    return [
+        html('<p class="facts">{} {}</p>\n{}', facts, chip(shown.shelf, names[shown.shelf]), repository(module.path)),
+        html(
+            (
+                '<div class="get"><pre id="get" tabindex="0"><code>{}</code></pre>\n'
+                '<button type="button" class="copy" data-from="get" hidden>Copy</button></div>\n'
+            ),
+            get,
         ),
-        facts,
-        chip(shown.shelf, names[shown.shelf]),
-        get,
+    ]
+
+
+# hosts whose paths name a repository by two elements
+HOSTS = ("github.com", "gitlab.com", "bitbucket.org", "codeberg.org")
+
+
+def repository(path):
+    """A link to where a path says that its module is from. Nothing tells whether it is there."""
+    host, *rest = path.split("/")
+    if "." not in host:
+        return ""
+    short = "/".join([host, *rest[:2]]) if host in HOSTS else re.sub("/v[0-9]+$", "", path)
+    url = f"https://{short}"
+    return html(
+        '<p class="facts">Its path leads to <a href="{}" rel="noopener noreferrer">{}</a></p>\n', url, broken(url)
     )
 
 

@@ -4,7 +4,7 @@ from array import array
 from dataclasses import dataclass, field
 from datetime import timedelta
 
-from catalog_lib.lines import Refused, kind, line_of, precedence, read
+from catalog_lib.lines import Refused, kind, line_of, precedence, rank, read
 
 # how far back `changed` looks
 RECENT = timedelta(days=30)
@@ -12,7 +12,8 @@ RECENT = timedelta(days=30)
 
 @dataclass(slots=True)
 class Module:
-    """A module of the shelf. `versions` has each version, the lowest first, with whether it is retracted."""
+    """A module of the shelf. `versions` has each version, the lowest first, with whether it is retracted, and `about`
+    what was read of some."""
 
     path: str
     place: int
@@ -22,12 +23,23 @@ class Module:
     time: str = None
     shelf: str = None
     requires: list = field(default_factory=list)
+    about: dict = field(default_factory=dict)
 
     def add(self, line, length):
         self.length += length
         self.versions[line.version] = line.is_retracted
         if line.is_latest:
             self.latest, self.time, self.shelf, self.requires = line.version, line.time, line.shelf, line.requires
+
+    @property
+    def told(self):
+        """What was read of the latest version, or of the highest if there is none; empty if nothing was."""
+        return self.about.get(self.latest or self.highest, {})
+
+    @property
+    def highest(self):
+        """The version that is the highest by rank, whose go.mod says which are retracted."""
+        return max(self.versions, key=rank)
 
     def is_behind(self, version):
         """Whether a version is below the latest."""

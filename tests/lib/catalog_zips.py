@@ -1,0 +1,84 @@
+"""Zips of modules for the suites of tools/catalog: right ones, and such as no tool makes."""
+
+import io
+import os
+import struct
+import zipfile
+import zlib
+
+from lib.catalog_store import SHELF_KEYS, TODAY, tool
+from lib.keys import KEYS
+from lib.messages import put
+from lib.modules import escaped
+from lib.program import run
+from lib.scratch import read, write
+
+SHELF_OF = {letter: shelf for shelf, letter in SHELF_KEYS.items()}
+
+
+def zipped(path, version, files):
+    """The zip of a module with these files."""
+    made = io.BytesIO()
+    with zipfile.ZipFile(made, "w", zipfile.ZIP_DEFLATED) as held:
+        for name, content in files.items():
+            entry = zipfile.ZipInfo(f"{path}@{version}/{name}", (2026, 1, 1, 0, 0, 0))
+            held.writestr(entry, content, zipfile.ZIP_DEFLATED)
+    return made.getvalue()
+
+
+def raw(entries, count=None, comment=b""):
+    """A zip of entries that say of themselves what they like: name, packed content, method, size and sum."""
+    body, heads = b"", b""
+    for name, packed, method, size, crc in entries:
+        name = name if isinstance(name, bytes) else name.encode()
+        fields = struct.pack("<HHIIIIHH", 0, method, 0, crc, len(packed), size & 0xFFFFFFFF, len(name), 0)
+        heads += b"PK\1\2\x14\0\x14\0" + fields + struct.pack("<HHHII", 0, 0, 0, 0, len(body)) + name
+        body += b"PK\3\4\x14\0" + fields + name + packed
+    number = len(entries) if count is None else count
+    end = struct.pack("<HHHHIIH", 0, 0, number, number, len(heads), len(body), len(comment))
+    return body + heads + b"PK\5\6" + end + comment
+
+
+def stored(name, content):
+    """An entry whose content is not packed."""
+    return name, content, 0, len(content), zlib.crc32(content)
+
+
+def deflated(name, content, size=None, crc=None):
+    """An entry whose content is packed, with the size and the sum that it is to claim."""
+    packer = zlib.compressobj(9, zlib.DEFLATED, -15)
+    packed = packer.compress(content) + packer.flush()
+    return name, packed, 8, len(content) if size is None else size, zlib.crc32(content) if crc is None else crc
+
+
+def published(letter, path, version, files, gomod=None):
+    """The publish of a module with these files. Its go.mod is among them, unless it is named by itself."""
+    gomod = gomod or files.get("go.mod") or f"module {path}\n"
+    content = zipped(path, version, {"go.mod": gomod, **files})
+    return put(escaped(path), escaped(version), gomod.encode(), content, KEYS[letter])
+
+
+def lines_of(letter, store):
+    """What a key sees of a store."""
+    status, lines, told = run(["catalog", "--db", store, "--key", KEYS[letter]])
+    assert (status, told) == (0, ""), told
+    return lines.decode()
+
+
+def made_pages(to, letter, lines, *words):
+    """Makes the pages of a key's shelf of these lines, and of the zips. Returns what the tool prints."""
+    write({"key": KEYS[letter]})
+    words = ["--to", to, "--shelf", SHELF_OF[letter], "--today", TODAY, "--key-file", "key", *words]
+    status, printed, errors = tool(*words, lines=lines)
+    assert (status, errors) == (0, ""), errors
+    return printed
+
+
+def read_pages(folder):
+    """The content of each file of pages, by its name."""
+    top, found = os.path.realpath(folder), {}
+    for at, _, names in os.walk(top):
+        for name in (it for it in names if it != ".made"):
+            whole = os.path.join(at, name)
+            found[os.path.relpath(whole, top)] = read(whole)
+    return found

@@ -1,0 +1,101 @@
+"""Reads what the pages need of the modules of a shelf: the zips of a few versions of each."""
+import json
+import re
+
+from catalog_lib import godoc, gomod, reading
+from catalog_lib.lines import kind, rank
+from catalog_lib.text import shortened
+
+# of so many versions below the latest one is told which files changed
+BEFORE = 2
+SYNOPSIS_MOST = 200
+# as many bytes of the names of its packages are searched
+PACKAGES_MOST = 2_000
+
+
+class Readings:
+    """What was read of the versions of a shelf. Without a source nothing is."""
+
+    def __init__(self, kept=None, source=None):
+        self.kept, self.source = kept, source
+
+    def fill(self, shelf):
+        """Reads each version that the pages tell of and that was not read before."""
+        if not self.kept:
+            return
+        wanted = set()
+        for module in shelf.modules.values():
+            lines = shelf.lines(module)
+            for line, is_whole in chosen(lines):
+                wanted.add((line.path, line.version))
+                if not self.kept.has(line, is_whole):
+                    self.read(line, is_whole)
+        self.kept.keep_only(wanted)
+        self.kept.commit()
+        for path, version, about in self.kept.rows("path, version, about"):
+            shelf.modules[path].about[version] = json.loads(about)
+
+    def read(self, line, is_whole):
+        """Reads a version. One that goshelf does not have any more is asked for again by the next run."""
+        content = self.source.get(line.path, line.version, "zip")
+        if content is not None:
+            served = lambda: self.source.get(line.path, line.version, "mod") or b""  # noqa: E731
+            found = reading.read(content, line, served, is_whole)
+            self.kept.put(line, is_whole, found, about_of(found))
+
+    def of(self, path, version):
+        """What was read of a version, or None."""
+        return self.kept.get(path, version) if self.kept else None
+
+
+def chosen(lines):
+    """The versions of a module that are read, each with whether it is read whole: the latest, the one whose go.mod
+    says which are retracted, and those before the latest."""
+    ruling = max(lines, key=lambda it: rank(it.version))
+    shown = next((it for it in lines if it.is_latest), ruling)
+    below = [it for it in lines[: lines.index(shown)] if is_before(it, shown)]
+    brief = {it.version: it for it in [ruling, *below[-BEFORE:]] if it is not shown}
+    return [(shown, True), *((it, False) for it in brief.values())]
+
+
+def is_before(line, shown):
+    """Whether a version may be the one before another: before a release stand releases only."""
+    return kind(shown.version) != "release" or kind(line.version) == "release"
+
+
+def about_of(found):
+    """What lists and the search tell of what was read."""
+    told, about = gomod.read(found["gomod"]), {}
+    packages = found.get("packages", [])
+    names = [folder or name for folder, name, _ in packages]
+    about["synopsis"] = shortened(synopsis_of(found), SYNOPSIS_MOST)
+    about["packages"] = " ".join(names)[:PACKAGES_MOST]
+    about["licence"] = found.get("licence")
+    if told.deprecated is not None:
+        about["deprecated"] = gomod.message(told.deprecated, "")
+    for name in ("bad", "unread", "differs"):
+        if name in found:
+            about[name] = found[name]
+    return about
+
+
+def synopsis_of(found):
+    """What a module is for, in a sentence: that of its root package, or the first of its README."""
+    packages = found.get("packages", [])
+    root = next((doc for folder, _, doc in packages if not folder), "")
+    if sentence := godoc.first_sentence(root):
+        return sentence
+    return first_words(found["readme"][1]) if "readme" in found else ""
+
+
+def first_words(readme):
+    """The first sentence of a README that is no heading, picture or list."""
+    for part in readme.split("\n\n"):
+        line = MARKS.sub(r"\1", " ".join(part.split()))
+        if line[:1].isalnum() and len(line) > 20 and not line.endswith(("==", "--")):
+            return godoc.first_sentence(line)
+    return ""
+
+
+# a link, of which the words stay, and the marks of emphasis and code
+MARKS = re.compile(r"!?\[([^\[\]]{0,300})\]\([^()]{0,1000}\)|[`*]")

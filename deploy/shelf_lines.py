@@ -1,12 +1,14 @@
-"""Prints what a shelf sees, by a key that a running goshelf has only meanwhile. goshelf-catalog runs it.
+"""Prints what a shelf sees, or runs a command, by a key that a running goshelf has only meanwhile. goshelf-catalog
+runs it.
 
-usage: shelf_lines.py CONTROL KEPT [SHELF]
+usage: shelf_lines.py CONTROL KEPT [SHELF [COMMAND ..]]
 
 It asks at the socket CONTROL as `goshelf catalog` does, because `ps` would show the key of that command. The key is in
 the file KEPT from before goshelf has it until after it is revoked, so a later call revokes what a kill left. Without
-SHELF it does that alone.
+SHELF it does that alone. COMMAND, which may read the key in KEPT, runs in place of the printing.
 
-exit status: 0 done; 1 a line is missing or the key is not revoked, and standard error says why; 2 bad usage
+exit status: 0 done; 1 a line is missing or the key is not revoked, and standard error says why; 2 bad usage; or that of
+COMMAND
 """
 
 import os
@@ -14,6 +16,7 @@ import re
 import secrets
 import signal
 import socket
+import subprocess
 import sys
 import time
 
@@ -90,13 +93,13 @@ def print_lines(control, key):
     return word_of(last)
 
 
-def print_shelf(control, kept, shelf):
-    """Prints what a shelf sees, and returns the word behind that."""
+def by_a_key(control, kept, shelf, does):
+    """Calls `does` with a key of a shelf, and returns its word, or the word by which goshelf refuses the key."""
     key = secrets.token_hex(16)
     keep(kept, key)
     try:
         word = order(control, f"reader-add {shelf} {key}")
-        return print_lines(control, key) if word == "done" else word
+        return does(key) if word == "done" else word
     finally:
         revoke(control, kept)
 
@@ -104,7 +107,7 @@ def print_shelf(control, kept, shelf):
 def print_when_free(control, kept, shelf):
     """Prints what a shelf sees, once goshelf makes no copy and no other catalog."""
     for _ in range(TRIES):
-        word = print_shelf(control, kept, shelf)
+        word = by_a_key(control, kept, shelf, lambda key: print_lines(control, key))
         if word != "busy":
             break
         # (a copy that begins now has no key of this)
@@ -113,18 +116,28 @@ def print_when_free(control, kept, shelf):
         raise Refused(word)
 
 
+def run(control, kept, shelf, command):
+    """Runs a command while goshelf has a key of a shelf, and returns its status."""
+    status = by_a_key(control, kept, shelf, lambda _: subprocess.run(command).returncode)
+    if isinstance(status, str):
+        raise Refused(status)
+    return status
+
+
 def main(words):
     if words in (["-h"], ["--help"]):
         print(__doc__, end="")
         return 0
-    if len(words) not in (2, 3) or "" in words or words[0].startswith("-"):
+    if len(words) < 2 or "" in words[:3] or words[0].startswith("-"):
         print(__doc__, end="", file=sys.stderr)
         return 2
-    control, kept, *shelf = words
+    control, kept, *shelf = words[:3]
     for it in (signal.SIGHUP, signal.SIGINT, signal.SIGTERM):
         signal.signal(it, lambda *_: sys.exit(1))
     try:
         revoke(control, kept)
+        if words[3:]:
+            return run(control, kept, *shelf, words[3:])
         if shelf:
             print_when_free(control, kept, *shelf)
     except (Refused, OSError) as refused:

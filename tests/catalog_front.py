@@ -20,7 +20,7 @@ from lib.keys import KEYS
 from lib.messages import put
 from lib.peers import exchanged
 from lib.program import done
-from lib.scratch import play, read
+from lib.scratch import play, read, write
 from lib.suite import Suite
 
 AT = "var/lib/goshelf-catalog"
@@ -68,7 +68,8 @@ def extracted(reader, suite, user, shelf, team, letters):
             file.write(lines_of(reader.machine, copy, KEYS[it]))
     own, *above = names.values()
     words = ["--common", above[-1], "--paths", f"{reader.machine.folder}/etc/nginx/goshelf/owners.json"]
-    words += ["--host", "localhost"]
+    write({f"{folder}/{shelf}-key": KEYS[letters[0]]})
+    words += ["--host", "localhost", "--store", copy, "--key-file", f"{folder}/{shelf}-key"]
     group = [f"--group=platform={above[0]}"] if len(above) == 2 else []
     told = tool("--to", f"{folder}/{shelf}", "--shelf", shelf, "--today", TODAY, *words, *group, own)
     suite.holds(f"{user}: the pages of a store of {team} alone are made", told[0] == 0, told)
@@ -229,12 +230,15 @@ def runs(suite, reader):
     ) as asked:
         told = machine.sh("goshelf-catalog")
     suite.equal("the pages of other users", told, (0, re.sub(" .*", " nothing changed", MADE), ""))
-    verbs = ["ping", "shelf-list", *["reader-add", "catalog", "key-revoke"] * len(USERS)]
-    suite.equal("what goshelf is asked", [it.split()[0] for it in asked], verbs)
-    suite.equal("each shelf once", sorted(it.split()[1] for it in asked[2::3]), sorted(USERS.values()))
-    made = [it.split()[-1] for it in asked[2:]]
-    suite.equal("by a key of its own, which is revoked", made, [it for it in made[::3] for _ in range(3)])
-    suite.holds("no two of them are the same", len({*made}) == len(USERS) and not {*made} & {*keys})
+    suite.equal("what goshelf is asked first", asked[:2], ["ping", "shelf-list"])
+    orders = [it.split() for it in asked[2:]]
+    made = [it[-1] for it in orders if it[0] == "reader-add"]
+    spans = [[it[0] for it in orders if it[-1] == key] for key in made]
+    verbs = sorted([["reader-add", "catalog", "key-revoke"], ["reader-add", "key-revoke"]] * len(USERS))
+    suite.equal("each shelf by a key for its lines, and by one for its zips", sorted(spans), verbs)
+    shelves = [it[1] for it in orders if it[0] == "reader-add"]
+    suite.equal("which are revoked again", sorted(shelves), sorted([*USERS.values()] * 2))
+    suite.holds("no two of them are the same", len({*made}) == len(made) and not {*made} & {*keys})
     suite.equal("goshelf has the keys of before", keys_told(machine), before)
     suite.equal("`ps` shows none of them", shown, [])
     told = [it for it in words(reader) if any(key in it for key in (*keys, *made))]

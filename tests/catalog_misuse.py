@@ -123,7 +123,7 @@ def unprinted(suite):
 ASKS = """
  | 2 | usage:
 control | 2 | usage:
-control kept alpha more | 2 | usage:
+control kept '' more | 2 | usage:
 --nosuch kept | 2 | usage:
 '' kept alpha | 2 | usage:
 control '' | 2 | usage:

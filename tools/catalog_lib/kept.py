@@ -10,6 +10,8 @@ import zlib
 
 from catalog_lib.reading import FORM
 
+# (a version may be forgotten because it holds a secret)
+FORGETS = "PRAGMA secure_delete = ON"
 TABLE = """CREATE TABLE IF NOT EXISTS reading (
     path TEXT NOT NULL, version TEXT NOT NULL, mark TEXT NOT NULL, about TEXT NOT NULL, content BLOB NOT NULL,
     PRIMARY KEY (path, version)) WITHOUT ROWID"""
@@ -31,7 +33,7 @@ class Kept:
     def open(self):
         os.close(os.open(self.name, os.O_RDWR | os.O_CREAT, 0o600))
         self.held = sqlite3.connect(self.name, isolation_level=None)
-        for order in ("PRAGMA journal_mode = WAL", "PRAGMA synchronous = OFF", "BEGIN", TABLE):
+        for order in ("PRAGMA journal_mode = WAL", "PRAGMA synchronous = OFF", FORGETS, "BEGIN", TABLE):
             self.held.execute(order)
         self.marks = {(path, version): mark for path, version, mark in self.rows("path, version, mark")}
 

@@ -138,7 +138,7 @@ ODD = (
     "replace (\ngo => ./x\n) // go 1.20\ngo `1.18`",
     "// go 1.17\nretract (\n[v1.0.0, v1.2.0]\nv1.4.0\n)\n",
 )
-LOADED = ["parts/catalog.css", "parts/catalog.js", "parts/icon.svg", "parts/narrow.css"]
+LOADED = ["parts/catalog.css", "parts/catalog.js", "parts/icon.svg", "parts/made.css", "parts/narrow.css"]
 # the paths that the set-up of each shelf names: no path where only others publish
 NAMED = {
     "alpha": "example.com", "beta": "example.com,gopkg.in", "gamma": "example.com,forge.test/Gamma",

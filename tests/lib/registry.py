@@ -41,6 +41,7 @@ SUITES = (
     listed("catalog_browser", "chromium nginx nginx-js nginx-stream openssl sqlite3 tidy"),
     listed("catalog_control"),
     listed("catalog_front", "flock nginx nginx-js nginx-stream openssl sqlite3"),
+    listed("catalog_log"),
     listed("catalog_misuse"),
     listed("catalog_read", "go"),
     listed("ci_jobs", "git go nginx nginx-js nginx-stream openssl"),

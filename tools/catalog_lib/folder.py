@@ -5,11 +5,21 @@ import os
 import re
 import secrets
 import shutil
+from datetime import datetime, timezone
 
 from catalog_lib.lines import Refused
 
 # the file in each folder made here that says of what it was made
 MADE = ".made"
+# the style that says at the foot of each page how old it is: a page that did not change stays the same file
+STAMP = "parts/made.css"
+
+
+def stamped(versions):
+    """The style that says when the pages were made, and of how many versions."""
+    now = datetime.now(timezone.utc).strftime("%Y-%m-%d %H:%M")
+    words = f"Made at {now} of {versions:,} {'version' if versions == 1 else 'versions'}."
+    return f'.made::after {{ content: " {words}"; }}\n'
 
 
 class Folder:
@@ -58,11 +68,26 @@ class Folder:
 
     def is_made_of(self, inputs):
         """Whether the folder of the last run was made of these inputs."""
+        return bool(self.old) and self.made_of().get("inputs") == inputs
+
+    def made_of(self):
+        """What the folder of the last run says of itself."""
         try:
-            with open(os.path.join(self.old or "", MADE), encoding="utf-8") as file:
-                return bool(self.old) and json.load(file) == {"inputs": inputs}
+            with open(os.path.join(self.old, MADE), encoding="utf-8") as file:
+                told = json.load(file)
+                return told if isinstance(told, dict) else {}
         except (OSError, ValueError):
-            return False
+            return {}
+
+    def stamp(self):
+        """Says at the foot of all pages that they are of now, by a style that they share. Nothing else changes."""
+        count = self.made_of().get("versions") if self.old else None
+        if not isinstance(count, int):
+            raise Refused(f"{self.at} has no pages")
+        at = os.path.join(self.old, STAMP)
+        with open(f"{at}.new", "w", encoding="utf-8") as file:
+            file.write(stamped(count))
+        os.replace(f"{at}.new", at)
 
     def begin(self):
         self.new = os.path.join(self.parent, f".{self.name}.{secrets.token_hex(8)}")
@@ -92,11 +117,14 @@ class Folder:
         except OSError:
             return False
 
-    def swap(self, inputs):
-        """Puts the new folder in the place of the old one, at once, and removes the old one."""
+    def swap(self, inputs, versions):
+        """Puts the new folder in the place of the old one, at once, and removes the old one. `versions` counts those of
+        the shelf."""
+        with open(os.path.join(self.new, STAMP), "w", encoding="utf-8") as file:
+            file.write(stamped(versions))
         made = os.path.join(self.new, MADE)
         with open(f"{made}.new", "w", encoding="utf-8") as file:
-            file.write(json.dumps({"inputs": inputs}) + "\n")
+            file.write(json.dumps({"inputs": inputs, "versions": versions}) + "\n")
         os.replace(f"{made}.new", made)
         link = os.path.join(self.parent, f".{self.name}.link")
         os.symlink(os.path.basename(self.new), link)

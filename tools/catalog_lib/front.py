@@ -1,7 +1,10 @@
 """The first page of a shelf: its modules."""
-from catalog_lib.markup import Html, cell, chip, code, count, date, html, link, number, page, row, table
+from catalog_lib.markup import Html, cell, chip, code, count, date, html, link, number, page, row, section, table
 from catalog_lib.setup import box
+from catalog_lib.taken import by, minute
 
+# how many modules `fresh` shows
+MOST = 10
 NOTHING = Html("<p>Nothing is published here yet.</p>\n")
 
 
@@ -15,6 +18,7 @@ def shelf_page(place, shelf, names):
     main = [
         html('<h1 id="modules">Modules of {}</h1>\n<p class="facts">{}</p>\n', shelf.name, " · ".join(told)),
         box(place, shelf),
+        fresh(place, shelf),
         html(
             (
                 '<form class="search" role="search" hidden><label for="search">Filter by any part of a path</label>\n'
@@ -27,6 +31,25 @@ def shelf_page(place, shelf, names):
         table("modules", ("Module", "Latest", "Date", "#Versions", "Shelf"), rows) if rows else NOTHING,
     ]
     return page(place, f"{shelf.name}: modules", main, "modules")
+
+
+def fresh(place, shelf):
+    """The versions that goshelf took this week, a row for each module. Without a log of publishes nothing is known."""
+    found = shelf.fresh()
+    rows = [
+        row(
+            link(place, it.path),
+            code(them[0][1]),
+            cell([minute(them[0][0]), " ", by(them[0][2])]),
+            number(len(them), "versions"),
+        )
+        for it, them in found[:MOST]
+    ]
+    if not rows:
+        return ""
+    more = html('<p><a href="health/#changed">{} more, and those of 30 days</a></p>\n', f"{len(found) - MOST:,}")
+    shown = table("fresh", ("Module", "Newest version", "Published", "#Versions"), rows)
+    return section("fresh", "New this week", [shown, more if len(found) > MOST else ""])
 
 
 def shelf_row(place, module, names):

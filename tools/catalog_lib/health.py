@@ -1,5 +1,6 @@
 """The page of what needs attention on a shelf, and of what changed."""
 from catalog_lib.markup import Html, cell, code, count, date, html, link, linked, number, page, row, section, table
+from catalog_lib.taken import by
 
 
 def findings(shelf, differences):
@@ -78,11 +79,20 @@ def health_page(place, shelf, found):
 def changed_section(place, shelf):
     """The section of the versions of the last days, a row for each module."""
     rows = [
-        row(link(place, it.path), code(them[0][1]), cell(date(them[0][0])), number(len(them), "versions"))
+        row(
+            link(place, it.path),
+            code(them[0][1]),
+            cell([date(them[0][0]), " ", by(them[0][2])]),
+            number(len(them), "versions"),
+        )
         for it, them in shelf.changed()
     ]
-    heads = ("Module", "Newest version", "Date", "#Versions")
-    told = html("<p>Versions whose time is in the 30 days before {}.</p>\n", date(shelf.today.isoformat()))
+    heads = ("Module", "Newest version", "Published", "#Versions")
+    told = html(
+        "<p>Versions that goshelf took in the 30 days before {}. Where no log says when that was, the date that the "
+        "publisher gave counts.</p>\n",
+        date(shelf.today.isoformat()),
+    )
     body = [told, table("changed", heads, rows)] if rows else Html("<p>Nothing.</p>\n")
     return section("changed", "Changed in the last 30 days", body)
 

@@ -38,6 +38,7 @@ FRAME = """<!DOCTYPE html>
 <link rel="icon" href="{}parts/icon.svg" type="image/svg+xml">
 <link rel="stylesheet" href="{}parts/catalog.css">
 <link rel="stylesheet" href="{}parts/narrow.css">
+<link rel="stylesheet" href="{}parts/made.css">
 <script src="{}parts/catalog.js" defer></script>
 </head>
 <body>
@@ -55,7 +56,7 @@ FRAME = """<!DOCTYPE html>
 {}
 </main>
 <footer>
-<p>What the shelf <b>{}</b> sees. Dates are UTC.</p>
+<p class="made">What the shelf <b>{}</b> sees. Dates are UTC.</p>
 </footer>
 </body>
 </html>
@@ -69,7 +70,7 @@ def page(place, title, main, here=""):
     on_modules, on_health = (HERE if here == it else "" for it in ("modules", "health"))
     found = html(' <span class="count">{}</span><span class="unseen"> findings</span>', place.findings)
     links = top, place.shelf, top, on_modules, root, on_health, found if place.findings else ""
-    return html(FRAME, title, *[root] * 4, *links, main, place.shelf).encode()
+    return html(FRAME, title, *[root] * 5, *links, main, place.shelf).encode()
 
 
 # the pages of a module by their files, and what their links say

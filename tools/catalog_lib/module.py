@@ -25,6 +25,7 @@ from catalog_lib.markup import (
     table,
 )
 from catalog_lib.setup import box
+from catalog_lib.taken import published
 
 STATES = {
     "behind": "behind the latest",
@@ -70,25 +71,27 @@ def overview(place, shelf, module, names):
     parts = (
         ("requires", "Requires", len(shown.requires), requires(place, shelf, shown)),
         ("users", "Used by", len({it.module.path for it in users}), used_by(place, shelf, module, users)),
-        ("versions", "Versions", len(lines), versions(place, lines, names)),
+        ("versions", "Versions", len(lines), versions(place, shelf, lines, names)),
     )
     jumps = [
         html('<li><a href="#{}">{} <span class="count">{}</span></a></li>\n', it, name, f"{number:,}")
         for it, name, number, _ in parts
     ]
     return [
-        about(module, shown, names),
+        about(shelf, module, shown, names),
         box(place, shelf, module),
         html('<nav class="jumps" aria-label="On this page"><ul>\n{}</ul></nav>\n', jumps),
         [section(it, name, body) for it, name, _, body in parts],
     ]
 
 
-def about(module, shown, names):
+def about(shelf, module, shown, names):
     """What a module is at its latest version, and how to get it."""
     if module.latest is None:
         return Html('<p class="facts">All versions are retracted, so there is no latest version.</p>\n')
     facts = [html('<b class="code">{}</b> ', shown.version), date(shown.time)]
+    if taken := shelf.taken_at(shown):
+        facts.append([", published ", published(taken)])
     if shown.go:
         facts.append(html(" · Go {}", shown.go))
     if licence := module.told.get("licence"):
@@ -169,26 +172,24 @@ def user_row(place, shelf, module, user, state, height):
     return html("<tr>{}{}</tr>\n", name, cells)
 
 
-def versions(place, lines, names):
+def versions(place, shelf, lines, names):
     """The versions, the highest first."""
-    rows = [version_row(place, it, names) for it in lines]
-    return table("versions", ("Version", "Remark", "Date", "#Zip", "Go", "Shelf", "go.mod"), rows)
+    rows = [version_row(place, shelf, it, names) for it in lines]
+    when = ("Own date", "Published") if shelf.taken else ("Date",)
+    return table("versions", ("Version", "Remark", *when, "#Zip", "Go", "Shelf", "go.mod"), rows)
 
 
-def version_row(place, line, names):
+def version_row(place, shelf, line, names):
     words = [it for it, holds in (("latest", line.is_latest), ("retracted", line.is_retracted)) if holds]
     if kind(line.version) != "release":
         words.append(kind(line.version))
     remarks = [[chip(it), " "] for it in words]
     length = html('<td class="number">{}</td>', size(line.size))
     where = chip(line.shelf, names[line.shelf])
+    taken = shelf.taken_at(line)
+    when = [cell(date(line.time), "own date" if taken else "")]
+    if shelf.taken:
+        when.append(cell(published(taken), "published" if taken else ""))
+    go = cell(line.go or "", "Go" if line.go else "")
     gomod = gomod_link(place, line.path, line.version)
-    cells = (
-        cell(remarks),
-        cell(date(line.time)),
-        length,
-        cell(line.go or "", "Go" if line.go else ""),
-        cell(where),
-        cell(gomod),
-    )
-    return row(line.version, *cells)
+    return row(line.version, cell(remarks), *when, length, go, cell(where), cell(gomod))

@@ -9,7 +9,7 @@ HOST = re.compile(r"(?=.{1,253}$)[A-Za-z0-9-]+(\.[A-Za-z0-9-]+)*")
 PROXIES = re.compile(r"[A-Za-z0-9.:/-]+(,[A-Za-z0-9.:/-]+)*")
 # the last element of the module that goshelf-offer publishes
 PUBLISHER = "goshelf-publish"
-# what the box is made of: the host, what goes into GOPROXY, the company's paths, and the module of the publisher or None
+# what the box has: the host, what goes into GOPROXY, the company's paths, and the module of the publisher or None
 Setup = namedtuple("Setup", "host proxies paths publisher")
 
 # nginx puts the reader's own name in its place (`sub_filter` of goshelf.conf); no text of a module has such a tag

@@ -6,8 +6,8 @@ from datetime import timedelta
 
 from catalog_lib.lines import Refused, kind, line_of, precedence, rank, read
 
-# how far back `changed` looks
-RECENT = timedelta(days=30)
+# how far back `changed` and `fresh` look
+RECENT, WEEK = timedelta(days=30), timedelta(days=7)
 
 
 @dataclass(slots=True)
@@ -66,8 +66,8 @@ class Shelf:
         self.file, self.name, self.today, self.ours = file, name, today, ours
         self.modules, self.recent = {}, {}
         self.users, self.words, self.numbers = {}, [], {}
-        # how to set a machine up for the shelf, if that is known
-        self.setup = None
+        # how to set a machine up for the shelf, and which versions were taken when and by whom, as far as that is known
+        self.setup, self.taken = None, {}
         self.version_count = self.retracted_count = 0
 
     def fill(self, source):
@@ -89,9 +89,14 @@ class Shelf:
     def count(self, line):
         self.version_count += 1
         self.retracted_count += line.is_retracted
-        first = (self.today - RECENT).isoformat()
-        if line.time and first <= line.time[:10] <= self.today.isoformat():
-            self.recent.setdefault(line.path, []).append((line.time, line.version))
+        taken = self.taken_at(line)
+        time = taken.time if taken else line.time
+        if time and (self.today - RECENT).isoformat() <= time[:10] <= self.today.isoformat():
+            self.recent.setdefault(line.path, []).append((time, line.version, taken.name if taken else ""))
+
+    def taken_at(self, line):
+        """When goshelf took a version and from whom, or None."""
+        return self.taken.get((line.shelf, line.path, line.version))
 
     def keep(self, module, needs):
         """Keeps a module, and what its versions require: of each, the highest version that does, and how many do."""
@@ -164,7 +169,16 @@ class Shelf:
 
     def changed(self):
         """The modules with a version of the last days, the latest first, each with those versions, the latest first."""
-        found = [(self.modules[path], sorted(rows, reverse=True)) for path, rows in self.recent.items()]
+        return self.latest_of(self.recent)
+
+    def fresh(self):
+        """The same of the versions that goshelf took in the last week."""
+        first = (self.today - WEEK).isoformat()
+        rows = {path: [it for it in them if it[2] and it[0][:10] >= first] for path, them in self.recent.items()}
+        return self.latest_of({path: them for path, them in rows.items() if them})
+
+    def latest_of(self, rows_of):
+        found = [(self.modules[path], sorted(rows, reverse=True)) for path, rows in rows_of.items()]
         return sorted(sorted(found, key=lambda it: as_read(it[0].path)), key=lambda it: it[1][0][0], reverse=True)
 
 

@@ -138,14 +138,19 @@ ODD = (
     "replace (\ngo => ./x\n) // go 1.20\ngo `1.18`",
     "// go 1.17\nretract (\n[v1.0.0, v1.2.0]\nv1.4.0\n)\n",
 )
-LOADED = ["parts/catalog.css", "parts/catalog.js", "parts/icon.svg", "parts/made.css", "parts/narrow.css"]
+LOADED = [
+    f"parts/{it}"
+    for it in ("catalog.css", "catalog.js", "icon.svg", "made.css", "narrow.css", "prose.css", "search.js")
+]
 # the paths that the set-up of each shelf names: no path where only others publish
 NAMED = {
     "alpha": "example.com", "beta": "example.com,gopkg.in", "gamma": "example.com,forge.test/Gamma",
     "delta": "example.com", "platform": "example.com", "common": "example.com",
 }  # fmt: skip
-# what would load something, or make HTML of a text
-LOADS = re.compile(r"url\(|@import|https?:|fetch|XMLHttp|import\(|eval|innerHTML|document\.write")
+# what would load something else than the modules of the search, or make HTML of a text
+LOADS = re.compile(
+    r"url\(|@import|https?:|fetch|XMLHttp|import\((?!\"\./modules\.js\"\))|eval|innerHTML|document\.write"
+)
 
 
 def reference_agrees(suite):

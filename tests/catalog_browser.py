@@ -7,15 +7,20 @@ With --to FOLDER it also writes what it sees there, as PNG files, light, dark an
 import os
 import subprocess
 import sys
+from urllib.parse import quote
 
 from lib.browser import Browser
 from lib.catalog_front import USERS, set_up
 from lib.catalog_store import EVIL
+from lib.catalog_zips import published
+from lib.peers import exchanged
+from lib.program import columns
 from lib.scratch import play, write
 from lib.suite import Suite
 
 LOG, RPC, APP = (f"example.com/{it}" for it in ("log", "rpc", "gamma/app"))
-PATHS = "#modules ~ .wide tbody tr th"
+PATHS = "#list tbody tr th a"
+FOUND = "#results tbody tr th a"
 NARROW = {"width": 360, "height": 740}
 LOOKS = {"light": {}, "dark": {"is_dark": True}, "narrow": NARROW, "narrow and dark": {**NARROW, "is_dark": True}}
 PAGES = {"modules": "/", "health": "/health/", "module": f"/m/{LOG}/", "users": f"/m/{RPC}/"}
@@ -53,34 +58,111 @@ def logs_in(suite, them):
     stranger = them.browser.page(("ann", "wrong"))
     stranger.go(them.url)
     found = stranger.value("document.body.innerText"), stranger.logins
-    wanted = "log in: no such user and password; the go command takes them from ~/.netrc\n", 2
+    wanted = "log in: no such key; the go command takes it from ~/.netrc, as the password\n", 2
     suite.equal(
         "with a wrong password one is asked again", (found[0].strip(), found[1]), (wanted[0].strip(), wanted[1])
     )
 
 
 def searches(suite, them):
-    """The search filters as one types, by any part of a path."""
+    """The search finds modules as one types, the best match first, and the URL has what was typed."""
     page = them.visit("gus")
     page.press("/", "/")
     suite.equal("a slash leads into the box", page.value("document.activeElement.id"), "search")
     everything = page.shown(PATHS)
     for typed, paths, told in (
-        ("og", [LOG], "1 of 5 modules"),
-        (" exa", [LOG], "1 of 5 modules"),
-        ("x", [], "0 of 5 modules"),
+        ("lo", [LOG], "1 of 5 modules."),
+        ("g exa", [LOG], "1 of 5 modules."),
+        ("x", [], "No module has all of these words."),
     ):
         page.type(typed)
-        suite.equal(f"{typed!r} more", (page.shown(PATHS), page.shown("#found")), (paths, [told]))
+        page.until(f"document.querySelector('#found').innerText === {told!r}")
+        suite.equal(f"{typed!r} more", page.shown(FOUND), paths)
+    suite.equal("the URL has it", page.value("location.search"), "?q=log%20exax")
     page.press("Escape")
+    page.until("document.querySelector('#results').hidden")
     suite.equal("Escape shows all again", (page.shown(PATHS), page.shown("#found")), (everything, ["5 modules"]))
+    suite.equal("and the URL is that of the list", page.value("location.href"), f"{them.url}/")
     page.type("GAMMA")
-    suite.equal("capitals do not count", page.shown(PATHS), ["example.com/gamma/app", "example.com/gamma/pseudo"])
+    page.until("document.querySelectorAll('#results tbody tr').length === 2")
+    suite.equal("capitals do not count", page.shown(FOUND), ["example.com/gamma/app", "example.com/gamma/pseudo"])
     page.press("Enter", "\r")
-    suite.equal("Enter leaves the page as it is", (target_of(page), len(page.shown(PATHS)), page.faults), ("/", 2, []))
-    page.follow(f"a[href='m/{APP}/']")
+    suite.equal("Enter leaves the page as it is", (target_of(page), len(page.shown(FOUND)), page.faults), ("/", 2, []))
+    page.follow(f"#results a[href='m/{APP}/']")
+    suite.equal("a result leads to the module", (target_of(page), page.shown("h1")), (f"/m/{APP}/", [APP]))
     page.back()
-    suite.equal("back again, it is still filtered", (target_of(page), len(page.shown(PATHS))), ("/", 2))
+    page.until("document.querySelectorAll('#results tbody tr').length === 2")
+    suite.equal("back again, it is still searched", (target_of(page), page.shown(FOUND)[0]), ("/", APP))
+
+
+# what is searched for, the first modules that are found, and the sentence
+SEARCHES = """
+dbpool | example.com/dbpool | 2 of 6 modules.
+dbpol | example.com/dbpool example.com/my-dbpool | No module has “dbpol”; 2 of 6 modules have a word like it.
+connections | example.com/dbpool | 1 of 6 modules.
+pooldriver | example.com/dbpool | 1 of 6 modules.
+midleware | github.com/acme/web-middleware | No module has “midleware”; 1 of 6 modules has a word like it.
+handels | github.com/acme/web-middleware | No module has “handels”; 1 of 6 modules has a word like it.
+walrus | github.com/acme/web-middleware | 1 of 6 modules.
+example.com/dbpool/pooldriver | example.com/dbpool | pooldriver is a package of example.com/dbpool.
+example.com/dbpool@v1.0.0 | example.com/dbpool | This is example.com/dbpool, asked for at v1.0.0.
+go get example.com/DBPOOL@v1.0.0 | example.com/dbpool | This is example.com/dbpool, asked for at v1.0.0.
+"example.com/dbpool/nosuch" | example.com/dbpool | nosuch is below the path of example.com/dbpool.
+https://github.com/acme/web-middleware | github.com/acme/web-middleware | This is github.com/acme/web-middleware.
+<script>alert(1)</script> | | No module has “<script>alert(1)</script>”.
+"""
+DBPOOL = {
+    "README.md": "# Pool\n\nIt keeps connections.\n",
+    "pool.go": "// Package dbpool keeps connections.\npackage dbpool\n",
+    "pooldriver/d.go": "package pooldriver\n",
+}
+WEB = {
+    "README.md": "# Web\n\nThe walrus is in the README alone.\n\n<img src=x onerror=alert(1)>\n",
+    "web.go": "// Package web handles requests.\npackage web\n",
+}
+
+
+def finds(suite, them):
+    """The search reads what modules are for: their packages, their sentences and the words of their READMEs."""
+    machine = them.reader.machine
+    for path, files in (
+        ("example.com/dbpool", DBPOOL),
+        ("example.com/my-dbpool", {}),
+        ("github.com/acme/web-middleware", WEB),
+    ):
+        told = exchanged(machine.behind, published("D", path, "v1.0.0", files))
+        suite.holds(f"{path} is published", told.startswith(b"HTTP/1.1 201 "), told)
+    machine.does("goshelf-catalog")
+    for row in SEARCHES.split("\n")[1:-1]:
+        text, paths, told = columns(row, 3)
+        page = them.visit("dee", f"/?q={quote(text)}")
+        page.until("document.querySelector('#found').innerText !== '6 modules'")
+        found = page.shown(FOUND)[: len(paths.split())], page.shown("#found"), page.faults
+        suite.equal(f"{text}", found, (paths.split(), [told], []))
+    page.press("/", "/")
+    page.press("Escape")
+    page.until("document.querySelector('#results').hidden")
+    reads(suite, them, page)
+
+
+def reads(suite, them, page):
+    """From a result to the README, the packages and the files of a module."""
+    page.type("walrus")
+    page.until("document.querySelectorAll('#results tbody tr').length === 1")
+    page.follow("#results tbody a")
+    suite.equal("what it is for", page.shown(".synopsis"), ["Package web handles requests."])
+    for name, text in (("readme", "The walrus is in the README alone."), ("packages", "web"), ("files", "web.go")):
+        page.follow(f".tabs a[href='{name}.html']")
+        suite.holds(f"its {name}", text in page.value("document.body.innerText"))
+    suite.equal("nothing is loaded from elsewhere, and nothing is wrong", page.faults, [])
+    page.go(f"{them.url}/")
+    told = page.value(
+        "new Promise((done) => { addEventListener('error', (it) => done(it.message), {once: true});"
+        "document.body.append(Object.assign(document.createElement('script'), {src: 'parts/modules.js'})); })"
+    )
+    suite.holds(
+        "as a script of another page the words of modules are an error", "Unexpected token 'export'" in told, told
+    )
 
 
 def follows(suite, them):
@@ -120,7 +202,7 @@ def by_keys(suite, them):
     for _ in range(2):
         page.press("Tab")
     # (the box, and the table, which may be wider than the window)
-    suite.equal("then to the table", page.value("document.activeElement.className"), "wide filtered")
+    suite.equal("then to the table", page.value("document.activeElement.className"), "wide")
     page.press("Tab")
     page.loaded(lambda: page.press("Enter", "\r"))
     suite.equal("then to the first module", target_of(page), "/m/example.com/both/")
@@ -129,7 +211,6 @@ def by_keys(suite, them):
 def without_scripts(suite, them):
     """Without JavaScript all is there but the box and the button, which are not shown."""
     page = them.visit("gus", has_scripts=False)
-    suite.equal("no script runs", page.value("document.querySelector('.filtered')"), None)
     suite.equal("all modules", len(page.shown(PATHS)), 5)
     suite.equal("no search", page.shown("form, input"), [])
     page.follow(f"a[href='m/{LOG}/']")
@@ -207,7 +288,7 @@ def valid(suite, them):
 
 
 def main():
-    suite, parts = Suite(), (logs_in, searches, follows, by_keys, without_scripts, looks, hostile, valid)
+    suite, parts = Suite(), (logs_in, searches, finds, follows, by_keys, without_scripts, looks, hostile, valid)
     return play(suite, "a browser", "nginx needs root", lambda folder: Visitors(suite, folder), parts)
 
 

@@ -166,7 +166,7 @@ def on_pages(suite):
 
 STORE = "--store", "store.db"
 MADE, SAME = "17 pages, 17 new or changed\n", "17 pages, 0 new or changed\n"
-LOADED = ["catalog.css", "catalog.js", "icon.svg", "made.css", "narrow.css"]
+LOADED = ["catalog.css", "catalog.js", "icon.svg", "made.css", "narrow.css", "prose.css", "search.js"]
 
 
 def go_agrees(suite):

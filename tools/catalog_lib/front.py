@@ -1,5 +1,6 @@
 """The first page of a shelf: its modules."""
-from catalog_lib.markup import Html, cell, chip, code, count, date, html, link, number, page, row, section, table
+from catalog_lib.listing import file_of, listing, pages_of, root_of, search
+from catalog_lib.markup import Html, cell, code, count, html, link, number, page, row, section, table
 from catalog_lib.setup import box
 from catalog_lib.taken import by, minute
 
@@ -8,29 +9,28 @@ MOST = 10
 NOTHING = Html("<p>Nothing is published here yet.</p>\n")
 
 
-def shelf_page(place, shelf, names):
-    """The page of all modules."""
-    modules = list(shelf.modules.values())
-    rows = [shelf_row(place, it, names) for it in modules]
-    told = [count(len(modules), "module"), count(shelf.version_count, "version")]
+def shelf_pages(place, shelf, names):
+    """Yields the pages of all modules, each with its file. The first one has what they share, and the search."""
+    pages = pages_of(place, shelf, names)
+    for at, rows in enumerate(pages, 1):
+        here = place(root_of(at))
+        shown = listing(here, rows, at, len(pages)) if rows else NOTHING
+        main = [head(shelf), *(first(here, shelf) if at == 1 else []), shown]
+        title = f"{shelf.name}: modules" + (f", page {at}" if at > 1 else "")
+        yield file_of(at), page(here, title, main, "modules")
+
+
+def head(shelf):
+    told = [count(len(shelf.modules), "module"), count(shelf.version_count, "version")]
     if shelf.retracted_count:
         told.append(f"{shelf.retracted_count:,} retracted")
-    main = [
-        html('<h1 id="modules">Modules of {}</h1>\n<p class="facts">{}</p>\n', shelf.name, " · ".join(told)),
-        box(place, shelf),
-        fresh(place, shelf),
-        html(
-            (
-                '<form class="search" role="search" hidden><label for="search">Filter by any part of a path</label>\n'
-                '<input id="search" type="search" autocomplete="off" spellcheck="false" '
-                'placeholder="Press / to search" aria-describedby="found">\n'
-                '<p id="found" role="status">{}</p>\n<button type="button" hidden>Show all</button></form>\n'
-            ),
-            count(len(modules), "module"),
-        ),
-        table("modules", ("Module", "Latest", "Date", "#Versions", "Shelf"), rows) if rows else NOTHING,
-    ]
-    return page(place, f"{shelf.name}: modules", main, "modules")
+    facts = " · ".join(told)
+    return html('<h1 id="modules">Modules of {}</h1>\n<p class="facts">{}</p>\n', shelf.name, facts)
+
+
+def first(place, shelf):
+    """What the first page has above the list."""
+    return [box(place, shelf), fresh(place, shelf), search(place, shelf) if shelf.modules else ""]
 
 
 def fresh(place, shelf):
@@ -50,12 +50,3 @@ def fresh(place, shelf):
     more = html('<p><a href="health/#changed">{} more, and those of 30 days</a></p>\n', f"{len(found) - MOST:,}")
     shown = table("fresh", ("Module", "Newest version", "Published", "#Versions"), rows)
     return section("fresh", "New this week", [shown, more if len(found) > MOST else ""])
-
-
-def shelf_row(place, module, names):
-    count_cell = number(len(module.versions), "versions")
-    if module.latest is None:
-        none = Html('<span class="quiet">all retracted</span>')
-        return row(link(place, module.path), cell(none), cell(""), count_cell, cell(""))
-    where = chip(module.shelf, names[module.shelf])
-    return row(link(place, module.path), code(module.latest), cell(date(module.time)), count_cell, cell(where))

@@ -37,6 +37,7 @@ FRAME = """<!DOCTYPE html>
 <title>{}</title>
 <link rel="icon" href="{}parts/icon.svg" type="image/svg+xml">
 <link rel="stylesheet" href="{}parts/catalog.css">
+<link rel="stylesheet" href="{}parts/prose.css">
 <link rel="stylesheet" href="{}parts/narrow.css">
 <link rel="stylesheet" href="{}parts/made.css">
 <script src="{}parts/catalog.js" defer></script>
@@ -70,7 +71,7 @@ def page(place, title, main, here=""):
     on_modules, on_health = (HERE if here == it else "" for it in ("modules", "health"))
     found = html(' <span class="count">{}</span><span class="unseen"> findings</span>', place.findings)
     links = top, place.shelf, top, on_modules, root, on_health, found if place.findings else ""
-    return html(FRAME, title, *[root] * 5, *links, main, place.shelf).encode()
+    return html(FRAME, title, *[root] * 6, *links, main, place.shelf).encode()
 
 
 # the pages of a module by their files, and what their links say

@@ -2,7 +2,7 @@
 import re
 from itertools import groupby
 
-from catalog_lib import documents
+from catalog_lib import documents, gomod
 from catalog_lib.graph import MOST, graph
 from catalog_lib.lines import kind
 from catalog_lib.markup import (
@@ -34,11 +34,10 @@ STATES = {
 }
 
 
-def module_pages(place, shelf, module, names, found):
-    """The pages of a module: the name of the file of each, and its content. `found` is what was read of its latest
-    version, or None."""
-    found = found or {}
-    bodies = {"index.html": overview(place, shelf, module, names)}
+def module_pages(place, shelf, module, names, read):
+    """The pages of a module: the name of the file of each, and its content. `read` has what was read, by versions."""
+    found = read.get(module.latest or module.highest, {})
+    bodies = {"index.html": overview(place, shelf, module, names, reasons_of(module, read))}
     if "readme" in found:
         bodies["readme.html"] = documents.readme_of(found)
     if found.get("packages"):
@@ -60,10 +59,25 @@ def head(module, tabs, here):
         for it, words in tabs
     ]
     nav = html('<nav class="tabs" aria-label="Of this module"><ul>\n{}</ul></nav>\n', items) if len(tabs) > 1 else ""
-    return [html("<h1>{}</h1>\n", broken(module.path)), synopsis, nav]
+    notice = html(DEPRECATED, told["deprecated"]) if "deprecated" in told else ""
+    return [html("<h1>{}</h1>\n", broken(module.path)), synopsis, notice, nav]
 
 
-def overview(place, shelf, module, names):
+DEPRECATED = '<p class="notice" dir="auto"><b>Deprecated:</b> {}</p>\n'
+
+
+def reasons_of(module, read):
+    """Why versions are retracted, by the go.mod of the highest: of each the first reason, as the go command says it."""
+    ruling = gomod.read(read.get(module.highest, {}).get("gomod", ""))
+    found = {
+        it: [why for why in ruling.reasons_of(it) if why]
+        for it, is_retracted in module.versions.items()
+        if is_retracted
+    }
+    return {it: gomod.message(whys[0], "") for it, whys in found.items() if whys}
+
+
+def overview(place, shelf, module, names, reasons):
     """The first page of a module: what it is, what it requires, who uses it, and its versions."""
     lines = shelf.lines(module)[::-1]
     shown = next((it for it in lines if it.is_latest), lines[0])
@@ -71,7 +85,7 @@ def overview(place, shelf, module, names):
     parts = (
         ("requires", "Requires", len(shown.requires), requires(place, shelf, shown)),
         ("users", "Used by", len({it.module.path for it in users}), used_by(place, shelf, module, users)),
-        ("versions", "Versions", len(lines), versions(place, shelf, lines, names)),
+        ("versions", "Versions", len(lines), versions(place, shelf, lines, names, reasons)),
     )
     jumps = [
         html('<li><a href="#{}">{} <span class="count">{}</span></a></li>\n', it, name, f"{number:,}")
@@ -135,7 +149,10 @@ def requires(place, shelf, shown):
 
 
 def required_row(place, shelf, path, version):
-    return row(linked(place, shelf, path), code(version), cell(remark(shelf, path, shelf.state(path, version))))
+    remarks = [remark(shelf, path, shelf.state(path, version))]
+    if is_deprecated(shelf, path):
+        remarks += [" ", chip("deprecated")]
+    return row(linked(place, shelf, path), code(version), cell(remarks))
 
 
 def remark(shelf, path, state):
@@ -144,6 +161,11 @@ def remark(shelf, path, state):
         return ""
     text = f"behind {shelf.modules[path].latest}" if state == "behind" else STATES[state]
     return chip(state, text)
+
+
+def is_deprecated(shelf, path):
+    """Whether the go.mod of a module's latest version says that the module is deprecated."""
+    return path in shelf.modules and "deprecated" in shelf.modules[path].told
 
 
 def used_by(place, shelf, module, users):
@@ -172,18 +194,20 @@ def user_row(place, shelf, module, user, state, height):
     return html("<tr>{}{}</tr>\n", name, cells)
 
 
-def versions(place, shelf, lines, names):
-    """The versions, the highest first."""
-    rows = [version_row(place, shelf, it, names) for it in lines]
+def versions(place, shelf, lines, names, reasons):
+    """The versions, the highest first. `reasons` has why some are retracted."""
+    rows = [version_row(place, shelf, it, names, reasons.get(it.version)) for it in lines]
     when = ("Own date", "Published") if shelf.taken else ("Date",)
     return table("versions", ("Version", "Remark", *when, "#Zip", "Go", "Shelf", "go.mod"), rows)
 
 
-def version_row(place, shelf, line, names):
+def version_row(place, shelf, line, names, reason):
     words = [it for it, holds in (("latest", line.is_latest), ("retracted", line.is_retracted)) if holds]
     if kind(line.version) != "release":
         words.append(kind(line.version))
     remarks = [[chip(it), " "] for it in words]
+    if reason:
+        remarks.append(html('<span class="quiet" dir="auto">{}</span>', reason))
     length = html('<td class="number">{}</td>', size(line.size))
     where = chip(line.shelf, names[line.shelf])
     taken = shelf.taken_at(line)

@@ -13,7 +13,8 @@ README_MOST, LICENCE_MOST, GOMOD_MOST, HEAD_MOST, ALL_MOST = 64 << 10, 64 << 10,
 # as many packages and Go files are read, and bytes of a package's comment kept
 PACKAGES_MOST, GO_FILES_MOST, DOC_MOST = 500, 4_000, 16 << 10
 READMES = ("readme.md", "readme.markdown", "readme", "readme.txt", "readme.rst", "readme.org", "readme.adoc")
-# folders that the go command does not take for packages
+# folders that an import may name, and those that the go command does not take for packages
+IMPORTABLE = re.compile(r"[A-Za-z0-9._~+/-]*")
 NO_PACKAGES = re.compile(r"(?:^|/)(?:testdata|vendor|[._][^/]*)(?:/|$)")
 
 
@@ -88,7 +89,9 @@ def packages_of(files, entries):
     found, count = {}, 0
     for name in sorted(entries):
         folder, _, last = name.rpartition("/")
-        if not last.endswith(".go") or last.endswith("_test.go") or last[0] in "._" or NO_PACKAGES.search(folder):
+        if not last.endswith(".go") or last.endswith("_test.go") or last[0] in "._":
+            continue
+        if not IMPORTABLE.fullmatch(folder) or NO_PACKAGES.search(folder):
             continue
         count += 1
         if count > GO_FILES_MOST or (folder not in found and len(found) == PACKAGES_MOST):

@@ -11,6 +11,8 @@ BEFORE = 2
 SYNOPSIS_MOST = 200
 # as many bytes of the names of its packages are searched
 PACKAGES_MOST = 2_000
+# as many letters of the words of its README
+WORDS_MOST = 3_000
 
 
 class Readings:
@@ -43,9 +45,9 @@ class Readings:
             found = reading.read(content, line, served, is_whole)
             self.kept.put(line, is_whole, found, about_of(found))
 
-    def of(self, path, version):
-        """What was read of a version, or None."""
-        return self.kept.get(path, version) if self.kept else None
+    def of(self, module):
+        """What was read of a module, by its versions."""
+        return {it: self.kept.get(module.path, it) for it in module.about} if self.kept else {}
 
 
 def chosen(lines):
@@ -70,6 +72,8 @@ def about_of(found):
     names = [folder or name for folder, name, _ in packages]
     about["synopsis"] = shortened(synopsis_of(found), SYNOPSIS_MOST)
     about["packages"] = " ".join(names)[:PACKAGES_MOST]
+    if "readme" in found:
+        about["words"] = words_of(found["readme"][1])
     about["licence"] = found.get("licence")
     if told.deprecated is not None:
         about["deprecated"] = gomod.message(told.deprecated, "")
@@ -77,6 +81,12 @@ def about_of(found):
         if name in found:
             about[name] = found[name]
     return about
+
+
+def words_of(readme):
+    """The words of a README, each once, as long as they fit."""
+    words = dict.fromkeys(re.findall(r"[^\W_]{3,30}", MARKS.sub(r"\1", readme).lower()))
+    return " ".join(words)[:WORDS_MOST]
 
 
 def synopsis_of(found):

@@ -1,0 +1,78 @@
+"""The list of modules, in pages that a browser shows at once, and the search over all of them."""
+from catalog_lib.markup import HERE, Html, cell, chip, code, count, date, html, link, number, row, table
+from catalog_lib.text import shortened
+
+# as many modules, and bytes of them, are on a page
+ROWS_MOST, BYTES_MOST = 400, 220_000
+SYNOPSIS_MOST = 120
+HEADS = ("Module", "Latest", "Date", "#Versions", "Shelf")
+SEARCH = """<form class="search" role="search" hidden>
+<label for="search">Search paths, packages and what modules are for</label>
+<input id="search" name="q" type="search" autocomplete="off" spellcheck="false" placeholder="Press / to search" \
+aria-describedby="found">
+<p id="found" role="status">{}</p>
+</form>
+<div id="results" class="wide" role="region" aria-labelledby="found" tabindex="0" hidden></div>
+<script src="{}parts/search.js" type="module"></script>
+"""
+
+
+def pages_of(place, shelf, names):
+    """The rows of all modules, page by page. `place` makes the Place of a root."""
+    found, size = [[]], 0
+    for module in shelf.modules.values():
+        made = module_row(place(root_of(len(found))), module, names)
+        size += len(made)
+        if len(found[-1]) == ROWS_MOST or (size > BYTES_MOST and found[-1]):
+            found.append([])
+            made = module_row(place(root_of(len(found))), module, names)
+            size = len(made)
+        found[-1].append(made)
+    return found
+
+
+def file_of(number):
+    """The file of a page of the list, by its number from 1. (No path has an element that begins with `!`.)"""
+    return "index.html" if number == 1 else f"m/!{number}.html"
+
+
+def root_of(number):
+    """Where the first page is, seen from a page of the list."""
+    return "" if number == 1 else "../"
+
+
+def search(place, shelf):
+    """The box that finds modules. Without scripts it is not shown."""
+    return html(SEARCH, count(len(shelf.modules), "module"), place.root)
+
+
+def listing(place, rows, here, pages):
+    """A page of the list, and links to the others."""
+    body = table("modules", HEADS, rows)
+    return html('<div id="list">\n{}{}</div>\n', body, pager(place, here, pages) if pages > 1 else "")
+
+
+def pager(place, here, pages):
+    """Links to the pages of the list."""
+    items = [
+        html('<li><a href="{}{}"{}>{}</a></li>\n', place.root or "./", target(it), HERE if it == here else "", it)
+        for it in range(1, pages + 1)
+    ]
+    return html('<nav class="pager" aria-label="Pages of the list"><ul>\n{}</ul></nav>\n', items)
+
+
+def target(number):
+    return "" if number == 1 else file_of(number)
+
+
+def module_row(place, module, names):
+    """The row of a module: what it is for, and its latest version."""
+    words = module.told.get("synopsis", "")
+    synopsis = html(' <span class="below" dir="auto">{}</span>', shortened(words, SYNOPSIS_MOST)) if words else ""
+    first = [link(place, module.path), [" ", chip("deprecated")] if "deprecated" in module.told else "", synopsis]
+    versions = number(len(module.versions), "versions")
+    if module.latest is None:
+        none = Html('<span class="quiet">all retracted</span>')
+        return row(first, cell(none), cell(""), versions, cell(""))
+    where = chip(module.shelf, names[module.shelf])
+    return row(first, code(module.latest), cell(date(module.time)), versions, cell(where))

@@ -5,12 +5,14 @@ They run as they are, by cron as the pages have it, on a machine in a folder (li
 """
 
 import http.server
+import json
 import os
 import re
 import shutil
 import subprocess
 import sys
 import threading
+import time
 
 from lib.machine import Machine
 from lib.operating import ALPHA, copies, cron_lines, prepared
@@ -47,7 +49,7 @@ def watch(suite, machine):
     threading.Thread(target=server.serve_forever, daemon=True).start()
     machine.does("goshelf-backup")
     settings(suite, machine, server.server_port)
-    for part in (answers, starts, resources, certificates):
+    for part in (answers, starts, resources, pages, certificates):
         part(suite, machine)
     server.shutdown()
 
@@ -125,6 +127,29 @@ def resources(suite, machine):
     says(suite, machine, "backups", "no backup")
     for it in copies(machine):
         os.utime(f"{machine.folder}/var/backups/goshelf/{it}")
+
+
+def pages(suite, machine):
+    """Pages of a shelf that has users, which are older than an hour or gone. Without pages nothing is said of them."""
+    at, users = f"{machine.folder}/var/lib/goshelf-catalog", {}
+    for shelf in ("alpha", "beta"):
+        users[shelf] = {"name": shelf, "shelf": shelf, "right": "read"}
+        os.makedirs(f"{at}/.{shelf}.0/parts")
+        os.symlink(f".{shelf}.0", f"{at}/{shelf}")
+        machine.write(f"var/lib/goshelf-catalog/{shelf}/parts/made.css", "")
+    os.makedirs(f"{machine.folder}/etc/nginx/goshelf")
+    machine.write("etc/nginx/goshelf/goshelf.json", json.dumps({"users": users}))
+    says(suite, machine, "the pages are of now", "")
+    then = time.time() - 3_700
+    os.utime(f"{at}/beta/parts/made.css", (then, then))
+    says(suite, machine, "pages of an hour ago", "the pages of these shelves are gone, or older than an hour: beta")
+    os.remove(f"{at}/alpha")
+    says(suite, machine, "and others are gone", "older than an hour: alpha beta")
+    shutil.rmtree(at)
+    machine.write("etc/cron.d/goshelf-catalog", "*/5 * * * * root goshelf-catalog > /dev/null\n")
+    says(suite, machine, "all of them", "older than an hour: alpha beta")
+    os.remove(f"{machine.folder}/etc/cron.d/goshelf-catalog")
+    says(suite, machine, "a host that makes no pages", "")
 
 
 def certificates(suite, machine):

@@ -44,6 +44,7 @@ SUITES = (
     listed("catalog_log"),
     listed("catalog_misuse"),
     listed("catalog_read", "go"),
+    listed("catalog_readers", "chromium curl go nginx nginx-js nginx-stream openssl sqlite3 tidy"),
     listed("ci_jobs", "git go nginx nginx-js nginx-stream openssl"),
     listed("commands"),
     listed("commands_groups"),

@@ -99,7 +99,7 @@ class Company:
         os.chmod(f"{machine.folder}/var/cache/nginx/goshelf", 0o777)
         self.write_keys(SHELVES)
         machine.write("etc/nginx/goshelf/goshelf.json", front(SHELVES))
-        names = ("goshelf.js", "locations.conf", "public.conf")
+        names = ("goshelf.js", "locations.conf", "errors.conf", "page.conf", "public.conf")
         machine.does(f"install -m 0644 {' '.join(f'deploy/nginx/{it}' for it in names)} /etc/nginx/goshelf/")
         machine.does(
             f"{ROOT}/tools/shards conf {self.file} < deploy/nginx/goshelf.conf > /etc/nginx/conf.d/goshelf.conf"

@@ -270,6 +270,22 @@ def when_and_who(suite, them):
         suite.holds(f"{user} sees nothing of it", NEW not in text and "by pub" not in text)
 
 
+def deleted(suite, them):
+    """Without news, a run says that the pages are of now; and it makes those again that somebody deleted."""
+    made = f"{them.machine.folder}/var/lib/goshelf-catalog/{{}}/parts/made.css"
+    them.machine.does("goshelf-catalog")
+    for shelf in ("alpha", "gamma"):
+        os.utime(made.format(shelf), (1, 1))
+    suite.equal("without news", them.machine.sh("goshelf-catalog"), (0, "nothing has changed\n", ""))
+    times = [os.stat(made.format(it)).st_mtime for it in ("alpha", "gamma")]
+    suite.holds("the pages are of now", min(times) > 1, times)
+    them.machine.does("rm /var/lib/goshelf-catalog/alpha")
+    suite.equal("a shelf without pages", them.reader.read("/", "ann")[0], 404)
+    told = them.machine.sh("goshelf-catalog")
+    suite.holds("they are made again", told[0] == 0 and "alpha: " in told[1], told)
+    suite.equal("and shown", them.visit("ann").shown("h1"), ["Modules of alpha"])
+
+
 def plainly(them, target, user, accept="*/*"):
     """What somebody gets at a target: status, kind, and text."""
     status, headers, body = them.reader.read(target, user, Accept=accept)
@@ -374,8 +390,8 @@ def phones(suite, them):
             suite.equal(f"{user}, {target}: texts that are cut off", page.value(CUT), [])
     page = them.visit("gus", f"/m/{LOG}/", width=360, height=740)
     suite.equal("how to get it", page.shown("#get"), [f"go get {LOG}@v1.2.0"])
-    cells = page.shown("#versions ~ .wide tbody tr:nth-child(2) td")
-    suite.equal("all of a row", cells, ["latest", "2026-11-01", "", "1.0 MiB", "1.21", "common", "go.mod"])
+    cells = [" ".join(it.split()) for it in page.shown("#versions ~ .wide tbody tr:nth-child(2) td")]
+    suite.equal("all of a row", cells, ["latest", "2026-11-01", "1.0 MiB", "1.21", "common", "go.mod of v1.2.0"])
     page = them.visit("gus", "/nosuch", width=360, height=740)
     suite.equal("an error too", page.value(CUT), [])
 
@@ -442,7 +458,7 @@ def pictures(suite, them):
 
 
 def main():
-    suite, parts = Suite(), (box, go_obeys, when_and_who, phones, contrasts, by_keys, pictures, errors)
+    suite, parts = Suite(), (box, go_obeys, when_and_who, deleted, phones, contrasts, by_keys, pictures, errors)
     return play(suite, "a browser", "nginx needs root", lambda folder: Readers(suite, folder), parts)
 
 

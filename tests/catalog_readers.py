@@ -311,7 +311,7 @@ def refused(suite, them, name, user, target, status, title, text):
     asks = re.findall(r"(?:src|href|action)=\"([^\"]*)\"|<script|url\(|https?:", page)
     suite.equal(
         f"{name}: it asks for nothing else",
-        [it for it in asks if not re.fullmatch(r"|/|/favicon.ico|/#setup-\w+", it)],
+        [it for it in asks if not re.fullmatch(r"|\?|/|/favicon.ico|/#setup-\w+", it)],
         [],
     )
     words = ["tidy", "-q", "-e", "--show-info", "no"]

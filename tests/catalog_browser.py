@@ -77,7 +77,7 @@ def searches(suite, them):
         suite.equal(f"{typed!r} more", page.shown(FOUND), paths)
     suite.equal("the URL has it", page.value("location.search"), "?q=log%20exax")
     page.press("Escape")
-    page.until("document.querySelector('#results').hidden")
+    page.until("!document.querySelector('#list').hidden")
     suite.equal("Escape shows all again", (page.shown(PATHS), page.shown("#found")), (everything, ["5 modules"]))
     suite.equal("and the URL is that of the list", page.value("location.href"), f"{them.url}/")
     page.type("GAMMA")
@@ -138,7 +138,7 @@ def finds(suite, them):
         suite.equal(f"{text}", found, (paths.split(), [told], []))
     page.press("/", "/")
     page.press("Escape")
-    page.until("document.querySelector('#results').hidden")
+    page.until("!document.querySelector('#list').hidden")
     reads(suite, them, page)
 
 

@@ -444,15 +444,11 @@ def pictures(suite, them):
         stranger = them.browser.page(("gus", "0123456789abcdef"), width=width, is_dark=is_dark)
         named = [(page, name, it) for name, it in PAGES.items()] + [(stranger, "log in", "/")]
         for shown, name, target in [*named, *((page, name, it[0]) for name, it in ERRORS.items())]:
+            size = {"width": width, "deviceScaleFactor": 1, "mobile": width < 600}
+            shown.call("Emulation.setDeviceMetricsOverride", height=400, **size)
             shown.go(them.url + target)
             height = min(2_400, shown.value("document.documentElement.scrollHeight"))
-            shown.call(
-                "Emulation.setDeviceMetricsOverride",
-                width=width,
-                height=max(400, height),
-                deviceScaleFactor=1,
-                mobile=width < 600,
-            )
+            shown.call("Emulation.setDeviceMetricsOverride", height=height, **size)
             look = f"{width}-{'dark' if is_dark else 'light'}"
             write({os.path.join(folder, f"{name.replace(' ', '-')}-{look}.png"): shown.picture()})
 

@@ -72,7 +72,8 @@ def extracted(reader, suite, user, shelf, team, letters):
     write({f"{folder}/{shelf}-key": KEYS[letters[0]]})
     words += ["--host", "localhost", "--store", copy, "--key-file", f"{folder}/{shelf}-key"]
     group = [f"--group=platform={above[0]}"] if len(above) == 2 else []
-    told = tool("--to", f"{folder}/{shelf}", "--shelf", shelf, "--today", TODAY, *words, *group, own)
+    commands = f"{reader.machine.folder}/usr/local/bin"
+    told = tool("--to", f"{folder}/{shelf}", "--shelf", shelf, "--today", TODAY, *words, *group, own, commands=commands)
     suite.holds(f"{user}: the pages of a store of {team} alone are made", told[0] == 0, told)
     return files_below(f"{folder}/{shelf}")
 
@@ -425,7 +426,9 @@ def broken(suite, reader):
         told = machine.sh("goshelf-catalog")
     suite.equal("while goshelf makes a copy, it waits", (told[0], told[2], tries), (0, "", []))
     waits = [it.split()[0] for it in asked if it.split()[0] in ("reader-add", "catalog", "key-revoke")]
-    suite.equal("and has no key meanwhile", waits, ["reader-add", "catalog", "key-revoke"] * (len(USERS) + 2))
+    # (a key more for the zips of each shelf)
+    is_right = re.fullmatch("(?:reader-add (?:catalog )?key-revoke ?)+", " ".join(waits))
+    suite.holds("and has no key meanwhile", is_right and waits.count("catalog") == len(USERS) + 2, waits)
     suite.equal("nothing more is left then", (left(reader), keys_told(machine)), (beside, keys))
     unrevoked(suite, reader, beside, keys)
     in_the_way(suite, reader, beside)

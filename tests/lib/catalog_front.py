@@ -25,6 +25,7 @@ exec {PROGRAM} "$@"
 """
 # tools/catalog, to which it is always the same day
 TOOL = f"""#!/bin/sh
+[ "$1" != --still ] || exec {ROOT}/tools/catalog "$@"
 exec {ROOT}/tools/catalog --today {TODAY} "$@"
 """
 

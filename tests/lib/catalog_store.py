@@ -101,10 +101,10 @@ def make_store(suite, name):
     suite.equal("the store is made", told, [(201, b"published\n")] * len(rows))
 
 
-def tool(*words, lines=None):
-    """Runs the tool on lines, with the program as `goshelf`. Returns its status, what it prints, and the last line of
+def tool(*words, lines=None, commands="bin"):
+    """Runs the tool on lines, with the commands of a folder. Returns its status, what it prints, and the last line of
     its errors."""
-    where = {**os.environ, "PATH": f"{os.path.abspath('bin')}:{os.environ['PATH']}"}
+    where = {**os.environ, "PATH": f"{os.path.abspath(commands)}:{os.environ['PATH']}"}
     ran = subprocess.run([TOOL, *words], input=lines, capture_output=True, text=True, timeout=600, env=where)
     return ran.returncode, ran.stdout, (ran.stderr.splitlines() or [""])[-1]
 

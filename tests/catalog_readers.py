@@ -169,6 +169,7 @@ class Readers:
         words.append(f"{self.url}/{path}/@v/{version}")
         told = subprocess.run(words, input=gomod + zipped, capture_output=True).stdout
         suite.equal("a version is published through nginx", told, b"201")
+        self.machine.does(f"goshelf-front take-out {RPC} v1.0.0")
         told = self.machine.sh("goshelf-catalog")
         suite.holds("the pages are made", told[0] == 0 and "\ngamma: " in told[1], told)
         self.browser = Browser(f"{folder}/browser", self.reader.pem)
@@ -321,7 +322,6 @@ def refused(suite, them, name, user, target, status, title, text):
 
 def errors(suite, them):
     """Each refusal of nginx is a page with a way back for a browser, and the same text as before for anybody else."""
-    them.machine.does(f"goshelf-front take-out {RPC} v1.0.0")
     for name, (target, *wanted) in ERRORS.items():
         refused(suite, them, name, "gus", target, *wanted)
         page = them.visit("gus", target)

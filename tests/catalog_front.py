@@ -16,8 +16,8 @@ import sys
 
 from lib.catalog_front import GOSHELF, MADE, USERS, between, lines_of, own_goshelf, set_up
 from lib.catalog_store import TODAY, tool
+from lib.catalog_zips import published
 from lib.keys import KEYS
-from lib.messages import put
 from lib.peers import exchanged
 from lib.program import done
 from lib.scratch import play, read, write
@@ -190,7 +190,7 @@ def strangers(suite, reader):
     status = reader.read("/", "eve")[0]
     suite.holds("a user who was removed", status in (401, 429), status)
     told = machine.sh("goshelf-catalog")
-    suite.holds("the new shelf gets pages", told[0] == 0 and "\nomega: 4 pages, 4 new" in told[1], told)
+    suite.holds("the new shelf gets pages", told[0] == 0 and "\nomega: 6 pages, 6 new" in told[1], told)
     suite.equal("and its user sees them", reader.read("/", "oda")[0], 200)
     machine.does("goshelf-front remove oda")
 
@@ -254,11 +254,11 @@ def runs(suite, reader):
 def news(suite, reader, keys):
     """A version more, and a run by cron."""
     machine, before = reader.machine, pages_of(reader, "gamma")
-    publish = put("example.com/alpha/new", "v1.0.0", b"module example.com/alpha/new\n", key=KEYS["A"])
+    publish = published("A", "example.com/alpha/new", "v1.0.0", {})
     suite.holds("a publish", exchanged(machine.behind, publish).startswith(b"HTTP/1.1 201 "))
     status, printed, errors = machine.sh("goshelf-catalog")
     wanted = [re.sub(" .*", " nothing changed", it) for it in MADE.splitlines()]
-    wanted[0] = "alpha: 5 pages, 2 new or changed"
+    wanted[0] = "alpha: 9 pages, 4 new or changed"
     suite.equal("a version more", (status, printed.splitlines(), errors), (0, wanted, ""))
     suite.equal("its page", reader.read("/m/example.com/alpha/new/")[0], 200)
     machine.does(f"rm /{AT}/goshelf.state")
@@ -289,7 +289,7 @@ def of_backups(suite, reader):
     told = machine.sh("goshelf-catalog last")
     suite.holds("without a backup", told[:2] == (1, "") and "there is no backup in " in told[2], told)
     machine.does("goshelf-backup")
-    publish = put("example.com/alpha/later", "v1.0.0", b"module example.com/alpha/later\n", key=KEYS["A"])
+    publish = published("A", "example.com/alpha/later", "v1.0.0", {})
     suite.holds("a publish after the backup", exchanged(machine.behind, publish).startswith(b"HTTP/1.1 201 "))
     words(reader)
     with between(machine) as asked:
@@ -303,7 +303,7 @@ def of_backups(suite, reader):
     of_a_backup_at_beta(suite, reader)
     suite.equal("the later version is not there", reader.read("/m/example.com/alpha/later/")[0], 404)
     told = machine.sh("goshelf-catalog")
-    suite.holds("the store has it", told[0] == 0 and told[1].startswith("alpha: 6 pages, 2 new"), told)
+    suite.holds("the store has it", told[0] == 0 and told[1].startswith("alpha: 12 pages, 4 new"), told)
 
 
 def of_a_backup_at_beta(suite, reader):

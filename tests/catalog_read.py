@@ -159,13 +159,17 @@ def on_pages(suite):
     for name, text in TEXTS.items():
         suite.holds(name, text in Page(f"alpha/m/{name}").text)
     names = sorted(it for it in pages_in("alpha") if it.startswith("m/example.com/empty/"))
-    suite.equal("a module with a go.mod alone", names, [f"m/example.com/empty/{it}.html" for it in ("files", "index")])
+    suite.equal(
+        "a module with a go.mod alone",
+        names,
+        [f"m/example.com/empty/{it}.html" for it in ("files", "index", "versions")],
+    )
     loads = {it for page in pages_in("alpha").values() for it in page.loads}
     suite.equal("nothing else is loaded", sorted({os.path.basename(it) for it in loads}), LOADED)
 
 
 STORE = "--store", "store.db"
-MADE, SAME = "17 pages, 17 new or changed\n", "17 pages, 0 new or changed\n"
+MADE, SAME = "22 pages, 22 new or changed\n", "22 pages, 0 new or changed\n"
 LOADED = ["catalog.css", "catalog.js", "icon.svg", "made.css", "narrow.css", "prose.css", "search.js"]
 
 

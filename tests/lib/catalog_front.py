@@ -137,10 +137,10 @@ def set_up(suite, folder):
 
 
 MADE = """\
-alpha: 4 pages, 4 new or changed
-beta: 10 pages, 10 new or changed
-common: 4 pages, 4 new or changed
-delta: 5 pages, 5 new or changed
-gamma: 7 pages, 7 new or changed
-platform: 5 pages, 5 new or changed
+alpha: 6 pages, 6 new or changed
+beta: 18 pages, 18 new or changed
+common: 6 pages, 6 new or changed
+delta: 8 pages, 8 new or changed
+gamma: 12 pages, 12 new or changed
+platform: 8 pages, 8 new or changed
 """

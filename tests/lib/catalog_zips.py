@@ -5,6 +5,7 @@ import os
 import struct
 import zipfile
 import zlib
+from functools import lru_cache
 
 from lib.catalog_store import SHELF_KEYS, TODAY, tool
 from lib.keys import KEYS
@@ -46,9 +47,15 @@ def stored(name, content):
 
 def deflated(name, content, size=None, crc=None):
     """An entry whose content is packed, with the size and the sum that it is to claim."""
-    packer = zlib.compressobj(9, zlib.DEFLATED, -15)
-    packed = packer.compress(content) + packer.flush()
-    return name, packed, 8, len(content) if size is None else size, zlib.crc32(content) if crc is None else crc
+    packed, own = packed_of(content)
+    return name, packed, 8, len(content) if size is None else size, own if crc is None else crc
+
+
+@lru_cache(maxsize=8)
+def packed_of(content):
+    """A content that is packed, and its sum."""
+    packer = zlib.compressobj(6, zlib.DEFLATED, -15)
+    return packer.compress(content) + packer.flush(), zlib.crc32(content)
 
 
 def published(letter, path, version, files, gomod=None):

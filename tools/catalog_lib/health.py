@@ -1,24 +1,27 @@
 """The page of what needs attention on a shelf, and of what changed."""
+from catalog_lib import checks
 from catalog_lib.markup import Html, cell, code, count, date, html, link, linked, number, page, row, section, table
 from catalog_lib.taken import by
 
 
+REQUIRED = ("Module", "Latest", "Requires", "Version")
+
+
 def findings(shelf, differences):
     """The findings of the health page, each with its name, what to do, the heads of its table and what was found."""
-    required = ("Module", "Latest", "Requires", "Version")
     return (
         (
             "retracted",
             "Requires a retracted version",
             "Require a version that is not retracted.",
-            required,
+            REQUIRED,
             shelf.requiring("retracted"),
         ),
         (
             "missing",
             "Requires a version that is not on this shelf",
             "Publish it to a shelf that this one sees, or require another.",
-            required,
+            REQUIRED,
             shelf.requiring("missing"),
         ),
         (
@@ -42,6 +45,7 @@ def findings(shelf, differences):
             ("Module", "Latest", "Has only"),
             shelf.without_release(),
         ),
+        *checks.findings(shelf),
     )
 
 
@@ -59,7 +63,9 @@ def finding_rows(place, shelf, name, found):
         ]
     if name == "retired":
         return [row(link(place, it.path), number(len(it.versions), "versions")) for it in found]
-    return [row(link(place, it.path), code(it.latest or ""), cell(kinds_of(it), "has only")) for it in found]
+    if name == "unreleased":
+        return [row(link(place, it.path), code(it.latest or ""), cell(kinds_of(it), "has only")) for it in found]
+    return checks.rows(place, shelf, name, found)
 
 
 def kinds_of(module):

@@ -21,6 +21,8 @@ INLINE = re.compile(
         )
     )
 )
+# what a mark begins with: most texts have none, and this finds that faster
+MARK = re.compile(r"[\\`\[<*_]|http")
 IMAGE = re.compile(r"!\[(?P<alt>[^\[\]]{0,300})\](?:" + TARGET.format("url") + r"|\[[^\[\]]{0,200}\])?")
 HOST = re.compile(r"[A-Za-z0-9.-]+(?::[0-9]{1,5})?")
 # marks at the end of a bare URL that belong to the sentence around it
@@ -29,6 +31,8 @@ BEHIND = ".,;:!?)*_'\""
 
 def inline(text, links):
     """The words of a text as HTML. `links` has the URLs of names that the README defines."""
+    if not MARK.search(text):
+        return [text]
     return marked(IMAGE.sub(lambda it: it["alt"], text), links, 0)
 
 

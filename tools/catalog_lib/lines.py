@@ -134,6 +134,11 @@ def rank(version):
     return of_kind, stamp, precedence(version)
 
 
+def is_before(line, other):
+    """Whether a lower version may be the one before another: before a release stand releases only."""
+    return kind(other.version) != "release" or kind(line.version) == "release"
+
+
 def is_stamp(text):
     """Whether the last identifier of a version has a date that exists, a time of day, and the name of a commit."""
     if not STAMP.fullmatch(text):

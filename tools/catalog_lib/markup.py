@@ -15,11 +15,12 @@ class Html(str):
 
 def escaped(value):
     """A value as HTML: an Html as it is, a list or tuple as its values one after another, any other as its text."""
-    if type(value) is Html:
+    kind = type(value)
+    if kind is Html:
         return value
-    if type(value) in (list, tuple):
-        return "".join([escaped(it) for it in value])
-    text = str(value)
+    if kind is list or kind is tuple:
+        return "".join([it if type(it) is Html else escaped(it) for it in value])
+    text = value if kind is str else str(value)
     return escapes.escape(text) if SPECIAL.search(text) else text
 
 
@@ -75,11 +76,19 @@ def page(place, title, main, here=""):
 
 
 # the pages of a module by their files, and what their links say
-TABS = (("index.html", "Overview"), ("readme.html", "README"), ("packages.html", "Packages"), ("files.html", "Files"))
+TABS = (
+    ("index.html", "Overview"),
+    ("readme.html", "README"),
+    ("packages.html", "Packages"),
+    ("files.html", "Files"),
+    ("versions.html", "Versions"),
+)
 
 
 def module_folder(path):
     """The folder of a module's pages. No two paths have the same, and no element of one is one of these pages."""
+    if ".html" not in path:
+        return path
     names = {name for name, _ in TABS}
     return "/".join(f"!{it}" if it in names else it for it in path.split("/"))
 
@@ -89,6 +98,7 @@ def link(place, path):
     return html('<a href="{}m/{}/">{}</a>', place.root, module_folder(path), broken(path))
 
 
+@lru_cache(maxsize=16_384)
 def broken(path):
     """A path that may be broken behind each slash."""
     return Html(escaped(path).replace("/", "/<wbr>"))
@@ -100,9 +110,18 @@ def gomod_link(place, path, version):
     return html('<a href="{}{}/@v/{}.mod">{}</a>', place.root, cased(path), cased(version), words)
 
 
+def zip_link(place, line):
+    """A link to a zip, which goshelf serves on the same host."""
+    words = html('zip<span class="unseen"> of {}</span>', line.version)
+    return html('<a href="{}{}/@v/{}.zip">{}</a>', place.root, cased(line.path), cased(line.version), words)
+
+
+CAPITAL = re.compile("[A-Z]")
+
+
 def cased(text):
     """A path or a version as URLs of goshelf have it: with `!` and the small letter for each capital."""
-    return "".join(f"!{it.lower()}" if it.isupper() else it for it in text).replace("!", "%21")
+    return CAPITAL.sub(lambda it: f"%21{it[0].lower()}", text.replace("!", "%21"))
 
 
 def date(time):

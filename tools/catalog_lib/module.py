@@ -2,7 +2,7 @@
 import re
 from itertools import groupby
 
-from catalog_lib import documents, gomod
+from catalog_lib import changes, checks, documents, gomod
 from catalog_lib.graph import MOST, graph
 from catalog_lib.lines import kind
 from catalog_lib.markup import (
@@ -44,6 +44,8 @@ def module_pages(place, shelf, module, names, read):
         bodies["packages.html"] = documents.packages_of(module.path, found)
     if found.get("files"):
         bodies["files.html"] = documents.files_of(found)
+    if read:
+        bodies["versions.html"] = changes.versions_page(place, shelf, module, shelf.lines(module)[::-1], read)
     tabs = [(name, words) for name, words in TABS if name in bodies]
     for name, words in tabs:
         title = module.path if name == "index.html" else f"{module.path}: {words}"
@@ -59,11 +61,22 @@ def head(module, tabs, here):
         for it, words in tabs
     ]
     nav = html('<nav class="tabs" aria-label="Of this module"><ul>\n{}</ul></nav>\n', items) if len(tabs) > 1 else ""
-    notice = html(DEPRECATED, told["deprecated"]) if "deprecated" in told else ""
-    return [html("<h1>{}</h1>\n", broken(module.path)), synopsis, notice, nav]
+    return [html("<h1>{}</h1>\n", broken(module.path)), synopsis, notices(told), nav]
 
 
-DEPRECATED = '<p class="notice" dir="auto"><b>Deprecated:</b> {}</p>\n'
+NOTICE = '<p class="notice" dir="auto">{}</p>\n'
+
+
+def notices(told):
+    """What a reader is warned of."""
+    found = []
+    if "deprecated" in told:
+        found.append(html("<b>Deprecated:</b> {}", told["deprecated"]))
+    if "bad" in told:
+        found.append(checks.UNUSABLE.format(told["bad"]))
+    if "differs" in told:
+        found.append(checks.DIFFERS)
+    return [html(NOTICE, it) for it in found]
 
 
 def reasons_of(module, read):

@@ -3,7 +3,8 @@ import json
 import re
 
 from catalog_lib import godoc, gomod, reading
-from catalog_lib.lines import kind, rank
+from catalog_lib.checks import REPLACES_MOST
+from catalog_lib.lines import is_before, rank
 from catalog_lib.text import shortened
 
 # of so many versions below the latest one is told which files changed
@@ -60,11 +61,6 @@ def chosen(lines):
     return [(shown, True), *((it, False) for it in brief.values())]
 
 
-def is_before(line, shown):
-    """Whether a version may be the one before another: before a release stand releases only."""
-    return kind(shown.version) != "release" or kind(line.version) == "release"
-
-
 def about_of(found):
     """What lists and the search tell of what was read."""
     told, about = gomod.read(found["gomod"]), {}
@@ -77,6 +73,8 @@ def about_of(found):
     about["licence"] = found.get("licence")
     if told.deprecated is not None:
         about["deprecated"] = gomod.message(told.deprecated, "")
+    if replaces := [[old, new] for old, _, new, version in told.replacements if version]:
+        about["replaces"] = replaces[:REPLACES_MOST]
     for name in ("bad", "unread", "differs"):
         if name in found:
             about[name] = found[name]

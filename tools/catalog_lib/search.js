@@ -223,7 +223,7 @@ function searching(form) {
     const text = input.value;
     const isAsked = text.trim() !== "";
     const answer = isAsked ? search(text, modules, index) : { found: [] };
-    const target = (it) => (it === answer.owner && answer.version ? "#versions" : "");
+    const target = (it) => (it === answer.owner && answer.version ? `versions.html#${answer.version}` : "");
     const rows = answer.found.slice(0, MOST).map((it) => rowOf(it, target(it)));
     results.replaceChildren(...(rows.length > 0 ? [table(rows)] : []));
     results.hidden = rows.length === 0;

@@ -66,6 +66,7 @@ class Shelf:
         self.file, self.name, self.today, self.ours = file, name, today, ours
         self.modules, self.recent = {}, {}
         self.users, self.words, self.numbers = {}, [], {}
+        self.held = None, []
         # how to set a machine up for the shelf, and which versions were taken when and by whom, as far as that is known
         self.setup, self.taken = None, {}
         self.version_count = self.retracted_count = 0
@@ -116,9 +117,11 @@ class Shelf:
         return self.numbers[version]
 
     def lines(self, module):
-        """The Lines of a module, the lowest version first."""
-        self.file.seek(module.place)
-        return [line_of(it) for it in self.file.read(module.length).split(b"\n") if it]
+        """The Lines of a module, the lowest version first. Those of the last module are kept."""
+        if self.held[0] is not module:
+            self.file.seek(module.place)
+            self.held = module, [line_of(it) for it in self.file.read(module.length).split(b"\n") if it]
+        return self.held[1]
 
     def users_of(self, path):
         """The users of a module by their paths, and of each the highest version first."""

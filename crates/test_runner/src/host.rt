@@ -1,12 +1,12 @@
 //! A system whose stores are in memory.
 use commands::action::{Action, acceptance};
-use commands::order::unsent_refusal;
+use commands::order::{revoke_over, unsent_refusal};
 use commands::refusal::CommandRefusal;
 use commands::registry::register;
 use commands::report::print_inventory;
 use control::{Listing, RegistryCommand, has_catalog_line, has_copy_line, has_naming_line};
 use file_action::host::ActionHost;
-use histories::{Hear, Tell};
+use histories::{Hear, Hearing, Tell, Telling};
 use memory_store::map_shelves::MapShelves;
 use runner::file_checks::FileChecks;
 use runner::host::Host;
@@ -124,7 +124,13 @@ impl<'a> Host<MapShelves, MapShelves> for MemoryHost<'a> {
         if has_naming_line(fingerprint) {
             Err(CommandRefusal::Device)
         } else {
-            Err(CommandRefusal::NoKey)
+            let mut sent = Vec::<u8>::new(self.rt.alloc());
+            revoke_over(
+                self.rt.alloc(),
+                &mut Hearing::new(&b""[..]),
+                &mut Telling::new(&mut sent),
+                fingerprint,
+            )
         }
     }
 

@@ -61,11 +61,11 @@ class Company:
     def netrc(self, user):
         return f"machine localhost login {user} password {self.client.passwords[user]}\n"
 
-    def run(self, script, at, home, **variables):
+    def run(self, script, at, home, shell=("bash", "-eo", "pipefail"), **variables):
         """Runs a script as a service does, and returns its status, output and errors."""
         clean = go_command.settings(home, SSL_CERT_FILE=self.client.pem)
         env = {it: text for it, text in clean.items() if it not in ("GOPATH", "GOFLAGS")}
-        words = ["bash", "-eo", "pipefail", "-c", script.replace("https://shelf.example.com", self.url)]
+        words = [*shell, "-c", script.replace("https://shelf.example.com", self.url)]
         variables = {it: text.replace("https://shelf.example.com", self.url) for it, text in variables.items()}
         how = {"cwd": at, "env": {**env, **variables}, "capture_output": True, "text": True, "timeout": 600}
         ran = subprocess.run(words, stdin=subprocess.DEVNULL, **how)
@@ -138,6 +138,12 @@ def publishes(company):
     )
     team.first = team.commit(files, "v1.0.0", "one/v0.1.0", "two/v0.2.0", "v1.1.0", "one/v0.2.0", "two/v0.3.0")
     team.last = team.commit({"one/one.go": code("one", "\n// changed\n")}, "1.8.0", "nightly", "one/1.8.0")
+    failing = 'import "testing"\n\nfunc TestNone(t *testing.T) { t.Fatal("it is wrong") }\n'
+    team.commit({"team_test.go": f"package team\n\n{failing}"}, "v1.2.0")
+    team.commit(
+        {"team_test.go": "package team\n", "two/two_test.go": f"package two\n\n{failing}"}, "two/v0.4.0", "v1.2.1"
+    )
+    team.commit({"two/two_test.go": "package two\n"}, "absent/v0.1.0", "v1.2.2")
 
 
 def result(company, tag, told, before="published"):
@@ -146,6 +152,25 @@ def result(company, tag, told, before="published"):
     path = f"example.com/team/{folder}".rstrip("/")
     wanted = f"{before} " + company.team.lines(path, version, company.team.first, folder)
     SUITE.holds(f"a job for {tag}", told[0] == 0 and told[1].endswith(wanted), told)
+
+
+def pipeline(run_job, groups, tag):
+    """What a service runs for a tag: groups of jobs, of which one begins once all jobs of the last have passed."""
+    said = ""
+    for group in groups:
+        told = [run_job(tag, it) for it in group]
+        said += "".join(it[1] + it[2] for it in told)
+        if status := max(it[0] for it in told):
+            return status, said
+    return 0, said
+
+
+def stops(company, name, run):
+    """Rows: a test that fails, at the top or in the folder of a tag, publishes nothing and fails the run."""
+    for tag in ("v1.2.0", "two/v0.4.0"):
+        told = run(tag)
+        SUITE.holds(f"{name}: {tag}, whose test fails", told[0] == 1 and "it is wrong" in told[1], told)
+        SUITE.equal(f"{name}: {tag} publishes nothing", re.findall("^.*published.*$", told[1], re.M), [])
 
 
 def refuses(company, run_job):
@@ -210,6 +235,9 @@ def gitlab(company, text):
         result(company, tag, run_job(tag))
     result(company, "v1.0.0", run_job("v1.0.0"), "already published")
     refuses(company, run_job)
+    at = {it: values(top[it]).get("stage", "test") for it in ("build", "publish")}
+    groups = [[it for it in at if at[it] == stage] for stage in ("test", "deploy")]
+    stops(company, "GitLab", lambda tag: pipeline(run_job, [it for it in groups if it], tag))
 
 
 def github(company, text):
@@ -226,13 +254,12 @@ def github(company, text):
 
     def run_job(tag, name="publish"):
         step = re.search(r"env: \{ (.*) \}\n +run: \|\n((?: {10}.*\n)+)", jobs[name])
-        own = values(top["env"])
+        own = {**values(top["env"]), "GITHUB_REF_NAME": tag, "GITHUB_REF_TYPE": "tag"}
         for variable, value in re.findall(r"(\w+): '(.*?)'", step[1]):
             secret = re.fullmatch(r"\$\{\{ secrets\.(\w+) \}\}", value)
             own[variable] = company.netrc(LOGINS[secret[1]]).strip() if secret else value
-        return company.run(
-            re.sub(r"^ {10}", "", step[2], flags=re.M), company.clone(tag), home, GITHUB_REF_NAME=tag, **own
-        )
+        script = re.sub(r"^ {10}", "", step[2], flags=re.M)
+        return company.run(script, company.clone(tag), home, ("bash", "-e"), **own)
 
     for at in ("first", "second"):
         before = company.asked()
@@ -242,6 +269,9 @@ def github(company, text):
     for tag in ("v1.1.0", "two/v0.2.0"):
         result(company, tag, run_job(tag))
     refuses(company, run_job)
+    waits = values(jobs["publish"]).get("needs") == "build"
+    groups = [["build"], ["publish"]] if waits else [["build", "publish"]]
+    stops(company, "GitHub", lambda tag: pipeline(run_job, groups, tag))
     mode = os.stat(f"{home}/.netrc").st_mode & 0o777
     SUITE.equal("GitHub: only the job reads its login", mode, 0o600)
     told = company.run("go/bin/goshelf-publish --version", home, home)
@@ -252,16 +282,17 @@ def shell(company, text):
     """The block for a plain shell publishes each tag of the commit, those that are there too."""
     home = f"{company.folder}/github"
     write({f"{home}/.netrc": company.netrc("ci")})
-    told = company.run(text, company.clone("v1.0.0"), home)
+    told = company.run(text, company.clone("v1.0.0"), home, ("sh",))
     found = re.findall(r"^((?:already )?published) example\.com/(\S+) (\S+)$", told[1], re.M)
     there = [("team/one", "v0.1.0"), ("team", "v1.0.0"), ("team", "v1.1.0"), ("team/two", "v0.2.0")]
     new = [("team/one", "v0.2.0"), ("team/two", "v0.3.0")]
     wanted = sorted([("already published", *it) for it in there] + [("published", *it) for it in new])
     SUITE.equal("a plain shell: the tags of a commit", (told[0], sorted(found)), (0, wanted)) or print(told)
     write({f"{home}/.netrc": company.netrc("ci-read")})
-    told = company.run(text, company.clone("v1.0.0"), home)
+    told = company.run(text, company.clone("v1.0.0"), home, ("sh",))
     only = f"publish: {home}/.netrc logs in as a user who only reads: ask the operator of {company.url} for the right"
-    SUITE.holds("a plain shell, by the login that reads", told[0] == 1 and told[2].startswith(only), told)
+    SUITE.holds("a plain shell, by the login that reads", told[0] == 1 and only in told[2], told)
+    shell_stops(company, text, home)
     write({f"{home}/.netrc": "machine localhost login ci password wrong\n"})
     line = text.splitlines()[-2].strip()
     script = f"GOPROXY=https://shelf.example.com tag=v1.0.0 module=example.com/dep; {line}"
@@ -272,6 +303,31 @@ def shell(company, text):
     SUITE.holds(
         "by a wrong password", told[0] == 1 and "does not take the password of ci: mend the line" in told[2], told
     )
+
+
+def shell_stops(company, text, home):
+    """Rows: each command of the block for a plain shell that fails ends it, before it publishes."""
+    write({f"{home}/.netrc": company.netrc("ci")})
+
+    def run(tag, script=text, at=None):
+        told = company.run(script, at or company.clone(tag), home, ("sh",))
+        return told[0], told[1] + told[2]
+
+    stops(company, "a plain shell", run)
+    (loop,) = re.findall(r"^for tag in .*; do$", text, re.M)
+    refused = text.replace(loop, "for tag in one/v0.9.0 v1.0.0; do")
+    for what, script, tag, said in (
+        ("a tag without a folder, before others", text, "v1.2.2", "absent"),
+        ("a publish that is refused, before others", refused, "v1.0.0", "one/v0.9.0"),
+        ("no goshelf-publish to install", text.replace("-publish@latest", "-publish@v9.9.9"), "v1.0.0", "v9.9.9"),
+    ):
+        told = run(tag, script)
+        SUITE.holds(f"a plain shell: {what}", told[0] != 0 and said in told[1], told)
+        SUITE.equal(f"a plain shell: {what}: published", re.findall("^.*published.*$", told[1], re.M), [])
+    at = company.clone("v1.0.0")
+    shutil.move(f"{at}/.git", f"{at}/git")
+    told = run("", at=at)
+    SUITE.holds("a plain shell: outside of a clone", told[0] == 128 and "not a git repository" in told[1], told)
 
 
 def first_version(company):
@@ -311,7 +367,7 @@ def session(folder):
         SUITE.equal("jobs of the page", len(texts), 2)
         github(company, texts[1])
         gitlab(company, texts[0])
-        shell(company, blocks("docs/CI.md", "sh")[0])
+        shell(company, blocks("docs/CI.md", "sh")[-1])
         first_version(company)
     company.machine.close()
 

@@ -21,6 +21,8 @@ from lib.stores import new_store
 from lib.suite import Suite
 
 SUITE = Suite()
+# lines of a go.sum that no release has
+OTHER_SUMS = "".join(f"example.com/greet v1.0.0{it} h1:{'A' * 43}=\n" for it in ("", "/go.mod"))
 
 
 def versions(greet, old, early):
@@ -106,6 +108,10 @@ def of_users(room):
     os.mkdir(odd)
     write({f"{at}/other": f"[user]\n\tname = me\n{other}", f"{at}/never": '[protocol "file"]\n\tallow = never\n'})
     write({f"{at}/go": "GOFLAGS=-mod=mod\nGOOS=plan9\nGOPROXY=off\n"})
+    # (others may write to the folder that holds the temporary ones, as to /tmp)
+    for name, text in (("garbage", "no go.mod\n"), ("sums", "module example.com/other\n")):
+        os.makedirs(f"{at}/{name}/tmp")
+        write({f"{at}/{name}/go.mod": text, f"{at}/{name}/go.sum": OTHER_SUMS, f"{at}/{name}/go.work": "no go.work\n"})
     write({f"{at}/windows": "[core]\n\tautocrlf = true\n\teol = crlf\n"})
     return {
         "GIT_CONFIG_GLOBAL": {"GIT_CONFIG_GLOBAL": f"{at}/other"},
@@ -119,6 +125,8 @@ def of_users(room):
         "git as on Windows": {"GIT_CONFIG_GLOBAL": f"{at}/windows"},
         "a relative GOPATH and TMPDIR": {"GOPATH": "go-path", "TMPDIR": "tmp"},
         "a TMPDIR of odd letters": {"TMPDIR": odd},
+        "a TMPDIR below a go.mod that is none": {"TMPDIR": f"{at}/garbage/tmp"},
+        "a TMPDIR below a go.sum with other sums": {"TMPDIR": f"{at}/sums/tmp"},
     }
 
 

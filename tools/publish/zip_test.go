@@ -89,6 +89,9 @@ func in(folder, module string, more ...string) []string {
 func direct(t *testing.T, r *repo, module, ref string) string {
 	t.Helper()
 	folder := t.TempDir()
+	if err := os.WriteFile(folder+"/go.mod", []byte("module goshelf.invalid/own\n\ngo 1.16\n"), 0o644); err != nil {
+		t.Fatal(err)
+	}
 	cmd := exec.Command("go", "mod", "download", "-json", module+"@"+ref)
 	cmd.Dir, cmd.Env = folder, append(os.Environ(), "GOPROXY=direct", "GOSUMDB=off", "GOFLAGS=-mod=mod -modcacherw", "GO111MODULE=on",
 		"GOMODCACHE="+folder+"/cache", "GOVCS=*:git", "GOENV=off", "GOWORK=off", "GIT_CONFIG_NOSYSTEM=1", "GIT_CONFIG_COUNT=2",

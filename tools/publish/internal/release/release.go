@@ -42,7 +42,7 @@ func (r *Release) Lines(front string) string {
 
 // make has the go command make the version.
 func (t Tools) make(ctx context.Context, asked Asked, it place, settings []string) (*Release, error) {
-	with := setting{"empty", "direct", "cache", settings}
+	with := setting{"own", "direct", "cache", settings}
 	told, err := t.goCommand(ctx, with, "mod", "download", "-json", asked.Module+"@"+it.query)
 	made := new(Release)
 	if wrong := json.Unmarshal(told, made); err != nil || wrong != nil {
@@ -136,7 +136,7 @@ func (t Tools) Verify(ctx context.Context, made *Release) error {
 // Differ refuses a version whose files are below the temporary folder `theirs` unless its sums and its time are those
 // of this release.
 func (t Tools) Differ(ctx context.Context, made *Release) error {
-	with := setting{"empty", t.proxy("theirs"), "their-cache", []string{"GOENV=off"}}
+	with := setting{"their-own", t.proxy("theirs"), "their-cache", []string{"GOENV=off"}}
 	told, _ := t.goCommand(ctx, with, "mod", "download", "-json", made.Path+"@"+made.Version)
 	theirs := Release{Path: made.Path, Version: made.Version, Sum: "(the go command reads no such zip)"}
 	if err := json.Unmarshal(told, &theirs); err != nil || theirs.GoModSum == "" {

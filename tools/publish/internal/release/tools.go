@@ -106,15 +106,19 @@ type setting struct {
 	more                 []string
 }
 
-// goCommand runs the go command.
+// goCommand runs the go command, in a module of its own: otherwise it takes the go.mod and go.sum of any folder above,
+// as of /tmp, where anybody writes. Settings whose caches may differ have a folder each, as its go.sum counts for all.
 func (t Tools) goCommand(ctx context.Context, with setting, words ...string) ([]byte, error) {
 	own := []string{"GO111MODULE=on", "GOFLAGS=-modcacherw", "GOPROXY=" + with.proxy, "GONOPROXY=none", "GOSUMDB=off",
 		"GOWORK=off", "GOTOOLCHAIN=local", "GOMODCACHE=" + t.at(with.cache), "GOPATH=" + t.at("gopath"),
 		"TMPDIR=" + t.Work, "TMP=" + t.Work, "TEMP=" + t.Work, "GOTMPDIR=" + t.Work}
-	if err := os.MkdirAll(t.at(with.folder), 0o755); err != nil {
-		return nil, fmt.Errorf("a temporary folder: %w", err)
+	own = append(own, with.more...)
+	if _, err := os.Stat(t.at(with.folder + "/go.mod")); err != nil {
+		if err := t.Write(with.folder+"/go.mod", []byte("module goshelf.invalid/own\n\ngo 1.16\n")); err != nil {
+			return nil, err
+		}
 	}
-	return t.output(ctx, command{append([]string{"go"}, words...), append(own, with.more...), t.at(with.folder)})
+	return t.output(ctx, command{append([]string{"go"}, words...), own, t.at(with.folder)})
 }
 
 // at returns a temporary file's name.

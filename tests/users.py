@@ -6,6 +6,7 @@ The machine, its users and its nginx are those of lib/front.py.
 
 import json
 import os
+import re
 import sys
 import time
 
@@ -112,6 +113,21 @@ def misused(suite, client):
     suite.equal("the users", listed, sorted(wanted))
     unnamed = [it for it in machine.sh("goshelf-front check")[1].splitlines() if "has no name" not in it]
     suite.equal("no fault but keys that nobody has", unnamed, [])
+    helped = machine.sh("goshelf-front --help")
+    suite.holds("--help", helped[0] == 0 and helped[1].count("usage: goshelf-front") == 1, helped)
+    for words in re.findall(r"^(?:usage:|      ) goshelf-front ([a-z-]+)", helped[1], re.M):
+        suite.equal(f"{words} --help", machine.sh(f"goshelf-front {words} --help"), helped)
+    nameless(suite, machine)
+
+
+def nameless(suite, machine):
+    """A key without a name, and the command by which `check` says that it ends."""
+    key = machine.does("goshelf key-add --control /run/goshelf/control --shelf beta --new").strip()
+    own = lambda: [it for it in machine.sh("goshelf-front check")[1].splitlines() if fingerprint(key) in it]
+    (line,) = own()
+    machine.does(line.partition(", ")[2].partition(", ")[2])
+    found = own(), fingerprint(key) in keys_told(machine)
+    suite.equal("what check says of a key without a name ends it", found, ([], False))
 
 
 def unlucky(suite, client):
@@ -209,7 +225,10 @@ def back(suite, client):
     client.passwords.update(lines)
     told = [client.get("/login", it)[0] for it in ("bob", "old bob", "ann-b")]
     suite.equal("a right that is more leaves the old key for 7 days", told, [204, 204, 204])
-    machine.does("goshelf-front remove 'build 1'")
+    rows = [it for it in machine.does("goshelf-front list").splitlines() if it.startswith("build 1\t")]
+    wanted = ["removed\t" + "\t".join([*it.split("\t")[:2], it.split("\t")[3]]) for it in rows]
+    gone = machine.does("goshelf-front remove 'build 1'").splitlines()
+    suite.equal("remove prints the keys that it ended", (gone, len(gone)), (wanted, 1))
 
 
 def part_is(client, number):

@@ -11,6 +11,7 @@ import sys
 import time
 
 from lib.front import AT, GOMOD, USERS, ZIP, fingerprint, set_up, users_of
+from lib.pages import block
 from lib.peers import rest_of
 from lib.ports import wait_until
 from lib.scratch import play
@@ -315,6 +316,27 @@ def taken_out(suite, client):
     suite.equal("each once", machine.does("goshelf-front taken-out"), listed)
 
 
+def leaked(suite, client):
+    """The lines of the page for a leaked password find its name, end it at nginx and at goshelf, and give another."""
+    machine = client.machine
+    ends, shows = (block("sh", it, "TROUBLE.md") for it in ("goshelf-front remove", "goshelf-front log"))
+    old = machine.does("goshelf-front add 'Ann Example' alpha publish").split()[-1]
+    client.passwords["leaked"], own = old, fingerprint(old)
+    client.put("v1.60.0", GOMOD, "leaked")
+    printed = machine.does(ends.replace("PASSWORD", old)).splitlines()
+    told = [it for it in printed[1:-1] if "Ann Example" in it]
+    wanted = [f"Ann Example\talpha\tpublish\t{own}\t", f"removed\tAnn Example\talpha\t{own}"]
+    suite.equal("what the page's lines print", (printed[0], told), (own, wanted))
+    client.passwords["new ann"] = printed[-1].split()[-1]
+    suite.equal("the old one and the new", [client.get("/login", it)[0] for it in ("leaked", "new ann")], [401, 204])
+    ask = f"curl -s -o /dev/null -w '%{{http_code}}' http://127.0.0.1:{machine.behind}/k/{old}/-/modules"
+    suite.equal("the old one at goshelf", machine.does(ask), "404")
+    suite.equal("its fingerprint", own in machine.does("goshelf-front list") + keys_told(machine), False)
+    seen = machine.does(shows.replace("FINGERPRINT", own)).splitlines()
+    is_seen = [sum(word in it for it in seen) for word in ("add by root", "v1.60.0", "remove by root", f" {own} ")]
+    suite.holds("what was done with it", min(is_seen) > 0, seen)
+
+
 def logged(suite, client):
     """The log of publishes: who did what, also refused, and no text forges a line of it."""
     machine = client.machine
@@ -430,7 +452,7 @@ def of_backups(suite, client, name):
 
 def main():
     suite = Suite()
-    parts = (misused, unlucky, kept_in_step, uncached, lost, taken_out, logged, sealed)
+    parts = (misused, unlucky, kept_in_step, uncached, lost, taken_out, leaked, logged, sealed)
     return play(suite, "nginx", "its users and folders need root", lambda folder: set_up(suite, folder), parts)
 
 

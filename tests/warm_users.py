@@ -79,8 +79,8 @@ def bad_front(suite, company):
     wanted = 1, "goshelf-warm: nginx refuses the first host's front: the old one stays\n"
     suite.holds("files that nginx refuses are named", told[:2] == wanted, told)
     found = warm.read(USERS) == good, warm.sh("nginx -q -t")[0], sorted(os.listdir(f"{warm.folder}/etc/nginx/goshelf"))
-    files = ["errors.conf", "goshelf.js", "goshelf.json", "locations.conf", "names", "owners.json", "page.conf"]
-    files += ["public.conf", "taken-out"]
+    files = ["errors.conf", "goshelf.js", "goshelf.json", "keys.conf", "locations.conf", "names", "owners.json"]
+    files += ["page.conf", "public.conf", "taken-out"]
     suite.equal("the old ones stay", found, (True, 0, files))
     first.write(USERS, good)
     suite.equal("the same files again", warm.sh("goshelf-warm front"), (0, "", ""))

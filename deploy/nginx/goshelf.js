@@ -6,22 +6,25 @@ import crypto from 'crypto';
 // A target as the go command writes it, without the marks of capitals: the module path is the first group.
 const MODULE = /^\/(?:sumdb\/sum\.golang\.org\/lookup\/)?([a-z0-9-]+(?:\.[a-z0-9-]+)+(?:\/[a-z0-9_~-](?:[a-z0-9._~-]*[a-z0-9_~-])?)*)(?:\/@latest|\/@v\/[a-z0-9._~+-]+|@[a-z0-9._~+-]+)$/;
 
-// The person of a header Authorization, with the key; nothing for a key that is unknown or whose day is over.
-function known(header) {
-    const sent = /^Basic ([A-Za-z0-9+\/]+=*)$/.exec(header || '');
-    const login = sent ? Buffer.from(sent[1], 'base64').toString() : '';
-    const colon = login.indexOf(':'), key = login.slice(colon + 1);
-    if (colon < 0 || key.length < 16 || key.length > 64) {
+// The person of a header Authorization, with the key; nothing for a key that is unknown or whose day is over. (It runs for each
+// request, so it has no regular expression, which would take as long as all of it.)
+function known(front, header) {
+    if (!header || !header.startsWith('Basic ')) {
         return null;
     }
-    const sum = crypto.createHash('sha256').update(key).digest('hex');
-    const it = goshelf_front.users[sum.slice(0, 16)];
+    const sent = Buffer.from(header.slice(6), 'base64'), colon = sent.indexOf(58), size = sent.length - colon - 1;
+    // (sent ends where a letter is none of base64, and then the header is longer)
+    if (colon < 0 || size < 16 || size > 64 || Math.ceil(sent.length / 3) * 4 !== header.length - 6) {
+        return null;
+    }
+    const key = sent.toString('utf8', colon + 1), sum = crypto.createHash('sha256').update(key).digest('hex');
+    const fingerprint = sum.slice(0, 16), it = front.users[fingerprint];
     // 16 digits can be met by trying, so the whole sum counts where the file has it. (`$` also matches before an end of line here,
     // so no regular expression with it may say what a key is.)
     if (!it || (it.sha256 ? it.sha256 !== sum : /[^a-z0-9]/.test(key)) || (it.until && isOver(it.until))) {
         return null;
     }
-    return {key: key, fingerprint: sum.slice(0, 16), name: it.name, shelf: it.shelf, isMachine: it.machine};
+    return {key: key, fingerprint: fingerprint, name: it.name, shelf: it.shelf, isMachine: it.machine};
 }
 
 // Whether the last day or minute is over, in UTC.
@@ -110,32 +113,54 @@ function note(v, target) {
 }
 
 // Sets what the limits, the logs and the locations read of a caller.
-function greet(v, who) {
+function greet(v, front, who) {
     v.goshelf_user = who.name;
     v.goshelf_fingerprint = who.fingerprint;
     v.goshelf_shelf = who.shelf;
     v.goshelf_key = who.key;
     v[who.isMachine ? 'goshelf_machine' : 'goshelf_person'] = who.name;
-    v.goshelf_part = who.shelf + ' ' + goshelf_front.generation;
+    v.goshelf_part = who.shelf + ' ' + front.generation;
 }
 
-function way(r) {
-    const v = r.variables, target = v.request_uri, header = v.http_authorization, who = known(header);
-    if (!who) {
-        return goshelf_front.before && header ? 'before' : 'login';
+// The location of a GET of what is ours, from a target without escapes; '' for any other target. Whatever begins with a path of ours
+// is for goshelf alone, so this needs no regular expression, which would take as long as the rest.
+function plainly(owners, target) {
+    const at = target.indexOf('/@v/');
+    for (let end = target.indexOf('/', 1); end > 0 && end <= at; end = target.indexOf('/', end + 1)) {
+        if (owners[target.slice(1, end)]) {
+            return target.indexOf('/', at + 4) < 0 && isWhole(target.slice(target.lastIndexOf('.'))) ? 'ours_kept' : 'ours';
+        }
     }
-    greet(v, who);
-    const isGet = r.method === 'GET' || r.method === 'HEAD';
+    return '';
+}
+
+function isWhole(end) {
+    return end === '.mod' || end === '.zip' || end === '.info';
+}
+
+// The location of a publish.
+function published(v, target, shelf) {
     const text = plain(target), module = text && MODULE.exec(text), shelves = module && owners(module[1]);
-    if (!isGet && module) {
+    if (module) {
         note(v, target);
     }
-    if (goshelf_front.gone && isTakenOut(target, isGet, who.shelf)) {
+    if (goshelf_front.gone && isTakenOut(target, false, shelf)) {
         return 'taken_out';
     }
-    if (!isGet) {
-        return shelves && has(shelves, who.shelf) ? 'ours' : 'not_yours';
+    return shelves && has(shelves, shelf) ? 'ours' : 'not_yours';
+}
+
+// The location of a GET or a HEAD.
+function read(r, v, front, target, shelf) {
+    if (front.gone && isTakenOut(target, true, shelf)) {
+        return 'taken_out';
     }
+    // ($uri has no query, and neither escapes nor dots)
+    const own = v.uri === target && front.deepest > 0 && plainly(front.owners, target);
+    if (own) {
+        return own;
+    }
+    const text = plain(target), module = text && MODULE.exec(text), shelves = module && owners(module[1]);
     if (shelves && !text.startsWith('/sumdb/')) {
         return isFile(text) ? 'ours_kept' : 'ours';
     }
@@ -148,6 +173,16 @@ function way(r) {
     }
     v.goshelf_out = 'out';
     return found;
+}
+
+function way(r) {
+    const v = r.variables, front = goshelf_front, header = v.http_authorization, who = known(front, header);
+    if (!who) {
+        return front.before && header ? 'before' : 'login';
+    }
+    greet(v, front, who);
+    const target = v.request_uri, method = r.method;
+    return method === 'GET' || method === 'HEAD' ? read(r, v, front, target, who.shelf) : published(v, target, who.shelf);
 }
 
 // The number of the goshelf.json that this process has read.

@@ -84,14 +84,14 @@ def of_pages(suite):
             return ran.stdout.splitlines() or ran.stderr
 
         before = after("")
-        found = [
-            re.sub("^tools/.*", "", it, flags=re.M)
-            for page in ("README.md", "docs/NGINX.md")
-            for it in blocks(page, "sh", "go env -w GOPROXY=")
-        ]
+        # (which one of the blocks changes the mode of)
+        with open(os.path.join(folder, ".netrc"), "w", encoding="utf-8"):
+            pass
+        pages = ("docs/TUTORIAL.md", "docs/NGINX.md")
+        found = [it for page in pages for it in blocks(page, "sh", "go env -w GOPROXY=")]
         suite.equal("blocks that set the go command", len(found), 3)
         for script in found:
-            proxies = re.search("GOPROXY=(.*)", script)[1]
+            proxies = re.search(r"GOPROXY=(\S+)", script)[1]
             suite.equal(f"the settings of {proxies}", after(script), [proxies, "example.com", "none"])
             suite.equal("they are undone", after(undo), before)
 

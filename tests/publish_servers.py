@@ -265,6 +265,11 @@ def by_netrc(room, url, words):
     wanted = f"{url} takes no such path or version, or has lost the key of your user: check example.com/greet v1.0.0, "
     Answers.answer = 404, b"not found\n"
     SUITE.refused(room, "a user whose key is revoked", f"{wanted}then ask the operator", *words, "--netrc", **netrc)
+    without_login(room, url, words)
+
+
+def without_login(room, url, words):
+    """A login that the server does not take, and a file that has none, are refused by name."""
     Answers.answer = 401, b""
     netrc, mend = f"{room.folder}/netrc", "mend the line for 127.0.0.1 in"
     for name, user, shown in (("another password", "alpha", "alpha"), ("a key in place of the user", KEY, "...")):

@@ -1,13 +1,16 @@
 #!/usr/bin/env python3
 """goshelf-front check names each fault of the front: owners, names, keys, certificate, caches, ports, clock, DNS.
 
+Another key with the fingerprint of one in names is nobody's.
+
 The machine, its users and its nginx are those of lib/front.py.
 """
 
 import contextlib
+import hashlib
 import sys
 
-from lib.front import UNUSED, fingerprint, set_up
+from lib.front import UNUSED, USERS, fingerprint, set_up, users_of
 from lib.outside import NameServer
 from lib.ports import free_port
 from lib.scratch import play
@@ -22,6 +25,16 @@ policy = any\n[any]\ncommonName = supplied\n' > ca.conf
 openssl req -new -key /etc/ssl/goshelf.key -subj /CN=localhost -out own.csr
 openssl ca -config ca.conf -batch -notext -selfsign -keyfile /etc/ssl/goshelf.key -in own.csr -out /etc/ssl/dated.pem \
     -startdate {}0101000000Z -enddate {}0102000000Z 2> /dev/null"""
+
+# a goshelf that lists the keys of a file, and notes what it is to revoke
+LISTING = """\
+#!/bin/sh
+case $1 in
+key-list) cat "@/keys" ;;
+key-revoke) echo "$5" >> "@/revoked" ;;
+*) exec "@/usr/local/bin/goshelf.own" "$@" ;;
+esac
+"""
 
 
 def lines_of(machine):
@@ -45,6 +58,47 @@ def edited(machine, file, *pairs):
         yield
     finally:
         machine.write(file, text)
+
+
+def same_digits(suite, client):
+    """Another key with the fingerprint of somebody's is nobody's, where goshelf prints whole sums."""
+    machine, before = client.machine, client.machine.read(f"{FOLDER}/names")
+    own = {it: hashlib.sha256(client.passwords[it].encode()).hexdigest() for it, _, _ in USERS}
+    sums = {it[:16]: it for it in own.values()}
+    keys = machine.does("goshelf key-list --control /run/goshelf/control")
+    lines = [it.split()[:3] for it in keys.splitlines()]
+    short = "".join(f"{' '.join(it)}\n" for it in lines)
+    whole = "".join(f"{' '.join(it)} {sums.get(it[2], it[2] + '1' * 48)}\n" for it in lines)
+    mine, other = own["ann"], own["ann"][:16] + "0" * 48
+    with machine.instead(LISTING):
+        for name, text, wanted in (
+            ("beside it", f"{whole}beta publish {mine[:16]} {other}\n", ("alpha", mine)),
+            (
+                "in its place",
+                whole.replace(f"alpha read {mine[:16]} {mine}", f"beta publish {mine[:16]} {other}"),
+                None,
+            ),
+            ("not there", whole, ("alpha", mine)),
+            ("not told of", short, ("alpha", mine)),
+        ):
+            machine.write("keys", text)
+            said = f"ann: goshelf has no key {mine[:16]}\n" in machine.sh("goshelf-front check")[1]
+            machine.does("goshelf-front sync")
+            it = users_of(machine).get(mine[:16])
+            told = it and (it["shelf"], it["sha256"])
+            suite.equal(f"her key, one with its 16 digits {name}", (told, said), (wanted, wanted is None))
+        for name, text, wanted in (("whole", whole, own["pub"]), ("no", short, own["pub"][:16])):
+            machine.write("keys", text)
+            machine.write(f"{FOLDER}/names", f"{before}{fingerprint(UNUSED)}\teve\t\n")
+            said = f"eve: names has 16 digits of {fingerprint(UNUSED)}" in machine.sh("goshelf-front check")[1]
+            suite.equal(f"check of 16 digits in names where {name} sums are told", said, text == short)
+            machine.write("revoked", "")
+            machine.write(f"{FOLDER}/names", before.replace("\tpub\t", "\tpub\t2020-01-01"))
+            machine.does("goshelf-front sync")
+            suite.equal(f"what it revokes where {name} sums are told", machine.read("revoked"), f"{wanted}\n")
+    machine.write(f"{FOLDER}/names", before)
+    suite.equal("a sync with goshelf's own keys", machine.sh("goshelf-front sync"), (0, "", ""))
+    suite.equal("she reads on", {client.get("/login", it)[0] for it in ("ann", "pub")}, {204})
 
 
 def names(suite, client):
@@ -176,7 +230,7 @@ def name_server(suite, client):
 
 def main():
     suite = Suite()
-    parts = (names, owners, conf, dated, name_server)
+    parts = (same_digits, names, owners, conf, dated, name_server)
     return play(suite, "the check", "its files need root", lambda folder: set_up(suite, folder), parts)
 
 

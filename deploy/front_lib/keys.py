@@ -15,7 +15,7 @@ class Keys:
     def __init__(self, is_needed=True):
         self.lines, self.why = files.names(), ""
         try:
-            self.known = orders.keys()
+            self.known = orders.keys({it.fingerprint: it.digest for it in self.lines})
         except Refused as why:
             if is_needed:
                 raise
@@ -27,6 +27,12 @@ class Keys:
         """The lines of a name, and of a shelf, whose keys are valid."""
         found = [it for it in self.lines if it.name == name and not it.is_over() and it.fingerprint in self.known]
         return [it for it in found if shelf in (None, self.known[it.fingerprint][0])]
+
+    def digits(self, line):
+        """What names the key of a line to goshelf: its SHA-256 where goshelf prints it, since another key may have the
+        fingerprint."""
+        known = "" if self.why else self.known.get(line.fingerprint, ("", "", line.digest))[2]
+        return known or line.fingerprint
 
     def make(self, name, shelf, right, until="", machine=None, label=None):
         """Makes a key of goshelf. Returns it, and adds its line."""
@@ -64,7 +70,7 @@ class Keys:
         """Revokes the keys whose day is over, and drops their lines. Names those that goshelf still has."""
         left, wrong = [], []
         for it in self.lines:
-            why = orders.revoke(it.fingerprint) if it.is_over() else ""
+            why = orders.revoke(self.digits(it)) if it.is_over() else ""
             if why or not it.is_over():
                 left.append(it)
             if why:

@@ -38,11 +38,14 @@ def listed(command):
         yield from ((unit, line.split()) for line in printed.splitlines())
 
 
-def keys():
-    """The keys of goshelf: shelf, right, and the SHA-256 where goshelf prints it, by fingerprint."""
+def keys(named):
+    """The keys of goshelf: shelf, right, and the SHA-256 where goshelf prints it, by fingerprint. `named` has the
+    SHA-256 of names, or 16 digits of it, by fingerprint too: another key with such a fingerprint is left out."""
     found = {}
     for _, (shelf, right, fingerprint, *digest) in listed("key-list"):
         told = shelf, right, "".join(digest[:1])
+        if told[2] and not told[2].startswith(named.get(fingerprint, "")):
+            continue
         # two keys with one fingerprint are nobody's, unless they are one key at two shards
         found[fingerprint] = told if found.get(fingerprint, told) == told else None
     return {it: told for it, told in found.items() if told}
@@ -68,7 +71,7 @@ def new_key(shelf, right):
     return key
 
 
-def revoke(fingerprint):
-    """Has each goshelf revoke a key. Returns why one still has it, or nothing."""
-    words = [order(unit, "key-revoke", "--fingerprint", fingerprint)[1] for unit in units()]
+def revoke(digits):
+    """Has each goshelf revoke the key with a SHA-256 or a fingerprint. Returns why one still has it, or nothing."""
+    words = [order(unit, "key-revoke", "--fingerprint", digits)[1] for unit in units()]
     return next((it for it in words if it not in ("", "no-key")), "")

@@ -172,16 +172,22 @@ class Machine:
         return printed
 
     @contextlib.contextmanager
-    def busy(self, count):
-        """Meanwhile goshelf refuses so many orders to copy, as it does while it makes another copy."""
+    def instead(self, script):
+        """Meanwhile a script stands in the place of goshelf, which is `goshelf.own` there."""
         program = f"{self.folder}/usr/local/bin/goshelf"
         os.rename(program, f"{program}.own")
-        self.write("often", f"{count}\n")
-        self.command("goshelf", BUSY)
+        self.command("goshelf", script)
         try:
             yield
         finally:
             os.rename(f"{program}.own", program)
+
+    @contextlib.contextmanager
+    def busy(self, count):
+        """Meanwhile goshelf refuses so many orders to copy, as it does while it makes another copy."""
+        self.write("often", f"{count}\n")
+        with self.instead(BUSY):
+            yield
         assert self.read("often") == "0\n", "goshelf was not ordered to copy as often"
 
     def workers(self):

@@ -312,7 +312,11 @@ def logs_alone(suite):
             left = {end: read(name + end) for end in ("", "-wal") if os.path.exists(name + end)}
             # an older file that is missing or empty is not opened
             word = "bad-schema" if line.startswith(f"migrate --from {name}") else "device"
-            suite.equal(f"{cause}: {line}", (told, left), ((1, b"", f"goshelf: {word}\n"), {**files, "-wal": log}))
+            wanted = f"goshelf: {word}\n"
+            if line.endswith(f" --to {name}"):
+                lone = "is a log without its store: move it away, or name another file"
+                wanted = f"{name}-wal {lone}\ngoshelf: not-empty\n"
+            suite.equal(f"{cause}: {line}", (told, left), ((1, b"", wanted), {**files, "-wal": log}))
 
 
 def started(suite):

@@ -61,7 +61,7 @@ LATER = {
         "/-/modules",
         502,
         "goshelf does not answer",
-        "goshelf does not answer: try again in a minute\n",
+        "goshelf does not answer: try again in a minute, and if it stays, tell the operator\n",
     ),
 }
 # what goshelf answers, also to a browser: a target and the status

@@ -62,7 +62,7 @@ WRONG_TEXTS = {
     '{"example.com": ["alpha"], "example.com": ["beta"]}': "example.com: it is there twice",
     '{"example.com": ["alpha"], "example.COM": ["beta"]}': "example.COM: it is there twice",
 }
-MISUSES = "''|chek|--check|check -v|check ''|check a|conflicts|conflicts ''|conflicts --help|conflicts a b".split("|")
+MISUSES = "''|chek|--check|check -v|check ''|check a|conflicts|conflicts ''|conflicts --nosuch|conflicts a b".split("|")
 # copies that cannot be read
 UNREADABLE = ("none.db", "folder", "text.db", "empty.db")
 WRONG_STORE = """\
@@ -125,7 +125,7 @@ def misuse(suite, machine):
     for words in MISUSES:
         status, printed, errors = machine.sh(f"goshelf-front {words}")
         suite.equal(f"goshelf-front {words}", (status, printed, errors.split()[0]), (2, "", "usage:"))
-    for word in ("-h", "--help"):
+    for word in ("-h", "--help", "conflicts --help"):
         status, printed, _ = machine.sh(f"goshelf-front {word}")
         suite.equal(f"{word} says what it does", (status, printed.split(":")[0]), (0, "goshelf-front"))
     before = sorted(os.listdir(f"{machine.folder}/root"))

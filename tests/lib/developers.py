@@ -7,6 +7,7 @@ import http.client
 import os
 import re
 import subprocess
+import time
 
 from lib import go_command
 from lib.front import Client, start
@@ -142,7 +143,12 @@ class Developers:
         return len(self.outside.asked)
 
     def log(self, since=0):
-        return self.machine.read("var/log/nginx/goshelf.log").splitlines()[since:]
+        """The lines of nginx's log, once it writes no more: a line follows the end of its answer."""
+        text = None
+        while text != (now := self.machine.read("var/log/nginx/goshelf.log")):
+            text = now
+            time.sleep(0.1)
+        return text.splitlines()[since:]
 
     def secrets(self):
         """Keys, passwords and logins."""

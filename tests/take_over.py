@@ -21,7 +21,7 @@ from lib.scratch import closed_on_failure, play
 from lib.stores import new_store
 from lib.suite import Suite
 
-BEFORE, FOLDER = "b415a3d1", "etc/nginx/goshelf"
+BEFORE, FOLDER = "ee9d2b1e", "etc/nginx/goshelf"
 FILES = ("elsewhere.conf", "public.conf", "users.map", "keys.map", "paths.map")
 OLD = {"ann": ("alpha", "read"), "pat": ("alpha", "publish"), "bob": ("beta", "publish")}
 LIST, GOMOD = "/example.com/lib/@v/list", b"module example.com/lib\n"

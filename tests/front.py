@@ -310,6 +310,7 @@ def in_clear(suite, company):
     lines = company.log()[-3:]
     told = [it for it in lines if it.endswith('"ann"') and " 421 " in it]
     suite.equal("the log says whose key came in clear", len(told), 1)
+    in_url(suite, company)
     url = f"http://localhost:{company.machine.clear}"
     ended, _, said = company.go(company.work(), "get", f"{CORE}@v1.0.0", GOPROXY=url)
     suite.holds("the go command says the sentence", not ended and "nothing is answered without TLS" in said, said)
@@ -318,6 +319,17 @@ def in_clear(suite, company):
     )
     reply = company.client.reply("GET", "/", None)
     suite.holds("a browser is asked for its login", reply.headers["WWW-Authenticate"].startswith("Basic realm="))
+
+
+def in_url(suite, company):
+    """A URL of port 80 that has a key: the sentence says so as for a login."""
+    key = company.client.passwords["ann"]
+    for target, is_told in ((f"/k/{key}", True), (f"/k/{key}/{CORE}/@v/list", True), ("/k/", False), ("/kim", False)):
+        conn = http.client.HTTPConnection("127.0.0.1", company.machine.clear, timeout=30)
+        conn.request("GET", target)
+        reply = conn.getresponse()
+        found = reply.status, "A key came here in clear text" in reply.read().decode()
+        suite.equal(f"{target.replace(key, 'KEY')} on port 80", found, (421, is_told))
 
 
 def pages(suite, company):

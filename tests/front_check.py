@@ -8,6 +8,7 @@ The machine, its users and its nginx are those of lib/front.py.
 
 import contextlib
 import hashlib
+import os
 import sys
 
 from lib.front import UNUSED, USERS, fingerprint, set_up, users_of
@@ -126,9 +127,46 @@ def names(suite, client):
     key = fingerprint(client.passwords["zoe"])
     machine.does(f"goshelf key-revoke --control /run/goshelf/control --fingerprint {key}")
     named(suite, machine, "a key that goshelf alone revoked", f"zoe: goshelf has no key {key}")
-    machine.does("goshelf-front remove zoe; systemctl stop goshelf")
-    named(suite, machine, "a goshelf that is stopped", "goshelf does not say its keys: device: is it started?")
+    machine.does("goshelf-front remove zoe")
+    stopped(suite, client)
+
+
+def stopped(suite, client):
+    """goshelf is stopped: the other faults are named too, and keys that were removed wait for it."""
+    machine = client.machine
+    key = fingerprint(machine.does("goshelf-front add una alpha read").split()[5])
+    machine.does("systemctl stop goshelf; goshelf-front remove una || true")
+    waits = f"una: {key} was removed, and waits to be revoked: sync revokes it"
+    pair = machine.placed("ssl/goshelf.pem;"), machine.placed("ssl/nosuch.pem;")
+    for said in (
+        "goshelf is stopped: start it, then run goshelf-front sync",
+        f"nobody answers at 127.0.0.1:{machine.behind}, which nginx asks",
+        waits,
+    ):
+        named(suite, machine, f"a goshelf that is stopped: {said.partition(':')[0]}", said)
+    with edited(machine, CONF, pair):
+        named(suite, machine, "the same without a certificate", "nosuch.pem cannot be read as a certificate")
     machine.does("systemctl start goshelf")
+    suite.equal("a key that waits to be revoked", lines_of(machine), (1, waits))
+    machine.does("goshelf-front sync")
+    suite.equal("none waits", lines_of(machine)[1], "")
+
+
+def logs(suite, client):
+    """A log of nginx that is missing is made for root and its group alone, before nginx makes it for all to read."""
+    machine = client.machine
+    for name in ("nginx/goshelf.log", "nginx/goshelf-errors.log", "goshelf/publishes.log"):
+        file = f"{machine.folder}/var/log/{name}"
+        owner = os.stat(file).st_uid, os.stat(file).st_gid
+        os.rename(file, f"{file}.1")
+        wanted = f"{file} was missing, and is made: nginx -s reopen has nginx write to it"
+        suite.equal(f"{name} is missing", lines_of(machine), (1, wanted))
+        it = os.stat(file)
+        suite.equal("it is as set-up makes it", (it.st_mode & 0o7777, it.st_uid, it.st_gid), (0o640, *owner))
+        suite.equal("and no fault any more", lines_of(machine)[1], "")
+        os.rename(file, f"{file}.2")
+        machine.does("goshelf-front uncache")
+        suite.equal("it is so after a reload", os.stat(file).st_mode & 0o7777, 0o640)
 
 
 def owners(suite, client):
@@ -230,7 +268,7 @@ def name_server(suite, client):
 
 def main():
     suite = Suite()
-    parts = (same_digits, names, owners, conf, dated, name_server)
+    parts = (same_digits, names, logs, owners, conf, dated, name_server)
     return play(suite, "the check", "its files need root", lambda folder: set_up(suite, folder), parts)
 
 

@@ -70,6 +70,24 @@ class Troubles:
             404
         }
 
+    def the_key_is_in_a_query(self):
+        targets = [f"{it}?key={self.key}" for it in (f"{CORE}/v1.0.0.info", "/pub.example/lib/@v/list", "/", "/m/none")]
+        for user in ("ann", None):
+            for it in targets:
+                self.company.ask(it, user)
+        conn = http.client.HTTPConnection("127.0.0.1", self.machine.clear, timeout=30)
+        conn.request("GET", targets[0])
+        told = conn.getresponse().status
+        time.sleep(0.5)
+        lines = [it.split()[5:7] for it in self.company.log() if "?" in it]
+        return told == 421 and [f"{CORE}/v1.0.0.info?...", "421"] in lines and len(lines) == 9
+
+    def the_key_is_in_a_query_while_goshelf_is_away(self):
+        self.machine.does("systemctl stop goshelf")
+        told = [self.ask(f"{it}?key={self.key}")[0] for it in (f"{CORE}/list", f"{CORE}/v1.0.0.info", "/-/modules")]
+        self.machine.does("systemctl start goshelf")
+        return told == [404] * 3
+
     def the_key_is_the_login(self):
         return self.client.ask("GET", "/login", "Basic " + self.key)[0] == 401
 

@@ -153,9 +153,20 @@ def unlucky(suite, client):
     suite.equal("what a killed run left is in nobody's way", files_of(machine)[0][0], before[0][0])
     machine.does("systemctl stop goshelf")
     told = machine.sh("goshelf-front add eve beta read")
-    wanted = "goshelf-front: goshelf does not say its keys: device: is it started?\n"
+    wanted = "goshelf-front: goshelf is stopped: start it, then run goshelf-front sync\n"
     suite.equal("without goshelf no key is made", (told, files_of(machine)[0][0]), ((1, "", wanted), before[0][0]))
     machine.does("systemctl start goshelf")
+
+
+def several(suite, client):
+    """rotate of a name with keys of several shelves names them and the option."""
+    machine = client.machine
+    machine.does("for it in alpha beta; do goshelf-front add 'Jane Roe' $it read; done")
+    wanted = "goshelf-front: Jane Roe has keys of the shelves alpha, beta: say which one by --shelf SHELF\n"
+    suite.equal("keys of two shelves", machine.sh("goshelf-front rotate 'Jane Roe'"), (1, "", wanted))
+    told = machine.sh("goshelf-front rotate 'Jane Roe' --shelf beta")
+    suite.holds("one is rotated", told[0] == 0 and "login Jane-Roe password " in told[1] and not told[2], told)
+    machine.does("goshelf-front remove 'Jane Roe'")
 
 
 def sync(machine, text, options="--keys new"):
@@ -215,7 +226,14 @@ def back(suite, client):
     suite.equal("who left is refused while goshelf is stopped", (told[0], gone), (1, [401, 401]))
     suite.holds("and it says what is not done", "is not revoked" in told[2], told)
     machine.does("systemctl start goshelf")
-    suite.equal("a sync of nothing new revokes the keys", machine.sh("goshelf-front sync"), (0, "", ""))
+    status, printed, errors = machine.sh("goshelf-front sync")
+    ended = [("Eve, the first", "beta", "eve"), ("tim", "alpha", "tim")]
+    ended = sorted((name, shelf, fingerprint(client.passwords[it])) for name, shelf, it in ended)
+    found = status, sorted(printed.splitlines()), errors
+    wanted = 0, ["\t".join(("revoked", *it)) for it in ended], ""
+    suite.equal("a sync of nothing new revokes the keys, and prints them", found, wanted)
+    lines = [it.split("\t") for it in machine.does("goshelf-front log").splitlines() if it.endswith("\trevoke by root")]
+    suite.equal("the log has a line for each", sorted((it[1], it[3], it[2]) for it in lines), ended)
     left = [it for it in ("eve", "tim") if fingerprint(client.passwords[it]) in keys_told(machine)]
     suite.equal("at goshelf too", left, [])
     told = sync(machine, OWN)
@@ -452,7 +470,7 @@ def of_backups(suite, client, name):
 
 def main():
     suite = Suite()
-    parts = (misused, unlucky, kept_in_step, uncached, lost, taken_out, leaked, logged, sealed)
+    parts = (misused, unlucky, several, kept_in_step, uncached, lost, taken_out, leaked, logged, sealed)
     return play(suite, "nginx", "its users and folders need root", lambda folder: set_up(suite, folder), parts)
 
 

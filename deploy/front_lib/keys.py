@@ -5,7 +5,7 @@ import os
 import re
 import sys
 
-from front_lib import files, nginx, orders
+from front_lib import files, nginx, orders, publishes
 from front_lib.files import Name, Refused
 
 
@@ -14,6 +14,8 @@ class Keys:
 
     def __init__(self, is_needed=True):
         self.lines, self.why = files.names(), ""
+        # those that ended before this command, and of them those that it revoked: name, shelf and fingerprint
+        self.waiting, self.revoked = [it for it in self.lines if it.is_over()], []
         try:
             self.known = orders.keys({it.fingerprint: it.digest for it in self.lines})
         except Refused as why:
@@ -73,6 +75,8 @@ class Keys:
             why = orders.revoke(self.digits(it)) if it.is_over() else ""
             if why or not it.is_over():
                 left.append(it)
+            elif it in self.waiting and it.fingerprint in self.known:
+                self.note_revoked(it)
             if why:
                 wrong.append(
                     f"nginx takes it no longer, but the key {it.fingerprint} of {it.name} is not revoked: {why}"
@@ -81,6 +85,12 @@ class Keys:
         files.put_names(left)
         if wrong:
             raise Refused("\ngoshelf-front: ".join([*wrong, "goshelf-front sync tries again"]))
+
+    def note_revoked(self, it):
+        """Notes that a key that waited for it was revoked."""
+        shelf = self.known[it.fingerprint][0]
+        self.revoked.append((it.name, shelf, it.fingerprint))
+        publishes.note("revoke", name=it.name, fingerprint=it.fingerprint, shelf=shelf)
 
     def settle(self):
         """Has nginx read what changed, and revokes what is over, the one also if the other fails."""

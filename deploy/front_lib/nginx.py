@@ -12,7 +12,7 @@ import sys
 import time
 
 import doctor_nginx
-from front_lib import files
+from front_lib import files, logs
 from front_lib.files import FOLDER, Refused
 
 CONF = "/etc/nginx/conf.d/goshelf.conf"
@@ -62,8 +62,19 @@ def wait(serial):
         time.sleep(0.02)
 
 
+def logs_of(text):
+    """The logs that nginx's file names."""
+    return sorted(set(re.findall(r"^\s*(?:access|error)_log\s+(/(?!dev/)\S+?)[\s;]", text, re.M)))
+
+
+def make_logs():
+    """Makes the logs that are missing, before nginx makes them for all to read. Returns those."""
+    return logs.make(logs_of(conf())) if os.path.exists(CONF) else []
+
+
 def refusal():
     """Why nginx refuses its files, or nothing."""
+    make_logs()
     tried = subprocess.run(["nginx", "-q", "-t"], capture_output=True, text=True)
     return (tried.stderr.strip() or "it says no more") if tried.returncode else ""
 
@@ -105,7 +116,7 @@ def folder_faults(text):
         room = int(count) << {"m": 20, "g": 30}[unit]
         if os.path.isdir(name) and shutil.disk_usage(name).free < room:
             yield f"{name}: its disk has less room than min_free={count}{unit} leaves, so nginx caches next to nothing"
-    for name in sorted(set(re.findall(r"^\s*(?:access|error)_log\s+(/(?!dev/)\S+)", text, re.M))):
+    for name in logs_of(text):
         if os.path.exists(name) and os.stat(name).st_mode & 0o7:
             yield f"others than root and its group may read {name}: chmod 640 {name}"
 

@@ -34,7 +34,9 @@ def listed(command):
     for unit in units():
         printed, word = order(unit, command)
         if word:
-            raise Refused(f"{unit} does not say its {command.removesuffix('-list')}s: {word}: is it started?")
+            if word == "device":
+                raise Refused(f"{unit} is stopped: start it, then run goshelf-front sync")
+            raise Refused(f"{unit} does not say its {command.removesuffix('-list')}s: {word}")
         yield from ((unit, line.split()) for line in printed.splitlines())
 
 

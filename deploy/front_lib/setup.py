@@ -1,11 +1,9 @@
 """Puts the files of deploy/nginx in their places, and makes the folders and logs that nginx needs."""
 
-import grp
 import os
-import pwd
 import re
 
-from front_lib import before, files, nginx, publishes
+from front_lib import before, files, logs, nginx, publishes
 from front_lib.files import FOLDER, Refused
 
 DEPLOY = "/usr/share/goshelf/deploy"
@@ -67,29 +65,14 @@ def owners(words):
 
 def folders():
     """Makes nginx's caches and logs, before nginx makes the logs for all to read."""
-    user = next((it for it in ("www-data", "nginx") if it in {found.pw_name for found in pwd.getpwall()}), "root")
-    group = next((it for it in ("adm", user) if it in {found.gr_name for found in grp.getgrall()}), "root")
-    number = pwd.getpwnam(user).pw_uid
+    user, _ = logs.owner()
     for name in CACHES:
         os.makedirs(name, 0o700, exist_ok=True)
-        os.chown(name, number, -1)
+        os.chown(name, user, -1)
     for name in LOGS:
-        os.makedirs(os.path.dirname(name), 0o755, exist_ok=True)
-        os.close(os.open(name, os.O_WRONLY | os.O_APPEND | os.O_CREAT, 0o640))
-        own_log(name, number, grp.getgrnam(group).gr_gid)
+        logs.own(name)
     why = publishes.seal()
     print(f"{publishes.LOG} is {f'not append-only: {why}' if why else 'append-only from now on: chattr -a undoes it'}")
-
-
-def own_log(name, user, group):
-    """Gives a log to nginx. Of one that is append-only neither the mode nor the owner can be changed."""
-    it = os.stat(name)
-    if (it.st_mode & 0o7777, it.st_uid, it.st_gid) == (0o640, user, group):
-        return
-    if name == publishes.LOG:
-        publishes.seal(is_open=True)
-    os.chmod(name, 0o640)
-    os.chown(name, user, group)
 
 
 def set_up(words):

@@ -78,10 +78,14 @@ function publicly(text, module) {
         : /^\/sumdb\/[^@]+[^\/]@[^\/]+$/.test(text) ? 'public_kept' : '';
 }
 
-// The location of what is neither a module nor a lookup of one.
-function other(uri, text) {
+// The location of what is neither a module nor a lookup of one. With a query it is nowhere but at the search of the pages.
+function other(uri, text, isAsked) {
     if (uri.startsWith('/sumdb/')) {
         return 'no_database';
+    }
+    // (goshelf answers 404 too, and where it is away the log of errors would have what may be a key)
+    if (isAsked && uri !== '/' && uri !== '/index.html') {
+        return 'nowhere';
     }
     if (uri === '/login') {
         return 'known';
@@ -166,7 +170,7 @@ function read(r, v, front, target, shelf) {
     }
     const found = r.method === 'GET' && text && !shelves && publicly(text, module);
     if (!found) {
-        return other(v.uri, text);
+        return other(v.uri, text, target.indexOf('?') >= 0);
     }
     if (v.goshelf_others !== 'public') {
         return 'nowhere';

@@ -143,6 +143,9 @@ def removal(suite, company):
     company.outside.name_server.is_on = False
     company.machine.does("systemctl stop goshelf")
     suite.equal("cached while goshelf is stopped", (status(company, key), status(company, other)), (200, 200))
+    # (connected before, with no request yet)
+    held = http.client.HTTPSConnection("localhost", company.machine.front, timeout=60, context=company.client.context)
+    held.connect()
     begun = time.time()
     found, _, errors = company.machine.sh("goshelf-front remove tom")
     told = {status(company, key) for _ in range(10)}
@@ -156,6 +159,13 @@ def removal(suite, company):
     found = company.machine.does("goshelf key-list --control /run/goshelf/control")
     suite.holds("sync revokes it", f"the key {fingerprint(key)} of tom" in errors and fingerprint(key) not in found)
     company.outside.name_server.is_on = True
+    time.sleep(max(0, begun + 32 - time.time()))
+    try:
+        held.request("GET", f"/{CORE}/@v/v1.0.0.mod", headers={"Authorization": header(key)})
+        late = held.getresponse().status
+    except (OSError, http.client.HTTPException):
+        late = "closed"
+    suite.equal("a connection from before ends within 30 s", late, "closed")
     # behind the back of the front
     key = given(company, "add una alpha read")
     company.machine.does(f"goshelf key-revoke --control /run/goshelf/control --fingerprint {fingerprint(key)}")

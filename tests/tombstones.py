@@ -16,6 +16,9 @@ SAID = (403, b"taken out\n")
 FORGET = "goshelf-forget --yes"
 COMMON = "commonkey0000001"
 FILES = ("info", "mod", "zip")
+# targets that goshelf reads as that of a file
+ESCAPED = [f"{AT}/{it}" for it in ("v1.0.0.zi%70", "v1.0.0%2ezip", "v1%2e0.0.mod", "v1.0.0.in%66o")]
+ESCAPED += [f"{AT.replace(old, new)}/v1.0.0.zip" for old, new in (("lib", "li%62"), ("@", "%40"), ("/@v", "%2f@v"))]
 
 
 def told(client, version, user="ann"):
@@ -51,6 +54,7 @@ def of_another_store(suite, client):
     with urllib.request.urlopen(f"http://127.0.0.1:{machine.behind}/k/{UNUSED}{AT}/v1.0.0.zip") as reply:
         suite.equal("the store has it again", reply.read(), ZIP)
     suite.equal("who read it still gets a 403", told(client, "v1.0.0"), [SAID] * 3)
+    suite.equal("by an escape too", {it: client.get(it) for it in ESCAPED}, {it: SAID for it in ESCAPED})
     suite.equal("and nobody publishes it", client.put("v1.0.0", GOMOD + b"new"), SAID)
     suite.equal("the other team still has its own", client.get(f"{AT}/v1.0.0.zip", "bob"), (200, b"other"))
 

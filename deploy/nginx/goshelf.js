@@ -100,9 +100,18 @@ function isFile(text) {
     return text.indexOf('/@v/') > 0 && (text.endsWith('.mod') || text.endsWith('.zip') || text.endsWith('.info'));
 }
 
+// A target without escapes, as goshelf reads it; '' if it is no text, for which goshelf has nothing.
+function unescaped(target) {
+    try {
+        return decodeURIComponent(target);
+    } catch (error) {
+        return '';
+    }
+}
+
 // Whether a version was taken out, here or on the caller's shelf. goshelf.json has the target of each, without the end of a file's name.
 function isTakenOut(target, isGet, shelf) {
-    const text = target.indexOf('%') < 0 ? target : target.replace(/%21/g, '!'), start = text.startsWith('/-/gosum/') ? 8 : 0;
+    const text = target.indexOf('%') < 0 ? target : unescaped(target), start = text.startsWith('/-/gosum/') ? 8 : 0;
     const from = goshelf_front.gone[text.slice(start, isGet && isFile(text) ? text.lastIndexOf('.') : text.length)];
     return from && (from.length === 0 || has(from, shelf));
 }

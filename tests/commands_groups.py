@@ -157,12 +157,12 @@ key-add --db store.db --shelf gamma --key M | 0
 key-add --db store.db --shelf gamma --key B | 0
 key-revoke --db store.db --key B | 0
 key-list --db store.db | 0
-    alpha publish ccaaf6d99f2c8ac7
-    alpha publish d6d1ae514132c03b
-    alpha read c2fcda156efd8585
-    common read 4ae6c4eb38bf8b54
-    gamma publish 3e9e696676741f95
-    platform publish 59349fdf37ea2a6b
+    alpha publish ccaaf6d99f2c8ac7 ccaaf6d99f2c8ac7d9c4a0277e323db4465bf5929f8262e063c9229ab93cb24c
+    alpha publish d6d1ae514132c03b d6d1ae514132c03b800c5648676e1556516d717915979eedbc423e62ce1f5b4a
+    alpha read c2fcda156efd8585 c2fcda156efd85851ad7847dc201fa716836a3ce7f801b07b9a1f6b6d3af2a2b
+    common read 4ae6c4eb38bf8b54 4ae6c4eb38bf8b54e69fa8611175cb18511c462fe6c90fe7d155e24874de7795
+    gamma publish 3e9e696676741f95 3e9e696676741f956c1e9bd68adec45f7b46a919e825345896a7238ec1455c2c
+    platform publish 59349fdf37ea2a6b 59349fdf37ea2a6bf8c248d35e82ed40cb8551fb034a718f42e9f8abe8e0a0a0
 shelf-list --db store.db | 0
     alpha team
     alpha-b team platform
@@ -175,12 +175,22 @@ key-revoke --db store.db --fingerprint ccaaf6d99f2c8ac | 1 no-key
 key-revoke --db store.db --fingerprint ccaaf6d99f2c8ac70 | 1 no-key
 key-revoke --db store.db --fingerprint CCAAF6D99F2C8AC7 | 1 no-key
 key-revoke --db store.db --fingerprint= | 1 no-key
+key-revoke --db store.db --fingerprint ccaaf6d99f2c8ac7d9c4a0277e323db4465bf5929f8262e063c9229ab93cb24 | 1 no-key
+key-revoke --db store.db --fingerprint ccaaf6d99f2c8ac7d9c4a0277e323db4465bf5929f8262e063c9229ab93cb24c0 | 1 no-key
+key-revoke --db store.db --fingerprint CCAAF6D99F2C8AC7D9C4A0277E323DB4465BF5929F8262E063C9229AB93CB24C | 1 no-key
+key-revoke --db store.db --fingerprint ccaaf6d99f2c8ac7000000000000000000000000000000000000000000000000 | 1 no-key
+key-revoke --db store.db --fingerprint 0000000000000000000000000000000000000000000000000000000000000000 | 1 no-key
+key-revoke --db store.db --fingerprint d9c4a0277e323db4 | 1 no-key
 key-list --db store.db | 0
-    alpha publish ccaaf6d99f2c8ac7
-    alpha publish d6d1ae514132c03b
-    common read 4ae6c4eb38bf8b54
-    gamma publish 3e9e696676741f95
-    platform publish 59349fdf37ea2a6b
+    alpha publish ccaaf6d99f2c8ac7 ccaaf6d99f2c8ac7d9c4a0277e323db4465bf5929f8262e063c9229ab93cb24c
+    alpha publish d6d1ae514132c03b d6d1ae514132c03b800c5648676e1556516d717915979eedbc423e62ce1f5b4a
+    common read 4ae6c4eb38bf8b54 4ae6c4eb38bf8b54e69fa8611175cb18511c462fe6c90fe7d155e24874de7795
+    gamma publish 3e9e696676741f95 3e9e696676741f956c1e9bd68adec45f7b46a919e825345896a7238ec1455c2c
+    platform publish 59349fdf37ea2a6b 59349fdf37ea2a6bf8c248d35e82ed40cb8551fb034a718f42e9f8abe8e0a0a0
+inventory --db store.db --key R | 1 no-key
+key-add --db store.db --shelf alpha --key R --read-only | 0
+key-revoke --db store.db --fingerprint c2fcda156efd85851ad7847dc201fa716836a3ce7f801b07b9a1f6b6d3af2a2b | 0
+key-revoke --db store.db --fingerprint c2fcda156efd85851ad7847dc201fa716836a3ce7f801b07b9a1f6b6d3af2a2b | 1 no-key
 inventory --db store.db --key R | 1 no-key
 key-revoke --db store.db --shelf nosuch --all | 1 no-team
 key-revoke --db store.db --shelf beta --all | 1 no-team
@@ -188,9 +198,9 @@ key-revoke --db store.db --shelf alpha-b --all | 0
 key-revoke --db store.db --shelf alpha --all | 0
 key-revoke --db store.db --shelf alpha --all | 0
 key-list --db store.db | 0
-    common read 4ae6c4eb38bf8b54
-    gamma publish 3e9e696676741f95
-    platform publish 59349fdf37ea2a6b
+    common read 4ae6c4eb38bf8b54 4ae6c4eb38bf8b54e69fa8611175cb18511c462fe6c90fe7d155e24874de7795
+    gamma publish 3e9e696676741f95 3e9e696676741f956c1e9bd68adec45f7b46a919e825345896a7238ec1455c2c
+    platform publish 59349fdf37ea2a6b 59349fdf37ea2a6bf8c248d35e82ed40cb8551fb034a718f42e9f8abe8e0a0a0
 key-add --db store.db --shelf alpha --key A | 0
 inventory --db store.db --key A | 0
     path,version,shelf,class,time,mod_bytes,zip_bytes
@@ -232,8 +242,9 @@ def made_keys(suite):
     suite.equal("each of the 36 letters comes", len(set("".join(made))), 37)
     _, output, _ = run([*words, "--read-only"])
     reader = output.decode().strip()
-    lines = [f"alpha publish {hashlib.sha256(key.strip().encode()).hexdigest()[:16]}\n" for key in made]
-    lines.append(f"alpha read {hashlib.sha256(reader.encode()).hexdigest()[:16]}\n")
+    sums = [hashlib.sha256(key.strip().encode()).hexdigest() for key in (*made, reader)]
+    rights = ["publish"] * len(made) + ["read"]
+    lines = [f"alpha {right} {it[:16]} {it}\n" for right, it in zip(rights, sums)]
     listed = run("key-list --db store.db".split())
     suite.equal("key-list has them", listed, (0, "".join(sorted(lines)).encode(), ""))
     suite.equal("a made key reads", run(["inventory", "--db", "store.db", "--key", reader])[0], 0)

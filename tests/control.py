@@ -73,6 +73,13 @@ key-revoke --fingerprint ccaaf6d99f2c8ac70 | 1 no-key
 key-revoke --fingerprint CCAAF6D99F2C8AC7 | 1 no-key
 key-revoke --fingerprint= | 1 no-key
 key-add --shelf common --key R --read-only | 0
+key-revoke --fingerprint c2fcda156efd85851ad7847dc201fa716836a3ce7f801b07b9a1f6b6d3af2a2 | 1 no-key
+key-revoke --fingerprint c2fcda156efd85851ad7847dc201fa716836a3ce7f801b07b9a1f6b6d3af2a2b0 | 1 no-key
+key-revoke --fingerprint C2FCDA156EFD85851AD7847DC201FA716836A3CE7F801B07B9A1F6B6D3AF2A2B | 1 no-key
+key-revoke --fingerprint c2fcda156efd8585000000000000000000000000000000000000000000000000 | 1 no-key
+key-revoke --fingerprint c2fcda156efd85851ad7847dc201fa716836a3ce7f801b07b9a1f6b6d3af2a2b | 0
+key-revoke --fingerprint c2fcda156efd85851ad7847dc201fa716836a3ce7f801b07b9a1f6b6d3af2a2b | 1 no-key
+key-add --shelf common --key R --read-only | 0
 catalog --key A | 0
 catalog --key N | 1 no-key
 catalog --key= | 1 no-key
@@ -113,6 +120,7 @@ LINES = [
     (b"keys-revoke alpha beta\n", b"bad\n"), (b"keys-revoke alpha \n", b"bad\n"),
     (b"revoke-fingerprint 0123456789abcdef\n", b"no-key\n"), (b"revoke-fingerprint\n", b"bad\n"),
     (b"revoke-fingerprint \n", b"no-key\n"), (b"revoke-fingerprint 0123456789abcdef more\n", b"bad\n"),
+    (b"revoke-fingerprint " + b"0" * 64 + b"\n", b"no-key\n"),
     (b"revoke-fingerprint " + b"0" * 108 + b"\n", b"no-key\n"),
     (b"revoke-fingerprint " + b"0" * 109 + b"\n", b"bad\n"),
     (b"catalog\n", b"bad\n"), (b"catalog nosuchkey0000001", b"bad\n"), (b"catalog nosuchkey0000001 \n", b"bad\n"),

@@ -24,6 +24,8 @@ from lib.suite import Suite
 
 LISTED = b"path,version,shelf,class,time,mod_bytes,zip_bytes\nexample.com/lib,v1.0.0,alpha,release,,23,0\n"
 REVOKE = ["key-revoke", "--key", KEY, "--control"]
+# `printf %s alphakey00000001 | sha256sum`
+SHA256 = "ccaaf6d99f2c8ac7d9c4a0277e323db4465bf5929f8262e063c9229ab93cb24c"
 SERVE = ["serve", "--db", "served.db", "--stdin"]
 # all that a server may tell of orders, and two words that tell nothing
 OUTCOMES = "done name taken no-team no-key no-group device memory not-empty busy ended stopping bad".split()
@@ -41,6 +43,7 @@ ORDERS = (
     # no line can carry the group, so the command asks whether the team is there
     (["team-add", "--team", "alpha", "--group", "plat form"], b"team-add alpha ?\n", REPLIES),
     (["key-revoke", "--fingerprint", "ccaaf6d99f2c8ac7"], b"revoke-fingerprint ccaaf6d99f2c8ac7\n", REPLIES),
+    (["key-revoke", "--fingerprint", SHA256], f"revoke-fingerprint {SHA256}\n".encode(), REPLIES),
     (["copy", "--to", "one.db"], b"copy one.db\n", {"done", "device", "memory", "not-empty", "busy", "ended"}),
     (["stop"], b"stop\n", {"stopping", "device", "memory"}),
 )
@@ -131,7 +134,7 @@ def told_of(suite):
 
 def cut_lists(suite):
     """A list is whole only with its last line."""
-    listed = b"alpha publish ccaaf6d99f2c8ac7\n"
+    listed = f"alpha publish {SHA256[:16]} {SHA256}\n".encode()
     cut = (b"", listed, listed[:-1], b"a team undone\n", listed + b"done", listed + b"bad\n", b"bad\n", b"stopping\n")
     for told, ended in (
         *((it, (1, b"", "goshelf: io\n")) for it in cut),

@@ -212,7 +212,8 @@ def queries(suite, machine):
         )
     publishers = {"alpha": ALPHA, "beta": BETA, "common": COMMON, "gamma": MEMBER, "platform": GROUP}
     keys_of = [*((shelf, "publish", key) for shelf, key in publishers.items()), ("alpha", "read", READER)]
-    wanted = sorted(f"{shelf} {right} {hashlib.sha256(key.encode()).hexdigest()[:16]}" for shelf, right, key in keys_of)
+    sums = [hashlib.sha256(key.encode()).hexdigest() for _, _, key in keys_of]
+    wanted = sorted(f"{shelf} {right} {it[:16]} {it}" for (shelf, right, _), it in zip(keys_of, sums))
     wanted += ["alpha team", "beta team", "common common", "gamma team platform", "omega team", "platform group"]
     printed = machine.does(block("sh", "goshelf key-list")).splitlines()
     suite.equal("who has keys, and which shelves there are", [it for it in printed if it in wanted], wanted)

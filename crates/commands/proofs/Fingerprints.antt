@@ -1,12 +1,13 @@
--- How a fingerprint that no line can carry ends in each world.
+-- How a fingerprint or a SHA-256 that no line can carry ends in each world.
 use Rattle.std.proofs.Common.{◌≡◌, ℕ, List, [], ◌∷◌, Bool, true, false, Option, Result, Ok, Err, refl, ◌∙◌, sym, ap}
 use Rattle.std.proofs.Common.{subst, arith, None, inl}
-use Rattle.std.specs.Prelude.{codes, cond, filter}
+use Rattle.std.specs.Prelude.{◌||◌, bytes_eq, codes, cond, filter}
 use Rattle.std.specs.Cmp.Lexicographic.{bytes_decides}
-use Rattle.keyring.specs.KeyList.{fingerprint}
+use Rattle.keyring.specs.KeyList.{fingerprint, hex_digest}
 use Rattle.keyring.specs.Named.{keys_in}
 use Rattle.keyring.specs.Revoke.{has, only, revoked, revoked_with}
 use Rattle.keyring.proofs.FingerprintLemmas.{fingerprint_ascii, fingerprint_few, fingerprint_word}
+use Rattle.keyring.proofs.FingerprintLemmas.{hex_digest_ascii, hex_digest_few, hex_digest_word}
 use Rattle.world.specs.Lines.{in_order}
 use Rattle.world.specs.World.{World}
 use Rattle.control.specs.Asking.{AsksToRevoke}
@@ -20,24 +21,38 @@ use Rattle.commands.specs.SentOrder.{order_ending}
 use Rattle.commands.specs.declared.refusal.CommandRefusal.{CommandRefusal}
 use Rattle.commands.specs.declared.refusal.CommandRefusal.TheVariants.{NoKey}
 use Rattle.commands.specs.declared.sent_order.SentOrder.TheVariants as which
-use Rattle.commands.proofs.Sayable.{carried, word_fits}
+use Rattle.commands.proofs.Sayable.{Fits, carried, word_fits}
 
--- the fingerprint of a key has a line
-has_line : (k : List ℕ) → (sent : List ℕ) × IsNaming sent (fingerprint k)
-has_line k =
-    carried 18 16 0 (named_words (fingerprint k)) (word_fits 18 (codes "revoke-fingerprint") refl refl refl)
-    (record { says = fingerprint_word k; ascii = fingerprint_ascii k; few = fingerprint_few k }) tt (omega arith)
+-- a word of at most 64 bytes of ASCII has a line
+has_line : (word : List ℕ) → Fits 64 word → (sent : List ℕ) × IsNaming sent word
+has_line word fits =
+    carried 18 64 0 (named_words word) (word_fits 18 (codes "revoke-fingerprint") refl refl refl) fits tt (omega arith)
+
+-- so have the fingerprint of a key, and its SHA-256
+fingerprint_fits : (k : List ℕ) → Fits 64 (fingerprint k)
+fingerprint_fits k =
+    let few = fingerprint_few k in
+    record { says = fingerprint_word k; ascii = fingerprint_ascii k; few = omega (arith, few) }
+
+hex_digest_fits : (k : List ℕ) → Fits 64 (hex_digest k)
+hex_digest_fits k = record { says = hex_digest_word k; ascii = hex_digest_ascii k; few = hex_digest_few k }
 
 module _ (f : List ℕ) (unsaid : (sent : List ℕ) → ¬ IsNaming sent f) where
-  -- so no key has one that has none
-  no_key_has : (k : List ℕ) → has k f ≡ false
-  no_key_has k = go (has k f) refl
+  -- a word that has a line is no word that has none
+  differs : (word : List ℕ) → Fits 64 word → bytes_eq word f ≡ false
+  differs word fits = go (bytes_eq word f) refl
     where
-      go : (b : Bool) → has k f ≡ b → has k f ≡ false
+      go : (b : Bool) → bytes_eq word f ≡ b → bytes_eq word f ≡ false
       go false is = is
       go true is =
-          let it = has_line k in
-          absurd (unsaid it.0 (subst (IsNaming it.0) ((bytes_decides (fingerprint k) f).0 is) it.1))
+          let it = has_line word fits in
+          absurd (unsaid it.0 (subst (IsNaming it.0) ((bytes_decides word f).0 is) it.1))
+
+  -- so no key has one that has none
+  no_key_has : (k : List ℕ) → has k f ≡ false
+  no_key_has k =
+      ap (λ b. b || bytes_eq (hex_digest k) f) (differs (fingerprint k) (fingerprint_fits k))
+      ∙ differs (hex_digest k) (hex_digest_fits k)
 
   none_of : (ks : List (List ℕ)) → filter (λ k. has k f) ks ≡ []
   none_of [] = refl

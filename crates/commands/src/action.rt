@@ -35,7 +35,7 @@ pub enum Action<'a> {
         shelf: &'a str,
         right: Right,
     },
-    /// `key-revoke --fingerprint X`: revokes the key that has a fingerprint.
+    /// `key-revoke --fingerprint X`: revokes the key that has a fingerprint or a SHA-256.
     RevokeNamed {
         fingerprint: &'a str,
     },

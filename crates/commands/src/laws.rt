@@ -31,8 +31,9 @@ pub fn orders_end_as_on_the_store<S: Shelves, K: CopyOrders<S>>()
 {}
 
 /// `key-revoke --fingerprint` with `--control`, whose line a `serve` carried out and whose outcome came, ends as it
-/// does on the store of a file: the key that has the fingerprint in the world that the store stood for is revoked, or
-/// it ends with `no-key` if no key has it or several have; or by a fault of the store, which changes nothing.
+/// does on the store of a file: the key that has the fingerprint, or the SHA-256, in the world that the store stood for
+/// is revoked, or it ends with `no-key` if no key has it or several have; or by a fault of the store, which changes
+/// nothing.
 pub fn revocations_end_as_on_the_store<S: Shelves, K: CopyOrders<S>>()
     ensures { (old new : S) (copies copies_new : K) (tally : Tally) → RevokesAsOnTheStore (K.made old new)
         (IsPinged tally (S.shown old).failures (S.shown new).failures (K.counted old new))

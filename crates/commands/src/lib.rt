@@ -4,7 +4,7 @@
 //! |---|---|---|
 //! | `team-add`, `group-add`, `key-add`, `key-revoke` | does one registry command, as the machine does | [`registry`] |
 //! | `key-add --new` | makes a key of random bytes, adds it, and prints it | [`new_key`], [`random_bytes`] |
-//! | `key-revoke --fingerprint` | revokes the key that has a fingerprint | [`registry`] |
+//! | `key-revoke --fingerprint` | revokes the key that has a fingerprint or a SHA-256 | [`registry`] |
 //! | `publish` | asks the machine to publish two files, and prints the line of its outcome | [`publish`] |
 //! | `import` | asks the machine to publish each row of a list, with a line for each | [`import`], [`import_file`] |
 //! | `inventory` | prints what a shelf sees | [`report`], [`inventory`] |

@@ -115,9 +115,9 @@ fn refusal_by(keeps: bool, refusal: CommandRefusal) -> CommandRefusal
     if keeps { refusal } else { CommandRefusal::Name }
 }
 
-/// Has the `serve` that listens at a socket revoke the key that has a fingerprint, and ends as the same command does on
-/// the store of a file. `NoKey` if no key has it or several have, or no line can carry it. Fails as `order_at` does
-/// otherwise.
+/// Has the `serve` that listens at a socket revoke the key that has a fingerprint or a SHA-256, and ends as the same
+/// command does on the store of a file. `NoKey` if no key has it or several have, or no line can carry it. Fails as
+/// `order_at` does otherwise.
 pub fn revoke_at(rt: &HostRuntime, path: &str, fingerprint: &str) -> Result<(), CommandRefusal>
     ensures { spec.RevokesThere fingerprint.now result }
 {
@@ -135,9 +135,9 @@ pub fn revoke_at(rt: &HostRuntime, path: &str, fingerprint: &str) -> Result<(), 
     }
 }
 
-/// Writes the line that revokes the key of a fingerprint, reads the line of its outcome, and ends by it as the same
-/// command does on the store of a file. A fingerprint that no line can carry is no key's: the command ends with
-/// `NoKey`, and nothing is sent. Fails as `revoke_at` does once it is connected.
+/// Writes the line that revokes the key of a fingerprint or a SHA-256, reads the line of its outcome, and ends by it as
+/// the same command does on the store of a file. What no line can carry is no key's: the command ends with `NoKey`, and
+/// nothing is sent. Fails as `revoke_at` does once it is connected.
 pub fn revoke_over<R: Hear, W: Tell>(
     alloc: Global,
     reader: &mut R,

@@ -21,8 +21,8 @@ pub fn register<S: Shelves>(
     ending(told)
 }
 
-/// Revokes the key that has a fingerprint. Fails with `NoKey` if no key has it or several have, and with a fault of the
-/// store, and then changes nothing.
+/// Revokes the key that has a fingerprint or a SHA-256. Fails with `NoKey` if no key has it or several have, and with a
+/// fault of the store, and then changes nothing.
 pub fn revoke_named<S: Keyring>(
     alloc: Global,
     shelves: &mut S,

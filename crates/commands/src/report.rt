@@ -83,9 +83,9 @@ pub fn print_requirements<S: Shelves, O: Tell>(
     print(requirements_ending(told), output)
 }
 
-/// Prints a line for each key, in byte order, and returns true: the shelf, what the key may do, and its fingerprint.
-/// `Device` or `Memory` if the store meets a fault: then nothing is printed. `Io` if the output fails: then a beginning
-/// of the lines is printed, or all of them.
+/// Prints a line for each key, in byte order, and returns true: the shelf, what the key may do, its fingerprint and its
+/// SHA-256. `Device` or `Memory` if the store meets a fault: then nothing is printed. `Io` if the output fails: then a
+/// beginning of the lines is printed, or all of them.
 pub fn print_keys<S: Keyring, O: Tell>(
     alloc: Global,
     shelves: &mut S,

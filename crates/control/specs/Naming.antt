@@ -1,4 +1,4 @@
--- A key that an operator names by its fingerprint, to revoke it.
+-- A key that an operator names by its fingerprint or its SHA-256, to revoke it.
 use Rattle.std.specs.Prelude.{ℕ, ◌≡◌, List, [], ◌∷◌, Option, Some, None, Result, Ok, Err}
 use Rattle.std.specs.Borrow.{Bor}
 use Rattle.keyring.specs.Named.{keys_in}

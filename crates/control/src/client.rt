@@ -64,7 +64,7 @@ pub fn has_copy_line(path: &str) -> bool
     is_sayable(&two_words("copy", path), LONGEST_COPY)
 }
 
-/// Whether [`ask_to_revoke`] can send a fingerprint.
+/// Whether [`ask_to_revoke`] can send a fingerprint or a SHA-256.
 pub fn has_naming_line(fingerprint: &str) -> bool
     ensures { MatchBool result (IsSayable longest (named_words fingerprint.now))
         (IsUnsaid longest (named_words fingerprint.now)) }
@@ -114,11 +114,11 @@ pub fn ask_to_copy<R: Hear, W: Tell>(
     send(alloc, reader, writer, &line)
 }
 
-/// Orders to revoke the key that has a fingerprint, and returns the outcome: that of `RegistryReply::NoKey` if no key
-/// has it or several have.
+/// Orders to revoke the key that has a fingerprint or a SHA-256, and returns the outcome: that of
+/// `RegistryReply::NoKey` if no key has it or several have.
 ///
-/// `Untold::Words`: no line can carry the fingerprint, and so no key has it. `Untold::Memory`: memory ran out for the
-/// line. In both cases nothing was sent. `Untold::Io`: the line was not sent whole, or no outcome was read.
+/// `Untold::Words`: no line can carry it, and so no key has it. `Untold::Memory`: memory ran out for the line. In both
+/// cases nothing was sent. `Untold::Io`: the line was not sent whole, or no outcome was read.
 pub fn ask_to_revoke<R: Hear, W: Tell>(
     alloc: Global,
     reader: &mut R,
@@ -227,7 +227,7 @@ fn copy_to_send(alloc: Global, path: &str) -> Result<Vec<u8>, Untold>
     line_saying(alloc, &words, LONGEST_COPY)
 }
 
-/// The line that orders to revoke the key with a fingerprint, with its end.
+/// The line that orders to revoke the key with a fingerprint or a SHA-256, with its end.
 fn naming_to_send(alloc: Global, fingerprint: &str) -> Result<Vec<u8>, Untold>
     ensures ok { IfOk result (λ line. IsNaming line.items fingerprint.now) }
     ensures err { IfErr result (λ why. IsUnwritten longest (named_words fingerprint.now) why) }

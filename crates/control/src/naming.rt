@@ -1,4 +1,4 @@
-//! A key that an operator names by its fingerprint, since whoever revokes a key need not have it.
+//! A key that an operator names by its fingerprint or its SHA-256, since whoever revokes a key need not have it.
 ghost use Rattle.control.specs.Naming.{RevokesNamed};
 
 use crate::carry::carry_out_in;
@@ -10,9 +10,9 @@ use keyring::revoke::key_with;
 use std::alloc::Global;
 use world::registry::RegistryReply;
 
-/// Looks up the key that has a fingerprint, carries out the registry command that revokes it, with the reserve if that
-/// needs room, and returns the outcome: that of `RegistryReply::NoKey` if no key has the fingerprint or several have,
-/// and `Outcome::Failed` if the store meets a fault or memory runs out.
+/// Looks up the key that has a fingerprint or a SHA-256, carries out the registry command that revokes it, with the
+/// reserve if that needs room, and returns the outcome: that of `RegistryReply::NoKey` if no key has it or several
+/// have, and `Outcome::Failed` if the store meets a fault or memory runs out.
 pub(crate) fn revoke_named<S: Keyring, R: Reserve<S>>(
     alloc: Global,
     shelves: &mut S,

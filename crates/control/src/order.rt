@@ -20,7 +20,7 @@ pub enum Order<'a> {
     Copy(&'a str),
     /// `key-list` or `shelf-list`: a list.
     List(Listing),
-    /// `revoke-fingerprint X`: the end of the only key with a fingerprint.
+    /// `revoke-fingerprint X`: the end of the only key with a fingerprint, or with a SHA-256.
     RevokeNamed(&'a str),
     /// A registry command: a change of the store.
     Registry(RegistryCommand<'a>),

@@ -19,13 +19,19 @@ use Rattle.world.specs.declared.registry.StoreFault.TheVariants.{Memory}
 abbrev pub fingerprint : List ℕ → List ℕ
 fingerprint k = encode_lower (take 8 (sha256 k))
 
+-- the SHA-256 of a key, as 64 hexadecimal digits
+abbrev pub hex_digest : List ℕ → List ℕ
+hex_digest k = encode_lower (sha256 k)
+
 abbrev pub right_word : Right → List ℕ
 right_word MayRead = codes "read"
 right_word Publishes = codes "publish"
 
 -- the line of a key, with its end
 abbrev pub key_line : List ℕ → Holder → List ℕ
-key_line k h = h.shelf ++ (codes " " ++ (right_word h.right ++ (codes " " ++ (fingerprint k ++ codes "\n"))))
+key_line k h =
+    h.shelf ++ (codes " " ++ (right_word h.right
+    ++ (codes " " ++ (fingerprint k ++ (codes " " ++ (hex_digest k ++ codes "\n"))))))
 
 -- the line of a key by its holder, or none if it has none
 abbrev pub lines_of : List ℕ → Option Holder → List (List ℕ)

@@ -1,4 +1,5 @@
-//! The list of keys: whose each is, and what it may do. It shows no key, but a fingerprint, by which one can be named.
+//! The list of keys: whose each is, and what it may do. It shows no key, but its fingerprint and its SHA-256: either
+//! names it.
 ghost use Rattle.std.specs.Prelude.{◌≡◌, [], ◌∷◌, ◌++◌, IfOk, OnOk, string_bytes};
 ghost use Rattle.std.specs.FinMap as map;
 ghost use Rattle.keyring.specs.KeyList as spec;
@@ -12,11 +13,11 @@ use world::bytes::Bytes;
 use world::entry::{Holder, Right};
 use world::registry::StoreFault;
 
-/// How many bytes of its SHA-256 name a key. A fingerprint has two digits for each.
+/// How many bytes of the SHA-256 of a key are in its fingerprint, which has two digits for each.
 const FINGERPRINT_BYTES: usize = 8;
 
-/// Returns a line `SHELF read FINGERPRINT` or `SHELF publish FINGERPRINT` for each key, in byte order. Only the lines
-/// are held in memory. Fails if the store meets a fault or memory runs out.
+/// Returns a line `SHELF read FINGERPRINT SHA256` or `SHELF publish FINGERPRINT SHA256` for each key, in byte order.
+/// Only the lines are held in memory. Fails if the store meets a fault or memory runs out.
 pub fn list_keys<S: Keyring>(alloc: Global, shelves: &mut S) -> Result<Bytes, StoreFault>
     ensures { spec.ListsKeys (S.shown shelves.old) (S.shown shelves.new) result }
 {
@@ -31,6 +32,14 @@ pub fn fingerprint(alloc: Global, key: &str) -> Result<String, AllocError>
 {
     let digest = Sha256::digest(key.as_bytes());
     hex::encode(alloc, &digest.as_slice()[..FINGERPRINT_BYTES])
+}
+
+/// Returns the 64 hexadecimal digits of the SHA-256 of a key. Fails only if memory runs out.
+pub fn hex_digest(alloc: Global, key: &str) -> Result<String, AllocError>
+    ensures value { IfOk result (λ text. string_bytes text ≡ spec.hex_digest key.now) }
+{
+    let digest = Sha256::digest(key.as_bytes());
+    hex::encode(alloc, digest.as_slice())
 }
 
 /// Adds the lines of all keys.
@@ -78,11 +87,14 @@ fn key_line(alloc: Global, key: &str, holder: &Holder) -> Result<Text, AllocErro
     ensures value { IfOk result (λ line. line ≡ spec.key_line key.now holder.now) }
 {
     let fingerprint = fingerprint(alloc, key)?;
+    let digest = hex_digest(alloc, key)?;
     let mut line = String::from_str(alloc, holder.shelf.as_str())?;
     line.push_str(" ")?;
     line.push_str(right_word(holder.right))?;
     line.push_str(" ")?;
     line.push_str(fingerprint.as_str())?;
+    line.push_str(" ")?;
+    line.push_str(digest.as_str())?;
     line.push_str("\n")?;
     Ok(Text::new(line))
 }

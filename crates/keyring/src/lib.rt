@@ -5,7 +5,7 @@
 //!
 //! - [`key_list`]: a line for each key, which shows the digest of the key in its place.
 //! - [`shelf_list`]: a line for each shelf.
-//! - [`revoke`]: takes a key away by its fingerprint.
+//! - [`revoke`]: takes a key away by its fingerprint or its SHA-256.
 //! - [`made`]: makes a key of random bytes.
 #![tactic(auto)]
 

@@ -99,7 +99,7 @@ pub trait Host<S, C>: ActionHost<S> + FileChecks {
     ) -> Result<(), CommandRefusal>
         ensures { OrdersNew shelf.entry right (O.contents output.old) (O.contents output.new) result };
 
-    /// Has a running `serve` revoke the key with a fingerprint. Fails as [`revoke_at`] does.
+    /// Has a running `serve` revoke the key with a fingerprint or a SHA-256. Fails as [`revoke_at`] does.
     fn revoke(&mut self, control: &str, fingerprint: &str) -> Result<(), CommandRefusal>
         ensures { RevokesThere fingerprint.now result };
 

@@ -9,7 +9,7 @@
 //! | [`Command::Migrate`] | opens the store of a file and puts what a file of an older schema has into it |
 //! | [`Command::Order`] | opens no store, and sends an order to the `serve` that has one open |
 //! | [`Command::OrderNew`] | opens no store, makes a key, prints it, and sends an order to add it |
-//! | [`Command::OrderNamed`] | opens no store, and sends the order that revokes the key with a fingerprint |
+//! | [`Command::OrderNamed`] | opens no store, and sends the order to revoke the key with a fingerprint or SHA-256 |
 //! | [`Command::Copy`] | opens no store, and has the `serve` that has one open copy it into another file |
 //! | [`Command::Ping`] | opens no store, asks the `serve` that has one open for its health, and prints it |
 //! | [`Command::List`] | opens no store, asks the `serve` that has one open for a list, and prints it |
@@ -95,7 +95,7 @@ pub enum Command<'a> {
         right: Right,
     },
     /// `key-revoke --control S --fingerprint X`: orders the `serve` that listens at the socket S to revoke the key with
-    /// a fingerprint.
+    /// a fingerprint or a SHA-256.
     OrderNamed {
         control: &'a str,
         fingerprint: &'a str,

@@ -45,6 +45,12 @@ key-add alpha alphakey00000001|done
 revoke-fingerprint ccaaf6d99f2c8ac|no-key
 revoke-fingerprint ccaaf6d99f2c8ac7|done
 revoke-fingerprint ccaaf6d99f2c8ac7|no-key
+key-add alpha alphakey00000001|done
+revoke-fingerprint ccaaf6d99f2c8ac7d9c4a0277e323db4465bf5929f8262e063c9229ab93cb24|no-key
+revoke-fingerprint CCAAF6D99F2C8AC7D9C4A0277E323DB4465BF5929F8262E063C9229AB93CB24C|no-key
+revoke-fingerprint ccaaf6d99f2c8ac7000000000000000000000000000000000000000000000000|no-key
+revoke-fingerprint ccaaf6d99f2c8ac7d9c4a0277e323db4465bf5929f8262e063c9229ab93cb24c|done
+revoke-fingerprint ccaaf6d99f2c8ac7d9c4a0277e323db4465bf5929f8262e063c9229ab93cb24c|no-key
 revoke-fingerprint|bad
 revoke-fingerprint ccaaf6d99f2c8ac7 more|bad
 copy /var/backups/one.db|done

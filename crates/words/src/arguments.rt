@@ -63,7 +63,7 @@ static STORE_COMMANDS: [CommandRow; 12] = [
     },
     CommandRow {
         name: "key-list",
-        about: "Prints a line for each key: its shelf, what it may do, and its fingerprint",
+        about: "Prints a line for each key: its shelf, what it may do, its fingerprint and its SHA-256",
         options: &KEY_LIST,
         forms: Some(KEY_LIST_FORMS),
         example: "",

@@ -128,7 +128,7 @@ pub(crate) const KEY_REVOKE: [OptionRow; 6] = [
         name: "fingerprint",
         value: Value::Text("X"),
         is_required: false,
-        help: "In place of --key, the fingerprint of the key, as key-list prints it",
+        help: "In place of --key, the fingerprint or the SHA-256 of the key, as key-list prints them",
     },
     OptionRow {
         name: "shelf",

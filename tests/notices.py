@@ -9,6 +9,7 @@ error that takes nothing changes nothing else.
 import hashlib
 import os
 import re
+import signal
 import sys
 import time
 import unicodedata
@@ -177,6 +178,26 @@ def unheard(suite):
     suite.equal("and the end", (server.order(b"stop\n"), server.child.wait(60)), (b"stopping\n", 0))
 
 
+def gone(suite):
+    """An operator who has left before it is told how its order ended: what was done is told, and no catalog is done."""
+    new_store("served.db", ("alpha", KEY))
+    server, wanted = served(), ["opened: served.db: 0 versions"]
+    for sent, told in (
+        ("catalog A", "order: catalog #A: ended"),
+        ("catalog N", "order: catalog #N: ended"),
+        ("key-add alpha R", "order: key-add alpha #R: done"),
+    ):
+        server.child.send_signal(signal.SIGSTOP)
+        with server.operator() as held:
+            held.sendall(" ".join(KEYS.get(word, word) for word in sent.split(" ")).encode() + b"\n")
+        server.child.send_signal(signal.SIGCONT)
+        wanted.append(re.sub(r"#(\w+)", fingerprint, told))
+        suite.equal(f"{sent!r} of an operator who has gone: what is told", line_at(len(wanted) - 1), wanted[-1:])
+    suite.equal("the next catalog", server.order(f"catalog {KEY}\n".encode()), b"done\n")
+    suite.equal("is told as done", line_at(len(wanted)), [f"order: catalog {fingerprint(['', 'A'])}: done"])
+    suite.equal("and the end", (server.order(b"stop\n"), server.child.wait(60)), (b"stopping\n", 0))
+
+
 def faults(suite):
     """A fault is told with what it met, and the same fault once a minute at most."""
     os.mkdir("small")
@@ -205,4 +226,4 @@ def faults(suite):
 
 
 if __name__ == "__main__":
-    sys.exit(in_new_folders(Suite(), orders, hidden, plain, unheard, faults))
+    sys.exit(in_new_folders(Suite(), orders, hidden, plain, unheard, gone, faults))

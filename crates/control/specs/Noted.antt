@@ -1,5 +1,5 @@
 -- What is noted of a store that is served.
-use Rattle.std.specs.Prelude.{◌≡◌, Bool, true, false, Option, None, IfSome, Result, Ok, Err}
+use Rattle.std.specs.Prelude.{◌≡◌, Bool, true, false, Option, Some, None, IfSome, Result, Ok, Err}
 use Rattle.engine.specs.declared.fault.Io.{Io}
 use Rattle.world.specs.declared.registry.StoreFault.{StoreFault}
 use Rattle.control.specs.Notices.{Answer, Answered, Met, Occasion, Ordered, line_of}
@@ -27,7 +27,14 @@ NotesPublish false asked result old new = NotesFault asked result old new
 abbrev pub NotesCommand : RegistryCommand → Answer → Option Notice → Type 0
 NotesCommand command answer new = IsAbout (Ordered command answer) new
 
--- A notice that is there stays. If there is none, one is made about an outcome that an operator was told.
-abbrev pub NotesTold : Result Told Io → Option Notice → Option Notice → Type 0
-NotesTold (Ok (told.Outcome outcome)) None new = IsAbout (Answered outcome) new
-NotesTold other old new = new ≡ old
+-- a notice that is there gives way to the one for an operator who was not told how its catalog ended, if there is that
+abbrev pub NotesCut : Option Notice → Option Notice → Option Notice → Type 0
+NotesCut (Some cut) old new = new ≡ Some cut
+NotesCut None old new = new ≡ old
+
+-- A notice that is there stays, unless an operator was not told how its catalog ended. If there is none, one is made
+-- about an outcome that an operator was told.
+abbrev pub NotesTold : Result Told Io → Option Notice → Option Notice → Option Notice → Type 0
+NotesTold (Err why) cut old new = NotesCut cut old new
+NotesTold (Ok (told.Outcome outcome)) cut None new = IsAbout (Answered outcome) new
+NotesTold other cut old new = new ≡ old

@@ -1,10 +1,11 @@
 //! A store that is served, with what has to be said of it.
-ghost use Rattle.std.specs.Prelude.{◌≡◌, None, option_copied};
+ghost use Rattle.std.specs.Prelude.{◌≡◌, Err, IfNone, None, option_copied};
 ghost use Rattle.std.specs.FinMap as map;
 ghost use Rattle.control.specs.Figures.{TellsKept};
-ghost use Rattle.control.specs.Noted.{IsAbout, NotesCommand, NotesFault, NotesPublish, NotesTold};
+ghost use Rattle.control.specs.Noted.{IsAbout, NotesCommand, NotesCut, NotesFault, NotesPublish, NotesTold};
 ghost use Rattle.control.specs.Notices.{Catalogued, Copied};
 ghost use Rattle.control.specs.Traffic.{CountsIf, was_found, was_published};
+ghost use Rattle.control.specs.declared.copies.CatalogRefusal.TheVariants as catalog;
 ghost use Rattle.control.specs.declared.errand.Errand.TheVariants as errand;
 ghost use Rattle.control.specs.declared.registry_command.RegistryCommand.TheVariants as command;
 ghost use Rattle.modver.specs.SemanticVersion.{version_text};
@@ -58,6 +59,8 @@ pub(crate) struct Watched<'a, N: Loan, S: Shelves> {
     alloc: Global,
     pub(crate) inner: &'a mut S,
     notice: Option<Notice>,
+    /// What replaces the notice of a catalog if the operator is not told how that ended.
+    if_cut: Option<Notice>,
     pub(crate) traffic: Traffic,
     /// When the last copy was made, if one was and the time could be read then.
     pub(crate) copied: Option<TimeText>,
@@ -76,11 +79,13 @@ impl<'a, N: Loan, S: Shelves> Watched<'a, N, S> {
         ensures counts { result.traffic.shelves ≡ map.empty }
         ensures copied { result.copied ≡ None }
         ensures unnoted { result.notice ≡ None }
+        ensures uncut { result.if_cut ≡ None }
     {
         Watched {
             alloc,
             inner,
             notice: None,
+            if_cut: None,
             traffic: Traffic::new(alloc),
             copied: None,
             is_held: false,
@@ -102,22 +107,39 @@ impl<'a, N: Loan, S: Shelves> Watched<'a, N, S> {
         ensures counts { self.new.traffic ≡ self.old.traffic }
         ensures value { result ≡ self.old.notice }
         ensures forgets { self.new.notice ≡ None }
+        ensures forgets_cut { self.new.if_cut ≡ None }
     {
+        self.if_cut = None;
         self.notice.take()
     }
 
-    /// Notes what an operator was told, unless the order that did it is noted. A list and the line of a ping are not
-    /// noted: they change nothing.
+    /// Notes what an operator was told, unless the order that did it is noted. Of a catalog whose operator was not told
+    /// how it ended, it notes that. A list and the line of a ping are not noted: they change nothing.
     pub(crate) fn note_told(&mut self, told: &Result<Told, Io>)
         ensures same { self.new.inner ≡ self.old.inner }
         ensures counts { self.new.traffic ≡ self.old.traffic }
-        ensures noted { NotesTold told.now self.old.notice self.new.notice }
+        ensures noted { NotesTold told.now self.old.if_cut self.old.notice self.new.notice }
     {
+        if told.is_err() {
+            self.note_cut();
+            return;
+        }
         if self.notice.is_some() {
             return;
         }
         if let Ok(Told::Outcome(outcome)) = told {
             self.notice = answered(self.alloc, *outcome).ok();
+        }
+    }
+
+    /// Notes that an operator was not told how its catalog ended, if it asked for one.
+    fn note_cut(&mut self)
+        ensures same { self.new.inner ≡ self.old.inner }
+        ensures counts { self.new.traffic ≡ self.old.traffic }
+        ensures noted { NotesCut self.old.if_cut self.old.notice self.new.notice }
+    {
+        if let Some(notice) = self.if_cut.take() {
+            self.notice = Some(notice);
         }
     }
 
@@ -151,14 +173,22 @@ impl<'a, N: Loan, S: Shelves> Watched<'a, N, S> {
         self.notice = copied(self.alloc, path, told).ok();
     }
 
-    /// Notes a catalog that was asked for.
+    /// Notes a catalog that was asked for, and what to note in its place if the operator is not told how it ended.
     pub(crate) fn note_catalog(&mut self, key: &str, told: Result<(), CatalogRefusal>)
         ensures same { self.new.inner ≡ self.old.inner }
         ensures counts { self.new.traffic ≡ self.old.traffic }
         ensures time { self.new.copied ≡ self.old.copied }
         ensures noted { IsAbout (Catalogued key.now told) self.new.notice }
+        ensures cut { IsAbout (Catalogued key.now (Err catalog.Output)) self.new.if_cut }
+        // If memory ran out for that, there is no notice that it could replace.
+        ensures both { IfNone self.new.if_cut (self.new.notice ≡ None) }
     {
-        self.notice = catalogued(self.alloc, key, told).ok();
+        self.notice = None;
+        self.if_cut = None;
+        if let Ok(cut) = catalogued(self.alloc, key, Err(CatalogRefusal::Output)) {
+            self.if_cut = Some(cut);
+            self.notice = catalogued(self.alloc, key, told).ok();
+        }
     }
 
     /// Notes when a copy was made, if the time could be read.

@@ -5,6 +5,8 @@ import os
 import subprocess
 import tarfile
 import tempfile
+from collections.abc import Callable, Iterator
+from typing import Protocol, TypeVar
 
 
 def mounted(at, size):
@@ -31,6 +33,32 @@ def unpack(archive, folder):
     """Unpacks an open archive of a suite's own into a folder. The Python of Debian 12 knows no filter for that."""
     archive.extraction_filter = getattr(tarfile, "tar_filter", None)
     archive.extractall(folder)
+
+
+@contextlib.contextmanager
+def entered_folder() -> Iterator[str]:
+    """Makes a folder, goes into it, and removes it in the end. Its path is short, as a socket's has to be."""
+    with tempfile.TemporaryDirectory(prefix="goshelf-") as folder:
+        os.chmod(folder, 0o755)
+        with contextlib.chdir(folder):
+            yield folder
+
+
+class Closable(Protocol):
+    def close(self) -> None:
+        ...
+
+
+C = TypeVar("C", bound=Closable)
+
+
+@contextlib.contextmanager
+def opened(make: Callable[[str], C]) -> Iterator[C]:
+    """Makes a thing in a new folder, and closes it in the end: a machine, a company."""
+    with tempfile.TemporaryDirectory(prefix="goshelf-") as folder:
+        os.chmod(folder, 0o755)
+        with contextlib.closing(make(folder)) as made:
+            yield made
 
 
 def in_new_folders(suite, *parts):

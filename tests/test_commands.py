@@ -1,24 +1,23 @@
-#!/usr/bin/env python3
-"""What each command prints and how it ends: runs on one store, inventories, and where `serve` listens.
-
-A table holds runs, which are made in order, as `runs_of` of lib/program.py reads them. Each run is to end with its
-status, print its lines, byte for byte, and say its word or nothing on standard error.
-"""
+"""What each command prints and how it ends: runs on one store, inventories, and where `serve` listens."""
 
 import os
 import re
 import socket
-import sys
+from collections.abc import Callable, Iterator
+
+import pytest
 
 from lib.messages import get, reply
 from lib.peers import exchanged
 from lib.program import ROOT, run
-from lib.scratch import in_new_folders, read, write
+from lib.runs import Story, number_runs, read_runs
+from lib.scratch import entered_folder, read, write
 from lib.servers import Server
-from lib.suite import Suite
+from lib.stores import new_store
 
 LIB_FILES = {"go.mod": "module example.com/lib\n", "zip": "", "long.mod": b" " * 1_048_577}
-LIB = """
+LIB = read_runs(
+    """
 init --db store.db | 0
 init --db store.db | 1 not-empty
 team-add --db store.db --team common | 1 name
@@ -64,6 +63,7 @@ answer --db store.db < A example.com/lib/@v/v1.0.0.mod | 0
     404 not found
 init --db store.db | 1 not-empty
 """
+)
 SEEN_FILES = {
     "x.mod": "module example.com/x\n",
     "y.mod": "module example.com/y\n",
@@ -73,7 +73,8 @@ SEEN_FILES = {
     "one": "X",
     "none": "",
 }
-SEEN = """
+SEEN = read_runs(
+    """
 team-add --db store.db --team alpha | 0
 team-add --db store.db --team beta | 0
 key-add --db store.db --shelf common --key C | 0
@@ -121,56 +122,72 @@ requires --db store.db --key N --module example.com/y --version v1.9.0 | 1 not-f
 requires --db store.db --key R --module example.com//y --version v1.9.0 | 1 not-found
 requires --db store.db --key R --module example.com/y --version 1.9.0 | 1 not-found
 """
+)
 
 
-def one_store(suite):
-    write(LIB_FILES)
-    suite.runs("runs on one store", LIB)
+@pytest.fixture(scope="module")
+def one_store() -> Iterator[Story]:
+    with entered_folder() as folder:
+        write(LIB_FILES)
+        yield Story(LIB, folder)
 
 
-def seen(suite):
-    write(SEEN_FILES)
-    suite.runs("what a shelf sees", SEEN)
+@pytest.mark.parametrize(**number_runs(LIB))
+def test_run_on_one_store(one_store: Story, number: int) -> None:
+    assert one_store.ending(number) == LIB[number].wanted
 
 
-def quick_start(suite):
-    """The README's first command writes what the README says."""
-    page = read(os.path.join(ROOT, "README.md")).decode()
-    words, stream = re.search(r"^\./goshelf --unproved (answer .*) < (\S+)$", page, re.M).groups()
-    replies = read(os.path.join(ROOT, re.search(r"bytes of `(\S+)`", page)[1]))
-    suite.equal("the README's first command", run(words.split(), read(os.path.join(ROOT, stream))), (0, replies, ""))
-    suite.equal("the README counts its bytes", int(re.search(r"writes the (\d+)\s+bytes", page)[1]), len(replies))
+@pytest.fixture(scope="module")
+def seen() -> Iterator[Story]:
+    with entered_folder() as folder:
+        write(SEEN_FILES)
+        yield Story(SEEN, folder)
 
 
-def serve(suite):
-    suite.runs("a new store", "init --db store.db | 0")
-    status, output, told = run("serve --db store.db --port 0 --connections 0".split())
-    suite.equal("serve of no connections ends well", (status, told), (0, ""))
+@pytest.mark.parametrize(**number_runs(SEEN))
+def test_run_of_what_a_shelf_sees(seen: Story, number: int) -> None:
+    assert seen.ending(number) == SEEN[number].wanted
+
+
+@pytest.fixture(scope="module")
+def readme() -> str:
+    return read(os.path.join(ROOT, "README.md")).decode()
+
+
+@pytest.fixture(scope="module")
+def replies(readme: str) -> bytes:
+    return read(os.path.join(ROOT, re.search(r"bytes of `(\S+)`", readme)[1]))
+
+
+def test_first_command_of_the_readme(readme: str, replies: bytes) -> None:
+    words, stream = re.search(r"^\./goshelf --unproved (answer .*) < (\S+)$", readme, re.M).groups()
+    assert run(words.split(), read(os.path.join(ROOT, stream))) == (0, replies, "")
+
+
+def test_readme_counts_the_bytes(readme: str, replies: bytes) -> None:
+    assert int(re.search(r"writes the (\d+)\s+bytes", readme)[1]) == len(replies)
+
+
+def test_serve_of_no_connections_prints_its_port(folder: str) -> None:
+    new_store("store.db")
+    status, output, errors = run("serve --db store.db --port 0 --connections 0".split())
+    assert (status, errors) == (0, "")
     line = re.fullmatch(rb"listening on 127\.0\.0\.1:(\d+)\n", output)
-    suite.holds("serve of no connections prints its port", line and 0 < int(line[1]) < 65_536, output)
+    assert line and 0 < int(line[1]) < 65_536, output
+
+
+def test_serve_on_a_port_that_is_taken(folder: str) -> None:
+    new_store("store.db")
     with socket.create_server(("127.0.0.1", 0)) as taken:
         words = f"serve --db store.db --port {taken.getsockname()[1]} --connections 0"
-        suite.equal("serve on a port that is taken", run(words.split()), (1, b"", "goshelf: io\n"))
+        assert run(words.split()) == (1, b"", "goshelf: io\n")
 
 
-def told_at(address, port, request):
-    """What is answered to a request at an address and a port, or `refused`."""
-    try:
-        return exchanged(port, request, address)
-    except ConnectionRefusedError:
-        return "refused"
-
-
-def address(suite):
-    suite.runs("a new store", "init --db store.db | 0")
-    server = Server("store.db", None, "--connections", "1")
+def test_serve_listens_at_one_address(folder: str, serve: Callable[..., Server]) -> None:
+    new_store("store.db")
+    server = serve("store.db", None, "--connections", "1")
     request = get("example.com/lib/@v/list")
-    suite.equal(
-        "serve does not listen at another address of the machine", told_at("127.0.0.2", server.port, request), "refused"
-    )
-    suite.equal("serve answers at 127.0.0.1", told_at("127.0.0.1", server.port, request), reply(404, b"not found\n"))
-    suite.equal("serve of one connection ends well", server.child.wait(60), 0)
-
-
-if __name__ == "__main__":
-    sys.exit(in_new_folders(Suite(), quick_start, one_store, seen, serve, address))
+    with pytest.raises(ConnectionRefusedError):
+        exchanged(server.port, request, "127.0.0.2")
+    assert exchanged(server.port, request, "127.0.0.1") == reply(404, b"not found\n")
+    assert server.child.wait(60) == 0

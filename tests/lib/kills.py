@@ -1,6 +1,8 @@
 """Publishes that are killed: versions whose number tells their bytes, and whether a store kept them."""
 
+import os
 import random
+import subprocess
 import threading
 import time
 
@@ -12,37 +14,48 @@ MODULE = "example.com/kills"
 SIZES = [0, 1, 300, 5_000, 30_000, 150_000]
 # versions on one store: each opening reads all of it
 MOST = 150
+# the random moments of a run; GOSHELF_SEED repeats them
+SEED = int(os.environ.get("GOSHELF_SEED") or time.time_ns() % 10**9)
+RANDOM = random.Random(SEED)
 
 
-def files_of(number):
-    """The go.mod and the zip of the version of a number; they tell it."""
+def print_seed() -> None:
+    """Prints how to repeat the random moments of this run; pytest shows it where a test fails."""
+    print(f"GOSHELF_SEED={SEED} repeats this")
+
+
+def files_of(number: int) -> tuple[bytes, bytes]:
+    """Returns the go.mod and the zip of the version of a number; they tell it."""
     gomod = f"module {MODULE}\n\nrequire example.com/other v1.{number}.0\n".encode()
     return gomod, random.Random(number).randbytes(SIZES[number % len(SIZES)])
 
 
-def publish(number, key=KEY):
+def publish(number: int, key: str = KEY) -> bytes:
+    """Returns the request that publishes the version of a number."""
     return put(MODULE, f"v1.{number}.0", *files_of(number), key)
 
 
-def fetch(number, kind, key=KEY):
+def fetch(number: int, kind: str, key: str = KEY) -> bytes:
+    """Returns the request for a file of the version of a number."""
     return get(f"{MODULE}/@v/v1.{number}.0.{kind}", key)
 
 
-def kill_after(child, wait):
+def kill_after(child: subprocess.Popen, wait: float) -> threading.Timer:
+    """Kills a program after some seconds, unless the timer is cancelled."""
     timer = threading.Timer(wait, child.kill)
     timer.start()
     return timer
 
 
-def is_kept(store, acknowledged, underway):
+def is_kept(store: str, acknowledged: list[int], underway: list[int]) -> tuple[bool, str | None]:
     """Opens the store again. Returns whether the version underway is there, and what is wrong, or None."""
     asked = [*acknowledged, *underway]
-    status, written, told = run(
+    status, written, errors = run(
         ["answer", "--db", store], b"".join(fetch(number, kind) for number in asked for kind in ("mod", "zip"))
     )
     got = replies(written) if status == 0 else []
     if len(got) != 2 * len(asked):
-        return False, f"{len(got)} replies to {2 * len(asked)} requests, status {status}, {told}"
+        return False, f"{len(got)} replies to {2 * len(asked)} requests, status {status}, {errors}"
     pairs = dict(zip(asked, zip(got[::2], got[1::2])))
     whole = {number: tuple((200, part) for part in files_of(number)) for number in asked}
     for number in acknowledged:

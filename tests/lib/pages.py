@@ -9,20 +9,24 @@ from lib.program import ROOT
 OPERATORS = ("OPERATING.md", "NGINX.md", "TROUBLE.md")
 
 
-def read_page(name):
+def read_page(name: str) -> str:
+    """Returns the text of a page of docs/."""
     with open(os.path.join(ROOT, "docs", name), encoding="utf-8") as file:
         return file.read()
 
 
-def block(kind, first, *pages):
-    """The block of code of these pages, or of those for operators, by its kind and what stands in it."""
-    text = "".join(map(read_page, pages or OPERATORS))
-    found = [it for it in re.findall(rf"```{kind}\n(.*?)```", text, re.S) if first in it]
-    assert len(found) == 1, (kind, first, len(found))
+def block(kind: str, word: str, *pages: str) -> str:
+    """Returns the block of code of these pages of docs/ that has a word. Without pages, of those for operators."""
+    found = _find_blocks("".join(map(read_page, pages or OPERATORS)), kind, word)
+    assert len(found) == 1, (kind, word, len(found))
     return found[0]
 
 
-def blocks(page, kind, word=""):
-    """The blocks of code of a page, by their kind and a word that stands in them."""
+def blocks(page: str, kind: str, word: str = "") -> list[str]:
+    """Returns the blocks of code of a page that have a word. The page is named from the top of the repository."""
     with open(os.path.join(ROOT, page), encoding="utf-8") as file:
-        return [it for it in re.findall(rf"```{kind}\n(.*?)```", file.read(), re.S) if word in it]
+        return _find_blocks(file.read(), kind, word)
+
+
+def _find_blocks(text: str, kind: str, word: str) -> list[str]:
+    return [found for found in re.findall(rf"```{kind}\n(.*?)```", text, re.S) if word in found]

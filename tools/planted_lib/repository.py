@@ -15,17 +15,17 @@ class Unusable(Exception):
     """Why an edit, or a crate, cannot be tried."""
 
 
-def read(path):
-    with open(path, encoding="utf-8", errors="replace") as it:
-        return it.read()
+def read(path: str) -> str:
+    with open(path, encoding="utf-8", errors="replace") as file:
+        return file.read()
 
 
-def write(path, text):
-    with open(path, "w", encoding="utf-8") as it:
-        it.write(text)
+def write(path: str, text: str) -> None:
+    with open(path, "w", encoding="utf-8") as file:
+        file.write(text)
 
 
-def root_above(folder):
+def root_above(folder: str) -> str:
     """Returns the nearest folder at or above with a crates.txt."""
     while not os.path.isfile(f"{folder}/crates.txt"):
         if folder == os.path.dirname(folder):
@@ -38,7 +38,7 @@ ROOT = root_above(os.getcwd())
 
 
 @functools.lru_cache(maxsize=None)
-def kit():
+def kit() -> str:
     """Returns the name of the kit that checks would use, a line."""
     return subprocess.run([*RT, "version"], stdin=subprocess.DEVNULL, capture_output=True, text=True).stdout
 
@@ -49,21 +49,21 @@ class Crate:
 
     name: str
     line: str
-    below: list = field(default_factory=list)
+    below: "list[Crate]" = field(default_factory=list)
 
     @property
-    def folder(self):
+    def folder(self) -> str:
         return f"{ROOT}/crates/{self.name}"
 
-    def files(self):
+    def files(self) -> list[str]:
         """Returns the paths of the files that a check reads, within the crate's folder."""
         found = []
         for part in PARTS:
             for at, _, names in os.walk(f"{self.folder}/{part}"):
-                found += [os.path.relpath(f"{at}/{it}", self.folder) for it in names]
+                found += [os.path.relpath(f"{at}/{name}", self.folder) for name in names]
         return sorted(found)
 
-    def sum(self):
+    def sum(self) -> str:
         """Returns a sum of all that a check of the crate reads."""
         made = hashlib.sha256(kit().encode())
         for crate in [*self.below, self]:
@@ -73,16 +73,16 @@ class Crate:
         return made.hexdigest()
 
 
-def crates_of_repository():
+def crates_of_repository() -> dict[str, Crate]:
     """Returns the crates of crates.txt by name, each after those below it."""
-    rows = [it.partition("#")[0].strip() for it in read(f"{ROOT}/crates.txt").split("\n")]
-    rows = {it.partition(":")[0].split()[0]: it for it in rows if it}
-    found = {}
+    lines = [line.partition("#")[0].strip() for line in read(f"{ROOT}/crates.txt").split("\n")]
+    rows = {line.partition(":")[0].split()[0]: line for line in lines if line}
+    found: dict[str, Crate] = {}
 
-    def add(name):
+    def add(name: str) -> Crate:
         if name not in found:
-            uses = [add(it) for it in rows[name].partition(":")[2].split() if it in rows]
-            below = {low.name: low for it in uses for low in [*it.below, it]}
+            uses = [add(used) for used in rows[name].partition(":")[2].split() if used in rows]
+            below = {low.name: low for used in uses for low in [*used.below, used]}
             found[name] = Crate(name, rows[name], [*below.values()])
         return found[name]
 
@@ -91,12 +91,12 @@ def crates_of_repository():
     return found
 
 
-def changed_since(rev, crates):
+def changed_since(rev: str, crates: list[Crate]) -> list[Crate]:
     """Returns the crates whose folder, or that of a crate below, differs from the revision."""
-    touched = set()
+    touched: set[str] = set()
     for words in (["diff", "--name-only", rev, "--"], ["ls-files", "-o", "--exclude-standard"]):
         ran = subprocess.run(["git", "-C", ROOT, *words, "crates"], capture_output=True, text=True)
         if ran.returncode:
             sys.exit(f"{TOOL}: {ran.stderr.strip()}")
-        touched |= {it.split("/")[1] for it in ran.stdout.split("\n") if it.count("/") > 1}
-    return [it for it in crates if touched & {it.name, *[low.name for low in it.below]}]
+        touched |= {path.split("/")[1] for path in ran.stdout.split("\n") if path.count("/") > 1}
+    return [crate for crate in crates if touched & {crate.name, *[low.name for low in crate.below]}]

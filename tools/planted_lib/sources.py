@@ -1,4 +1,5 @@
 """The functions of a Rattle source: where they stand, and what rattle calls them."""
+import functools
 import re
 from dataclasses import dataclass
 
@@ -21,22 +22,36 @@ class Function:
     opens: int
     last: int
 
-    def is_at(self, names):
+    @property
+    def label(self) -> str:
+        """Its name in its file, as checks print it: `Type::name` or `TypeTrait::name` for a method."""
+        return f"{self.holder}::{self.name}" if self.holder else self.name
+
+    @property
+    def module(self) -> list[str]:
+        parts = self.path[len("src/") : -len(".rt")].split("/")
+        return [part for part in parts if part not in ("lib", "main", "mod")]
+
+    def name_in(self, crate: str) -> str:
+        """Returns the name by which rattle finds the function: whole, or of a method its end, because a method is named
+        by the module of its type, which may be another than that of its source."""
+        return self.label if self.holder else "::".join([crate, *self.module, self.name])
+
+    def is_at(self, names: list[str]) -> bool:
         """Returns whether rattle's name, without the crate's, is of this function or of a closure in it."""
         if self.holder:
-            # (a method is named by the module of its type, which may be another than that of its source)
-            before = next((at for at, it in enumerate(names) if it.partition("+")[0] == self.holder), len(names))
+            before = next((at for at, name in enumerate(names) if name.partition("+")[0] == self.holder), len(names))
             rest = names[before + 1 :]
         else:
-            module = [it for it in self.path[len("src/") : -len(".rt")].split("/") if it not in ("lib", "main", "mod")]
-            rest = names[len(module) :] if names[: len(module)] == module else []
+            rest = names[len(self.module) :] if names[: len(self.module)] == self.module else []
         return rest == [self.name] or rest[:2] == ["fn", self.name]
 
-    def holds(self, path, line):
+    def holds(self, path: str, line: int) -> bool:
         return path == self.path and self.first <= line <= self.last
 
 
-def functions_of(path, text):
+@functools.lru_cache(maxsize=None)
+def functions_of(path: str, text: str) -> tuple[Function, ...]:
     """Returns the outermost functions of a source that rt fmt has laid out."""
     lines, found, after = text.split("\n"), [], 0
     for at, line in enumerate(lines):
@@ -52,10 +67,18 @@ def functions_of(path, text):
             first -= 1
         found.append(Function(path, head[2], holder_of(lines, at, head[1]), first + 1, opens + 1, last + 1))
         after = last + 1
-    return found
+    return tuple(found)
 
 
-def body_of(lines, at, indent):
+def functions_named(path: str, text: str, name: str) -> list[Function]:
+    """Returns the functions of a source with this name: `name`, `Type::name`, or as checks print it."""
+    of_type, _, last = name.rpartition("::")
+    exact = [one for one in functions_of(path, text) if one.label == name]
+    some = [one for one in functions_of(path, text) if one.name == last]
+    return exact or [one for one in some if one.holder.startswith(of_type)]
+
+
+def body_of(lines: list[str], at: int, indent: str) -> tuple[int, int]:
     """Returns the rows that open and close the body of the function that begins at a row: what stands as deep as its
     head.
 
@@ -78,7 +101,7 @@ def body_of(lines, at, indent):
     raise Unusable(f"no end is found of {lines[at].strip()}")
 
 
-def holder_of(lines, at, indent):
+def holder_of(lines: list[str], at: int, indent: str) -> str:
     """Returns what rattle calls the impl or trait around a row: a type or a trait, or both as in MapShelvesShelves;
     else ''."""
     for row in range(at, -1, -1):
@@ -89,19 +112,19 @@ def holder_of(lines, at, indent):
     return ""
 
 
-def head_at(lines, row):
+def head_at(lines: list[str], row: int) -> str:
     """Returns the head that begins at a row without its bounds, in one line: that of an impl may stand on several."""
     last = row
     while lines[row].lstrip().startswith(("impl", "unsafe impl")) and "{" not in lines[last] and last + 1 < len(lines):
         last += 1
-    return " ".join(it.strip() for it in lines[row : last + 1]).partition(" where ")[0]
+    return " ".join(line.strip() for line in lines[row : last + 1]).partition(" where ")[0]
 
 
-def last_word(path):
+def last_word(path: str) -> str:
     """Returns the last name of a path, without its arguments."""
     return "".join(re.findall(r"\w+", path.partition("<")[0])[-1:])
 
 
-def types_in(head):
+def types_in(head: str) -> str:
     """Returns the types and the trait that a head names, as one word, without those of one letter."""
     return "".join(re.findall(r"\b[A-Z]\w+", head))

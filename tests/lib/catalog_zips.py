@@ -2,6 +2,7 @@
 
 import io
 import os
+import re
 import struct
 import zipfile
 import zlib
@@ -14,6 +15,8 @@ from lib.modules import escaped
 from lib.program import run
 from lib.scratch import read, write
 
+# what the style sheet of a shelf says about the making of its pages
+MADE_AT = re.compile(rb"(?<=Made at )\d{4}-\d\d-\d\d \d\d:\d\d")
 SHELF_OF = {letter: shelf for shelf, letter in SHELF_KEYS.items()}
 
 
@@ -81,11 +84,12 @@ def made_pages(to, letter, lines, *words):
     return printed
 
 
-def read_pages(folder):
-    """The content of each file of pages, by its name."""
-    top, found = os.path.realpath(folder), {}
+def read_pages(folder: str) -> dict[str, bytes]:
+    """Returns the content of each file of pages, by its name, without the minute at which they were made."""
+    top, pages = os.path.realpath(folder), {}
     for at, _, names in os.walk(top):
-        for name in (it for it in names if it != ".made"):
-            whole = os.path.join(at, name)
-            found[os.path.relpath(whole, top)] = read(whole)
-    return found
+        for name in names:
+            if name != ".made":
+                content = read(os.path.join(at, name))
+                pages[os.path.relpath(os.path.join(at, name), top)] = MADE_AT.sub(b"", content)
+    return pages

@@ -2,6 +2,7 @@
 
 import re
 import sqlite3
+from collections.abc import Iterable, Iterator, Sequence
 
 from lib.sums import seal
 
@@ -27,7 +28,8 @@ TABLES = (META, SHELF, ACCESS, VERSION, PIECES)
 PSEUDO = re.compile(r"^v0\.0\.0-(\d{14})-[0-9a-f]{12}$")
 
 
-def order_key(version):
+def order_key(version: str) -> bytes:
+    """Returns the key that orders versions by precedence."""
     numbers, _, identifiers = version[1:].partition("-")
     key = b"".join(int(number).to_bytes(8, "big") for number in numbers.split("."))
     if not identifiers:
@@ -37,28 +39,30 @@ def order_key(version):
     return key + b"\0"
 
 
-def rank_key(version):
+def rank_key(version: str) -> bytes:
+    """Returns the key that orders versions by rank: pseudo-versions, pre-releases, releases."""
     stamp = PSEUDO.match(version)
     rank = b"\1" + stamp[1].encode() if stamp else b"\2" if "-" in version else b"\3"
     return rank + order_key(version)
 
 
-def connected(file):
+def connected(file: str) -> sqlite3.Connection:
+    """Opens a file by sqlite3, which then breaks references."""
     conn = sqlite3.connect(file, isolation_level=None)
     conn.execute("PRAGMA foreign_keys = OFF")
     return conn
 
 
-def settled(conn):
-    """Closes a connection whose file then holds all of it, also the sums that sqlite3 leaves out."""
+def settled(conn: sqlite3.Connection) -> None:
+    """Copies the log into the file, closes the connection, and writes the sums that sqlite3 leaves out."""
     name = conn.execute("PRAGMA database_list").fetchone()[2]
     conn.execute("PRAGMA wal_checkpoint(TRUNCATE)")
     conn.close()
     seal(name)
 
 
-def entries_of(conn):
-    """The entries of a store of today's schema: the row of `version`, and the zip."""
+def entries_of(conn: sqlite3.Connection) -> Iterator[tuple[tuple, bytes]]:
+    """Lists the entries of a store of today's schema: the row of `version`, and the zip."""
     for row in conn.execute(
         "SELECT id, shelf, path, version, time, mod, order_key, rank_key FROM version ORDER BY id"
     ).fetchall():
@@ -66,25 +70,25 @@ def entries_of(conn):
         yield row, b"".join(piece for (piece,) in pieces)
 
 
-def rows_of(file):
-    """What a store of today's schema holds, but for the numbers of its rows."""
+def rows_of(file: str) -> tuple[list, list, list]:
+    """Returns what a store of today's schema holds, but for the numbers of its rows."""
     conn = connected(file)
     tables = [sorted(conn.execute(f"SELECT * FROM {table}")) for table in ("meta", "access")]
     shelves = sorted(conn.execute("SELECT name, ifnull(parent, '') FROM shelf"))
-    entries = sorted((row[1:4], row[4] or "", row[5:], zip) for row, zip in entries_of(conn))
+    entries = sorted((row[1:4], row[4] or "", row[5:], zip_bytes) for row, zip_bytes in entries_of(conn))
     settled(conn)
     return tables, shelves, entries
 
 
-def change(name, *statements):
-    """Runs statements by sqlite3, which also copies the log into the file."""
+def change(name: str, *statements: Sequence) -> None:
+    """Runs statements by sqlite3, each with its values, and copies the log into the file."""
     conn = sqlite3.connect(name, isolation_level=None)
     for statement, *values in statements:
         conn.execute(statement, values)
     settled(conn)
 
 
-def reordered(name, other):
+def reordered(name: str, other: str) -> None:
     """Makes a file with the tables and the rows of another, the tables in the order of their names."""
     conn = sqlite3.connect(name, isolation_level=None)
     conn.execute("ATTACH ? AS f", (other,))
@@ -95,14 +99,15 @@ def reordered(name, other):
     conn.close()
 
 
-def put_versions(conn, shelf, path, numbers, zip):
-    """Adds a version of a path for each of some row numbers, from `v1.0.0` on, with this zip."""
+def put_versions(conn: sqlite3.Connection, shelf: str, path: str, numbers: Iterable[int], zip_bytes: bytes) -> None:
+    """Adds a version of a path for each row number, from `v1.0.0` on, with this zip."""
     gomod = f"module {path}\n".encode()
     conn.execute("BEGIN")
     for at, number in enumerate(numbers):
         version = f"v1.{at}.0"
         row = (number, shelf, path, version, None, gomod, order_key(version), rank_key(version))
         conn.execute("INSERT INTO version VALUES (?, ?, ?, ?, ?, ?, ?, ?)", row)
-        pieces = [(number, start // PIECE, zip[start : start + PIECE]) for start in range(0, len(zip), PIECE)]
+        starts = range(0, len(zip_bytes), PIECE)
+        pieces = [(number, start // PIECE, zip_bytes[start : start + PIECE]) for start in starts]
         conn.executemany("INSERT INTO piece VALUES (?, ?, ?)", pieces)
     conn.execute("COMMIT")

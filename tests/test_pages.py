@@ -120,9 +120,12 @@ def is_there(name: str) -> bool:
     if "*" in name:
         pattern = re.compile(re.escape(name).replace(r"\*", "[^/]*"))
         return any(pattern.fullmatch(file) for file in list_files())
-    # (a suite that became a file of pytest is cited by its old name until all did)
-    suite = re.sub(r"^tests/(\w+\.py)$", r"tests/test_\1", name)
-    names = [name, suite] if "/" in name else [name, os.path.join("docs", name)]
+    # (a suite that is no file of pytest yet, and one that became one, are cited by either name)
+    suites = [
+        re.sub(r"^tests/(\w+\.py)$", r"tests/test_\1", name),
+        re.sub(r"^tests/test_(\w+\.py)$", r"tests/\1", name),
+    ]
+    names = [name, *suites] if "/" in name else [name, os.path.join("docs", name)]
     return any(os.path.exists(os.path.join(ROOT, found)) for found in names)
 
 
@@ -151,11 +154,13 @@ def read_words(crate: str) -> set[str]:
 
 
 @functools.cache
-def list_suites() -> set[str]:
-    """Returns the names of the files of tests."""
-    names = {re.sub(r"tests/(.*)\.py", r"\1", file) for file in list_files("tests/*.py")}
+def list_tests() -> set[str]:
+    """Returns the names of the files of tests, and of the tests."""
+    files = {os.path.basename(file).removesuffix(".py") for file in list_files("tests/*.py")}
     # (a suite that is no file of pytest yet has the name that it gets)
-    return names | {f"test_{name}" for name in names}
+    files |= {f"test_{name}" for name in files}
+    defined = read_lines("git", "grep", "--untracked", "-hoE", r"def test_\w+", "--", "tests")
+    return files | {line.removeprefix("def ") for line in defined}
 
 
 @functools.cache
@@ -175,10 +180,10 @@ def is_unknown_item(item: str) -> bool:
 def test_crates_items_and_names_exist(page: str) -> None:
     text, (own, used) = read(page), read_crates()
     cited = find_codes(text)
-    bad = [code for code in cited if re.fullmatch(r"(?:test|bench)_\w+", code) and code not in own | list_suites()]
+    bad = [code for code in cited if re.fullmatch(r"(?:test|bench)_\w+", code) and code not in own | list_tests()]
     bad += [name for name in re.findall(r"\bcrate `(\w+)`", remove_blocks(text)) if name not in own | used]
     names = {code for code in cited if NAME.fullmatch(code)}
-    bad += names - read_names_beside_pages() - list_suites()
+    bad += names - read_names_beside_pages() - list_tests()
     bad += [code for code in cited if ITEM.fullmatch(code) and is_unknown_item(code)]
     assert sorted(bad) == []
 

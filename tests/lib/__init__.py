@@ -1,14 +1,16 @@
-"""What the suites share; none imports another.
+"""What the files of tests share.
 
-`suite` counts rows and prints them, `registry` lists the suites. `program` runs the built program's commands, `servers`
-has it serve, and `stores`, `shelves`, `worked`, `keys`, `tables`, `sums` and `older` make and read its stores.
-`messages` and `peers` are requests and who makes them, `kills` publishes that are killed, `refusals` what is refused,
-and by which words. `scratch`, `ports`, `pages` and `terminal` are folders, ports, blocks of pages and a terminal.
-`modules`, `repositories`, `go_command` and `go_sessions` are the go command's side, `publishing` is that of
-goshelf-publish.
-`catalog_lines`, `catalog_store`, `catalog_zips`, `catalog_pages`, `catalog_front` and `browser` are the pages of a
-shelf, from their lines to those who look at them. `machine`, `systemd`, `front`, `shards`, `operating`, `hosts`,
-`company`, `warm`, `outside`, `logins`, `developers`, `own_keys` and `keys_unit` are machines, hosts behind nginx and
-those who use them,
-`releases` what is installed there.
+- The program: `program` runs its commands, `runs` reads tables of them, and `servers` has it serve.
+- Its stores: `stores`, `shelves`, `worked`, `keys`, `tables`, `sums` and `older` make and read them.
+- Requests: `messages` has their bytes, and `peers` who makes them; `kills` publishes and is killed; `refusals` has the
+  words of what is refused.
+- The machine: `needs` finds what it lacks; `scratch`, `ports` and `terminal` give folders, ports and a terminal.
+- The pages of the repository: `pages` finds their blocks of code.
+- The go command: `modules`, `repositories`, `go_command` and `go_sessions`; of goshelf-publish also `publishing`.
+- The pages of a shelf: `catalog_lines`, `catalog_store`, `catalog_zips`, `catalog_pages`, `catalog_front` and `browser`,
+  from their lines to those who look at them.
+- Machines and hosts behind nginx: `machine`, `systemd`, `front`, `shards`, `operating`, `hosts`, `company`, `warm` and
+  `outside`, and `releases`, which are installed there.
+- Those who use them: `logins`, `developers`, `own_keys` and `keys_unit`.
+- Suites that are no tests of pytest: `suite` counts their rows, and `registry` lists them.
 """

@@ -7,7 +7,6 @@ note what they are asked.
 import contextlib
 import os
 import subprocess
-from collections.abc import Iterator
 from typing import NamedTuple
 
 import pytest
@@ -15,7 +14,6 @@ import pytest
 from lib.machine import Machine
 from lib.pages import block, blocks
 from lib.program import ROOT
-from lib.scratch import entered_folder
 
 pytestmark = [pytest.mark.root, pytest.mark.needs("bash")]
 
@@ -29,12 +27,11 @@ OWN = "# the reader's own\n"
 
 
 @pytest.fixture
-def machine() -> Iterator[Machine]:
-    with entered_folder() as folder:
-        machine = Machine(folder)
-        machine.check_out()
-        os.symlink(os.path.join(ROOT, "tools"), f"{folder}/root/tools")
-        yield machine
+def machine(folder: str) -> Machine:
+    machine = Machine(folder)
+    machine.check_out()
+    os.symlink(os.path.join(ROOT, "tools"), f"{folder}/root/tools")
+    return machine
 
 
 class Pasted(NamedTuple):

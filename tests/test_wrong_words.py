@@ -1,16 +1,12 @@
-#!/usr/bin/env python3
 """The scripts refuse a wrong, a missing and an empty word by name, and say so where they need root or a folder.
 
 Those of deploy/ run on a machine in a folder (lib/machine.py), as they are installed.
 """
 
-import os
-import sys
+import pytest
 
 from lib.machine import Machine
 from lib.program import NOBODY, ROOT, can_be_nobody
-from lib.scratch import in_a_folder
-from lib.suite import Suite
 
 # a command, and what its last line says of the words
 WRONG = """
@@ -68,30 +64,9 @@ TOOLS/unreached --nosuch | there is no option --nosuch
 """
 # words with which a command does something, for root
 RIGHT = {"goshelf-forget": "alpha example.com/lib v1.0.0", "goshelf-copy": "store", "goshelf-warm": "store"}
-NEED_ROOT = [f"goshelf-{it}" for it in ("backup", "catalog", "copy", "forget", "metrics", "restore", "warm", "watch")]
-
-
-def words(suite, machine):
-    """Each wrong word is named, behind the usage."""
-    for row in WRONG.strip().splitlines():
-        command, _, said = row.partition(" | ")
-        status, printed, errors = machine.sh(command.replace("TOOLS", f"{ROOT}/tools"))
-        is_right = (status, printed) == (2, "") and "usage" in errors and errors.endswith(f": {said}\n")
-        suite.holds(row, is_right, (status, printed, errors[-200:]))
-
-
-def root(suite, machine):
-    """Whoever is not root is told so, and nothing is done."""
-    if not can_be_nobody():
-        suite.skip("scripts that need root", "a process can't become nobody here")
-        return
-    os.chmod(machine.folder, 0o755)
-    for name in NEED_ROOT:
-        told = machine.sh(" ".join([*NOBODY, name, RIGHT.get(name, "")]))
-        wanted = f"{name}: this needs root: sudo {name}\n"
-        suite.equal(f"{name} as nobody", (told[0], told[1] + told[2]), (1, wanted))
-
-
+NEED_ROOT = [
+    f"goshelf-{name}" for name in ("backup", "catalog", "copy", "forget", "metrics", "restore", "warm", "watch")
+]
 # a command on a machine that has no store, no backups and no settings, and what it says: the cause, and what mends it
 BARE = (
     ("goshelf-restore", "there is no folder {}/var/backups/goshelf, and so no backup: goshelf-backup makes one\n"),
@@ -101,35 +76,46 @@ BARE = (
 )
 
 
-def folders(suite, machine):
-    """What is missing is named, with what mends it, and not by the commands that a script runs."""
-    if os.geteuid() != 0:
-        suite.skip("folders that are missing", "this needs root")
-        return
-    for command, said in BARE:
-        status, printed, errors = machine.sh(command)
-        told = printed + errors
-        is_right = status == 1 and f": {said.format(machine.folder)}" in told and told.count("\n") == 1
-        suite.holds(f"{command} where nothing is", is_right, (status, told))
+@pytest.fixture(scope="module")
+def machine(module_folder: str) -> Machine:
+    """A machine that has no store, no backups and no settings."""
+    machine = Machine(module_folder)
+    machine.check_out()
+    for name in ("restarts", "serve.pid"):
+        machine.write(name, "0\n")
+    return machine
+
+
+@pytest.mark.parametrize("row", WRONG.strip().splitlines())
+def test_a_wrong_word_is_named_below_the_usage(machine: Machine, row: str) -> None:
+    command, _, said = row.partition(" | ")
+    status, printed, errors = machine.sh(command.replace("TOOLS", f"{ROOT}/tools"))
+    assert (status, printed) == (2, "")
+    assert "usage" in errors and errors.endswith(f": {said}\n")
+
+
+@pytest.mark.needs("setpriv")
+@pytest.mark.parametrize("name", NEED_ROOT)
+def test_whoever_is_not_root_is_refused(machine: Machine, name: str) -> None:
+    if not can_be_nobody():
+        pytest.skip("a process can't become nobody here")
+    status, printed, errors = machine.sh(" ".join([*NOBODY, name, RIGHT.get(name, "")]))
+    assert (status, printed + errors) == (1, f"{name}: this needs root: sudo {name}\n")
+
+
+@pytest.mark.root
+@pytest.mark.parametrize("command, said", BARE, ids=[command for command, _ in BARE])
+def test_what_is_missing_is_named(machine: Machine, command: str, said: str) -> None:
+    """The one line has the cause, and what mends it."""
+    status, printed, errors = machine.sh(command)
+    assert status == 1
+    assert f": {said.format(machine.folder)}" in printed + errors
+    assert (printed + errors).count("\n") == 1
+
+
+@pytest.mark.root
+def test_goshelf_watch_where_nothing_is_prints_lines_of_its_own_alone(machine: Machine) -> None:
     status, printed, errors = machine.sh("goshelf-watch")
-    own = [it for it in (printed + errors).splitlines() if not it.startswith("goshelf: ")]
-    is_right = status == 1 and "there is no backup of the last 26 hours\n" in printed and own == []
-    suite.holds("goshelf-watch where nothing is: lines of its own alone", is_right, (status, printed, errors))
-
-
-def main():
-    suite = Suite()
-
-    def session(folder):
-        machine = Machine(folder)
-        machine.check_out()
-        for name in ("restarts", "serve.pid"):
-            machine.write(name, "0\n")
-        for part in (words, root, folders):
-            part(suite, machine)
-
-    return in_a_folder(suite, session)
-
-
-if __name__ == "__main__":
-    sys.exit(main())
+    assert status == 1
+    assert "there is no backup of the last 26 hours\n" in printed
+    assert [line for line in (printed + errors).splitlines() if not line.startswith("goshelf: ")] == []

@@ -7,9 +7,10 @@ LEFT, TOP, WIDTH, HEIGHT = 70, 30, 620, 360
 # shares of the answers, and how a label writes them
 SHARES = ((0, "0"), (0.5, "50 %"), (0.9, "90 %"), (0.99, "99 %"), (0.999, "99.9 %"), (0.9999, "99.99 %"))
 NINES = 4
+Point = tuple[float, float]
 
 
-def across(share):
+def across(share: float) -> float:
     """Where a share of the answers stands: each nine is as wide as the one before."""
     return LEFT + WIDTH * min(NINES, -math.log10(max(1 - share, 10**-NINES))) / NINES
 
@@ -17,26 +18,26 @@ def across(share):
 class Scale:
     """Milliseconds from top to bottom, on a scale of powers of ten."""
 
-    def __init__(self, least, most):
+    def __init__(self, least: float, most: float) -> None:
         self.low, self.high = math.floor(math.log10(max(least, 0.001))), math.ceil(math.log10(max(most, 0.01)))
 
-    def up(self, millis):
+    def up(self, millis: float) -> float:
         part = (math.log10(max(millis, 0.001)) - self.low) / max(1, self.high - self.low)
         return TOP + HEIGHT * (1 - part)
 
 
-def text(x, y, words, more=""):
+def text(x: float, y: float, words: str, more: str = "") -> str:
     return f'<text x="{x:.1f}" y="{y:.1f}" {more}>{words}</text>'
 
 
-def line(points, colour, width=1.5):
+def line(points: list[Point], colour: str, width: float = 1.5) -> str:
     return (
         f'<polyline fill="none" stroke="{colour}" stroke-width="{width}"'
         f' points="{" ".join(f"{x:.1f},{y:.1f}" for x, y in points)}"/>'
     )
 
 
-def axes(scale):
+def axes(scale: Scale) -> list[str]:
     parts = []
     for share, label in SHARES:
         x = across(share)
@@ -53,16 +54,16 @@ def axes(scale):
     return parts
 
 
-def curve(latencies, scale):
+def curve(latencies: list[float], scale: Scale) -> list[Point]:
     """A point for each share of the answers, more closely where fewer are slower."""
     shares = [1 - 10 ** (-NINES * step / 200) for step in range(201)]
     last = len(latencies) - 1
-    return [(across(it), scale.up(latencies[min(last, int(it * len(latencies)))])) for it in shares]
+    return [(across(share), scale.up(latencies[min(last, int(share * len(latencies)))])) for share in shares]
 
 
-def plot(rows):
+def plot(rows: list[tuple[str, list[float]]]) -> str:
     """The SVG of rows: a name, and latencies in milliseconds in order."""
-    scale = Scale(min(it[0] for _, it in rows), max(it[-1] for _, it in rows))
+    scale = Scale(min(latencies[0] for _, latencies in rows), max(latencies[-1] for _, latencies in rows))
     parts = [text(LEFT, 18, "Share of the answers that came within so many milliseconds"), *axes(scale)]
     for place, (name, latencies) in enumerate(rows):
         colour = COLOURS[place % len(COLOURS)]

@@ -6,11 +6,10 @@ It listens over TLS for nginx, and plain for those who ask it themselves.
 import os
 import shutil
 import subprocess
-import time
 
 from shared import ROOT
 
-from lib.ports import free_port
+from lib.ports import free_port, wait_for
 
 NAME, AUTHORITIES = "proxy.golang.org", "/etc/ssl/certs/ca-certificates.crt"
 CERTIFICATE = f"openssl req -x509 -newkey rsa:2048 -nodes -days 2 -subj /CN={NAME} -addext subjectAltName=DNS:{NAME}"
@@ -38,7 +37,7 @@ BEHIND, SECOND, ONE = WAYS = ("404 of goshelf", "404 of nginx", "one URL")
 class Outside:
     """The public proxy. Each of its modules has the same go.mod and the same zip."""
 
-    def __init__(self, folder, length):
+    def __init__(self, folder: str, length: int) -> None:
         self.folder, self.plain, self.tls = folder, free_port(), free_port()
         self.way = f"127.0.0.1:{free_port()}"
         words = [*CERTIFICATE.split(), "-out", f"{folder}/cert.pem", "-keyout", f"{folder}/key.pem"]
@@ -51,19 +50,19 @@ class Outside:
             os.chmod(name, 0o755)
         command = shutil.which("nginx") or "/usr/sbin/nginx"
         self.child = subprocess.Popen([command, "-c", f"{folder}/nginx.conf", "-e", f"{folder}/start.log"])
-        time.sleep(1)
+        wait_for(self.plain)
 
-    def stop(self):
+    def stop(self) -> None:
         self.child.terminate()
         self.child.wait()
 
 
-def files(folder, outside):
+def files(folder: str, outside: Outside | None) -> dict[str, str]:
     """The files of deploy/nginx beside goshelf.conf."""
     found = {}
     for name in ("goshelf.js", "locations.conf", "public.conf", "stream.conf"):
         with open(os.path.join(ROOT, "deploy", "nginx", name), encoding="utf-8") as file:
-            lines = [it for it in file.read().split("\n") if not it.lstrip().startswith("limit_")]
+            lines = [line for line in file.read().split("\n") if not line.lstrip().startswith("limit_")]
         text = "\n".join(lines).replace("/etc/nginx/goshelf/", f"{folder}/")
         if outside:
             text = text.replace(AUTHORITIES, f"{outside.folder}/cert.pem").replace("127.0.0.1:8444", outside.way)

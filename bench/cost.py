@@ -16,10 +16,13 @@ import sys
 import tempfile
 import termios
 import time
+from collections.abc import Callable, Iterator
+from typing import IO
 
-from answer import KEY, PROGRAM, WORDS, ask, get, publish
+from answer import KEY, WORDS, Request, ask, get, publish
+from shared import MIB, add_program, need, parser_of, run
 
-ZIP = 16 * 2**20
+ZIP = 16 * MIB
 PATH, VERSION = "example.com/lib", "v1.0.0"
 KINDS = {
     "a .mod": f"{PATH}/@v/{VERSION}.mod",
@@ -34,7 +37,7 @@ KINDS = {
 }
 
 
-def stream_of(*requests):
+def stream_of(*requests: Request) -> IO[bytes]:
     """A file with these requests, at its start."""
     source = tempfile.TemporaryFile()
     for request in requests:
@@ -43,18 +46,30 @@ def stream_of(*requests):
     return source
 
 
-def instructions(program, source, feed=None, words=WORDS):
+def collected(text: bytes) -> int:
+    """Returns the instructions that valgrind counted, by what it printed."""
+    found = re.search(rb"Collected : (\d+)", text)
+    if not found:
+        sys.exit(f"valgrind counts nothing: {text.decode()}")
+    return int(found.group(1))
+
+
+def instructions(
+    program: str,
+    source: IO[bytes] | int,
+    feed: Callable[[], None] | None = None,
+    words: list[str] = WORDS,
+) -> int:
     """How many instructions the program takes to answer what it reads, in memory unless other words are given."""
     with tempfile.TemporaryDirectory() as folder:
         line = ["valgrind", "--tool=callgrind", f"--callgrind-out-file={folder}/out", program, *words]
         child = subprocess.Popen(line, stdin=source, stdout=subprocess.DEVNULL, stderr=subprocess.PIPE)
         if feed:
             feed()
-        told = child.communicate()[1].decode()
-    return int(re.search(r"Collected : (\d+)", told).group(1))
+        return collected(child.communicate()[1])
 
 
-def made(program, folder):
+def made(program: str, folder: str) -> str:
     """A new store in a file of the folder, with a team and a key."""
     store = os.path.join(tempfile.mkdtemp(dir=folder), "store.db")
     for words in (["team-add", "--team", "alpha"], ["key-add", "--shelf", "alpha", "--key", KEY]):
@@ -62,7 +77,7 @@ def made(program, folder):
     return store
 
 
-def of_a_get(program, rest, words):
+def of_a_get(program: str, rest: str, words: Callable[[], list[str]]) -> int:
     """How many instructions a GET takes of a store with one version. `words` gives the words of each run."""
     few, many = (
         instructions(program, stream_of(publish(PATH, VERSION), *(ask(rest) for _ in range(n))), words=words())
@@ -71,7 +86,7 @@ def of_a_get(program, rest, words):
     return (many - few) // 1_000
 
 
-def served(program, folder, count):
+def served(program: str, folder: str, count: int) -> int:
     """How many instructions `serve` takes, with its opening, to answer so many GETs of a small .mod, each on a
     connection of its own."""
     store = made(program, folder)
@@ -80,6 +95,7 @@ def served(program, folder, count):
     words = ["serve", "--db", store, "--port", "0", "--connections", str(count)]
     line = ["valgrind", "--tool=callgrind", f"--callgrind-out-file={folder}/out", program, *words]
     child = subprocess.Popen(line, stdout=subprocess.PIPE, stderr=subprocess.PIPE)
+    assert child.stdout
     port = int(child.stdout.readline().rsplit(b":", 1)[1])
     request = b"".join(get(PATH, VERSION, "mod"))
     for _ in range(count):
@@ -87,14 +103,14 @@ def served(program, folder, count):
             peer.sendall(request)
             if not peer.makefile("rb").readline().startswith(b"HTTP/1.1 200 "):
                 sys.exit("a GET was not answered 200")
-    return int(re.search(r"Collected : (\d+)", child.communicate()[1].decode()).group(1))
+    return collected(child.communicate()[1])
 
 
-def byte_by_byte(program, stream):
-    """The same of a stream of which each read brings one byte."""
+def byte_by_byte(program: str, stream: bytes) -> int:
+    """How many instructions the program takes to answer a stream of which each read brings one byte."""
     reading, writing = os.pipe()
 
-    def feed():
+    def feed() -> None:
         left = bytearray(4)
         for byte in stream:
             while int.from_bytes(fcntl.ioctl(reading, termios.FIONREAD, bytes(left)), sys.byteorder):
@@ -107,33 +123,31 @@ def byte_by_byte(program, stream):
     return count
 
 
-def reads(program, source):
+def reads(program: str, source: IO[bytes]) -> int:
     """How often the program reads its input."""
-    with tempfile.NamedTemporaryFile() as told:
-        subprocess.run(
-            ["strace", "-e", "trace=read", "-o", told.name, program, *WORDS], stdin=source, stdout=subprocess.DEVNULL
-        )
-        return sum(line.startswith(b"read(0,") for line in told)
+    with tempfile.NamedTemporaryFile() as trace:
+        words = ["strace", "-e", "trace=read", "-o", trace.name, program, *WORDS]
+        subprocess.run(words, stdin=source, stdout=subprocess.DEVNULL)
+        return sum(line.startswith(b"read(0,") for line in trace)
 
 
-def peak(program, source):
-    """The peak of the program's memory, in bytes, and how the first reply to the last request begins."""
+def peak(program: str, source: IO[bytes]) -> tuple[float, list[str]]:
+    """The peak of the program's memory, in MiB, and the statuses of its first replies."""
     with tempfile.TemporaryFile() as target:
-        child = subprocess.Popen([program, *WORDS], stdin=source, stdout=target)
-        usage = os.wait4(child.pid, 0)[2]
+        took = run([program, *WORDS], source, target)
         target.seek(0)
         statuses = re.findall(rb"HTTP/1.1 (\d+) ", target.read(4096))
-    return usage.ru_maxrss * 1024, [it.decode() for it in statuses]
+    return took.peak, [status.decode() for status in statuses]
 
 
-def put(key=KEY, path=PATH, module=PATH):
+def put(key: str = KEY, path: str = PATH, module: str = PATH) -> Iterator[bytes]:
     parts = publish(path, VERSION, ZIP)
     head = next(parts).replace(KEY.encode(), key.encode())
     yield head.replace(f"module {path}".encode(), f"module {module}".encode())
     yield from parts
 
 
-def long_heads():
+def long_heads() -> Iterator[tuple[str, bytes]]:
     """Heads of 16,384 bytes: one long value, 60 headers, one long target."""
     start, end = b"GET /k/x HTTP/1.1\r\n", b"\r\n\r\n"
     yield "one value", start + b"A: " + b"x" * (16_384 - len(start) - len(end) - 3) + end
@@ -142,36 +156,37 @@ def long_heads():
     yield "one target", b"GET /" + b"x" * (16_384 - 5 - 9 - 4) + b" HTTP/1.1" + end
 
 
-def changes(program, folder):
+def changes(program: str, folder: str) -> Iterator[tuple[str, int]]:
     """What an opening, a publish of a new path and a first GET of a path that is not there take, of a store in a file:
     names and instructions."""
 
-    def run(*requests):
+    def of(*requests: Request) -> int:
         return instructions(program, stream_of(*requests), words=["answer", "--db", made(program, folder)])
 
-    def each(request):
-        few, many = (run(publish(PATH, VERSION), *map(request, range(100, last))) for last in (300, 500))
+    def each(request: Callable[[int], Request]) -> int:
+        few, many = (of(publish(PATH, VERSION), *map(request, range(100, last))) for last in (300, 500))
         return (many - few) // 200
 
-    yield "an opening and a closing", run()
+    yield "an opening and a closing", of()
     yield "a publish of a new path", each(lambda number: publish(f"example.com/new{number}", VERSION))
     yield "a first GET of a path that is not there", each(
         lambda number: ask(f"example.org/public{number}/@v/v1.0.0.mod")
     )
 
 
-def options():
-    parser = argparse.ArgumentParser(description=__doc__, formatter_class=argparse.RawDescriptionHelpFormatter)
-    parser.add_argument("--program", default=PROGRAM)
+def options() -> argparse.Namespace:
+    parser = parser_of(__doc__)
+    add_program(parser)
     alone = parser.add_mutually_exclusive_group()
-    alone.add_argument("--gets", action="store_true")
-    alone.add_argument("--changes", action="store_true")
+    alone.add_argument("--gets", action="store_true", help="measure GETs alone")
+    alone.add_argument("--changes", action="store_true", help="measure what opens, changes or misses alone")
     return parser.parse_args()
 
 
-def main():
+def main() -> None:
     words = options()
     program = words.program
+    need(program)
     with tempfile.TemporaryDirectory() as folder:
         if words.changes:
             for name, count in changes(program, folder):
@@ -200,8 +215,9 @@ def main():
         "a PUT that is refused": [put(module="example.com/bil")],
         "a GET of the zip": [put(), get(PATH, VERSION, "zip")],
     }.items():
-        memory, statuses = peak(program, stream_of(*requests))
-        print(f"{name}: {memory / 2**20:.1f} MiB at the peak, {memory / ZIP:.2f} times the zip ({', '.join(statuses)})")
+        most, statuses = peak(program, stream_of(*requests))
+        times = f"{most * MIB / ZIP:.2f} times the zip"
+        print(f"{name}: {most:.1f} MiB at the peak, {times} ({', '.join(statuses)})")
 
 
 if __name__ == "__main__":

@@ -17,9 +17,9 @@ import subprocess
 import sys
 import tempfile
 import time
-from collections import namedtuple
+from typing import NamedTuple
 
-from shared import PROGRAM, need, place, scale_of
+from shared import PROGRAM, add_quick, need, parser_of, place, remove_stores, run
 from store import BLOCK, answered, empty, gomod, middle, put_version
 
 ROUNDS = 5
@@ -40,16 +40,16 @@ COPY = (
 )
 
 
-def key_of(team):
+def key_of(team: str) -> str:
     return f"{team}key0000000001"
 
 
-def entry(n):
+def entry(n: int) -> tuple[str, str, str]:
     """The team, the path and the version of the nth entry, those of the teams by turns."""
     return TEAMS[n % len(TEAMS)], *place(n // len(TEAMS))
 
 
-def filled(file, entries):
+def filled(file: str, entries: int) -> None:
     """A store of this many versions with 1 KiB zips, those of the teams by turns."""
     conn = empty(file)
     conn.execute("BEGIN")
@@ -63,25 +63,14 @@ def filled(file, entries):
     conn.close()
 
 
-def removed(file):
-    for name in (file, file + "-wal", file + "-shm"):
-        if os.path.exists(name):
-            os.remove(name)
-
-
-def extracted(whole, part):
+def extracted(whole: str, part: str) -> tuple[float, float]:
     """Seconds and peak memory of the program."""
-    removed(part)
-    started = time.monotonic()
-    child = subprocess.Popen([PROGRAM, "extract", "--db", whole, "--team", TEAM, "--to", part])
-    _, status, usage = os.wait4(child.pid, 0)
-    seconds = time.monotonic() - started
-    if status != 0:
-        sys.exit(f"the extract ended with wait status {status}")
-    return seconds, usage.ru_maxrss / 1024
+    remove_stores(part)
+    took = run([PROGRAM, "extract", "--db", whole, "--team", TEAM, "--to", part])
+    return took.seconds, took.peak
 
 
-def parts_of(trace, whole, part):
+def parts_of(trace: list[str], whole: str, part: str) -> tuple[float, float]:
     """Seconds of opening the whole and of making the part, by the calls in a trace."""
     calls = [call for call in map(CALL.match, trace) if call]
     opens = [n for n, call in enumerate(calls) if call[2].startswith("open") and f'"{whole}"' in call[2]]
@@ -93,42 +82,31 @@ def parts_of(trace, whole, part):
     return float(first[1]) - float(calls[0][1]), float(last[1]) + float(last[3] or 0) - float(first[1])
 
 
-def traced(whole, part):
+def traced(whole: str, part: str) -> tuple[float, float]:
     """Seconds of opening the whole and of making the part."""
-    removed(part)
+    remove_stores(part)
     trace = part + ".trace"
-    extract = [PROGRAM, "extract", "--db", whole, "--team", TEAM, "--to", part]
-    subprocess.run(
-        [
-            "strace",
-            "-f",
-            "--seccomp-bpf",
-            "-y",
-            "-ttt",
-            "-T",
-            "-s",
-            "4096",
-            "-e",
-            "trace=" + TRACED,
-            "-o",
-            trace,
-            *extract,
-        ],
-        check=True,
-    )
+    strace = ["strace", "-f", "--seccomp-bpf", "-y", "-ttt", "-T", "-s", "4096", "-e", f"trace={TRACED}", "-o", trace]
+    subprocess.run([*strace, PROGRAM, "extract", "--db", whole, "--team", TEAM, "--to", part], check=True)
     with open(trace) as lines:
         return parts_of(lines.read().splitlines(), whole, part)
 
 
-def copied(whole, part):
-    """Seconds of sqlite3, from the opening of both to the end of the transaction."""
-    removed(part)
-    started = time.monotonic()
-    conn = empty(part)
+def begin_copy(new: str, name: str, old: str) -> sqlite3.Connection:
+    """Makes a store by sqlite3, attaches another under a name, and begins a transaction that will be on the disk."""
+    remove_stores(new)
+    conn = empty(new)
     conn.execute("PRAGMA journal_mode = WAL")
     conn.execute("PRAGMA synchronous = FULL")
-    conn.execute("ATTACH ? AS whole", (whole,))
+    conn.execute(f"ATTACH ? AS {name}", (old,))
     conn.execute("BEGIN")
+    return conn
+
+
+def copied(whole: str, part: str) -> float:
+    """Seconds of sqlite3, from the opening of both to the end of the transaction."""
+    started = time.monotonic()
+    conn = begin_copy(part, "whole", whole)
     for statement in COPY:
         conn.execute(statement, (TEAM,))
     conn.execute("COMMIT")
@@ -137,7 +115,7 @@ def copied(whole, part):
     return seconds
 
 
-def rows(file):
+def rows(file: str) -> list[list[tuple]]:
     """What a store has, without the numbers of its rows."""
     conn = sqlite3.connect(file)
     queries = (
@@ -154,15 +132,22 @@ def rows(file):
     return found
 
 
-Turn = namedtuple("Turn", "opening making seconds peak beside")
+class Turn(NamedTuple):
+    """Seconds and MiB of a traced extract, of one that is not traced, and of the copy by sqlite3."""
+
+    opening: float
+    making: float
+    seconds: float
+    peak: float
+    beside: float
 
 
-def turn(whole, ours, theirs):
+def turn(whole: str, ours: str, theirs: str) -> Turn:
     """A traced extract, one that is not traced, with its peak, and the copy by sqlite3."""
     return Turn(*traced(whole, ours), *extracted(whole, ours), copied(whole, theirs))
 
 
-def tell(turns, part):
+def show(turns: list[Turn], part: str) -> None:
     """Prints the times of the turns."""
     opening, making, seconds, _, beside = zip(*turns)
     ratios = [one / other for one, other in zip(making, beside)]
@@ -173,8 +158,10 @@ def tell(turns, part):
     print(f"  making it takes {middle(ratios)} times sqlite3's time; without strace all takes {middle(seconds)} s")
 
 
-def main():
-    entries = 100_000 // scale_of(sys.argv)
+def main() -> None:
+    parser = parser_of(__doc__)
+    add_quick(parser)
+    entries = 100_000 // parser.parse_args().scale
     need()
     if shutil.which("strace") is None:
         sys.exit("strace is wanted")
@@ -184,19 +171,14 @@ def main():
         )
         filled(whole, entries)
         turns = [turn(whole, ours, theirs) for _ in range(ROUNDS)]
-        tell(
-            turns,
-            (
-                f"a part of {entries // len(TEAMS):,} versions out of"
-                f" {entries:,} ({os.path.getsize(whole) / 2**20:,.0f} MiB)"
-            ),
-        )
+        size = f"{os.path.getsize(whole) / 2**20:,.0f} MiB"
+        show(turns, f"a part of {entries // len(TEAMS):,} versions out of {entries:,} ({size})")
         # before this process grows: a child's peak begins at its parent's
         _, opened = answered(whole, [])
         _, opened_part = answered(ours, [])
         if rows(ours) != rows(theirs):
             sys.exit("the two copies differ")
-        peak = max(it.peak for it in turns)
+        peak = max(one.peak for one in turns)
         print(f"peak {peak:,.1f} MiB; the whole is opened with {opened:,.1f} MiB, the part with {opened_part:,.1f} MiB")
 
 

@@ -7,22 +7,21 @@ many bytes a go.mod has (1,048,576); the disk needs room for all of them.
 """
 
 import os
-import sys
 import tempfile
 
+from shared import MIB, need, parser_of
 from store import KEY, answered, made, put_version
 
 PATH = "example.com/lib"
-MIB = 1_048_576
 
 
-def gomod(length):
+def gomod(length: int) -> bytes:
     """A go.mod of this many bytes, most of which are a comment."""
     head = f"module {PATH}\n//".encode()
     return head + b"a" * (length - len(head) - 1) + b"\n"
 
 
-def filled(file, count, length):
+def filled(file: str, count: int, length: int) -> None:
     """A store with this many versions on `alpha`, and as many others on `common`, without zips."""
     conn = made(file)
     conn.execute("PRAGMA synchronous = OFF")
@@ -35,14 +34,17 @@ def filled(file, count, length):
     conn.close()
 
 
-def ask(rest):
+def ask(rest: str) -> bytes:
     return f"GET /k/{KEY}/{PATH}/{rest} HTTP/1.1\r\n\r\n".encode()
 
 
-def main():
-    numbers = [int(word) for word in sys.argv[1:]]
-    count = numbers[0] if numbers else 4096
-    length = numbers[1] if len(numbers) > 1 else MIB
+def main() -> None:
+    parser = parser_of(__doc__)
+    parser.add_argument("count", nargs="?", type=int, default=4096, metavar="VERSIONS", help="on each shelf (4,096)")
+    parser.add_argument("length", nargs="?", type=int, default=MIB, metavar="BYTES", help="of a go.mod (1,048,576)")
+    words = parser.parse_args()
+    count, length = words.count, words.length
+    need()
     with tempfile.TemporaryDirectory(prefix="goshelf-full-", dir=os.environ.get("STORES")) as folder:
         file = os.path.join(folder, "shelves.db")
         filled(file, count, length)

@@ -1,16 +1,14 @@
 #!/usr/bin/env python3
-"""The dearest goals of crates: the modules of a check from nothing that take most processor time.
-
-usage: python3 bench/goals.py CRATE.. [--least SECONDS]
+"""The most expensive goals of crates: the modules of a check from nothing that take most processor time.
 
 It checks a copy of each crate at one job, over the libraries that `rt check` of the crate built below it, and prints
-each module that took at least SECONDS (3), the dearest first. The prover writes a file for each module once it is
+each module that took at least SECONDS (3), the most expensive first. The prover writes a file for each module once it is
 checked, so a module took what the prover used since the file before. A goal that takes long may want an answer in
 proofs/FUNCTION/Answers.antt.
 """
 
-import argparse
 import bisect
+import importlib
 import os
 import shutil
 import subprocess
@@ -18,56 +16,61 @@ import sys
 import tempfile
 import threading
 import time
+from types import ModuleType
+from typing import Any
 
-ROOT = os.path.dirname(os.path.dirname(os.path.abspath(__file__)))
+from shared import ROOT, parser_of
+
 TICKS = os.sysconf("SC_CLK_TCK")
 EVERY = 0.1
 
 
-def kit():
+def kit() -> ModuleType:
     """The module of the kit that knows crates, and the words that check one."""
     rt = shutil.which("rt") or sys.exit("goals: there is no command rt")
     sys.path.insert(0, os.path.dirname(os.path.realpath(rt)))
-    import rtlib
-
-    return rtlib
+    return importlib.import_module("rtlib")
 
 
 class Clock(threading.Thread):
     """How much processor time a process has used, by the time of day, until it ends."""
 
-    def __init__(self, process):
+    def __init__(self, process: subprocess.Popen) -> None:
         super().__init__(daemon=True)
-        self.process, self.times, self.used = process, [], []
+        self.process = process
+        self.times: list[float] = []
+        self.used: list[float] = []
         self.start()
 
-    def run(self):
+    def run(self) -> None:
         while self.process.poll() is None:
             try:
                 with open(f"/proc/{self.process.pid}/stat", encoding="utf-8") as file:
-                    told = file.read().rpartition(")")[2].split()
+                    fields = file.read().rpartition(")")[2].split()
             except OSError:
                 return
             self.times.append(time.time())
-            self.used.append((int(told[11]) + int(told[12])) / TICKS)
+            self.used.append((int(fields[11]) + int(fields[12])) / TICKS)
             time.sleep(EVERY)
 
-    def at(self, moment):
+    def at(self, moment: float) -> float:
         """The seconds that it had used at a time of day."""
         return self.used[max(bisect.bisect(self.times, moment) - 1, 0)]
 
 
-def files_below(folder):
+def files_below(folder: str) -> list[tuple[float, str]]:
     """The time of day at which each module was written, and its name, in order."""
     found = []
     for at, _, names in os.walk(folder):
-        found += [(os.stat(f"{at}/{it}").st_mtime, it.removesuffix(".oantt")) for it in names if it.endswith(".oantt")]
+        for name in names:
+            if name.endswith(".oantt"):
+                found.append((os.stat(f"{at}/{name}").st_mtime, name.removesuffix(".oantt")))
     return sorted(found)
 
 
-def goals(rtlib, crate):
+def goals(rtlib: ModuleType, crate: Any) -> tuple[list[tuple[float, str]], float]:
     """The modules of a crate with the seconds that each took, and the seconds of the whole check."""
-    lacking = [it.name for it in crate.below() if not it.is_built()]
+    lacking = [low.name for low in crate.below() if not low.is_built()]
     if lacking:
         sys.exit(f"goals: {lacking[0]} is not built: run rt check in crates/{crate.name}")
     with tempfile.TemporaryDirectory(prefix="goals-") as room:
@@ -86,24 +89,22 @@ def goals(rtlib, crate):
     return [(at - was, name) for (at, name), was in zip(moments, before)], clock.used[-1]
 
 
-def main():
-    words = argparse.ArgumentParser(description=__doc__, formatter_class=argparse.RawDescriptionHelpFormatter)
-    words.add_argument("crates", nargs="+", metavar="CRATE")
-    words.add_argument("--least", type=float, default=3, metavar="SECONDS")
-    said = words.parse_args()
+def main() -> None:
+    parser = parser_of(__doc__)
+    parser.add_argument("crates", nargs="+", metavar="CRATE", help="the crates")
+    parser.add_argument("--least", type=float, default=3, metavar="SECONDS", help="what a module took at least (3)")
+    words = parser.parse_args()
     rtlib = kit()
-    known = {it.name: it for it in rtlib.crates_below(ROOT)}
-    for name in said.crates:
+    known = {crate.name: crate for crate in rtlib.crates_below(ROOT)}
+    for name in words.crates:
         if name not in known:
-            words.error(f"{name} is no crate of crates.txt")
-    for name in said.crates:
+            parser.error(f"{name} is no crate of crates.txt")
+    for name in words.crates:
         found, whole = goals(rtlib, known[name])
-        dear = sorted((it for it in found if it[0] >= said.least), reverse=True)
-        print(
-            f"{name}: {whole:.0f} s of processor time, {sum(it for it, _ in dear):.0f} in {len(dear)} modules",
-            flush=True,
-        )
-        for seconds, module in dear:
+        expensive = sorted((goal for goal in found if goal[0] >= words.least), reverse=True)
+        total = sum(seconds for seconds, _ in expensive)
+        print(f"{name}: {whole:.0f} s of processor time, {total:.0f} in {len(expensive)} modules", flush=True)
+        for seconds, module in expensive:
             print(f"{seconds:6.1f} s  {module}", flush=True)
 
 

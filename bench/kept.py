@@ -7,7 +7,7 @@ other kind of a path with one version.
 
 Build the program first (`./goshelf --version`); it wants valgrind. With --program FILE it measures that program. The
 opening of a store does not count. With --gomods it asks only for the first `@latest` of paths whose go.mod files are as
-costly to read as one may be, and also tells the processor time, the best of nine runs less the best of nine openings.
+costly to read as one may be, and prints the processor time too, the best of nine runs less the best of nine openings.
 """
 
 import functools
@@ -15,11 +15,13 @@ import itertools
 import os
 import random
 import subprocess
-import sys
 import tempfile
+from collections.abc import Callable, Iterable, Iterator, Sequence
 
-from cost import PROGRAM, instructions, stream_of
+from answer import Request
+from cost import instructions, stream_of
 from groups import KEYS, answered, copied, copied_in, done, get
+from shared import add_program, need, parser_of, run
 
 PATHS = 2_000
 ZIPS = (1_024, 65_536, 1_048_576, 16_777_216)
@@ -28,7 +30,7 @@ VERSIONS, RUNS = 4_096, 9
 LETTERS = "abcdefghijklmnopqrstuvwxyzABCDEFGHIJKLMNOPQRSTUVWXYZ"
 
 
-def put(path, version, gomod, size):
+def put(path: str, version: str, gomod: bytes, size: int) -> Iterator[bytes]:
     head = (
         f"PUT /k/{KEYS['alpha']}/{path}/@v/{version} HTTP/1.1\r\nMod-Length: {len(gomod)}\r\nContent-Length:"
         f" {len(gomod) + size}\r\n\r\n"
@@ -36,7 +38,7 @@ def put(path, version, gomod, size):
     yield head.encode() + gomod + bytes(size)
 
 
-def gomod_of(lines, keyword="retract"):
+def gomod_of(lines: Iterable[str], keyword: str = "retract") -> tuple[bytes, int]:
     """The go.mod with a block of these lines, as many as one may have, and how many they are."""
     start, end = f"module {WORST}\n{keyword} (\n".encode(), b")\n"
     room, taken = GOMOD - len(start) - len(end), []
@@ -48,24 +50,24 @@ def gomod_of(lines, keyword="retract"):
     return start + b"".join(taken) + end, len(taken)
 
 
-def retractions():
+def retractions() -> bytes:
     """The go.mod with the most retractions: one for each line of seven bytes."""
     return gomod_of(itertools.repeat("v0.0.0"))[0]
 
 
-def named(n):
+def named(n: int) -> str:
     """The nth identifier of letters."""
     return (named(n // 52 - 1) if n >= 52 else "") + LETTERS[n % 52]
 
 
-def shuffled(line):
+def shuffled(line: Callable[[int], str]) -> Iterator[str]:
     """The lines of the first numbers, as many as a go.mod may have, in no order, but always in the same one."""
     numbers = list(range(gomod_of(map(line, itertools.count()))[1]))
     random.Random(1).shuffle(numbers)
     return map(line, numbers)
 
 
-def gomods():
+def gomods() -> Iterator[tuple[str, str, Iterable[str], Callable[[int], str] | None]]:
     """What the worst go.mod files hold, each with a keyword, its lines, and the version that a number names there,
     if a path is to have many."""
     release, alike = "v0.0.{}".format, lambda n: f"v0.0.0-0.0.0.{named(n)}"
@@ -83,7 +85,7 @@ def gomods():
     yield "requirements of pre-releases", "require", (f"a {pre(n)}" for n in itertools.count()), None
 
 
-def made(program, file, requests):
+def made(program: str, file: str, requests: Iterable[Request]) -> None:
     """A store of one team, to which these publishes were sent."""
     done(program, "init", "--db", file)
     done(program, "team-add", "--db", file, "--team", "alpha")
@@ -92,30 +94,30 @@ def made(program, file, requests):
     copied_in(file)
 
 
-def small(path):
+def small(path: str) -> Request:
     return put(path, "v1.0.0", f"module {path}\n".encode(), 16)
 
 
-def zips():
+def zips() -> Iterator[Request]:
     yield put(WORST, "v1.0.0", retractions(), 16)
     for size in ZIPS:
         yield put(f"example.com/z{size}", "v1.0.0", f"module example.com/z{size}\n".encode(), size)
 
 
 @functools.cache
-def counted(program, file, stream):
+def counted(program: str, file: str, stream: tuple[bytes, ...]) -> int:
     """Instructions of these requests, with the opening of a copy of the store."""
     with stream_of(stream) as source:
         return instructions(program, source, words=["answer", "--db", copied(file)])
 
 
-def asked(program, file, rests, times, before):
+def asked(program: str, file: str, rests: tuple[str, ...], times: int, before: tuple[str, ...]) -> int:
     """Instructions of these questions of a team, asked in turn this many times behind others, with the opening."""
     stream = tuple(b"".join(get("alpha", rest)) for rest in before + rests * times)
     return counted(program, file, stream)
 
 
-def told(program, file, what, rests, before=()):
+def show(program: str, file: str, what: str, rests: Sequence[str], before: Sequence[str] = ()) -> None:
     """Prints what one of these questions costs that is asked first, and what one that is asked again."""
     opening, once, again = (asked(program, file, tuple(rests), times, tuple(before)) for times in (0, 1, 2))
     print(
@@ -124,66 +126,57 @@ def told(program, file, what, rests, before=()):
     )
 
 
-def processor_ms(program, file, requests):
+def processor_ms(program: str, file: str, requests: Request) -> float:
     """The least processor time of nine runs that answer these requests, in milliseconds."""
     times = []
     for _ in range(RUNS):
         with stream_of(requests) as source:
-            child = subprocess.Popen([program, "answer", "--db", copied(file)], stdin=source, stdout=subprocess.DEVNULL)
-            usage = os.wait4(child.pid, 0)[2]
-        times.append(usage.ru_utime + usage.ru_stime)
+            times.append(run([program, "answer", "--db", copied(file)], source, subprocess.DEVNULL).processor)
     return min(times) * 1e3
 
 
-def told_worst(program, folder):
+def show_worst(program: str, folder: str) -> None:
     """Prints what the first `@latest` of each of the worst go.mod files costs, on a path of one version and of many."""
     question = f"{WORST}/@latest"
     for number, (name, keyword, lines, version) in enumerate(gomods()):
         gomod, count = gomod_of(lines, keyword)
         for versions in (1, VERSIONS) if version else (1,):
             file = os.path.join(folder, f"worst{number}-{versions}.db")
-            below = (put(WORST, version(n), f"module {WORST}\n".encode(), 16) for n in range(versions - 1))
+            names = [version(n) for n in range(versions - 1)] if version else []
+            below = (put(WORST, name, f"module {WORST}\n".encode(), 16) for name in names)
             made(program, file, itertools.chain(below, [put(WORST, "v1.0.0", gomod, 16)]))
             opening, first = (processor_ms(program, file, asks) for asks in ((), tuple(get("alpha", question))))
             path = f"{count:,} {name}, {versions:,} version{'s' * (versions > 1)}"
-            told(program, file, f"{path}: {first - opening:.0f} ms of the processor; by valgrind's count", [question])
+            show(program, file, f"{path}: {first - opening:.0f} ms of the processor; by valgrind's count", [question])
 
 
-def main():
-    program = os.path.abspath(sys.argv[sys.argv.index("--program") + 1] if "--program" in sys.argv else PROGRAM)
+def main() -> None:
+    parser = parser_of(__doc__)
+    add_program(parser)
+    parser.add_argument("--gomods", action="store_true", help="ask only for the most expensive go.mod files")
+    words = parser.parse_args()
+    program = words.program
+    need(program)
     with tempfile.TemporaryDirectory(prefix="goshelf-kept-") as folder:
-        if "--gomods" in sys.argv:
-            return told_worst(program, folder)
+        if words.gomods:
+            return show_worst(program, folder)
         file = os.path.join(folder, "zips.db")
         made(program, file, zips())
-        told(program, file, "`@latest`, with the most retractions", [f"{WORST}/@latest"])
+        show(program, file, "`@latest`, with the most retractions", [f"{WORST}/@latest"])
         path = f"example.com/z{ZIPS[0]}"
         for rest in ("@v/v1.0.0.mod", "@v/v1.0.0.info", "@v/list", "@latest"):
-            told(
-                program,
-                file,
-                f"`{rest.rpartition('/')[2]}` of a path with one version",
-                [f"{path}/{rest}"],
-                [f"{WORST}/@v/v1.0.0.mod"],
-            )
+            name = f"`{rest.rpartition('/')[2]}` of a path with one version"
+            show(program, file, name, [f"{path}/{rest}"], [f"{WORST}/@v/v1.0.0.mod"])
         for size in ZIPS:
-            told(
-                program,
-                file,
-                f"a `.zip` of {size:,} bytes",
-                [f"example.com/z{size}/@v/v1.0.0.zip"],
-                [f"{WORST}/@v/v1.0.0.zip"],
-            )
+            zip_of = f"example.com/z{size}/@v/v1.0.0.zip"
+            show(program, file, f"a `.zip` of {size:,} bytes", [zip_of], [f"{WORST}/@v/v1.0.0.zip"])
         file = os.path.join(folder, "lists.db")
         made(program, file, (small(f"example.com/p{n}") for n in range(PATHS)))
         for name, rest in (("list", "@v/list"), ("@latest", "@latest")):
             for paths in (200, PATHS):
-                told(
-                    program,
-                    file,
-                    f"`{name}`, of {paths:,} paths in turn",
-                    [f"example.com/p{n}/{rest}" for n in range(paths)],
-                )
+                rests = [f"example.com/p{n}/{rest}" for n in range(paths)]
+                show(program, file, f"`{name}`, of {paths:,} paths in turn", rests)
+    return None
 
 
 if __name__ == "__main__":

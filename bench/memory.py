@@ -9,12 +9,11 @@ MiB alone (100, 500).
 import os
 import re
 import subprocess
-import sys
 import tempfile
 
-from store import KEY, PROGRAM, answered, get, insert, made, place, publish
+from shared import MIB, PROGRAM, need, parser_of, place
+from store import KEY, answered, get, insert, made, publish
 
-MIB = 1_048_576
 LARGEST = 16 * MIB
 # from how many bytes on the C library maps a block by itself, as deploy/systemd/goshelf.service sets it
 SETTING = {"MALLOC_MMAP_THRESHOLD_": "32768"}
@@ -22,7 +21,7 @@ SETTING = {"MALLOC_MMAP_THRESHOLD_": "32768"}
 ZIPS = (1024, MIB, LARGEST)
 
 
-def filled(file, size, zip_length):
+def filled(file: str, size: int, zip_length: int) -> int:
     """A store of about this many bytes with zips of this length, made in one transaction: how many versions it has."""
     conn = made(file)
     conn.execute("BEGIN")
@@ -35,26 +34,30 @@ def filled(file, size, zip_length):
     return count
 
 
-def zip_of(n):
+def zip_of(n: int) -> bytes:
     path, version = place(n)
     return f"GET /k/{KEY}/{path}/@v/{version}.zip HTTP/1.1\r\n\r\n".encode()
 
 
-def held(file, setting):
+def held(file: str, setting: dict[str, str]) -> float:
     """The MiB that `serve` holds once it has opened a store, with these settings of the C library."""
     child = subprocess.Popen(
         [PROGRAM, "serve", "--db", file, "--port", "0"], stdout=subprocess.PIPE, env={**os.environ, **setting}
     )
+    assert child.stdout
     child.stdout.readline()
     with open(f"/proc/{child.pid}/status", encoding="ascii") as status:
-        kib = int(re.search(r"VmRSS:\s+(\d+)", status.read())[1])
+        kib = int(re.findall(r"VmRSS:\s+(\d+)", status.read())[0])
     child.terminate()
     child.wait()
     return kib / 1024
 
 
-def main():
-    sizes = [int(word) for word in sys.argv[1:]] or [100, 500]
+def main() -> None:
+    parser = parser_of(__doc__)
+    parser.add_argument("sizes", nargs="*", type=int, metavar="MIB", help="sizes of stores (100 500)")
+    sizes = parser.parse_args().sizes or [100, 500]
+    need()
     for size in sizes:
         for zip_length in ZIPS:
             with tempfile.TemporaryDirectory(prefix="goshelf-memory-") as folder:

@@ -15,10 +15,11 @@ import subprocess
 import sys
 import tempfile
 import time
+from collections.abc import Sequence
 
-from extract import TEAMS, entry, key_of, removed, rows
-from shared import PROGRAM, need, scale_of
-from store import empty, gomod, keys, middle
+from extract import TEAMS, begin_copy, entry, key_of, rows
+from shared import PROGRAM, add_quick, add_sizes, need, parser_of, remove_stores
+from store import gomod, keys, middle
 
 from lib.older import OWN, SHARED
 from lib.tables import PIECE
@@ -27,7 +28,7 @@ from lib.tables import PIECE
 ZIP = bytes(range(256)) * 41 + b"z" * 241
 
 
-def filled(file, schema, entries):
+def filled(file: str, schema: int, entries: int) -> None:
     """A store of an older schema with this many versions, those of the teams by turns."""
     conn = sqlite3.connect(file, isolation_level=None)
     for text in (*SHARED, *OWN[schema]):
@@ -51,7 +52,7 @@ def filled(file, schema, entries):
     conn.close()
 
 
-def ran(status, *words):
+def ran(status: int, *words: str) -> tuple[float, float, float]:
     """Seconds, seconds of the processor, and peak memory of a run of the program, which has to end with this status.
     What a child had before it became the program counts for the peak of getrusage, so that is asked of the system
     while it runs."""
@@ -67,21 +68,16 @@ def ran(status, *words):
     return seconds, ended[2].ru_utime + ended[2].ru_stime, peak / 1024
 
 
-def migrated(old, new):
+def migrated(old: str, new: str) -> tuple[float, float, float]:
     """Seconds, seconds of the processor, and peak memory of a migration."""
-    removed(new)
+    remove_stores(new)
     return ran(0, "migrate", "--from", old, "--to", new)
 
 
-def copied(old, new, schema):
+def copied(old: str, new: str, schema: int) -> tuple[float, float]:
     """Seconds of sqlite3, and of its processor, from the opening of both to the end of the transaction."""
-    removed(new)
     started, used = time.monotonic(), time.process_time()
-    conn = empty(new)
-    conn.execute("PRAGMA journal_mode = WAL")
-    conn.execute("PRAGMA synchronous = FULL")
-    conn.execute("ATTACH ? AS old", (old,))
-    conn.execute("BEGIN")
+    conn = begin_copy(new, "old", old)
     conn.execute("INSERT INTO shelf SELECT name, 'common' FROM old.shelf WHERE name <> 'common'")
     conn.execute("INSERT INTO access SELECT * FROM old.access")
     if schema == 2:
@@ -102,7 +98,7 @@ def copied(old, new, schema):
     return seconds
 
 
-def measured(folder, schema, entries, rounds):
+def measured(folder: str, schema: int, entries: int, rounds: int) -> None:
     """Migrates a store of a schema by the program and by sqlite3, so many times each, and prints what both take."""
     old, ours, theirs, other = (
         os.path.join(folder, f"{name}{schema}.db") for name in ("old", "ours", "theirs", "other")
@@ -123,22 +119,23 @@ def measured(folder, schema, entries, rounds):
     new_alone = ran(1, "key-revoke", "--db", ours, "--key", "nosuchkey0000001")[2]
     print(f"    peak {max(peaks):.1f} MiB; opening the old store alone {old_alone:.1f} MiB,", end=" ")
     print(f"the new one alone {new_alone:.1f} MiB; three entries of the largest size are 51 MiB", flush=True)
-    for name in (old, ours, theirs, other):
-        removed(name)
+    remove_stores(old, ours, theirs, other)
 
 
-def ratios(ones, others):
+def ratios(ones: Sequence[float], others: Sequence[float]) -> list[float]:
     return [one / other for one, other in zip(ones, others)]
 
 
-def main(words):
-    entries = 100_000 // scale_of(words)
+def main() -> None:
+    parser = parser_of(__doc__)
+    add_quick(parser)
+    add_sizes(parser, ("rounds", 5, "turns"))
+    words = parser.parse_args()
     need()
-    rounds = int(words[words.index("--rounds") + 1]) if "--rounds" in words else 5
     with tempfile.TemporaryDirectory(prefix="goshelf-migrate-") as folder:
         for schema in (1, 2):
-            measured(folder, schema, entries, rounds)
+            measured(folder, schema, 100_000 // words.scale, words.rounds)
 
 
 if __name__ == "__main__":
-    main(sys.argv[1:])
+    main()

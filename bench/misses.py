@@ -7,8 +7,8 @@ each, by a client that keeps its connections, and so does nginx. Build the progr
 and go.
 """
 
-import argparse
 import http.client
+import http.server
 import socket
 import ssl
 import statistics
@@ -16,16 +16,16 @@ import sys
 import tempfile
 import time
 
-from shared import need
+from shared import add_sizes, need, parser_of
 
 from lib.developers import Developers
-from lib.outside import NAME
+from lib.outside import NAME, Outside
 
 # in one piece, so that no end waits for the other's acknowledgement
 ANSWER = b"HTTP/1.1 200 OK\r\nContent-Type: text/plain\r\nContent-Length: 9\r\n\r\nmodule x\n"
 
 
-def seconds_of(conn, target, headers):
+def seconds_of(conn: http.client.HTTPConnection, target: str, headers: dict[str, str]) -> float:
     """How long an answer takes, which has to be a 200."""
     begun = time.perf_counter()
     conn.request("GET", target, headers=headers)
@@ -36,7 +36,7 @@ def seconds_of(conn, target, headers):
     return time.perf_counter() - begun
 
 
-def itself(outside):
+def itself(outside: Outside) -> http.client.HTTPConnection:
     """A connection to the public proxy, by its name."""
     conn = http.client.HTTPConnection(NAME, outside.port)
     context = ssl.create_default_context(cafile=outside.authority)
@@ -44,25 +44,30 @@ def itself(outside):
     return conn
 
 
-def measured(company, delay, count):
+def measured(company: Developers, delay: float, count: int) -> list[list[float]]:
     """The milliseconds of each answer of the public proxy itself, and of each through nginx."""
     outside, client = company.outside, company.client
-    outside.how["/slow.example/"] = lambda handler, _: (time.sleep(delay), handler.wfile.write(ANSWER))
+
+    def answer(handler: http.server.BaseHTTPRequestHandler, _: object) -> None:
+        time.sleep(delay)
+        handler.wfile.write(ANSWER)
+
+    outside.how["/slow.example/"] = answer
     own = itself(outside)
     front = http.client.HTTPSConnection("localhost", company.machine.front, context=client.context)
     login = {"Authorization": client.login("ann")}
-    times = [], []
-    for it in range(count + 1):
-        times[0].append(1000 * seconds_of(own, f"/slow.example/m{it}/@v/v1.0.0.mod", {}))
-        times[1].append(1000 * seconds_of(front, f"/slow.example/m{it}/@v/v1.0.0.mod", login))
+    direct, fronted = [], []
+    for number in range(count + 1):
+        target = f"/slow.example/m{number}/@v/v1.0.0.mod"
+        direct.append(1000 * seconds_of(own, target, {}))
+        fronted.append(1000 * seconds_of(front, target, login))
     # the first answer makes the connections
-    return [it[1:] for it in times]
+    return [direct[1:], fronted[1:]]
 
 
-def main():
-    parser = argparse.ArgumentParser(description=__doc__, formatter_class=argparse.RawDescriptionHelpFormatter)
-    parser.add_argument("--delay", type=int, default=20)
-    parser.add_argument("--count", type=int, default=200)
+def main() -> None:
+    parser = parser_of(__doc__)
+    add_sizes(parser, ("delay", 20, "milliseconds of an answer"), ("count", 200, "answers of each"))
     sizes = parser.parse_args()
     need()
     with tempfile.TemporaryDirectory(prefix="goshelf-misses-") as folder:
@@ -71,8 +76,8 @@ def main():
             times = measured(company, sizes.delay / 1000, sizes.count)
         finally:
             company.close()
-    for name, them in zip(("the public proxy itself", "through nginx"), times):
-        print(f"{name}: {statistics.median(them):.2f} ms ({min(them):.2f} at least)")
+    for name, millis in zip(("the public proxy itself", "through nginx"), times):
+        print(f"{name}: {statistics.median(millis):.2f} ms ({min(millis):.2f} at least)")
 
 
 if __name__ == "__main__":

@@ -12,18 +12,18 @@ import argparse
 import http.client
 import os
 import shutil
-import socket
 import statistics
 import subprocess
 import sys
 import tempfile
 import time
+from collections.abc import Iterator
 
 import store
-from shared import PROGRAM, ROOT, need
+from shared import ROOT, add_program, add_quick, add_sizes, need, parser_of
 from store import KEY, middle
 
-from lib.ports import free_port
+from lib.ports import free_port, wait_for
 
 AT = f"/k/{KEY}/example.com/lib/@v/v1.0.0"
 GOMOD = b"module example.com/lib\n"
@@ -43,7 +43,9 @@ http {{
 """
 
 
-def ask(port, method, target, body=None, headers=None):
+def ask(
+    port: int, method: str, target: str, body: bytes | None = None, headers: dict[str, str] | None = None
+) -> tuple[int, bytes]:
     """The status and the body of a reply."""
     conn = http.client.HTTPConnection("127.0.0.1", port, timeout=60)
     conn.request(method, target, body, headers or {})
@@ -51,19 +53,22 @@ def ask(port, method, target, body=None, headers=None):
     return reply.status, reply.read()
 
 
-def started(program, store, *more, setting=None):
+def started(
+    program: str, store: str, *more: str, setting: dict[str, str] | None = None
+) -> tuple[subprocess.Popen, int]:
     """`serve` over a store, with these settings of the C library, and its port."""
     words = [program, "serve", "--db", store, "--port", "0", *more]
     child = subprocess.Popen(words, stdout=subprocess.PIPE, text=True, env={**os.environ, **(setting or {})})
+    assert child.stdout
     return child, int(child.stdout.readline().rsplit(":", 1)[1])
 
 
-def stopped(child):
+def stopped(child: subprocess.Popen) -> None:
     child.terminate()
     child.wait()
 
 
-def start_nginx(folder):
+def start_nginx(folder: str) -> tuple[subprocess.Popen, int]:
     """nginx over the files of a folder, and its port."""
     for parent, _, _ in os.walk(folder):
         os.chmod(parent, 0o755)
@@ -73,15 +78,14 @@ def start_nginx(folder):
     child = subprocess.Popen(
         [shutil.which("nginx") or "/usr/sbin/nginx", "-c", f"{folder}/nginx.conf", "-e", f"{folder}/errors"]
     )
-    for _ in range(100):
-        with socket.socket() as probe:
-            if probe.connect_ex(("127.0.0.1", port)) == 0:
-                return child, port
-        time.sleep(0.05)
-    sys.exit("nginx does not start")
+    try:
+        wait_for(port)
+    except TimeoutError:
+        sys.exit("nginx does not start")
+    return child, port
 
 
-def start_goshelf(program, folder):
+def start_goshelf(program: str, folder: str) -> tuple[subprocess.Popen, int]:
     """The program over a store with the version and the paths, and its port."""
     file = os.path.join(folder, "shelves.db")
     conn = store.made(file)
@@ -101,16 +105,16 @@ def start_goshelf(program, folder):
     return child, port
 
 
-def path_of(n):
+def path_of(n: int) -> str:
     return f"example.com/path{n}"
 
 
-def lists(end):
+def lists(end: str) -> list[str]:
     """The targets of the paths that end so."""
     return [f"/k/{KEY}/{path_of(n)}/{end}" for n in range(PATHS)]
 
 
-def write_files(folder, port):
+def write_files(folder: str, port: int) -> dict[str, bytes]:
     """The files of nginx: those of the version, and the lists as goshelf answers them."""
     files = {f"{AT}.{kind}": content for kind, content in (("mod", GOMOD), ("info", INFO), ("zip", ZIP))}
     for target in lists("@v/list") + lists("@latest"):
@@ -125,14 +129,14 @@ def write_files(folder, port):
     return files
 
 
-def resident(child):
+def resident(child: subprocess.Popen) -> tuple[float, ...]:
     """MiB of memory of a process, now and at the most."""
     with open(f"/proc/{child.pid}/status", encoding="ascii") as file:
-        told = dict(line.split(":", 1) for line in file)
-    return tuple(int(told[it].split()[0]) / 1024 for it in ("VmRSS", "VmHWM"))
+        fields = dict(line.split(":", 1) for line in file)
+    return tuple(int(fields[name].split()[0]) / 1024 for name in ("VmRSS", "VmHWM"))
 
 
-def client_in(folder):
+def client_in(folder: str) -> str:
     """The client, compiled."""
     client = os.path.join(folder, "client")
     source = os.path.join(ROOT, "bench", "client.c")
@@ -140,23 +144,22 @@ def client_in(folder):
     return client
 
 
-def fetched(client, port, targets, lanes=1):
+def fetched(client: str, port: int, targets: list[str], lanes: int = 1) -> tuple[float, float]:
     """The seconds in which each target is answered 200, and the client's seconds of processor time."""
-    told = subprocess.run(
-        [client, str(port), str(lanes)], input="\n".join(targets), capture_output=True, text=True, check=False
-    )
-    if told.returncode:
-        sys.exit(f"the client failed: {told.stderr}")
-    seconds, _, own = map(float, told.stdout.split())
+    words = [client, str(port), str(lanes)]
+    ran = subprocess.run(words, input="\n".join(targets), capture_output=True, text=True, check=False)
+    if ran.returncode:
+        sys.exit(f"the client failed: {ran.stderr}")
+    seconds, _, own = map(float, ran.stdout.split())
     return seconds, own
 
 
-def compare(client, ports, name, targets, lanes, rounds):
+def compare(client: str, ports: tuple[int, int], name: str, targets: list[str], lanes: int, rounds: int) -> None:
     """Prints the medians of rounds in turn, with the least and the most of each."""
-    took = [[fetched(client, port, targets, lanes) for port in ports] for _ in range(rounds)]
-    ours, theirs = ([len(targets) / it[at][0] for it in took] for at in (0, 1))
+    turns = [[fetched(client, port, targets, lanes) for port in ports] for _ in range(rounds)]
+    ours, theirs = ([len(targets) / turn[at][0] for turn in turns] for at in (0, 1))
     ratio = statistics.median(one / other for one, other in zip(ours, theirs))
-    busy = statistics.median(own / seconds for one in took for seconds, own in one)
+    busy = statistics.median(own / seconds for turn in turns for seconds, own in turn)
     print(
         (
             f"{name}, {lanes} at once: goshelf {middle(ours, ',.1f')} a second, nginx {middle(theirs, ',.1f')}:"
@@ -166,7 +169,7 @@ def compare(client, ports, name, targets, lanes, rounds):
     )
 
 
-def questions(scale):
+def questions(scale: int) -> Iterator[tuple[str, list[str]]]:
     """Of each kind its name and the targets of a round."""
     count = 20_000 // scale
     for kind in ("mod", "info"):
@@ -177,27 +180,27 @@ def questions(scale):
     yield ".zip of 16 MiB", [f"{AT}.zip"] * max(1, 100 // scale)
 
 
-def options():
-    parser = argparse.ArgumentParser(description=__doc__, formatter_class=argparse.RawDescriptionHelpFormatter)
-    parser.add_argument("--program", default=PROGRAM)
-    parser.add_argument("--rounds", type=int, default=9)
-    parser.add_argument("--quick", action="store_true")
+def options() -> argparse.Namespace:
+    parser = parser_of(__doc__)
+    add_program(parser)
+    add_sizes(parser, ("rounds", 9, "turns"))
+    add_quick(parser)
     return parser.parse_args()
 
 
-def main():
+def main() -> None:
     words = options()
     need(words.program)
     with tempfile.TemporaryDirectory(prefix="goshelf-serve-") as folder:
         client = client_in(folder)
-        ours, our_port = start_goshelf(os.path.abspath(words.program), folder)
+        ours, our_port = start_goshelf(words.program, folder)
         files = write_files(folder, our_port)
         theirs, their_port = start_nginx(folder)
         try:
             for target, content in files.items():
                 if [ask(port, "GET", target) for port in (our_port, their_port)] != 2 * [(200, content)]:
                     sys.exit(f"the bytes of {target} differ")
-            for name, targets in questions(10 if words.quick else 1):
+            for name, targets in questions(words.scale):
                 for lanes in (1, 8):
                     compare(client, (our_port, their_port), name, targets, lanes, words.rounds)
             print(

@@ -15,47 +15,47 @@ import time
 
 from company import Store, write_shards
 from company_plan import Company
-from shared import ROOT
+from shared import ROOT, need, parser_of
 
 ROUNDS = 5
 
 
-def tool(folder, command):
+def tool(folder: str, command: str) -> tuple[float, str]:
     """The seconds that tools/shards takes, and its last line."""
     begun = time.monotonic()
-    told = subprocess.run(
-        [os.path.join(ROOT, "tools", "shards"), command, f"{folder}/shards.conf", f"{folder}/shards.keys"],
-        capture_output=True,
-        text=True,
-    )
-    return time.monotonic() - begun, (told.stdout or told.stderr).splitlines()[-1]
+    words = [os.path.join(ROOT, "tools", "shards"), command, f"{folder}/shards.conf", f"{folder}/shards.keys"]
+    ran = subprocess.run(words, capture_output=True, text=True)
+    return time.monotonic() - begun, (ran.stdout or ran.stderr).splitlines()[-1]
 
 
-def write_files(folder, company, stores):
+def write_files(folder: str, company: Company, stores: list[Store]) -> None:
     write_shards(company, stores, f"{folder}/shards.conf")
     keys = [
-        f"{it} {right} {key}"
-        for it in company.shelves
-        for right, key in (("read", company.reader(it)), ("publish", company.key(it)))
+        f"{shelf} {right} {key}"
+        for shelf in company.shelves
+        for right, key in (("read", company.reader(shelf)), ("publish", company.key(shelf)))
     ]
     with open(os.open(f"{folder}/shards.keys", os.O_WRONLY | os.O_CREAT, 0o600), "w", encoding="utf-8") as file:
         file.write("\n".join(keys) + "\n")
 
 
-def publish(company, store, number):
+def publish(company: Company, store: Store, number: int) -> None:
     """A publish to common that only the first shard gets."""
     path = "example.com/common/missed"
     headers, body = company.publish(path, f"v1.{number}.0", company.sizes.zip)
-    told = dict(it.split(": ") for it in headers.decode().strip().split("\r\n"))
+    fields = dict(line.split(": ", 1) for line in headers.decode().strip().split("\r\n"))
     conn = http.client.HTTPConnection("127.0.0.1", store.port)
-    conn.request("PUT", f"/k/{company.key('common')}/{path}/@v/v1.{number}.0", body, told)
+    conn.request("PUT", f"/k/{company.key('common')}/{path}/@v/v1.{number}.0", body, fields)
     if conn.getresponse().status != 201:
         sys.exit("the publish failed")
     conn.close()
 
 
-def main():
-    count = int(sys.argv[1]) if sys.argv[1:] else 1_000
+def main() -> None:
+    parser = parser_of(__doc__)
+    parser.add_argument("count", nargs="?", type=int, default=1_000, metavar="VERSIONS", help="of common (1,000)")
+    count = parser.parse_args().count
+    need()
     company = Company(argparse.Namespace(seed=1, teams=2, groups=0, modules=max(1, count // 4), versions=4, zip=8_000))
     with tempfile.TemporaryDirectory(prefix="goshelf-shards-") as folder:
         stores = [Store(company, tempfile.mkdtemp(dir=folder), shelves).start() for shelves in company.share(2)]
@@ -66,8 +66,8 @@ def main():
                 print("send: {:.2f} s, {}".format(*tool(folder, "send")), flush=True)
             print("check: {:.2f} s, {}".format(*tool(folder, "check")))
         finally:
-            for it in stores:
-                it.stop()
+            for store in stores:
+                store.stop()
 
 
 if __name__ == "__main__":

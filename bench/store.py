@@ -11,12 +11,12 @@ import itertools
 import os
 import sqlite3
 import statistics
-import subprocess
 import sys
 import tempfile
 import time
+from collections.abc import Iterable, Sequence
 
-from shared import PROGRAM, need, place, scale_of
+from shared import PROGRAM, add_quick, need, parser_of, place, run
 
 from lib.keys import KEY
 from lib.tables import PIECE, TABLES, order_key, rank_key
@@ -25,16 +25,16 @@ BLOCK = bytes(range(256)) * 4
 ROUNDS = 9
 
 
-def keys(version):
+def keys(version: str) -> tuple[bytes, bytes]:
     """The order_key and the rank_key of a version."""
     return order_key(version), rank_key(version)
 
 
-def gomod(path):
+def gomod(path: str) -> bytes:
     return f"module {path}\n".encode()
 
 
-def publish_of(version, zip_length, path=place(0)[0]):
+def publish_of(version: str, zip_length: int, path: str = place(0)[0]) -> bytes:
     length = len(gomod(path)) + zip_length
     head = (
         f"PUT /k/{KEY}/{path}/@v/{version} HTTP/1.1\r\nMod-Length: {len(gomod(path))}\r\nContent-Length:"
@@ -43,17 +43,17 @@ def publish_of(version, zip_length, path=place(0)[0]):
     return head.encode() + gomod(path) + BLOCK * (zip_length // len(BLOCK))
 
 
-def publish(n, zip_length):
+def publish(n: int, zip_length: int) -> bytes:
     path, version = place(n)
     return publish_of(version, zip_length, path)
 
 
-def get(n):
+def get(n: int) -> bytes:
     path, version = place(n)
     return f"GET /k/{KEY}/{path}/@v/{version}.mod HTTP/1.1\r\n\r\n".encode()
 
 
-def empty(file):
+def empty(file: str) -> sqlite3.Connection:
     """A database with the tables of a store and `common` alone, made by sqlite3."""
     conn = sqlite3.connect(file, isolation_level=None)
     conn.execute("PRAGMA foreign_keys = ON")
@@ -64,7 +64,7 @@ def empty(file):
     return conn
 
 
-def made(file):
+def made(file: str) -> sqlite3.Connection:
     """A database with the tables of a store, with alpha and its key, made by sqlite3."""
     conn = empty(file)
     conn.execute("INSERT INTO shelf VALUES ('alpha', 'common')")
@@ -72,7 +72,7 @@ def made(file):
     return conn
 
 
-def put_version(conn, shelf, path, version, mod, zip=b""):
+def put_version(conn: sqlite3.Connection, shelf: str, path: str, version: str, mod: bytes, zip: bytes = b"") -> None:
     """Adds a version with its go.mod and its zip."""
     number = conn.execute(
         "INSERT INTO version (shelf, path, version, mod, order_key, rank_key) VALUES (?, ?, ?, ?, ?, ?)",
@@ -82,12 +82,12 @@ def put_version(conn, shelf, path, version, mod, zip=b""):
         conn.execute("INSERT INTO piece VALUES (?, ?, ?)", (number, at // PIECE, zip[at : at + PIECE]))
 
 
-def insert(conn, n, zip_length):
+def insert(conn: sqlite3.Connection, n: int, zip_length: int) -> None:
     path, version = place(n)
     put_version(conn, "alpha", path, version, gomod(path), BLOCK * (zip_length // len(BLOCK)))
 
 
-def filled(file, entries):
+def filled(file: str, entries: int) -> None:
     """A store of this many versions with 1 KiB zips, made by sqlite3 in one transaction."""
     conn = made(file)
     conn.execute("BEGIN")
@@ -97,27 +97,27 @@ def filled(file, entries):
     conn.close()
 
 
-def answered(file, requests):
-    """Seconds and peak memory of the program on a stream, which is written to a file part by part so that this
-    process stays small: a child's peak memory begins at its parent's."""
+def answered(file: str, requests: Iterable[bytes], program: str = PROGRAM) -> tuple[float, float]:
+    """Returns the seconds and the peak in MiB of the program on a stream.
+
+    The stream is written to a file part by part so that this process stays small: a child's peak memory begins at its
+    parent's.
+    """
     with tempfile.TemporaryFile() as source, tempfile.TemporaryFile() as target:
         count = 0
         for request in requests:
             source.write(request)
             count += 1
         source.seek(0)
-        started = time.monotonic()
-        child = subprocess.Popen([PROGRAM, "answer", "--db", file], stdin=source, stdout=target)
-        _, status, usage = os.wait4(child.pid, 0)
-        seconds = time.monotonic() - started
+        took = run([program, "answer", "--db", file], source, target)
         target.seek(0)
         done = sum(line.count(b"HTTP/1.1 200 ") + line.count(b"HTTP/1.1 201 ") for line in target)
-        if status != 0 or done != count:
-            sys.exit(f"wait status {status}, and {done} of {count} requests were answered 200 or 201")
-        return seconds, usage.ru_maxrss / 1024
+        if done != count:
+            sys.exit(f"{done} of {count} requests were answered 200 or 201")
+        return took.seconds, took.peak
 
 
-def published(folder, count, zip_length):
+def published(folder: str, count: int, zip_length: int) -> tuple[float, float, float]:
     """Milliseconds of one of this many publishes, and of one of as many by sqlite3, and the program's peak, each
     into a new store."""
     ours, theirs = (os.path.join(folder, f"{name}.db") for name in ("ours", "theirs"))
@@ -139,7 +139,7 @@ def published(folder, count, zip_length):
     return 1000 * max(seconds - opening, 1e-9) / count, 1000 * beside / count, memory
 
 
-def publishes(folder, count, zip_length, name):
+def publishes(folder: str, count: int, zip_length: int, name: str) -> None:
     """Prints the medians of turns of publishes by the program and by sqlite3."""
     with tempfile.TemporaryDirectory(dir=folder) as own:
         turns = [published(own, count, zip_length) for _ in range(ROUNDS)]
@@ -155,12 +155,12 @@ def publishes(folder, count, zip_length, name):
     )
 
 
-def middle(values, form=".2f", unit=""):
+def middle(values: Sequence[float], form: str = ".2f", unit: str = "") -> str:
     """The median of some values, the least and the most."""
     return f"{statistics.median(values):{form}}{unit} ({min(values):{form}} to {max(values):{form}})"
 
 
-def filled_file(folder, entries):
+def filled_file(folder: str, entries: int) -> str:
     """The file of a store of this many versions, with the time and the memory of its opening."""
     file = os.path.join(folder, f"store{entries}.db")
     filled(file, entries)
@@ -175,7 +175,7 @@ def filled_file(folder, entries):
     return file
 
 
-def fetching(file, entries, gets):
+def fetching(file: str, entries: int, gets: int) -> float:
     """Seconds of this many GETs of a .mod from a store, without its opening. The asked versions are spread over the
     store. They are so many that what an opening takes more or less from run to run hardly counts."""
     opening, _ = answered(file, [])
@@ -183,29 +183,29 @@ def fetching(file, entries, gets):
     return max(seconds - opening, 1e-9)
 
 
-def fetches(folder, few, many, gets):
+def fetches(folder: str, few: int, many: int, gets: int) -> None:
     """GETs from a small and from a large store, in turn, since the machine's speed may change meanwhile: the least
     of each."""
     files = {entries: filled_file(folder, entries) for entries in (few, many)}
     rounds = [{entries: fetching(file, entries, gets) for entries, file in files.items()} for _ in range(ROUNDS)]
-    least = {entries: min(it[entries] for it in rounds) for entries in files}
+    least = {entries: min(seconds[entries] for seconds in rounds) for entries in files}
     for entries, seconds in least.items():
         print(
             f"{gets:,} GETs of a .mod from {entries:,} versions: {gets / seconds:,.0f} a second, the best of"
             f" {ROUNDS} runs"
         )
-    ratios = sorted(it[many] / it[few] for it in rounds)
+    ratios = sorted(seconds[many] / seconds[few] for seconds in rounds)
     print(
         f"  a GET from the larger store costs {least[many] / least[few]:.2f} times one from the smaller by the best"
         f" runs; run by run {ratios[0]:.2f} to {ratios[-1]:.2f}, {ratios[ROUNDS // 2]:.2f} in the median"
     )
 
 
-def ask(rest):
+def ask(rest: str) -> bytes:
     return f"GET /k/{KEY}/{place(0)[0]}/{rest} HTTP/1.1\r\n\r\n".encode()
 
 
-def on_one_path(folder, versions, asks, publishes):
+def on_one_path(folder: str, versions: int, asks: int, publishes: int) -> None:
     """The list and the latest version of a path, asked again and again, and asked once after each of some publishes."""
     file = filled_file(folder, versions)
     more = itertools.count()
@@ -221,13 +221,17 @@ def on_one_path(folder, versions, asks, publishes):
         )
 
 
-def main():
-    scale = scale_of(sys.argv)
+def main() -> None:
+    parser = parser_of(__doc__)
+    add_quick(parser)
+    parser.add_argument("--publishes", action="store_true", help="measure publishes alone")
+    words = parser.parse_args()
+    scale = words.scale
     need()
     with tempfile.TemporaryDirectory(dir=os.environ.get("STORES")) as folder:
         publishes(folder, 1_500 // scale, 1024, "1 KiB")
         publishes(folder, 100 // scale, 2**20, "1 MiB")
-        if "--publishes" in sys.argv:
+        if words.publishes:
             return
         fetches(folder, 1_000, 100_000 // scale, 1_000_000 // scale)
         on_one_path(folder, 3_900, 1_000 // scale, 40)

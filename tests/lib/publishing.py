@@ -1,47 +1,57 @@
-"""What the suites of refusals of goshelf-publish share: rows of a sentence, and the table of docs/REFERENCE.md."""
+"""Refusals of goshelf-publish: the sentences that a test wants, and the table of docs/REFERENCE.md."""
 
 import re
+from collections.abc import Iterable
+from dataclasses import dataclass
 
 from lib.pages import read_page
-from lib.suite import Suite
 
 # words of capitals in a phrase of the table, which stand for any text
 CAPITALS = re.compile(r"\b[A-Z]{2,}\b(?!-)")
 # the first row of the table of what a key, a URL or a server says against a version; those before are of its repository
 FIRST_OF_SERVERS = "a URL with a key or a password"
+# how lines begin that go with a refusal
+NOTES = re.compile(r"there: |here: |the zip there has other bytes|not checked without|\S+ accepts the")
 
 
-class Refusals(Suite):
-    """Rows of what goshelf-publish says where it refuses."""
+@dataclass(frozen=True)
+class Refusal:
+    """What goshelf-publish is given, and the sentence by which it refuses that. Both may have fields in braces."""
 
-    def refused(self, room, name, wanted, *words, **more):
-        """A row: goshelf-publish refuses with this sentence, and prints nothing else."""
-        told = room.publish(*words, **more)
-        return self.equal(name, told, (1, "", "".join(f"publish: {it}\n" for it in wanted.split("\n"))))
+    name: str
+    words: str
+    sentence: str
 
-    def table(self, room, is_of_servers):
-        """The table has each sentence that was printed, and each phrase of its part was printed."""
-        phrases = re.findall(r"^\| `([^`|]+)` \|", section(), re.M)
-        at = phrases.index(FIRST_OF_SERVERS)
-        part, printed = phrases[at:] if is_of_servers else phrases[:at], "".join(room.said)
-        missing = [it for it in part if not all(word in printed for word in CAPITALS.split(it))]
-        self.holds("the table of refusals: each was printed", len(part) > 15 and not missing, (len(part), missing))
-        said = [it for it in printed.splitlines() if it.startswith("publish: ") and not is_note(it, room)]
-        unlisted = [it for it in said if not any(is_of(it, row) for row in phrases)]
-        self.holds("the table of refusals: none lacks", not unlisted, unlisted)
+    def __str__(self) -> str:
+        return self.name
 
 
-def section():
-    """The part of the page about refusals of goshelf-publish."""
-    return read_page("REFERENCE.md").partition("## Refusals of goshelf-publish\n")[2].partition("\n## ")[0]
+def refused(sentence: str) -> tuple[int, str, str]:
+    """Returns how a run of goshelf-publish ends that refuses by these lines: its status, output and errors."""
+    return 1, "", "".join(f"publish: {line}\n" for line in sentence.split("\n"))
 
 
-def is_note(line, room):
-    """Whether a line is of a run that ended well or of bad usage, or goes with the line before it."""
-    notes = ("there: ", "here: ", "the zip there has other bytes", "not checked without", f"{room.served} accepts the")
-    return line[9:].startswith(notes) or re.search(r"needed|flag |invalid value|takes a number|need --to", line)
+def read_phrases() -> tuple[list[str], list[str]]:
+    """Returns the sentences of the page's table: those about a repository, and those about keys and servers."""
+    section = read_page("REFERENCE.md").partition("## Refusals of goshelf-publish\n")[2].partition("\n## ")[0]
+    phrases = re.findall(r"^\| `([^`|]+)` \|", section, re.M)
+    first = phrases.index(FIRST_OF_SERVERS)
+    return phrases[:first], phrases[first:]
 
 
-def is_of(line, phrase):
-    """Whether a line has a phrase."""
-    return re.search(".*".join(map(re.escape, CAPITALS.split(phrase))), line)
+def is_of(sentence: str, phrase: str) -> bool:
+    """Whether a sentence, whose fields may still be in braces, has a phrase of the table."""
+    pattern = ".*".join(map(re.escape, CAPITALS.split(phrase)))
+    return bool(re.search(pattern, re.sub(r"\{\w+\}", "X", sentence)))
+
+
+def find_unlisted(errors: str) -> list[str]:
+    """Returns the lines of a refusal that no phrase of the table fits."""
+    phrases = [phrase for part in read_phrases() for phrase in part]
+    said = [line.removeprefix("publish: ") for line in errors.splitlines() if line.startswith("publish: ")]
+    return [line for line in said if not NOTES.match(line) and not any(is_of(line, phrase) for phrase in phrases)]
+
+
+def has_sentence(phrase: str, sentences: Iterable[str]) -> bool:
+    """Whether one of these sentences has a phrase of the table."""
+    return any(is_of(sentence, phrase) for sentence in sentences)

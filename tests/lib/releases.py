@@ -9,26 +9,31 @@ from lib.program import PROGRAM, ROOT
 RELEASE = os.path.join(ROOT, "tools", "release")
 
 
-def release(folder):
+def release(folder: str) -> str:
     """Makes a release in a folder, and returns why it failed, or nothing."""
     ran = subprocess.run([RELEASE, "--program", PROGRAM, "--to", folder], capture_output=True, text=True)
     return "" if ran.returncode == 0 else ran.stderr or f"status {ran.returncode}"
 
 
-def packed(folder):
-    """The names of the tar file and the package of a release."""
-    return [
-        next(f"{folder}/{it}" for it in sorted(os.listdir(folder)) if it.endswith(end)) for end in (".tar.gz", ".deb")
-    ]
+def packed(folder: str) -> tuple[str, str]:
+    """Returns the names of the tar file and the package of a release."""
+    return _find_ending(folder, ".tar.gz"), _find_ending(folder, ".deb")
 
 
-def lines_of(text):
-    """The lines `name: value` of a text."""
-    return dict(line.split(": ", 1) for line in text.splitlines() if ": " in line)
+def _find_ending(folder: str, ending: str) -> str:
+    return next(f"{folder}/{name}" for name in sorted(os.listdir(folder)) if name.endswith(ending))
 
 
-def about(tar):
-    """What a release says of itself, by the tar file."""
+def lines_of(text: str) -> dict[str, str]:
+    """Returns the values of the lines `name: value` of a text, by their names."""
+    pairs = (line.partition(": ") for line in text.splitlines())
+    return {name: value for name, colon, value in pairs if colon}
+
+
+def about(tar: str) -> dict[str, str]:
+    """Returns what the BUILD of a release says, by its tar file."""
     top = os.path.basename(tar).removesuffix(".tar.gz")
-    with tarfile.open(tar) as held:
-        return lines_of(held.extractfile(f"{top}/BUILD").read().decode())
+    with tarfile.open(tar) as archive:
+        build = archive.extractfile(f"{top}/BUILD")
+        assert build, tar
+        return lines_of(build.read().decode())

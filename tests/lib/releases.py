@@ -1,8 +1,12 @@
 """Releases of this checkout by tools/release, with the program that it built."""
 
+import fcntl
 import os
 import subprocess
 import tarfile
+from typing import NamedTuple
+
+import pytest
 
 from lib.program import PROGRAM, ROOT
 
@@ -37,3 +41,26 @@ def about(tar: str) -> dict[str, str]:
         build = archive.extractfile(f"{top}/BUILD")
         assert build, tar
         return lines_of(build.read().decode())
+
+
+class Release(NamedTuple):
+    """A release in a folder."""
+
+    folder: str
+    tar: str
+    package: str
+    version: str
+
+
+def shared_release(factory: pytest.TempPathFactory) -> Release:
+    """Returns a release of this checkout that is made once for all processes of a test run."""
+    own = factory.getbasetemp()
+    folder = own.parent if "PYTEST_XDIST_WORKER" in os.environ else own
+    at = str(folder / "release")
+    with open(folder / "release.lock", "w", encoding="ascii") as lock:
+        fcntl.flock(lock, fcntl.LOCK_EX)
+        if not os.path.exists(f"{at}/SHA256SUMS"):
+            why = release(at)
+            assert not why, why
+    tar, package = packed(at)
+    return Release(at, tar, package, about(tar)["version"])

@@ -6,6 +6,7 @@ import shutil
 import subprocess
 import tempfile
 import time
+from collections.abc import Iterator
 
 # the settings of a command on the copy
 SETTINGS = [
@@ -39,74 +40,63 @@ exec env -i container=other PATH=/usr/sbin:/usr/bin:/sbin:/bin /lib/systemd/syst
 """
 
 
-def groups():
-    """The folder of the control groups of version 2, or None."""
+SPACES = ("--mount", "--pid", "--uts", "--ipc", "--net", "--cgroup")
+
+
+def groups() -> str | None:
+    """Returns the folder of the control groups of version 2, or None."""
     places = ("/sys/fs/cgroup/unified", "/sys/fs/cgroup")
-    return next((it for it in places if os.path.exists(f"{it}/cgroup.controllers")), None)
+    return next((place for place in places if os.path.exists(f"{place}/cgroup.controllers")), None)
 
 
 class Copy:
     """A copy of this machine that systemd runs."""
 
-    def __init__(self, folder, groups):
+    def __init__(self, folder: str, groups: str) -> None:
         self.group = os.path.join(groups, os.path.basename(folder))
-        words = [
-            "unshare",
-            "--mount",
-            "--pid",
-            "--uts",
-            "--ipc",
-            "--net",
-            "--cgroup",
-            "--fork",
-            "--kill-child",
-            "sh",
-            "-euc",
-            BOOT,
-            folder,
-        ]
         join = ["sh", "-euc", 'mkdir "$0"; echo $$ > "$0/cgroup.procs"; exec "$@"', self.group]
+        words = ["unshare", *SPACES, "--fork", "--kill-child", "sh", "-euc", BOOT, folder]
         self.log = tempfile.TemporaryFile()
         self.child = subprocess.Popen(
             [*join, *words], stdin=subprocess.DEVNULL, stdout=self.log, stderr=self.log, start_new_session=True
         )
-        self.first = None
+        # the number of its systemd
+        self.first = ""
 
-    def starts(self):
+    def starts(self) -> str | None:
         """Waits until systemd runs. Returns None then, and otherwise why it does not."""
         for _ in range(600):
             if self.child.poll() is not None:
                 self.log.seek(0)
                 return self.log.read().decode(errors="replace").strip()[-300:] or "it ended"
             with open(f"/proc/{self.child.pid}/task/{self.child.pid}/children", encoding="ascii") as file:
-                self.first = file.read().strip() or None
+                self.first = file.read().strip()
             if self.first and self.sh("systemctl is-system-running")[1] in ("running\n", "degraded\n"):
                 return None
             time.sleep(0.1)
         return "systemd did not come up in a minute"
 
-    def sh(self, script, **settings):
+    def sh(self, script: str, **settings: str) -> tuple[int, str, str]:
         """Runs a script on the copy, as root. Returns its exit status, and what it prints on standard output and on
         standard error."""
-        spaces = ["--mount", "--pid", "--uts", "--ipc", "--net", "--cgroup", "--root", "--wd"]
         env = ["env", "-i", "--chdir=/", *SETTINGS, *(f"{name}={value}" for name, value in settings.items())]
-        words = ["nsenter", "--target", self.first, *spaces, *env, "sh", "-euc", script]
+        words = ["nsenter", "--target", self.first, *SPACES, "--root", "--wd", *env, "sh", "-euc", script]
         ran = subprocess.run(
             words, stdin=subprocess.DEVNULL, capture_output=True, text=True, errors="replace", timeout=120
         )
         return ran.returncode, ran.stdout, ran.stderr
 
-    def prints(self, script):
-        """What a script prints on the copy, whatever its status, on one line."""
+    def prints(self, script: str) -> str:
+        """Returns what a script prints on the copy, whatever its status, on one line."""
         return " ".join(self.sh(f"set +e\n{script}")[1].split())
 
-    def put(self, file):
+    def put(self, file: str) -> str:
         """Copies a file to the copy, and returns its name there."""
         name = os.path.basename(file)
         shutil.copyfile(file, f"/proc/{self.first}/root/root/{name}")
         return f"/root/{name}"
 
-    def close(self):
+    def close(self) -> None:
         """Ends all that runs on the copy, and takes its group away."""
         if self.first:
             with contextlib.suppress(ProcessLookupError):
@@ -115,11 +105,28 @@ class Copy:
         self.child.wait()
         self.log.close()
         for _ in range(100):
-            groups = [at for at, _, _ in os.walk(self.group, topdown=False)]
-            if not groups:
+            left = [at for at, _, _ in os.walk(self.group, topdown=False)]
+            if not left:
                 return
-            for at in groups:
+            for at in left:
                 try:
                     os.rmdir(at)
                 except OSError:
                     time.sleep(0.05)
+
+
+@contextlib.contextmanager
+def booted_copy() -> Iterator[Copy]:
+    """Boots a copy of this machine, and ends it. Raises `CannotBoot` where the machine can't."""
+    place = groups()
+    if not place:
+        raise CannotBoot("this needs control groups of version 2")
+    with tempfile.TemporaryDirectory(prefix="goshelf-copy-") as folder:
+        with contextlib.closing(Copy(folder, place)) as copy:
+            if why := copy.starts():
+                raise CannotBoot(f"systemd does not start on a copy of this machine: {why}")
+            yield copy
+
+
+class CannotBoot(Exception):
+    """Why systemd can't run a copy of this machine."""

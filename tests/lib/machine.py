@@ -11,8 +11,9 @@ import os
 import re
 import shutil
 import subprocess
+from collections.abc import Iterator
 
-from lib.ports import free_port
+from lib.ports import free_port, wait_until
 from lib.program import PROGRAM, ROOT
 
 # folders whose names the pages and deploy/ use; each is put below the folder of the machine
@@ -26,7 +27,7 @@ FOLDERS = (
     "var/log/nginx", "var/lib/goshelf", "var/backups", "usr/local/bin", "usr/share", "run", "root",
 )  # fmt: skip
 # the modules of nginx that its front needs, as their packages name them
-MODULES = "".join(f"load_module /usr/lib/nginx/modules/ngx_{it}_module.so;\n" for it in ("http_js", "stream"))
+MODULES = "".join(f"load_module /usr/lib/nginx/modules/ngx_{name}_module.so;\n" for name in ("http_js", "stream"))
 # the authorities that nginx takes for the public proxy
 AUTHORITIES = "/etc/ssl/certs/ca-certificates.crt"
 SYSTEMCTL = """\
@@ -101,10 +102,10 @@ CHATTR = '#!/bin/sh\necho "chattr: Operation not supported while reading flags o
 class Machine:
     """A machine in a folder."""
 
-    # what runs a script of it
-    within = ()
+    # the words of a command that runs each script of the machine
+    within: tuple[str, ...] = ()
 
-    def __init__(self, folder, public=9):
+    def __init__(self, folder: str, public: int = 9) -> None:
         self.folder, self.front, self.behind, self.public = folder, free_port(), free_port(), public
         self.clear, self.way, self.says, self.before = (free_port() for _ in range(4))
         for name in FOLDERS:
@@ -120,60 +121,79 @@ class Machine:
         self.write("etc/nginx/modules-enabled/50-mod-goshelf.conf", MODULES)
         self.store = f"{folder}/var/lib/goshelf/shelves.db"
 
-    def command(self, name, text):
+    def command(self, name: str, text: str) -> None:
+        """Writes a script into the machine's /usr/local/bin, in which `@` is the folder of the machine."""
         self.write(f"usr/local/bin/{name}", text.replace("@/", f"{self.folder}/"))
         os.chmod(f"{self.folder}/usr/local/bin/{name}", 0o755)
 
-    def write(self, name, text):
+    def write(self, name: str, text: str) -> None:
+        """Writes a file of the machine."""
         with open(f"{self.folder}/{name}", "w", encoding="utf-8") as file:
             file.write(text)
 
-    def read(self, name):
+    def read(self, name: str) -> str:
+        """Returns the text of a file of the machine."""
         with open(f"{self.folder}/{name}", encoding="utf-8", errors="replace") as file:
             return file.read()
 
-    def edit(self, name, *pairs):
-        """Puts new texts for old ones, each of which a file has."""
+    def edit(self, name: str, *pairs: tuple[str, str]) -> None:
+        """Replaces texts of a file, each of which it has to have."""
         text = self.read(name)
         for old, new in pairs:
             assert old in text, (name, old)
             text = text.replace(old, new)
         self.write(name, text)
 
-    def placed(self, text):
-        """A text with its absolute names below the folder, and with the machine's ports."""
+    @contextlib.contextmanager
+    def edited(self, name: str, *pairs: tuple[str, str]) -> Iterator[None]:
+        """Replaces texts of a file until the block ends, and then writes the file as it was."""
+        text = self.read(name)
+        self.edit(name, *pairs)
+        try:
+            yield
+        finally:
+            self.write(name, text)
+
+    def placed(self, text: str) -> str:
+        """Returns a text with its absolute names below the folder, and with the machine's ports."""
         text = self.placed_on_host(text)
         for port, own in ((8444, self.way), (8445, self.says), (8446, self.before)):
             text = text.replace(f"127.0.0.1:{port}", f"127.0.0.1:{own}")
         text = text.replace("listen 80;", f"listen 127.0.0.1:{self.clear};")
         return text.replace("listen 443 ssl", f"listen 127.0.0.1:{self.front} ssl")
 
-    def placed_on_host(self, text):
-        """The same with the ports that its files name, but for goshelf's own."""
+    def placed_on_host(self, text: str) -> str:
+        """Returns a text with its absolute names below the folder, and with no port changed but goshelf's own."""
         text = PLACES.sub(f"{self.folder}/", text).replace("127.0.0.1:8080", f"127.0.0.1:{self.behind}")
         return text.replace("proxy.golang.org:443;", f"127.0.0.1:{self.public};")
 
-    def sh(self, script, **settings):
+    def sh(self, script: str, **settings: str) -> tuple[int, str, str]:
         """Runs a script that is written for a whole machine, in `root`. Returns its status, output and errors."""
         where = {
             "PATH": f"{self.folder}/usr/local/bin:{os.environ['PATH']}:/usr/sbin",
             "HOME": f"{self.folder}/root",
             **settings,
         }
-        words = [*self.within, "sh", "-euc", self.placed(script)]
-        how = {"cwd": f"{self.folder}/root", "env": where, "stdin": subprocess.DEVNULL, "timeout": 120}
-        ran = subprocess.run(words, capture_output=True, text=True, **how)
+        ran = subprocess.run(
+            [*self.within, "sh", "-euc", self.placed(script)],
+            cwd=f"{self.folder}/root",
+            env=where,
+            stdin=subprocess.DEVNULL,
+            capture_output=True,
+            text=True,
+            timeout=120,
+        )
         return ran.returncode, ran.stdout, ran.stderr
 
-    def does(self, script, **settings):
+    def does(self, script: str, **settings: str) -> str:
         """Runs a script that has to end well, and returns what it prints."""
         status, printed, errors = self.sh(script, **settings)
         assert status == 0, (script, status, printed, errors)
         return printed
 
     @contextlib.contextmanager
-    def instead(self, script):
-        """Meanwhile a script stands in the place of goshelf, which is `goshelf.own` there."""
+    def instead(self, script: str) -> Iterator[None]:
+        """Puts a script in the place of goshelf until the block ends. There goshelf is `goshelf.own`."""
         program = f"{self.folder}/usr/local/bin/goshelf"
         os.rename(program, f"{program}.own")
         self.command("goshelf", script)
@@ -183,38 +203,60 @@ class Machine:
             os.rename(f"{program}.own", program)
 
     @contextlib.contextmanager
-    def busy(self, count):
-        """Meanwhile goshelf refuses so many orders to copy, as it does while it makes another copy."""
+    def busy(self, count: int) -> Iterator[None]:
+        """Has goshelf refuse a number of orders to copy, as it does while it makes another copy."""
         self.write("often", f"{count}\n")
         with self.instead(BUSY):
             yield
         assert self.read("often") == "0\n", "goshelf was not ordered to copy as often"
 
-    def workers(self):
-        """The processes of nginx that take connections."""
+    def workers(self) -> set[str]:
+        """Returns the processes of nginx that take connections."""
         words = ["pgrep", "-P", self.read("nginx.pid").strip(), "-f", "worker process$"]
         return set(subprocess.run(words, capture_output=True, text=True).stdout.split())
 
-    def check_out(self):
+    def wait_for_workers(self, before: set[str]) -> None:
+        """Waits until nginx takes connections by other processes than before."""
+        wait_until(lambda: (now := self.workers()) and not before & now)
+
+    def check_out(self) -> None:
         """Puts the files of deploy/ into `root`, which is also /usr/share/goshelf, and installs its commands."""
         os.symlink(f"{self.folder}/root", f"{self.folder}/usr/share/goshelf")
-        for at, folders, names in os.walk(os.path.join(ROOT, "deploy")):
-            folders[:] = [it for it in folders if it != "__pycache__"]
-            below = os.path.join("root", os.path.relpath(at, ROOT))
+        for place, folders, names in os.walk(os.path.join(ROOT, "deploy")):
+            folders[:] = [name for name in folders if name != "__pycache__"]
+            below = os.path.join("root", os.path.relpath(place, ROOT))
             os.makedirs(f"{self.folder}/{below}")
             for name in names:
-                with open(os.path.join(at, name), encoding="utf-8") as file:
+                with open(os.path.join(place, name), encoding="utf-8") as file:
                     self.write(f"{below}/{name}", self.placed(file.read()))
-                shutil.copymode(os.path.join(at, name), f"{self.folder}/{below}/{name}")
+                shutil.copymode(os.path.join(place, name), f"{self.folder}/{below}/{name}")
                 if name.startswith("goshelf-") and "." not in name:
                     shutil.copy(f"{self.folder}/{below}/{name}", f"{self.folder}/usr/local/bin/{name}")
 
-    def close(self):
-        """Ends what was started on the machine."""
+    def close(self) -> None:
+        """Ends what was started on the machine, and waits for its end."""
         for name in ("nginx.pid", "serve.pid"):
             with contextlib.suppress(OSError, ValueError):
                 number = int(self.read(name))
                 with open(f"/proc/{number}/cmdline", encoding="utf-8", errors="replace") as file:
                     # (the number of one that has ended may be another's by now)
                     if self.folder in file.read():
-                        os.kill(number, 15)
+                        end(number)
+
+
+def end(number: int) -> None:
+    """Ends a process, if need be by force after some seconds."""
+    os.kill(number, 15)
+    try:
+        wait_until(lambda: has_ended(number), 10)
+    except AssertionError:
+        os.kill(number, 9)
+
+
+def has_ended(number: int) -> bool:
+    """Whether a process has ended, also if nobody has waited for it."""
+    try:
+        with open(f"/proc/{number}/stat", encoding="utf-8", errors="replace") as file:
+            return file.read().rsplit(")", 1)[1].split()[0] == "Z"
+    except OSError:
+        return True

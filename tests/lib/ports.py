@@ -1,29 +1,48 @@
 """Ports of this host, and waiting."""
 
+import random
 import socket
 import time
+from collections.abc import Callable
+
+# below the ports that the system gives to connections, so that no connection takes one before its server does
+_PORTS = range(10_000, 32_768)
+_CHOICE = random.SystemRandom()
+_given: set[int] = set()
 
 
-def free_port():
-    """A port on which nobody listens."""
+def free_port() -> int:
+    """Returns a port on which nobody listens, each time another one."""
+    while True:
+        port = _CHOICE.choice(_PORTS)
+        if port not in _given and _is_free(port):
+            _given.add(port)
+            return port
+
+
+def _is_free(port: int) -> bool:
     with socket.socket() as held:
-        held.bind(("127.0.0.1", 0))
-        return held.getsockname()[1]
+        try:
+            held.bind(("127.0.0.1", port))
+        except OSError:
+            return False
+        return True
 
 
-def wait_for(port):
+def is_listening(port: int) -> bool:
+    """Whether somebody listens on a port."""
+    with socket.socket() as probe:
+        return probe.connect_ex(("127.0.0.1", port)) == 0
+
+
+def wait_for(port: int, seconds: float = 30) -> None:
     """Waits until somebody listens on a port."""
-    for _ in range(200):
-        with socket.socket() as probe:
-            if probe.connect_ex(("127.0.0.1", port)) == 0:
-                return
-        time.sleep(0.05)
-    raise TimeoutError(f"nobody listens on {port}")
+    wait_until(lambda: is_listening(port), seconds, f"nobody listens on {port}")
 
 
-def wait_until(holds, seconds=30):
-    """Waits until something holds."""
-    begun = time.time()
+def wait_until(holds: Callable[[], object], seconds: float = 30, otherwise: str = "it did not come about") -> None:
+    """Waits until something holds. Fails after a limit."""
+    end = time.monotonic() + seconds
     while not holds():
-        assert time.time() - begun < seconds, "it does not come about"
+        assert time.monotonic() < end, f"{otherwise} within {seconds} seconds"
         time.sleep(0.02)

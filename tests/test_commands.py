@@ -10,8 +10,8 @@ import pytest
 from lib.messages import get, reply
 from lib.peers import exchanged
 from lib.program import ROOT, run
-from lib.runs import Story, number_runs, read_runs
-from lib.scratch import entered_folder, read, write
+from lib.runs import Story, begun, number_runs, read_runs
+from lib.scratch import read
 from lib.servers import Server
 from lib.stores import new_store
 
@@ -127,9 +127,8 @@ requires --db store.db --key R --module example.com/y --version 1.9.0 | 1 not-fo
 
 @pytest.fixture(scope="module")
 def one_store() -> Iterator[Story]:
-    with entered_folder() as folder:
-        write(LIB_FILES)
-        yield Story(LIB, folder)
+    with begun(LIB, LIB_FILES) as story:
+        yield story
 
 
 @pytest.mark.parametrize(**number_runs(LIB))
@@ -139,9 +138,8 @@ def test_run_on_one_store(one_store: Story, number: int) -> None:
 
 @pytest.fixture(scope="module")
 def seen() -> Iterator[Story]:
-    with entered_folder() as folder:
-        write(SEEN_FILES)
-        yield Story(SEEN, folder)
+    with begun(SEEN, SEEN_FILES) as story:
+        yield story
 
 
 @pytest.mark.parametrize(**number_runs(SEEN))

@@ -1,11 +1,14 @@
 """Tables of runs: the words of commands, and how each run is to end."""
 
+import contextlib
 import os
+from collections.abc import Iterator, Mapping
 from dataclasses import dataclass
 
 from lib.keys import KEYS
 from lib.messages import get, reply
 from lib.program import columns, run, words_of
+from lib.scratch import entered_folder, write
 
 Ending = tuple[int, bytes, str]
 
@@ -66,6 +69,24 @@ class Story:
         return self.endings[number]
 
 
+@contextlib.contextmanager
+def begun(runs: list[Run], files: Mapping[str, str | bytes] | None = None) -> Iterator[Story]:
+    """Begins a story in a new folder that has some files."""
+    with entered_folder() as folder:
+        write(files or {})
+        yield Story(runs, folder)
+
+
 def number_runs(runs: list[Run]) -> dict:
     """Returns the words of `parametrize` for tests of a story: a number for each run, named by its line."""
     return {"argnames": "number", "argvalues": range(len(runs)), "ids": [str(made) for made in runs]}
+
+
+def number_stories(stories: Mapping[str, list[Run]]) -> dict:
+    """Returns the words of `parametrize` for tests of several stories: the name of one, and the number of a run."""
+    rows = [(name, number) for name, runs in stories.items() for number in range(len(runs))]
+    return {
+        "argnames": ("story", "number"),
+        "argvalues": rows,
+        "ids": [f"{name}: {stories[name][number]}" for name, number in rows],
+    }

@@ -1,15 +1,15 @@
-#!/usr/bin/env python3
 """What the words of a command have to be: bad usage, names that are refused, and the help that goshelf prints."""
 
 import os
 import re
-import sys
+
+import pytest
 
 from lib.program import ROOT, run, words_of
-from lib.scratch import in_new_folders
-from lib.suite import Suite
+from lib.runs import Run, read_runs
 
-NAMES = """
+NAMES = read_runs(
+    """
 answer --mem --team alpha --key A | 0
 answer --mem --team common --key A | 1 name
 answer --mem --team Alpha --key A | 1 name
@@ -18,6 +18,7 @@ answer --mem --team alpha --key shortkey1234567 | 1 name
 answer --mem --team alpha --key Alphakey00000001 | 1 name
 answer --mem --team Alpha --key A < A example.com/lib/@v/list | 1 name
 """
+)
 
 # the first line has no words
 BAD_USAGE = """
@@ -160,39 +161,46 @@ copy --control --to
 ping --control
 stop --control
 """
+COMMANDS = dict(line.split(" ", 1) for line in OPTIONS.strip().split("\n"))
 
 
-def names(suite):
-    suite.runs("names before answers", NAMES)
+@pytest.mark.parametrize("names", NAMES, ids=str)
+def test_names_are_tested_before_an_answer(folder: str, names: Run) -> None:
+    assert run(list(names.words), names.requests) == names.wanted
 
 
-def bad_usage(suite):
-    for line in BAD_USAGE.split("\n"):
-        status, output, told = run(words_of(line))
-        suite.equal(f"bad usage: {line or 'no words'}", (status, output, told != ""), (2, b"", True))
-    suite.equal("bad usage makes no file", os.listdir("."), [])
-    for form in FORMS.strip().split("\n"):
-        command = form.split()[1]
-        told = run([command])[2]
-        suite.holds(f"`{command}` alone shows the form `{form}`", form in told, told)
+@pytest.mark.parametrize("line", BAD_USAGE.split("\n"), ids=lambda line: line or "no words")
+def test_bad_usage_has_status_2_and_makes_no_file(folder: str, line: str) -> None:
+    status, output, errors = run(words_of(line))
+    assert (status, output) == (2, b"")
+    assert errors
+    assert os.listdir(".") == []
 
 
-def helped(suite):
-    def shown(name, words):
-        status, output, told = run(words)
-        suite.equal(f"{name} ends well", (status, told), (0, ""))
-        return output.decode()
+@pytest.mark.parametrize("form", FORMS.strip().split("\n"))
+def test_command_alone_shows_its_form(folder: str, form: str) -> None:
+    assert form in run([form.split()[1]])[2]
 
-    commands = dict(line.split(" ", 1) for line in OPTIONS.strip().split("\n"))
-    for command, options in commands.items():
-        named = set(re.findall(r"(?<![\w-])--[a-z][a-z-]*", shown(f"{command} --help", [command, "--help"])))
-        suite.equal(f"{command} --help names its options", sorted(named - {"--help"}), sorted(options.split()))
-    listed = re.findall(r"^  ([a-z][a-z-]*) ", shown("--help", ["--help"]), re.M)
-    suite.equal("--help lists each command, and no other", sorted(listed), sorted([*commands, "help"]))
+
+def show(*words: str) -> str:
+    """Returns what goshelf prints, if it ends well."""
+    status, output, errors = run(words)
+    assert (status, errors) == (0, ""), words
+    return output.decode()
+
+
+@pytest.mark.parametrize("command", COMMANDS)
+def test_help_of_a_command_names_its_options(command: str) -> None:
+    named = set(re.findall(r"(?<![\w-])--[a-z][a-z-]*", show(command, "--help")))
+    assert sorted(named - {"--help"}) == sorted(COMMANDS[command].split())
+
+
+def test_help_lists_each_command_and_no_other() -> None:
+    listed = re.findall(r"^  ([a-z][a-z-]*) ", show("--help"), re.M)
+    assert sorted(listed) == sorted([*COMMANDS, "help"])
+
+
+def test_version() -> None:
     with open(os.path.join(ROOT, "crates", "cli", "src", "version.rt"), encoding="utf-8") as file:
         version = re.search(r'"(.*)"', file.read())[1]
-    suite.equal("--version names the version", shown("--version", ["--version"]), f"goshelf {version}\n")
-
-
-if __name__ == "__main__":
-    sys.exit(in_new_folders(Suite(), names, bad_usage, helped))
+    assert show("--version") == f"goshelf {version}\n"

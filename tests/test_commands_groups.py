@@ -1,18 +1,17 @@
-#!/usr/bin/env python3
-"""Groups, teams and keys as commands make and list them: who sees what, who may publish, and what is refused.
+"""Groups, teams and keys as commands make and list them: who sees what, who may publish, and what is refused."""
 
-A table holds runs, which are made in order, as `runs_of` of lib/program.py reads them. Each run is to end with its
-status, print its lines, byte for byte, and say its word or nothing on standard error.
-"""
-
+import contextlib
 import hashlib
 import re
 import subprocess
-import sys
+from collections.abc import Iterator
+from typing import NamedTuple
 
-from lib.program import PROGRAM, run
-from lib.scratch import in_new_folders, read, write
-from lib.suite import Suite
+import pytest
+
+from lib.program import PROGRAM, done, refusal, run
+from lib.runs import Ending, Run, Story, begun, number_stories, read_runs
+from lib.scratch import entered_folder, read
 
 # a store with the team alpha and its key, and what is then refused and changes nothing: the name first, then whether it
 # is taken, then the group
@@ -205,55 +204,99 @@ key-add --db store.db --shelf alpha --key A | 0
 inventory --db store.db --key A | 0
     path,version,shelf,class,time,mod_bytes,zip_bytes
 """
+STORIES = {
+    "a group": read_runs(GROUPS + REFUSED_GROUPS + GROUP_KEYS),
+    "who has keys": read_runs("init --db store.db | 0\n" + WHO),
+    "teams, groups and keys": read_runs(REGISTRY),
+}
+REFUSED = read_runs(REFUSED_GROUPS)
+FILES_OF_A_STORE = ("store.db", "store.db-wal")
+NEW_KEY = "key-add --db store.db --shelf alpha --new".split()
 
 
-def groups(suite):
-    write(GROUP_FILES)
-    suite.runs("a group", GROUPS)
-    before = {name: read(name) for name in ("store.db", "store.db-wal")}
-    for line in REFUSED_GROUPS.strip().split("\n"):
-        suite.runs("a refused group", line)
-        suite.holds(f"nothing changed by: {line}", all(read(name) == content for name, content in before.items()))
-    suite.runs("what a group sees", GROUP_KEYS)
+@pytest.fixture(scope="module")
+def stories() -> Iterator[dict[str, Story]]:
+    with contextlib.ExitStack() as folders:
+        yield {name: folders.enter_context(begun(runs, GROUP_FILES)) for name, runs in STORIES.items()}
 
 
-def who(suite):
-    suite.runs("who has keys", "init --db store.db | 0")
-    before = {name: read(name) for name in ("store.db", "store.db-wal")}
-    suite.runs("who has keys", "key-list --db store.db | 0\nshelf-list --db store.db | 0\n    common common")
-    suite.equal("the lists change nothing", {name: read(name) for name in before}, before)
-    suite.runs("who has keys", WHO)
+@pytest.mark.parametrize(**number_stories(STORIES))
+def test_run(stories: dict[str, Story], story: str, number: int) -> None:
+    assert stories[story].ending(number) == STORIES[story][number].wanted
 
 
-def registry(suite):
-    suite.runs("teams, groups and keys", REGISTRY)
+@pytest.fixture(scope="module")
+def store_with_a_group() -> Iterator[list[bytes]]:
+    """The bytes of a store in the folder of the test, on which the refused runs are made."""
+    with entered_folder():
+        for made in read_runs(GROUPS):
+            assert run(list(made.words)) == made.wanted
+        yield [read(name) for name in FILES_OF_A_STORE]
 
 
-def made_keys(suite):
+@pytest.mark.parametrize("refused", REFUSED, ids=str)
+def test_refused_run_changes_nothing(store_with_a_group: list[bytes], refused: Run) -> None:
+    assert run(list(refused.words)) == refused.wanted
+    assert [read(name) for name in FILES_OF_A_STORE] == store_with_a_group
+
+
+@pytest.mark.parametrize("command", ["key-list", "shelf-list"])
+def test_list_changes_nothing(folder: str, command: str) -> None:
+    done("init", "--db", "store.db")
+    before = [read(name) for name in FILES_OF_A_STORE]
+    assert run([command, "--db", "store.db"])[0] == 0
+    assert [read(name) for name in FILES_OF_A_STORE] == before
+
+
+class Made(NamedTuple):
+    """Keys that `key-add --new` made for one store: how each run ended, one that only reads, and the list of all."""
+
+    endings: list[Ending]
+    reader: str
+    listed: Ending
+
+    @property
+    def keys(self) -> list[str]:
+        return [output.decode() for _, output, _ in self.endings]
+
+
+class TestMadeKeys:
     """`--new` adds a key that no other run adds, and prints it."""
-    suite.runs("made keys", "init --db store.db | 0\nteam-add --db store.db --team alpha | 0")
-    made, words = [], "key-add --db store.db --shelf alpha --new".split()
-    for _ in range(40):
-        status, output, told = run(words)
-        made.append(output.decode())
-        suite.equal("key-add --new ends well", (status, told), (0, ""))
-    suite.holds("each has 26 of a-z0-9", all(re.fullmatch(r"[a-z0-9]{26}\n", key) for key in made), made)
-    suite.equal("none comes twice", len(set(made)), 40)
-    suite.equal("each of the 36 letters comes", len(set("".join(made))), 37)
-    _, output, _ = run([*words, "--read-only"])
-    reader = output.decode().strip()
-    sums = [hashlib.sha256(key.strip().encode()).hexdigest() for key in (*made, reader)]
-    rights = ["publish"] * len(made) + ["read"]
-    lines = [f"alpha {right} {it[:16]} {it}\n" for right, it in zip(rights, sums)]
-    listed = run("key-list --db store.db".split())
-    suite.equal("key-list has them", listed, (0, "".join(sorted(lines)).encode(), ""))
-    suite.equal("a made key reads", run(["inventory", "--db", "store.db", "--key", reader])[0], 0)
-    suite.runs("no shelf", "key-add --db store.db --shelf nosuch --new | 1 no-team")
-    with open("/dev/full", "wb") as full:
-        ran = subprocess.run([PROGRAM, *words], stdout=full, stderr=subprocess.PIPE, timeout=120)
-    suite.equal("a key that cannot be printed", (ran.returncode, ran.stderr), (1, b"goshelf: io\n"))
-    suite.equal("it is not there", run("key-list --db store.db".split()), listed)
 
+    @pytest.fixture(scope="class")
+    def made(self, class_folder: str) -> Made:
+        done("init", "--db", "store.db")
+        done("team-add", "--db", "store.db", "--team", "alpha")
+        endings = [run(NEW_KEY) for _ in range(40)]
+        reader = run([*NEW_KEY, "--read-only"])[1].decode().strip()
+        return Made(endings, reader, run("key-list --db store.db".split()))
 
-if __name__ == "__main__":
-    sys.exit(in_new_folders(Suite(), groups, registry, who, made_keys))
+    def test_each_run_ends_well(self, made: Made) -> None:
+        assert [(status, errors) for status, _, errors in made.endings] == [(0, "")] * 40
+
+    def test_each_key_has_26_characters(self, made: Made) -> None:
+        assert [key for key in made.keys if not re.fullmatch(r"[a-z0-9]{26}\n", key)] == []
+
+    def test_none_comes_twice(self, made: Made) -> None:
+        assert len(set(made.keys)) == 40
+
+    def test_each_of_the_36_characters_comes(self, made: Made) -> None:
+        assert len(set("".join(made.keys)) - {"\n"}) == 36
+
+    def test_key_list_has_them(self, made: Made) -> None:
+        rights = {**{key.strip(): "publish" for key in made.keys}, made.reader: "read"}
+        sums = {key: hashlib.sha256(key.encode()).hexdigest() for key in rights}
+        lines = sorted(f"alpha {right} {sums[key][:16]} {sums[key]}\n" for key, right in rights.items())
+        assert made.listed == (0, "".join(lines).encode(), "")
+
+    def test_made_key_reads(self, made: Made) -> None:
+        assert run(["inventory", "--db", "store.db", "--key", made.reader])[0] == 0
+
+    def test_no_key_is_made_for_no_shelf(self, made: Made) -> None:
+        assert run("key-add --db store.db --shelf nosuch --new".split()) == refusal("no-team")
+
+    def test_key_that_cannot_be_printed_is_not_added(self, made: Made) -> None:
+        with open("/dev/full", "wb") as full:
+            ran = subprocess.run([PROGRAM, *NEW_KEY], stdout=full, stderr=subprocess.PIPE, timeout=120)
+        assert (ran.returncode, ran.stderr) == (1, b"goshelf: io\n")
+        assert run("key-list --db store.db".split()) == made.listed

@@ -1,14 +1,11 @@
-#!/usr/bin/env python3
-"""Imports of lists, and what a shelf sees of them, in scripts of runs, each on a new store.
+"""Imports of lists, and what a shelf sees of them: stories of runs, each on a new store."""
 
-A script holds runs, which are made in order, as `runs_of` of lib/program.py reads them. Each run is to end with its
-status, print its lines, byte for byte, and say its word or nothing on standard error.
-"""
+import contextlib
+from collections.abc import Iterator
 
-import sys
+import pytest
 
-from lib.scratch import in_new_folders, write
-from lib.suite import Suite
+from lib.runs import Story, begun, number_stories, read_runs
 from lib.worked import HEADER
 
 # the files that are published
@@ -268,25 +265,21 @@ init --db store.db | 0
 team-add --db store.db --team alpha | 0
 key-add --db store.db --shelf alpha --key A | 0
 """
+STORIES = {
+    "a list twice": read_runs(BEGIN + TWICE),
+    "the checks of a row": read_runs(BEGIN + CHECKS),
+    "what is seen": read_runs(BEGIN + REPORTS),
+    "a group": read_runs(BEGIN + GROUPS),
+    "lists that cannot be read": read_runs(BEGIN + UNREAD),
+}
 
 
-def script(name, table):
-    """Returns the part of this suite that makes the runs of a script."""
-
-    def part(suite):
-        write(FILES | LISTS)
-        suite.runs(name, BEGIN + table)
-
-    return part
+@pytest.fixture(scope="module")
+def stories() -> Iterator[dict[str, Story]]:
+    with contextlib.ExitStack() as folders:
+        yield {name: folders.enter_context(begun(runs, FILES | LISTS)) for name, runs in STORIES.items()}
 
 
-PARTS = (
-    script("a list twice", TWICE),
-    script("the checks of a row", CHECKS),
-    script("what is seen", REPORTS),
-    script("a group", GROUPS),
-    script("lists that cannot be read", UNREAD),
-)
-
-if __name__ == "__main__":
-    sys.exit(in_new_folders(Suite(), *PARTS))
+@pytest.mark.parametrize(**number_stories(STORIES))
+def test_run(stories: dict[str, Story], story: str, number: int) -> None:
+    assert stories[story].ending(number) == STORIES[story][number].wanted

@@ -76,7 +76,9 @@ def rows_of(file: str) -> tuple[list, list, list]:
     tables = [sorted(conn.execute(f"SELECT * FROM {table}")) for table in ("meta", "access")]
     shelves = sorted(conn.execute("SELECT name, ifnull(parent, '') FROM shelf"))
     entries = sorted((row[1:4], row[4] or "", row[5:], zip_bytes) for row, zip_bytes in entries_of(conn))
-    settled(conn)
+    # (the pages in the log have the sums that goshelf wrote)
+    conn.execute("PRAGMA wal_checkpoint(TRUNCATE)")
+    conn.close()
     return tables, shelves, entries
 
 

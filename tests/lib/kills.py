@@ -73,9 +73,3 @@ def seeded(words):
     random.seed(seed)
     print(f"seed {seed}")
     return seed
-
-
-def count_of(words, short, long):
-    """How many kills the words ask for. Their seed is set."""
-    seed = seeded(words)
-    return next((int(it) for it in words if it.isdigit() and int(it) != seed), long if "--long" in words else short)

@@ -162,19 +162,22 @@ class TestFullDisk:
         fill("small/other")
         check_orders(disk, 100_000)
         check_room_again(disk, WHOLE, lambda: os.remove("small/other"))
-
-    @pytest.mark.parametrize("disk", ["48m"], indirect=True)
-    def test_reserve_that_is_removed_or_cut_is_made_by_the_next_start(self, disk: Disk) -> None:
         os.remove("small/s.db-reserve")
         assert order("team-add", "--team", "epsilon") == DONE
-        wait_until(lambda: notices()[-1:] == ["reserve: device"], 10)
+        wait_until(lambda: notices() == ["reserve: device", "reserve: done", "reserve: device"], 10)
         disk.server.kill()
         disk.start()
+        assert disk.reserved()[0] == WHOLE, "the next start makes it again"
+        assert disk.statuses(KEY, ADDED, NAMED) == [200, 200, 404]
+
+    @pytest.mark.parametrize("disk", ["48m"], indirect=True)
+    def test_reserve_that_was_cut_is_filled_by_the_next_start(self, disk: Disk) -> None:
         assert disk.reserved()[0] == WHOLE
         disk.server.kill()
         os.truncate("small/s.db-reserve", 5_000)
         disk.start()
         assert disk.reserved()[0] == WHOLE
+        assert disk.statuses(KEY) == [200]
 
 
 RESERVE = "s.db-reserve"

@@ -12,11 +12,13 @@ import os
 import re
 import subprocess
 import sys
+from collections.abc import Iterator
 
 import pytest
 
 from lib.machine import Machine
 from lib.program import ROOT
+from lib.scratch import entered_folder
 
 # (a unit has an end)
 COMMANDS = sorted(name for name in glob.glob("deploy/**/goshelf-*", root_dir=ROOT, recursive=True) if "." not in name)
@@ -71,11 +73,12 @@ class TestWords:
     """The scripts and their words."""
 
     @pytest.fixture(scope="class")
-    def machine(self, class_folder: str) -> Machine:
+    def machine(self) -> Iterator[Machine]:
         """A machine in a folder (lib/machine.py), where the commands of deploy/ are installed."""
-        machine = Machine(class_folder)
-        machine.check_out()
-        return machine
+        with entered_folder() as folder:
+            machine = Machine(folder)
+            machine.check_out()
+            yield machine
 
     @pytest.mark.parametrize("option", ["--help", "-h"])
     @pytest.mark.parametrize("script", SCRIPTS)

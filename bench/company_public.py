@@ -60,7 +60,7 @@ class Outside:
 def files(folder: str, outside: Outside | None) -> dict[str, str]:
     """The files of deploy/nginx beside goshelf.conf."""
     found = {}
-    for name in ("goshelf.js", "locations.conf", "public.conf", "stream.conf"):
+    for name in ("errors.conf", "goshelf.js", "locations.conf", "page.conf", "public.conf", "stream.conf"):
         with open(os.path.join(ROOT, "deploy", "nginx", name), encoding="utf-8") as file:
             lines = [line for line in file.read().split("\n") if not line.lstrip().startswith("limit_")]
         text = "\n".join(lines).replace("/etc/nginx/goshelf/", f"{folder}/")

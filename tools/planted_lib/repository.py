@@ -6,6 +6,8 @@ import subprocess
 import sys
 from dataclasses import dataclass, field
 
+from common import crate_lines
+
 RT = os.environ.get("RT", "rt").split()
 TOOL = os.path.basename(sys.argv[0])
 PARTS = ("src", "specs", "proofs")
@@ -75,8 +77,7 @@ class Crate:
 
 def crates_of_repository() -> dict[str, Crate]:
     """Returns the crates of crates.txt by name, each after those below it."""
-    lines = [line.partition("#")[0].strip() for line in read(f"{ROOT}/crates.txt").split("\n")]
-    rows = {line.partition(":")[0].split()[0]: line for line in lines if line}
+    rows = crate_lines(read(f"{ROOT}/crates.txt"))
     found: dict[str, Crate] = {}
 
     def add(name: str) -> Crate:

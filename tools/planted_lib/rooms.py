@@ -28,6 +28,8 @@ class ProvedCrate:
     def __init__(self, crate: Crate, root: str, keep: str | None, bodies: list[Body]) -> None:
         self.crate, self.root, self.keep, self.sum = crate, root, keep, crate.sum()
         self.kept, self.text = f"{root}/kept", f"{root}/text"
+        # whether the checker knows each function by the name that it gets here
+        self.has_names = True
         is_left = is_left_by_gate(crate)
         with SLOTS:
             if not is_left:
@@ -46,14 +48,18 @@ class ProvedCrate:
         os.mkdir(self.kept)
         functions = [function for body in bodies if not body.is_wide for function in body.functions]
         if functions:
-            said = self.check(self.text, self.kept, only(self.crate, functions), "as-it-stands")
+            said = self.check(self.text, self.kept, functions, "as-it-stands")
             if not said.is_proved:
                 raise Unusable(f"its functions are not proved as they stand: {last_of(said.text)}")
 
-    def check(self, folder: str, kept: str, more: list[str], name: str) -> Said:
-        """Checks a copy of the crate over a folder of kept work, and returns what was said of it."""
+    def check(self, folder: str, kept: str, functions: list[Function], name: str) -> Said:
+        """Checks functions of a copy of the crate, or all of it if none is given, over a folder of kept work."""
+        words = [*self.words, "--incremental", kept]
         with SLOTS:
-            status, text = run([*self.words, "--incremental", kept, *more], folder)
+            status, text = run([*words, *(only(self.crate, functions) if self.has_names else [])], folder)
+            if status == 2 and functions and self.has_names:
+                self.has_names = False
+                status, text = run(words, folder)
         if self.crate.sum() != self.sum:
             raise Unusable("its files, or those below, were changed meanwhile: run this again")
         if self.keep:
@@ -80,9 +86,9 @@ class Room:
                     rows[at - 1] = line
             write(f"{root}/text/{path}", "\n".join(rows))
         self.checks += 1
-        functions = [function for body in bodies for function in body.functions]
-        more, name = [] if is_whole else only(self.crate, functions), f"{self.number}-{self.checks}"
-        said = self.proved.check(f"{root}/text", f"{root}/kept", more, name)
+        functions = [] if is_whole else [function for body in bodies for function in body.functions]
+        name = f"{self.number}-{self.checks}"
+        said = self.proved.check(f"{root}/text", f"{root}/kept", functions, name)
         if self.proved.keep:
             path = f"{self.proved.keep}/{self.crate.name}-{name}.txt"
             write(path, "".join(f"{body.name}\n" for body in bodies) + f"\n{read(path)}")

@@ -11,6 +11,9 @@ HOLDER = re.compile(
 )
 
 
+REFERENCE = re.compile(r"^Ref(?:Mut)?(?=[A-Z])")
+
+
 @dataclass(frozen=True)
 class Function:
     """A function of a source: its lines from the first of its head, the line that opens its body, and its last."""
@@ -18,6 +21,8 @@ class Function:
     path: str
     name: str
     holder: str
+    # of an impl of a type with arguments that are no parameters, those
+    arguments: str
     first: int
     opens: int
     last: int
@@ -35,7 +40,9 @@ class Function:
     def name_in(self, crate: str) -> str:
         """Returns the name by which rattle finds the function: whole, or of a method its end, because a method is named
         by the module of its type, which may be another than that of its source."""
-        return self.label if self.holder else "::".join([crate, *self.module, self.name])
+        if self.holder:
+            return f"{self.holder}{self.arguments}::{self.name}"
+        return "::".join([crate, *self.module, self.name])
 
     def is_at(self, names: list[str]) -> bool:
         """Returns whether rattle's name, without the crate's, is of this function or of a closure in it."""
@@ -65,7 +72,8 @@ def functions_of(path: str, text: str) -> tuple[Function, ...]:
             or lines[first - 1].startswith(f"{head[1]}///")
         ):
             first -= 1
-        found.append(Function(path, head[2], holder_of(lines, at, head[1]), first + 1, opens + 1, last + 1))
+        holder, arguments = holder_of(lines, at, head[1])
+        found.append(Function(path, head[2], holder, arguments, first + 1, opens + 1, last + 1))
         after = last + 1
     return tuple(found)
 
@@ -75,7 +83,7 @@ def functions_named(path: str, text: str, name: str) -> list[Function]:
     of_type, _, last = name.rpartition("::")
     exact = [one for one in functions_of(path, text) if one.label == name]
     some = [one for one in functions_of(path, text) if one.name == last]
-    return exact or [one for one in some if one.holder.startswith(of_type)]
+    return exact or [one for one in some if REFERENCE.sub("", one.holder).startswith(of_type)]
 
 
 def body_of(lines: list[str], at: int, indent: str) -> tuple[int, int]:
@@ -101,15 +109,39 @@ def body_of(lines: list[str], at: int, indent: str) -> tuple[int, int]:
     raise Unusable(f"no end is found of {lines[at].strip()}")
 
 
-def holder_of(lines: list[str], at: int, indent: str) -> str:
-    """Returns what rattle calls the impl or trait around a row: a type or a trait, or both as in MapShelvesShelves;
-    else ''."""
+def holder_of(lines: list[str], at: int, indent: str) -> tuple[str, str]:
+    """Returns what rattle calls the impl or trait around a row, and the arguments of its type: a type or a trait, or
+    both as in MapShelvesShelves; else ''."""
     for row in range(at, -1, -1):
-        found = HOLDER.match(head_at(lines, row))
+        head = head_at(lines, row)
+        found = HOLDER.match(head)
         if found and len(lines[row]) - len(lines[row].lstrip()) < len(indent):
             trait, _, of_type = found[1].partition("{")[0].rpartition(" for ")
-            return types_in(of_type) + types_in(trait) if trait else last_word(of_type)
-    return ""
+            if not trait:
+                return last_word(of_type), arguments_of(head.partition(found[1])[0], of_type)
+            reference = re.match(r"&(?:'\w+ )?(mut )?", of_type)
+            prefix = f"Ref{'Mut' if reference[1] else ''}" if reference else ""
+            return prefix + types_in(of_type) + types_in(trait), ""
+    return "", ""
+
+
+def arguments_of(declared: str, of_type: str) -> str:
+    """Returns what rattle adds to the name of a type for its arguments: nothing if all are parameters of the impl."""
+    parameters = {part.partition(":")[0] for part in items_of(declared)}
+    arguments = [part for part in items_of(of_type) if not part.startswith("'")]
+    return "" if {*arguments} <= parameters else "".join(f"+{last_word(part)}" for part in arguments)
+
+
+def items_of(text: str) -> list[str]:
+    """Returns what stands between commas in the first angle brackets of a text."""
+    inner, depth, items = text.partition("<")[2].rpartition(">")[0], 0, [""]
+    for letter in inner:
+        depth += (letter in "<([") - (letter in ">)]")
+        if letter == "," and depth == 0:
+            items.append("")
+        else:
+            items[-1] += letter
+    return [item.strip() for item in items if item.strip()]
 
 
 def head_at(lines: list[str], row: int) -> str:

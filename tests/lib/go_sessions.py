@@ -6,17 +6,19 @@ Expected values are Go's own rules (Go Modules Reference) and sums that are made
 import json
 import os
 import subprocess
+from collections.abc import Iterable
+from typing import NamedTuple, Protocol
 
+from lib.go_command import build_cache
 from lib.keys import KEYS
-from lib.modules import module, sums
+from lib.modules import Version, module, sums
+from lib.scratch import read, write
 
-ALPHA, READER, BETA, COMMON = (KEYS[it] for it in "ARBC")
+ALPHA, READER, BETA, COMMON = (KEYS[letter] for letter in "ARBC")
 PSEUDO = "v0.0.0-20240131120000-abcdefabcdef"
-
-
 RETRACTED = "retract (\n\tv1.1.0 // lost a file\n\tv1.3.0 // published too early\n)\n"
 USES_BASE = 'package words\n\nimport "example.com/base"\n\nconst Version = "words over " + base.Version\n'
-GREET = [module("example.com/greet", it) for it in ("v1.0.0", "v1.1.0", "v1.2.0", "v1.4.0-rc.1")]
+GREET = [module("example.com/greet", version) for version in ("v1.0.0", "v1.1.0", "v1.2.0", "v1.4.0-rc.1")]
 GREET.append(module("example.com/greet", "v1.3.0", more=RETRACTED))
 ON_ALPHA = [
     *GREET,
@@ -27,175 +29,225 @@ ON_ALPHA = [
     module("example.com/Upper/CaseD", "v1.0.0"),
     module("example.com/words", "v1.0.0", ["example.com/base v1.0.0"], code=USES_BASE),
 ]
-ON_COMMON = [module("example.com/base", it) for it in ("v1.0.0", "v1.1.0")]
+ON_COMMON = [module("example.com/base", version) for version in ("v1.0.0", "v1.1.0")]
 ON_BETA = [module("example.com/secret", "v1.0.0"), module("example.com/words", "v0.9.0")]
 # what each key publishes
 PUBLISHED = ((ALPHA, ON_ALPHA), (COMMON, ON_COMMON), (BETA, ON_BETA))
 
 
-class Client:
+class Listing(NamedTuple):
+    """What `go list -m` prints to a developer of alpha: the words behind that, and the output."""
+
+    name: str
+    words: str
+    wanted: str
+
+    def __str__(self) -> str:
+        return self.name
+
+
+LISTINGS = [
+    Listing("versions", "-versions example.com/greet@v1.0.0", "example.com/greet v1.0.0 v1.2.0 v1.4.0-rc.1"),
+    Listing("versions with the retracted", "-retracted -versions example.com/greet@v1.0.0",
+            "example.com/greet v1.0.0 v1.1.0 v1.2.0 v1.3.0 v1.4.0-rc.1"),
+    Listing("the latest", "example.com/greet@latest", "example.com/greet v1.2.0"),
+    Listing("the latest with the retracted", "-retracted example.com/greet@latest",
+            "example.com/greet v1.3.0 (retracted)"),
+    Listing("why a version is retracted", "-retracted -f {{.Version}}{{.Retracted}} example.com/greet@v1.1.0",
+            "v1.1.0[lost a file]"),
+    Listing("a time", "-f {{.Time}} example.com/greet@v1.0.0", "2024-01-31 12:00:00 +0000 UTC"),
+    Listing("a range", "example.com/greet@<v1.2.0", "example.com/greet v1.0.0"),
+    Listing("a front of a version", "example.com/greet@v1.2", "example.com/greet v1.2.0"),
+    Listing("another major version", "example.com/greet/v2@latest", "example.com/greet/v2 v2.0.0"),
+    Listing("a path with capitals", "example.com/Upper/CaseD@latest", "example.com/Upper/CaseD v1.0.0"),
+    Listing("a pseudo-version", "example.com/early@latest", f"example.com/early {PSEUDO}"),
+    Listing("+incompatible", "-versions example.com/old@v1.0.0", "example.com/old v1.0.0 v2.0.0+incompatible"),
+    Listing("versions of common", "-versions example.com/base@latest", "example.com/base v1.0.0 v1.1.0"),
+    Listing("versions that another team has too", "-versions example.com/words@latest", "example.com/words v1.0.0"),
+]  # fmt: skip
+# what `go get` is asked in turn, and the version that the go.mod requires then
+GETS = {
+    "example.com/greet@latest": "v1.2.0",
+    "example.com/greet@v1.0.0": "v1.0.0",
+    "example.com/greet@upgrade": "v1.2.0",
+    "example.com/greet@v1.4.0-rc.1": "v1.4.0-rc.1",
+    "example.com/greet/v2@latest": "v2.0.0",
+    "example.com/old@v1.0.0": "v1.0.0",
+    "example.com/old@v2.0.0+incompatible": "v2.0.0+incompatible",
+    "example.com/early@latest": PSEUDO,
+    "example.com/Upper/CaseD@latest": "v1.0.0",
+    "example.com/base@v1.0.0": "v1.0.0",
+    "example.com/base@patch": "v1.0.0",
+    "example.com/words@latest": "v1.0.0",
+}
+# a program with dependencies on two shelves, what it requires once it is tidied, and what it prints
+PROGRAM = """package main
+
+import (
+	"example.com/base"
+	"example.com/greet/v2"
+	"example.com/words"
+)
+
+func main() { println(greet.Version, base.Version, words.Version) }
+"""
+REQUIRED = {"example.com/base": "v1.1.0", "example.com/greet/v2": "v2.0.0", "example.com/words": "v1.0.0"}
+PRINTED = "example.com/greet/v2 v2.0.0 example.com/base v1.1.0 words over example.com/base v1.1.0"
+# versions that each does not see
+NOT_BETAS = ("example.com/greet@v1.0.0", "example.com/early@latest", "example.com/words@v1.0.0")
+NOT_ALPHAS = ("example.com/secret@v1.0.0", "example.com/words@v0.9.0", "example.com/none@latest")
+
+
+class Proxy(Protocol):
+    """A server of modules on a port of this host."""
+
+    @property
+    def port(self) -> int:
+        ...
+
+
+class Ran(NamedTuple):
+    """How a command ended."""
+
+    status: int
+    output: str
+    errors: str
+
+
+class Developer:
     """A developer: a key, a cache of modules and a folder of its own."""
 
-    def __init__(self, suite, server, folder, key):
-        self.suite, self.folder, self.server, self.key = suite, folder, server, key
+    def __init__(self, server: Proxy, folder: str, key: str) -> None:
+        self.folder, self.server, self.key = folder, server, key
         os.makedirs(os.path.join(folder, "home"))
 
-    def go(self, *words, at="home"):
-        """Status, output and errors of the go command."""
+    def go(self, *words: str, at: str = "home") -> Ran:
+        """Runs the go command in a folder of the developer's."""
         env = {
             "PATH": os.environ["PATH"],
             "HOME": os.path.join(self.folder, "home"),
             "GOPATH": os.path.join(self.folder, "path"),
+            "GOCACHE": build_cache(),
             "GOPROXY": f"http://127.0.0.1:{self.server.port}/k/{self.key}",
             "GOSUMDB": "off",
             "GOFLAGS": "-modcacherw",
             "CGO_ENABLED": "0",
         }
-        done = subprocess.run(
-            ["go", *words], cwd=os.path.join(self.folder, at), env=env, capture_output=True, text=True
-        )
-        return done.returncode, done.stdout.strip(), done.stderr.strip()
+        folder = os.path.join(self.folder, at)
+        ran = subprocess.run(["go", *words], cwd=folder, env=env, capture_output=True, text=True)
+        return Ran(ran.returncode, ran.stdout.strip(), ran.stderr.strip())
 
-    def tells(self, name, want, *words, at="home"):
-        """Checks what the go command prints."""
-        status, output, errors = self.go(*words, at=at)
-        self.suite.holds(name, status == 0 and output == want, f"{status} {output!r} {errors!r}")
+    def list(self, words: str) -> Ran:
+        """Runs `go list -m` with these words."""
+        return self.go("list", "-m", *words.split())
 
-    def module(self, name, text, code):
-        """A main module of its own."""
+    def download(self, path: str, version: str) -> tuple[str | None, str | None, str | None]:
+        """Downloads a version, and returns its name and the sums of its go.mod and its zip."""
+        ran = self.go("mod", "download", "-json", f"{path}@{version}")
+        found = json.loads(ran.output) if ran.status == 0 else {}
+        return found.get("Version"), found.get("GoModSum"), found.get("Sum")
+
+    def misses(self, query: str) -> bool:
+        """Whether a version is to the developer as one that does not exist."""
+        ran = self.go("mod", "download", query)
+        return ran.status != 0 and "404 Not Found" in ran.errors + ran.output
+
+    def module(self, name: str, text: str, code: str) -> None:
+        """Makes a main module in a folder of its own."""
         os.makedirs(os.path.join(self.folder, name))
-        for file, content in (("go.mod", text), ("main.go", code)):
-            with open(os.path.join(self.folder, name, file), "w") as held:
-                held.write(content)
+        write({f"{self.folder}/{name}/go.mod": text, f"{self.folder}/{name}/main.go": code})
 
-    def required(self, name):
-        """The modules that a main module requires, as path and version."""
-        told = json.loads(self.go("mod", "edit", "-json", at=name)[1])
-        return {it["Path"]: it["Version"] for it in told.get("Require") or []}
+    def required(self, name: str) -> dict[str, str]:
+        """Returns the versions of the modules that a main module requires."""
+        found = json.loads(self.go("mod", "edit", "-json", at=name).output)
+        return {row["Path"]: row["Version"] for row in found.get("Require") or []}
 
 
-def downloads(client, entries):
-    """Each version is downloaded, with the sums of what was published."""
-    for path, version, gomod, zipped in entries:
-        status, output, errors = client.go("mod", "download", "-json", f"{path}@{version}")
-        told = json.loads(output) if status == 0 else {}
-        got = told.get("Version"), told.get("GoModSum"), told.get("Sum")
-        client.suite.holds(f"download {path} {version}", got == (version, *sums(gomod, zipped)), f"{got} {errors}")
+def find_sums(entry: Version) -> tuple[str, str, str]:
+    """Returns what `Developer.download` has to return of a version."""
+    _, version, gomod, zip_bytes = entry
+    return version, *sums(gomod, zip_bytes)
 
 
-def lists(client):
-    """What is listed, with and without what is retracted."""
-    greet = "example.com/greet"
-    client.tells("versions", f"{greet} v1.0.0 v1.2.0 v1.4.0-rc.1", "list", "-m", "-versions", f"{greet}@v1.0.0")
-    all_versions = f"{greet} v1.0.0 v1.1.0 v1.2.0 v1.3.0 v1.4.0-rc.1"
-    client.tells(
-        "versions with the retracted", all_versions, "list", "-m", "-retracted", "-versions", f"{greet}@v1.0.0"
-    )
-    client.tells("latest", f"{greet} v1.2.0", "list", "-m", f"{greet}@latest")
-    client.tells(
-        "latest with the retracted", f"{greet} v1.3.0 (retracted)", "list", "-m", "-retracted", f"{greet}@latest"
-    )
-    told = "{{.Version}} {{.Retracted}}"
-    client.tells(
-        "why it is retracted", "v1.1.0 [lost a file]", "list", "-m", "-retracted", "-f", told, f"{greet}@v1.1.0"
-    )
-    client.tells("time", "2024-01-31 12:00:00 +0000 UTC", "list", "-m", "-f", "{{.Time}}", f"{greet}@v1.0.0")
-    client.tells("a range", f"{greet} v1.0.0", "list", "-m", f"{greet}@<v1.2.0")
-    client.tells("a front of a version", f"{greet} v1.2.0", "list", "-m", f"{greet}@v1.2")
-    client.tells("another major version", f"{greet}/v2 v2.0.0", "list", "-m", f"{greet}/v2@latest")
-    client.tells(
-        "a path with capitals", "example.com/Upper/CaseD v1.0.0", "list", "-m", "example.com/Upper/CaseD@latest"
-    )
-    client.tells("a pseudo-version", f"example.com/early {PSEUDO}", "list", "-m", "example.com/early@latest")
-    both = "example.com/old v1.0.0 v2.0.0+incompatible"
-    client.tells("a mark", both, "list", "-m", "-versions", "example.com/old@v1.0.0")
-    client.tells(
-        "versions of common", "example.com/base v1.0.0 v1.1.0", "list", "-m", "-versions", "example.com/base@latest"
-    )
+class Gets(NamedTuple):
+    """How `go get` ended for each of GETS in turn, and what the go.mod required then; and what came after those."""
+
+    each: dict[str, tuple[Ran, str | None]]
+    update: Ran
+    updated: dict[str, str]
+    none: Ran
+    rest: dict[str, str]
+    verify: Ran
 
 
-def gets(client):
-    """What `go get` writes into a go.mod."""
-    client.module("got", "module example.com/got\n\ngo 1.17\n", "package got\n")
-    rows = """\
-example.com/greet@latest v1.2.0
-example.com/greet@v1.0.0 v1.0.0
-example.com/greet@upgrade v1.2.0
-example.com/greet@v1.4.0-rc.1 v1.4.0-rc.1
-example.com/greet/v2@latest v2.0.0
-example.com/old@v1.0.0 v1.0.0
-example.com/old@v2.0.0+incompatible v2.0.0+incompatible
-example.com/early@latest PSEUDO
-example.com/Upper/CaseD@latest v1.0.0
-example.com/base@v1.0.0 v1.0.0
-example.com/base@patch v1.0.0
-example.com/words@latest v1.0.0"""
-    for row in rows.replace("PSEUDO", PSEUDO).splitlines():
-        query, version = row.split()
-        status, _, errors = client.go("get", query, at="got")
-        got = client.required("got").get(query.split("@")[0])
-        client.suite.holds(f"get {query}", status == 0 and got == version, f"{got} {errors}")
-    status, _, errors = client.go("get", "-u", "example.com/words", at="got")
-    client.suite.holds("get -u", status == 0 and client.required("got").get("example.com/base") == "v1.1.0", errors)
-    status, _, errors = client.go("get", "example.com/greet@none", at="got")
-    client.suite.holds("get @none", status == 0 and "example.com/greet" not in client.required("got"), errors)
-    client.tells("verify", "all modules verified", "mod", "verify", at="got")
+def get_all(developer: Developer) -> Gets:
+    """Makes a main module, in which `go get` is run for each of GETS in turn, then with `-u`, and then `@none`."""
+    developer.module("got", "module example.com/got\n\ngo 1.17\n", "package got\n")
+    each = {}
+    for query in GETS:
+        ran = developer.go("get", query, at="got")
+        each[query] = ran, developer.required("got").get(query.partition("@")[0])
+    update = developer.go("get", "-u", "example.com/words", at="got")
+    updated = developer.required("got")
+    none = developer.go("get", "example.com/greet@none", at="got")
+    rest = developer.required("got")
+    return Gets(each, update, updated, none, rest, developer.go("mod", "verify", at="got"))
 
 
-def builds(client):
-    """A program with dependencies on two shelves is tidied, verified, built and run."""
-    code = 'package main\n\nimport (\n\t"example.com/base"\n\t"example.com/greet/v2"\n\t"example.com/words"\n)\n\n'
-    code += "func main() { println(greet.Version, base.Version, words.Version) }\n"
-    client.module("app", "module example.com/app\n\ngo 1.17\n", code)
-    status, _, errors = client.go("mod", "tidy", at="app")
-    wanted = {"example.com/base": "v1.1.0", "example.com/greet/v2": "v2.0.0", "example.com/words": "v1.0.0"}
-    client.suite.holds("tidy", status == 0 and client.required("app") == wanted, errors)
-    status, _, errors = client.go("build", "-o", "app", at="app")
-    client.suite.holds("build", status == 0, errors)
-    said = "example.com/greet/v2 v2.0.0 example.com/base v1.1.0 words over example.com/base v1.1.0"
-    done = subprocess.run([os.path.join(client.folder, "app", "app")], capture_output=True, text=True)
-    client.suite.holds("run", done.stderr.strip() == said, done.stderr)
-    client.tells("verify what was built", "all modules verified", "mod", "verify", at="app")
-    client.tells(
-        "why", "# example.com/base\nexample.com/app\nexample.com/base", "mod", "why", "example.com/base", at="app"
-    )
-    with open(os.path.join(client.folder, "app", "go.sum")) as file:
-        lines = file.read().splitlines()
-    path, version, gomod, zipped = ON_COMMON[1]
-    mod_sum, zip_sum = sums(gomod, zipped)
-    client.suite.holds(
-        "go.sum", f"{path} {version} {zip_sum}" in lines and f"{path} {version}/go.mod {mod_sum}" in lines, lines
-    )
-    for line in (line for line in lines if "/go.mod h1:" in line):
-        path, version = line.removesuffix(line[line.index("/go.mod h1:") :]).split(" ")
-        told = client.server.sum_line(client.key, path, version)
-        client.suite.holds(f"the go.sum line of {path} {version} is the go command's", told == line + "\n", told)
+class Built(NamedTuple):
+    """How the commands ended that build PROGRAM and run it, and what is required and summed then."""
+
+    tidy: Ran
+    required: dict[str, str]
+    build: Ran
+    printed: str
+    verify: Ran
+    why: Ran
+    sums: list[str]
 
 
-def is_not_found(client, query):
-    """A version that the key's shelf does not see is as one that there is not."""
-    status, output, errors = client.go("mod", "download", query)
-    client.suite.holds(
-        f"{client.key} sees no {query}", status != 0 and "404 Not Found" in errors + output, f"{status} {errors}"
-    )
+def build_program(developer: Developer) -> Built:
+    """Makes a main module with PROGRAM, which is tidied, built, run and verified."""
+    developer.module("app", "module example.com/app\n\ngo 1.17\n", PROGRAM)
+    tidy = developer.go("mod", "tidy", at="app")
+    required = developer.required("app")
+    build = developer.go("build", "-o", "app", at="app")
+    printed = subprocess.run([f"{developer.folder}/app/app"], capture_output=True, text=True).stderr.strip()
+    verify = developer.go("mod", "verify", at="app")
+    why = developer.go("mod", "why", "example.com/base", at="app")
+    lines = read(f"{developer.folder}/app/go.sum").decode().splitlines()
+    return Built(tidy, required, build, printed, verify, why, lines)
 
 
-def asks(alpha, beta):
-    """All that a developer of alpha and one of beta ask of a store with what is published."""
-    downloads(alpha, [*ON_ALPHA, *ON_COMMON])
-    lists(alpha)
-    gets(alpha)
-    builds(alpha)
-    teams(alpha, beta)
+def ask_all(alpha: Developer, beta: Developer) -> None:
+    """Has a developer of alpha and one of beta ask all of the above, and checks what they get."""
+    for developer, entries in ((alpha, [*ON_ALPHA, *ON_COMMON]), (beta, [*ON_BETA, *ON_COMMON])):
+        check_downloads(developer, entries)
+    for listing in LISTINGS:
+        ran = alpha.list(listing.words)
+        assert (ran.status, ran.output) == (0, listing.wanted), (listing, ran)
+    gets = get_all(alpha)
+    for query, version in GETS.items():
+        assert gets.each[query][1] == version, (query, gets.each[query])
+    built = build_program(alpha)
+    assert (built.required, built.printed) == (REQUIRED, PRINTED), built
+    for developer, queries in ((alpha, NOT_ALPHAS), (beta, NOT_BETAS)):
+        for query in queries:
+            assert developer.misses(query), query
 
 
-def teams(alpha, beta):
-    """Two teams see their own shelves and common, and not each other's."""
-    downloads(beta, [*ON_BETA, *ON_COMMON])
-    for query in ("example.com/greet@v1.0.0", "example.com/early@latest", "example.com/words@v1.0.0"):
-        is_not_found(beta, query)
-    for query in ("example.com/secret@v1.0.0", "example.com/words@v0.9.0", "example.com/none@latest"):
-        is_not_found(alpha, query)
-    words = "example.com/words"
-    alpha.tells("versions of one path, by alpha", f"{words} v1.0.0", "list", "-m", "-versions", f"{words}@latest")
-    beta.tells("versions of one path, by beta", f"{words} v0.9.0", "list", "-m", "-versions", f"{words}@latest")
+def check_downloads(developer: Developer, entries: Iterable[Version]) -> None:
+    """Has a developer download versions, and checks their sums."""
+    for entry in entries:
+        found = developer.download(*entry[:2])
+        assert found == find_sums(entry), (entry[:2], found)
+
+
+class Client(Developer):
+    """A developer, as a suite of rows makes one."""
+
+    def __init__(self, suite: object, server: Proxy, folder: str, key: str) -> None:
+        super().__init__(server, folder, key)
+
+
+asks = ask_all

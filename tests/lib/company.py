@@ -9,9 +9,10 @@ import re
 import socket
 import threading
 import time
+from collections.abc import Collection, Iterable, Mapping
 
 from lib.front import set_up_front
-from lib.hosts import Desk, Network, inside
+from lib.hosts import Answer, Desk, Host, Network, inside
 from lib.pages import block
 from lib.peers import fetched, over
 from lib.ports import wait_until
@@ -32,6 +33,13 @@ USERS = [
 ]
 # the users who read, one of each shelf and a second of alpha
 READERS = ("ann", "pub", "bob", "com", "gil")
+# a user of each shelf who publishes, and a path
+OWN = (
+    ("pub", "example.com/lib"),
+    ("rob", "example.com/lib"),
+    ("com", "example.com/base"),
+    ("gil", "example.com/!big"),
+)
 # how long a site takes a login without asking: in the files, and here, to a second
 ASKED_AGAIN = ("proxy_cache_valid 204 1m;", "proxy_cache_valid 204 2s;")
 FORGOTTEN = 3.2
@@ -42,21 +50,32 @@ SOON = 3
 # room that a cache leaves on its disk: in the files, and here
 SMALL = ("min_free=1g", "min_free=2m")
 KEPT = re.compile(r"/@v/[^/]+\.(info|mod|zip)$|^/-/gosum/")
+CONF = "etc/nginx/conf.d/goshelf.conf"
+# a user and a target
+Asking = tuple[str, str]
+# a host, a user and a target, the status and the beginning of the body that came, and the status that was wanted
+Wrong = tuple[str, str, str, int, bytes, int]
 
 
 class Company:
     """The hosts, the users, and what was published."""
 
-    fronts, more_names = FRONTS, ()
+    fronts: tuple[str, ...] = FRONTS
+    # names that each certificate has besides its host's
+    more_names: tuple[str, ...] = ()
 
-    def __init__(self, folder):
+    def __init__(self, folder: str) -> None:
         self.network = Network(folder, (*self.fronts, DESK))
         self.hosts, self.seed = self.network.hosts, random.Random(7)
-        self.first, self.published = self.hosts[FIRST], set()
+        self.first = self.hosts[FIRST]
+        self.published: set[tuple[str, str]] = set()
+        # when the first host was back last
+        self.was_back = 0.0
         with closed_on_failure(self):
             self.start()
 
-    def start(self):
+    def start(self) -> None:
+        """Makes the store, sets the hosts up, and adds the users."""
         certificates = {name: self.hosts[name].certificate(*self.more_names) for name in self.fronts}
         done("init", "--db", self.first.store)
         done("group-add", "--db", self.first.store, "--group", "platform")
@@ -70,151 +89,158 @@ class Company:
         for user in USERS:
             self.desk.add(self.first, *user)
 
-    def set_up(self, host, certificate):
-        """Sets a host up that is not the first, whose certificate is given."""
+    def set_up(self, host: Host, certificate: str) -> None:
+        """Sets up a host that is not the first, whose certificate is given."""
         set_up_site(host, certificate)
 
-    def key(self, user):
-        """The key by which the first host asks for a user: the user's own."""
+    def key(self, user: str) -> str:
+        """Returns the key by which the first host asks for a user: the user's own."""
         return self.desk.passwords[user]
 
-    def own(self, user, target):
-        """The store's own answer."""
+    def own(self, user: str, target: str) -> Answer:
+        """Returns the store's own answer."""
+        with inside(self.first.namespace):
+            connection = socket.create_connection(("127.0.0.1", self.first.behind), 30)
+        return fetched(over(connection), "GET", f"/k/{self.key(user)}{target}")
 
-        def connect():
-            with inside(self.first.namespace):
-                return socket.create_connection(("127.0.0.1", self.first.behind), 30)
+    def put(
+        self, user: str, path: str, version: str, size: int = 2_000, at: str | None = None, body: bytes | None = None
+    ) -> tuple[int, bytes]:
+        """Publishes by a host, the second unless one is named, with a zip of random bytes unless a body is given.
 
-        return fetched(over(connect()), "GET", f"/k/{self.key(user)}{target}")
-
-    def put(self, user, path, version, size=2_000, at=None, body=None):
-        """Publishes by a host, the second unless one is named, with a zip of random bytes unless a body is given."""
-        head = re.sub("!(.)", lambda it: it[1].upper(), f"module {path}\n").encode()
-        body = body or self.seed.randbytes(size)
-        told = self.desk.ask(
-            at or self.fronts[1], user, f"/{path}/@v/{version}", "PUT", head + body, {"Mod-Length": str(len(head))}
+        Returns the status and the body of the reply."""
+        head = re.sub("!(.)", lambda match: match[1].upper(), f"module {path}\n").encode()
+        sent = head + (body or self.seed.randbytes(size))
+        status, _, said = self.desk.ask(
+            at or self.fronts[1], user, f"/{path}/@v/{version}", "PUT", sent, {"Mod-Length": str(len(head))}
         )
-        if told[0] in (200, 201):
+        if status in (200, 201):
             self.published.add((path, version))
-        return told[0], told[2]
+        return status, said
 
-    def targets(self):
-        """Every file of every version, and lists, and names that nobody published."""
-        files = [
-            f"/{path}/@v/{version}.{kind}"
-            for path, version in sorted(self.published)
-            for kind in ("info", "mod", "zip")
-        ]
-        sums = [f"/-/gosum/{path}/@v/{version}" for path, version in sorted(self.published)]
-        paths = sorted({path for path, _ in self.published})
-        lists = [f"/{path}/{it}" for path in paths for it in ("@v/list", "@latest", "@v/v9.9.9.mod")]
-        return [
-            *files,
-            *sums,
-            *lists,
-            "/-/modules",
-            "/-/gosum/example.com/none/@v/v1.0.0",
-            "/x",
-            "/example.com/lib/@v/../@v/v1.0.0.mod",
-        ]
+    def targets(self) -> list[str]:
+        """Returns every file of every version, and lists, and names that nobody published."""
+        versions = sorted(self.published)
+        files = [f"/{path}/@v/{version}.{kind}" for path, version in versions for kind in ("info", "mod", "zip")]
+        sums = [f"/-/gosum/{path}/@v/{version}" for path, version in versions]
+        ends = ("@v/list", "@latest", "@v/v9.9.9.mod")
+        lists = [f"/{path}/{end}" for path in sorted({path for path, _ in versions}) for end in ends]
+        nobodys = ["/-/gosum/example.com/none/@v/v1.0.0", "/x", "/example.com/lib/@v/../@v/v1.0.0.mod"]
+        return [*files, *sums, *lists, "/-/modules", *nobodys]
 
-    def answers(self, users=READERS):
-        """What the store itself answers to each user."""
+    def answers(self, users: Iterable[str] = READERS) -> dict[Asking, Answer]:
+        """Returns what the store itself answers to each user."""
         return {(user, target): self.own(user, target) for user in users for target in self.targets()}
 
-    def differing(self, wanted, fronts=None, failures=()):
-        """The answers of hosts that are not the wanted ones, apart from failures: statuses that a host may give in
-        their place."""
-        told = (
-            (at, *it, self.told(at, it, answer, failures))
-            for at in fronts or self.fronts
-            for it, answer in wanted.items()
-        )
-        return [
-            (at, user, target, found[0], found[2][:60], wanted[user, target][0])
-            for at, user, target, found in told
-            if found != wanted[user, target] and found[0] not in failures
-        ]
+    def differing(
+        self, wanted: Mapping[Asking, Answer], fronts: Iterable[str] | None = None, failures: Collection[int] = ()
+    ) -> list[Wrong]:
+        """Returns the answers of hosts that are not the wanted ones, apart from failures: statuses that a host may
+        give in their place."""
+        wrong: list[Wrong] = []
+        for host in fronts or self.fronts:
+            for asking, answer in wanted.items():
+                found = self.answer(host, asking, answer, failures)
+                if found != answer and found[0] not in failures:
+                    wrong.append((host, *asking, found[0], found[2][:60], answer[0]))
+        return wrong
 
-    def told(self, at, asking, answer, failures):
-        """What a host answers. If it fails where it may not, it is asked again: a site waits only 2 seconds for the
-        first host."""
-        found = self.desk.ask(at, *asking)
-        if found[0] in (502, 504) and found[0] not in (answer[0], *failures):
-            print(f"asked again, after {found}: {at} {asking}")
-            found = self.desk.ask(at, *asking)
+    def wrong_answers(self, fronts: Iterable[str] | None = None, users: Iterable[str] = READERS) -> list[Wrong]:
+        """Returns the answers of hosts that are not the store's own, as `differing` does."""
+        return self.differing(self.answers(users), fronts)
+
+    def answer(self, host: str, asking: Asking, wanted: Answer, failures: Collection[int] = ()) -> Answer:
+        """Returns what a host answers. If it fails where it may not, it is asked again: a site waits only 2 seconds
+        for the first host."""
+        found = self.desk.ask(host, *asking)
+        if found[0] in (502, 504) and found[0] not in (wanted[0], *failures):
+            print(f"asked again, after {found}: {host} {asking}")
+            found = self.desk.ask(host, *asking)
         return found
 
-    def back(self, status=200):
-        """Waits until the first host answers at each site, as it does again some seconds after it failed."""
-        wait_until(lambda: all(self.desk.ask(at, "ann", "/-/modules")[0] == status for at in (SITE, OTHER)))
+    def statuses(self, user: str | None, target: str, fronts: Iterable[str] | None = None) -> list[int]:
+        """Returns the status that each host answers."""
+        return [self.desk.status(host, user, target) for host in fronts or self.fronts]
 
-    def forget(self):
+    def back(self, status: int = 200) -> None:
+        """Waits until the first host answers at each site, as it does again some seconds after it failed."""
+        wait_until(lambda: set(self.statuses("ann", "/-/modules", self.fronts[1:])) == {status})
+        self.was_back = time.monotonic()
+
+    def is_trusted(self) -> bool:
+        """Whether no host leaves the first one alone any more, since that failed."""
+        return time.monotonic() - self.was_back > LEFT_ALONE
+
+    def forget(self) -> None:
         """Waits until a site asks again who may log in."""
         time.sleep(FORGOTTEN)
 
-    def lines(self, at, begun):
-        """The lines of a host's log behind so many."""
-        return self.hosts[at].read("var/log/nginx/goshelf.log").splitlines()[begun:]
+    def lines(self, host: str, begun: int = 0) -> list[str]:
+        """Returns the lines of a host's log from a number on."""
+        return self.hosts[host].read("var/log/nginx/goshelf.log").splitlines()[begun:]
 
-    def close(self):
+    def close(self) -> None:
+        """Ends what runs on the hosts."""
         self.network.close()
 
 
-def set_up_first(first):
-    """The first host, by the commands of NGINX."""
+def publish_own(company: Company, version: str) -> set[tuple[int, bytes]]:
+    """Publishes a version of each shelf at the second host. Returns the replies."""
+    return {company.put(user, path, version) for user, path in OWN}
+
+
+def is_file(asking: Asking, answer: Answer) -> bool:
+    """Whether a request is one of a file that never changes, and got it."""
+    return answer[0] == 200 and bool(KEPT.search(asking[1]))
+
+
+def set_up_first(first: Host) -> None:
+    """Sets the first host up, by the commands of NGINX."""
     first.check_out()
     set_up_front(first, FIRST, {"example.com": SHELVES})
-    first.edit("etc/nginx/conf.d/goshelf.conf", SMALL)
+    first.edit(CONF, SMALL)
     first.start_nginx()
 
 
-def set_up_site(site, certificate):
-    """A site, by the commands of DEPLOYMENTS."""
+def set_up_site(site: Host, certificate: str) -> None:
+    """Sets a site up, by the commands of DEPLOYMENTS."""
     site.check_out()
     site.write("root/goshelf-first.pem", certificate)
     site.does(block("sh", "deploy/one/site.conf", "DEPLOYMENTS.md"))
-    site.edit("etc/nginx/conf.d/goshelf.conf", ASKED_AGAIN, SMALL, ("site.example.com", site.name))
+    site.edit(CONF, ASKED_AGAIN, SMALL, ("site.example.com", site.name))
     site.start_nginx()
 
 
-def equal(suite, company, name, fronts=None, users=READERS):
-    """A row: every answer of these hosts is the store's own. Returns the store's answers."""
-    fronts = fronts or company.fronts
-    wanted = company.answers(users)
-    found = company.differing(wanted, fronts)
-    suite.equal(f"{name}: of {len(wanted) * len(fronts)} answers 0 differ from the store's", found, [])
-    return wanted
-
-
-def told_over_reloads(company, at, target="/example.com/lib/@v/v9.9.9.info"):
-    """What three who ask at a host are told while the first host's nginx reloads five times. Who is told of a failure
+def ask_over_reloads(
+    company: Company, host: str, target: str = "/example.com/lib/@v/v9.9.9.info"
+) -> list[tuple[int, bytes]]:
+    """Returns what three who ask at a host get while the first host's nginx reloads five times. Who gets a failure
     asks again.
 
     After a failure nginx sends one request to find out whether the first host is back, and has the others fail until
     that one is answered. A host that it leaves alone fails for 5 seconds.
     """
-    time.sleep(LEFT_ALONE)
-    told, ended = set(), threading.Event()
+    wait_until(company.is_trusted)
+    answers, ended = set(), threading.Event()
 
-    def ask():
+    def ask() -> None:
         desk = company.desk.another()
         while not ended.is_set():
-            found, begun = desk.ask(at, "bob", target), time.time()
-            while found[0] in (502, 504) and time.time() - begun < SOON:
+            found, begun = desk.ask(host, "bob", target), time.monotonic()
+            while found[0] in (502, 504) and time.monotonic() - begun < SOON:
                 time.sleep(0.05)
-                found = desk.ask(at, "bob", target)
-            told.add((found[0], found[2]))
+                found = desk.ask(host, "bob", target)
+            answers.add((found[0], found[2]))
 
-    them = [threading.Thread(target=ask) for _ in range(3)]
-    for it in them:
-        it.start()
+    threads = [threading.Thread(target=ask) for _ in range(3)]
+    for thread in threads:
+        thread.start()
     try:
         for _ in range(5):
             company.first.reload()
             time.sleep(0.2)
     finally:
         ended.set()
-        for it in them:
-            it.join()
-    return sorted(told)
+        for thread in threads:
+            thread.join()
+    return sorted(answers)

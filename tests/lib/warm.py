@@ -12,9 +12,11 @@ import socket
 import subprocess
 import sys
 import threading
+from collections.abc import Callable, Collection, Iterator, Mapping
 
-from lib.company import FIRST, KEPT, Company
-from lib.hosts import inside
+from lib.company import CONF, FIRST, Asking, Company, is_file, publish_own
+from lib.hosts import Answer, Host, inside
+from lib.machine import has_ended
 from lib.pages import block
 from lib.ports import wait_until
 from lib.scratch import read
@@ -57,38 +59,49 @@ except OSError as error:
 
 
 class Wire:
-    """Takes the place of the first host's sshd."""
+    """Takes the place of the first host's sshd.
 
-    def __init__(self, host):
-        self.host, self.given, self.held = host, None, None
+    It sends `given` in place of a copy if that is not None. While `held` is an event, it waits for that behind half of
+    what it sends, at most 20 seconds."""
+
+    def __init__(self, host: Host) -> None:
+        self.host = host
+        self.given: bytes | None = None
+        self.held: threading.Event | None = None
         with inside(host.namespace):
             self.socket = socket.create_server((host.address, 22))
         threading.Thread(target=self.accept, daemon=True).start()
 
-    def accept(self):
+    def accept(self) -> None:
         with contextlib.suppress(OSError):
             while True:
                 conn, _ = self.socket.accept()
                 threading.Thread(target=self.answer, args=(conn,), daemon=True).start()
 
-    def answer(self, conn):
+    def answer(self, conn: socket.socket) -> None:
         """Sends what the command of authorized_keys prints, or bytes that are given, and then its status and its
         errors."""
         with conn, contextlib.suppress(OSError):
             word = conn.makefile().readline().strip()
-            alive = lambda: conn.sendall(b"%08d" % -1)
-            status, printed, errors = (0, self.given, b"") if self.given is not None else self.copied(word, alive)
-            for at in range(0, len(printed), 65_536):
-                piece = printed[at : at + 65_536]
+            status, printed, errors = (
+                (0, self.given, b"")
+                if self.given is not None
+                else self.copied(word, lambda: conn.sendall(b"%08d" % -1))
+            )
+            for begin in range(0, len(printed), 65_536):
+                piece = printed[begin : begin + 65_536]
                 conn.sendall(b"%08d" % len(piece) + piece)
-                if (held := self.held) and at >= len(printed) // 2:
+                if (held := self.held) and begin >= len(printed) // 2:
                     held.wait(20)
             conn.sendall(b"%08d" % 0 + (b"%d %s" % (status, errors[:4_000])).ljust(4_096, b"\0"))
 
-    def copied(self, word, alive=lambda: None):
-        """The status, the output and the errors of the command for this word. Each second it gives a sign of life."""
-        command = re.search(r'^restrict,command="([^"]+)" ssh-ed25519 ', self.host.read("root/.ssh/authorized_keys"))[1]
-        words = ["ip", "netns", "exec", self.host.namespace, "sh", "-c", command]
+    def copied(self, word: str, alive: Callable[[], None] = lambda: None) -> tuple[int, bytes, bytes]:
+        """Returns the status, the output and the errors of the command for this word. Each second it gives a sign of
+        life."""
+        keys = self.host.read("root/.ssh/authorized_keys")
+        found = re.search(r'^restrict,command="([^"]+)" ssh-ed25519 ', keys)
+        assert found, keys
+        words = ["ip", "netns", "exec", self.host.namespace, "sh", "-c", found[1]]
         env = {"PATH": "/usr/sbin:/usr/bin:/bin", "SSH_ORIGINAL_COMMAND": word}
         child = subprocess.Popen(
             words, env=env, stdin=subprocess.DEVNULL, stdout=subprocess.PIPE, stderr=subprocess.PIPE
@@ -101,24 +114,36 @@ class Wire:
                 alive()
 
     @contextlib.contextmanager
-    def gives(self, text):
+    def gives(self, text: bytes) -> Iterator[None]:
+        """Sends these bytes in place of a copy, until the block ends."""
         self.given = text
         try:
             yield
         finally:
             self.given = None
 
-    def close(self):
+    @contextlib.contextmanager
+    def holds(self) -> Iterator[None]:
+        """Sends only half of each copy until the block ends."""
+        self.held = held = threading.Event()
+        try:
+            yield
+        finally:
+            self.held = None
+            held.set()
+
+    def close(self) -> None:
         self.socket.close()
 
 
 class Warm(Company):
     """A company whose second host is warm."""
 
-    fronts, more_names, wire = (FIRST, WARM), (BOTH,), None
+    fronts, more_names = (FIRST, WARM), (BOTH,)
+    wire: Wire | None = None
 
-    def set_up(self, host, certificate):
-        """Both hosts by the commands of DEPLOYMENTS, up to the first copy."""
+    def set_up(self, host: Host, certificate: str) -> None:
+        """Sets both hosts up by the commands of DEPLOYMENTS, up to the first copy."""
         self.warm = host
         self.first.write("root/warm.pub", "ssh-ed25519 AAAA root@warm\n")
         self.first.does(block("sh", "authorized_keys", PAGE))
@@ -127,71 +152,64 @@ class Warm(Company):
         host.command("ssh", SSH.format(python=sys.executable))
         host.write("root/goshelf-first.pem", certificate)
         host.does(block("sh", "set-up --warm", PAGE))
-        for it in (self.first, host):
-            it.edit("etc/nginx/conf.d/goshelf.conf", SECOND_WAY)
+        for front in (self.first, host):
+            front.edit(CONF, SECOND_WAY)
         host.start_nginx()
 
-    def targets(self):
+    def targets(self) -> list[str]:
         return [*super().targets(), *ELSEWHERE]
 
-    def copy(self):
-        """A copy is made and served, without a word. Returns the requests of files that it has a 200 for."""
-        told = self.warm.sh("goshelf-warm store")
-        assert told == (0, "", ""), told
-        return {it for it, (status, _, _) in self.answers().items() if status == 200 and KEPT.search(it[1])}
+    def copy(self) -> set[Asking]:
+        """Makes a copy and serves it, without a word. Returns the requests of files that it has a 200 for."""
+        ran = self.warm.sh("goshelf-warm store")
+        assert ran == (0, "", ""), ran
+        return {asking for asking, answer in self.answers().items() if is_file(asking, answer)}
 
-    def maps(self, command="goshelf-warm front"):
-        """The files of the first host's front are fetched, and nginx takes them."""
+    def maps(self, command: str = "goshelf-warm front") -> None:
+        """Fetches the files of the first host's front, and has nginx take them."""
         before = self.warm.workers()
-        told = self.warm.sh(command)
-        assert told == (0, "", ""), told
-        wait_until(lambda: self.warm.workers() and not before & self.warm.workers())
+        ran = self.warm.sh(command)
+        assert ran == (0, "", ""), ran
+        self.warm.wait_for_workers(before)
 
-    def kill(self):
-        """The store's goshelf is killed, and has ended: until then it holds the store."""
+    def kill(self) -> None:
+        """Kills the store's goshelf, and waits for its end: until then it holds the store."""
         number = int(self.first.read("serve.pid"))
         os.kill(number, 9)
-        wait_until(lambda: not os.path.exists(f"/proc/{number}"))
+        wait_until(lambda: has_ended(number))
 
-    def back(self, status=200):
-        wait_until(lambda: self.desk.ask(WARM, "ann", "/-/modules")[0] == status)
-
-    def alone(self, wanted, copied, kept=()):
-        """The warm host's answers that are not as they have to be while the first host is down, whose nginx may keep
-        some."""
+    def alone(
+        self, wanted: Mapping[Asking, Answer], copied: Collection[Asking], kept: Collection[Asking] = ()
+    ) -> list[tuple[str, str, int, bool]]:
+        """Returns the warm host's answers that are not as they have to be while the first host is down, whose nginx
+        may keep some. Each is the user, the target, the status that came, and whether the copy has it."""
         wrong = []
-        for it, answer in wanted.items():
-            found = self.desk.ask(WARM, *it)
-            failed = found[0] == (404 if it[1] in ELSEWHERE else 502)
-            if not (found == answer if it in copied else failed or it in kept and found == answer):
-                wrong.append((*it, found[0], it in copied))
+        for asking, answer in wanted.items():
+            found = self.desk.ask(WARM, *asking)
+            failed = found[0] == (404 if asking[1] in ELSEWHERE else 502)
+            if not (found == answer if asking in copied else failed or asking in kept and found == answer):
+                wrong.append((*asking, found[0], asking in copied))
         return wrong
 
-    def close(self):
+    def tried(self, text: bytes) -> tuple[int, str, str]:
+        """Returns what goshelf-warm says of a copy of these bytes."""
+        assert self.wire
+        with self.wire.gives(text):
+            return self.warm.sh("goshelf-warm store")
+
+    def close(self) -> None:
         if self.wire:
             self.wire.close()
         super().close()
 
 
-def publishes(company, version):
-    """Each shelf publishes a version at the warm host, of a path of its own and of one that all have. Returns what
-    they are told."""
-    them = [
-        (user, f"example.com/{path}")
-        for user, path in (("pub", "lib"), ("rob", "lib"), ("com", "base"), ("gil", "!big"))
-    ]
-    return {
-        company.put(*it, version)
-        for it in [*them, ("com", "example.com/shared"), ("pub", "example.com/own"), ("gil", "example.com/shared/sub")]
-    }
+def publishes(company: Company, version: str) -> set[tuple[int, bytes]]:
+    """Publishes a version of each shelf at the warm host, of a path of its own and of one that all have. Returns the
+    replies."""
+    more = [("com", "shared"), ("pub", "own"), ("gil", "shared/sub")]
+    return publish_own(company, version) | {company.put(user, f"example.com/{path}", version) for user, path in more}
 
 
-def store_of(host):
-    """The sum of a store's file, and what its log has behind its head."""
+def store_of(host: Host) -> tuple[str, bytes]:
+    """Returns the sum of a store's file, and what its log has behind its head."""
     return hashlib.sha256(read(host.store)).hexdigest(), read(f"{host.store}-wal")[41:].strip(b"\0")
-
-
-def tried(company, text):
-    """What goshelf-warm says of a copy."""
-    with company.wire.gives(text):
-        return company.warm.sh("goshelf-warm store")

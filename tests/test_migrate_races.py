@@ -11,7 +11,7 @@ import shutil
 import subprocess
 import sys
 import tempfile
-from collections.abc import Collection, Iterator, Sequence
+from collections.abc import Callable, Collection, Iterator, Sequence
 from typing import NamedTuple
 
 import pytest
@@ -181,7 +181,9 @@ class TestReadOnlyFile:
     [lambda log: log[32:], lambda log: log[32:800], lambda log: bytes(range(256)) * 40],
     ids=["frames", "a part of a frame", "other bytes"],
 )
-def test_log_with_bytes_behind_its_last_commit_keeps_them(folder: str, base: Base, more) -> None:
+def test_log_with_bytes_behind_its_last_commit_keeps_them(
+    folder: str, base: Base, more: Callable[[bytes], bytes]
+) -> None:
     base.copy("logged", "two")
     with open("two/old.db-wal", "ab") as file:
         file.write(more(read("two/old.db-wal")))

@@ -84,8 +84,8 @@ def stamp_time(version: str) -> str:
 def make_store(file: str, versions: Iterable[str]) -> None:
     """Makes a store of alpha, and publishes these versions."""
     new_store(file, ("alpha", KEY))
-    replies = answered(["--db", file], [put(version) for version in versions])
-    assert {status for status, _ in replies} == {201}
+    puts = [put(version) for version in versions]
+    assert [status for status, _ in answered(["--db", file], puts)] == [201] * len(puts)
 
 
 class Rows(NamedTuple):
@@ -409,7 +409,9 @@ class TestSpoilt:
         check_refused("bad.db")
 
 
-def put_version(conn, number: int, shelf: str, path: str, version: str, gomod: bytes, time: str | None = None) -> None:
+def put_version(
+    conn: sqlite3.Connection, number: int, shelf: str, path: str, version: str, gomod: bytes, time: str | None = None
+) -> None:
     """Adds a row of a version, as goshelf does."""
     row = (number, shelf, path, version, time, gomod, order_key(version), rank_key(version))
     columns = "id, shelf, path, version, time, mod, order_key, rank_key"

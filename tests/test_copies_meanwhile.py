@@ -25,10 +25,13 @@ from lib.program import PROGRAM, answered, refusal, run
 from lib.runs import Ending
 from lib.servers import CONTROL, Server
 from lib.stores import new_store
-from lib.tables import connected, put_versions, rows_of, settled
+from lib.tables import connected, empty_log, put_versions, rows_of, settled
 
 # the zips of a store, the most of them, and the bytes of each
 ZIPS, MOST_ZIPS, LENGTH = 48, 128, 1_048_576
+ZIP = bytes(range(256)) * (LENGTH // 256)
+# how many of them one run publishes
+AT_ONCE = 16
 LARGE = "example.com/large"
 DONE: Ending = (0, b"", "")
 COMMON_ALONE: Ending = (0, b"common common\n", "")
@@ -55,11 +58,21 @@ class Underway:
             return rest(self.held)
 
 
-def make_large_store(file: str, numbers: Iterable[int] = FREE) -> None:
+def make_large_store(file: str, count: int) -> None:
+    """Makes a store with this many large versions."""
+    new_store(file, ("alpha", KEY), ("beta", KEYS["B"]))
+    for first in range(0, count, AT_ONCE):
+        numbers = range(first, min(first + AT_ONCE, count))
+        puts = [put(LARGE, f"v1.{number}.0", f"module {LARGE}\n".encode(), ZIP) for number in numbers]
+        assert [status for status, _ in answered(["--db", file], puts)] == [201] * len(puts)
+    empty_log(file)
+
+
+def make_numbered_store(file: str, numbers: Iterable[int]) -> None:
     """Makes a store with a large version for each row number."""
     new_store(file, ("alpha", KEY), ("beta", KEYS["B"]))
     conn = connected(file)
-    put_versions(conn, "alpha", LARGE, numbers, bytes(range(256)) * (LENGTH // 256))
+    put_versions(conn, "alpha", LARGE, numbers, ZIP)
     settled(conn)
 
 
@@ -115,7 +128,7 @@ class TestMeanwhile:
 
     @pytest.fixture(scope="class")
     def seen(self, class_folder: str) -> Seen:
-        make_large_store("served.db", range(1, MOST_ZIPS + 1))
+        make_large_store("served.db", MOST_ZIPS)
         with Server("served.db", CONTROL) as server:
             assert publish(server, "v1.0.0") == 201
             shelves = run(["shelf-list", "--control", CONTROL])
@@ -162,7 +175,7 @@ class TestMeanwhile:
 def large() -> Iterator[str]:
     """A file with a store of large zips."""
     with tempfile.TemporaryDirectory(prefix="goshelf-") as folder:
-        make_large_store(f"{folder}/large.db")
+        make_large_store(f"{folder}/large.db", ZIPS)
         yield f"{folder}/large.db"
 
 
@@ -245,7 +258,7 @@ class TestNumbers:
     """Row numbers at both ends of their range, also those of versions that come meanwhile."""
 
     def test_publishes_during_a_copy(self, folder: str, numbers: list[int], status: int) -> None:
-        make_large_store("served.db", numbers)
+        make_numbered_store("served.db", numbers)
         before = rows_of("served.db")
         with Server("served.db", CONTROL) as server:
             underway = Underway(server, "one.db")

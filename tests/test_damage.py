@@ -25,7 +25,7 @@ from lib.scratch import read, write
 from lib.servers import CONTROL, Server
 from lib.stores import new_store
 from lib.sums import PAGE, has_sums, wrong_sums
-from lib.tables import TABLES, change, connected, settled
+from lib.tables import TABLES, change, connected, empty_log, settled
 
 PATH, OTHER = "example.com/lib", "example.com/other"
 GOMOD, OTHER_GOMOD = f"module {PATH}\n".encode(), f"module {OTHER}\n".encode()
@@ -46,13 +46,6 @@ def fill(file: str) -> None:
     asks = [put(PATH, version, GOMOD, zip_bytes) for version, zip_bytes in ZIPS.items()]
     asks.append(put(OTHER, "v1.0.0", OTHER_GOMOD, b"other"))
     assert [status for status, _ in answered(["--db", file], asks)] == [201] * 4
-
-
-def empty_log(file: str) -> None:
-    """Has sqlite3 copy the log into the file, which changes no page."""
-    conn = connected(file)
-    conn.execute("PRAGMA wal_checkpoint(TRUNCATE)")
-    conn.close()
 
 
 def check_sound(file: str) -> None:

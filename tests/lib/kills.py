@@ -1,4 +1,4 @@
-"""Publishes that are killed: versions whose number tells their bytes, and whether a store kept them."""
+"""Publishes that are killed: versions whose bytes follow from their number, and whether a store kept them."""
 
 import os
 import random
@@ -25,7 +25,7 @@ def print_seed() -> None:
 
 
 def files_of(number: int) -> tuple[bytes, bytes]:
-    """Returns the go.mod and the zip of the version of a number; they tell it."""
+    """Returns the go.mod and the zip of the version of a number."""
     gomod = f"module {MODULE}\n\nrequire example.com/other v1.{number}.0\n".encode()
     return gomod, random.Random(number).randbytes(SIZES[number % len(SIZES)])
 

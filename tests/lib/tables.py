@@ -61,6 +61,13 @@ def settled(conn: sqlite3.Connection) -> None:
     seal(name)
 
 
+def empty_log(file: str) -> None:
+    """Copies the log of a file that goshelf alone wrote into the file. Its pages keep the sums that goshelf wrote."""
+    conn = connected(file)
+    conn.execute("PRAGMA wal_checkpoint(TRUNCATE)")
+    conn.close()
+
+
 def entries_of(conn: sqlite3.Connection) -> Iterator[tuple[tuple, bytes]]:
     """Lists the entries of a store of today's schema: the row of `version`, and the zip."""
     for row in conn.execute(
@@ -76,9 +83,8 @@ def rows_of(file: str) -> tuple[list, list, list]:
     tables = [sorted(conn.execute(f"SELECT * FROM {table}")) for table in ("meta", "access")]
     shelves = sorted(conn.execute("SELECT name, ifnull(parent, '') FROM shelf"))
     entries = sorted((row[1:4], row[4] or "", row[5:], zip_bytes) for row, zip_bytes in entries_of(conn))
-    # (the pages in the log have the sums that goshelf wrote)
-    conn.execute("PRAGMA wal_checkpoint(TRUNCATE)")
     conn.close()
+    empty_log(file)
     return tables, shelves, entries
 
 

@@ -32,7 +32,7 @@ from typing import Any
 from company_plan import Asked, Company, Plan
 from company_plot import plot
 from company_public import BEHIND, ONE, SECOND, WAYS, Outside, files, free_port
-from shared import PROGRAM, ROOT, add_sizes, need, parser_of
+from shared import PROGRAM, ROOT, add_sizes, need, parser_of, read
 
 from lib.ports import wait_for
 
@@ -249,11 +249,6 @@ class Nginx:
 def workers_of(nginx: subprocess.Popen) -> list[int]:
     words = ["pgrep", "-P", str(nginx.pid), "-f", "worker process"]
     return list(map(int, subprocess.run(words, capture_output=True, text=True).stdout.split()))
-
-
-def read(name: str) -> str:
-    with open(name, encoding="utf-8", errors="replace") as file:
-        return file.read()
 
 
 def seconds_of(processes: Iterable[int]) -> float:

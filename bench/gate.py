@@ -18,17 +18,12 @@ import time
 from collections import defaultdict
 from collections.abc import Iterable
 
-from shared import ROOT, parser_of
+from shared import ROOT, parser_of, read
 
 TICKS = os.sysconf("SC_CLK_TCK")
 KINDS = ("proofs", "proofs of tests", "first bodies", "wrong bodies", "compilers")
 # the crate, the kind, the seconds of the processor and the peak in GiB of a process
 Seen = tuple[str, str, float, float]
-
-
-def read(path: str) -> str:
-    with open(path, encoding="utf-8", errors="replace") as file:
-        return file.read()
 
 
 def gate(is_kept: bool) -> list[str]:

@@ -25,6 +25,12 @@ def need(program: str = PROGRAM) -> None:
         sys.exit(f"there is no {program}; build the program first: ./goshelf --version")
 
 
+def read(name: str) -> str:
+    """Returns the text of a file, whatever bytes it has."""
+    with open(name, encoding="utf-8", errors="replace") as file:
+        return file.read()
+
+
 def parser_of(doc: str | None) -> argparse.ArgumentParser:
     """Returns a parser that shows the docstring of a bench as its help, and refuses words that it does not know."""
     return argparse.ArgumentParser(

@@ -13,7 +13,7 @@ from lib.program import PROGRAM, ROOT
 RELEASE = os.path.join(ROOT, "tools", "release")
 
 
-def release(folder: str) -> str:
+def make_release(folder: str) -> str:
     """Makes a release in a folder, and returns why it failed, or nothing."""
     ran = subprocess.run([RELEASE, "--program", PROGRAM, "--to", folder], capture_output=True, text=True)
     return "" if ran.returncode == 0 else ran.stderr or f"status {ran.returncode}"
@@ -60,7 +60,7 @@ def shared_release(factory: pytest.TempPathFactory) -> Release:
     with open(folder / "release.lock", "w", encoding="ascii") as lock:
         fcntl.flock(lock, fcntl.LOCK_EX)
         if not os.path.exists(f"{at}/SHA256SUMS"):
-            why = release(at)
+            why = make_release(at)
             assert not why, why
     tar, package = packed(at)
     return Release(at, tar, package, about(tar)["version"])

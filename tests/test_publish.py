@@ -4,6 +4,7 @@ Expected sums are made from what git has at the commit. The README's command is 
 and the repository are put in.
 """
 
+import json
 import os
 import re
 from collections.abc import Iterator
@@ -101,11 +102,12 @@ def new_server(room: Room, name: str) -> Iterator[Server]:
     server.kill()
 
 
-def read_catalog(server: Server) -> set[str]:
-    """Returns the lines of the versions of a store."""
+def read_versions(server: Server) -> set[tuple[str, str]]:
+    """Returns the paths and versions of a store."""
     status, output, errors = run(["catalog", "--control", server.control, "--key", KEY])
     assert (status, errors) == (0, "")
-    return set(output.decode().splitlines())
+    rows = [json.loads(line) for line in output.splitlines()]
+    return {(row["Path"], row["Version"]) for row in rows}
 
 
 class TestVersions:
@@ -125,15 +127,14 @@ class TestVersions:
         if ref == "HEAD":
             repository.git("checkout", "-q", commit)
         words = ["--repository", repository.folder, path, ref, *(["--pseudo"] if row.version != version else [])]
-        there, before = ["--to", server.url, "--key-file", f"{room.folder}/key"], read_catalog(server)
+        there, before = ["--to", server.url, "--key-file", f"{room.folder}/key"], read_versions(server)
         lines = repository.lines(path, version, commit, row.folder)
         assert room.publish("--check", *words) == (0, f"checked {lines}", UNASKED)
         note = f"publish: {server.url} accepts the go.mod and the key, and has no {path} {version} yet\n"
         assert room.publish("--check", *there, *words) == (0, f"checked {lines}", note)
-        assert read_catalog(server) == before
+        assert read_versions(server) == before
         assert room.publish(*there, *words) == (0, f"published {lines}", "")
-        (line,) = read_catalog(server) - before
-        assert f'"{path}"' in line and f'"{version}"' in line
+        assert read_versions(server) == before | {(path, version)}
         status, info = server.ask("GET", f"{escaped(path)}/@v/{escaped(version)}.info")
         assert status == 200 and f'"{TIME}"'.encode() in info
         assert self.download(room, server, path, version) == lines

@@ -7,6 +7,8 @@ import os
 import socket
 import threading
 import time
+from collections.abc import Callable, Iterable, Sequence
+from typing import Protocol
 
 from lib.messages import get
 from lib.program import run
@@ -15,49 +17,53 @@ LIST = "example.com/lib/@v/list"
 GOMOD = b"module example.com/lib\n"
 
 
-def asked_by(connected, sent):
-    """All that is answered on a new connection to what is sent, behind which the sender shuts its side."""
-    with connected() as held:
-        held.sendall(sent)
-        held.shutdown(socket.SHUT_WR)
-        return rest(held)
+def asked_by(connected: Callable[[], socket.socket], sent: bytes) -> bytes:
+    """Sends bytes on a new connection, shuts its side, and returns all that comes back."""
+    with connected() as connection:
+        connection.sendall(sent)
+        connection.shutdown(socket.SHUT_WR)
+        return rest(connection)
 
 
-def rest(held):
-    """All that comes until the other side closes. Who sends more than an order may have is told, and then reset."""
-    told = b""
-    try:
-        while piece := held.recv(65_536):
-            told += piece
-    except ConnectionResetError:
-        pass
-    return told
+def rest(connection: socket.socket) -> bytes:
+    """Returns all that comes until the other side closes or, as it does after too long an order, resets."""
+    received = b""
+    with contextlib.suppress(ConnectionResetError):
+        while part := connection.recv(65_536):
+            received += part
+    return received
 
 
-def rest_of(held):
-    """What is read on a connection to its end."""
-    told = b""
-    while part := held.recv(1_048_576):
-        told += part
-    return told
+def rest_of(connection: socket.socket) -> bytes:
+    """Returns all that comes until the other side closes. A reset raises."""
+    received = b""
+    while part := connection.recv(1_048_576):
+        received += part
+    return received
 
 
-def exchanged(port, request, address="127.0.0.1"):
-    """The reply to a request, up to the end of the connection."""
-    with socket.create_connection((address, port), timeout=60) as held:
-        held.sendall(request)
-        return rest_of(held)
+def exchanged(port: int, request: bytes, address: str = "127.0.0.1") -> bytes:
+    """Returns the reply to a request on a new connection, up to the end of the connection."""
+    with socket.create_connection((address, port), timeout=60) as connection:
+        connection.sendall(request)
+        return rest_of(connection)
 
 
-def over(connection):
-    """A connection of http.client on one that is there."""
+def over(connection: socket.socket) -> http.client.HTTPConnection:
+    """Returns a connection of http.client over one that is open."""
     conn = http.client.HTTPConnection("localhost")
     conn.sock = connection
     return conn
 
 
-def fetched(conn, method, target, body=None, headers=None):
-    """The status, the kind and the body of a reply on a connection of http.client, which is closed then."""
+def fetched(
+    conn: http.client.HTTPConnection,
+    method: str,
+    target: str,
+    body: bytes | None = None,
+    headers: dict[str, str] | None = None,
+) -> tuple[int, str, bytes]:
+    """Returns the status, the content type and the body of a reply, and closes the connection."""
     try:
         conn.request(method, target, body, headers or {})
         reply = conn.getresponse()
@@ -67,48 +73,55 @@ def fetched(conn, method, target, body=None, headers=None):
 
 
 class NoModules(http.server.ThreadingHTTPServer):
-    """A public proxy that has no module, and notes what it is asked."""
+    """A public proxy that has no module, and notes the targets of its requests in `asked`."""
 
-    def __init__(self):
+    def __init__(self) -> None:
         super().__init__(("127.0.0.1", 0), NotFound)
-        self.asked, self.url = [], f"http://127.0.0.1:{self.server_port}"
+        self.asked: list[str] = []
+        self.url = f"http://127.0.0.1:{self.server_port}"
         threading.Thread(target=self.serve_forever, daemon=True).start()
 
 
 class Quiet(http.server.BaseHTTPRequestHandler):
-    """A connection to a server that prints nothing of what it is asked."""
+    """A connection to a server that logs no request."""
 
-    def log_message(self, *_):
+    def log_message(self, *_: object) -> None:
         pass
 
 
 class NotFound(Quiet):
     """A connection to a proxy that has no module."""
 
-    def do_GET(self):
+    server: NoModules
+
+    def do_GET(self) -> None:
         self.server.asked.append(self.path)
         self.send_error(404)
 
 
-def by_false_server(words, told, before=()):
-    """How a command ends that is told this, and what it sent. The words before are as for `run`."""
-    sent = []
+def by_false_server(
+    words: Iterable[str], answer: bytes, before: Sequence[str] = ()
+) -> tuple[tuple[int, bytes, str], bytes]:
+    """Runs an operator's command whose server sends an answer. Returns how it ended, and what it sent.
 
-    def tell():
-        held, _ = listener.accept()
+    `before` is as for `run`."""
+    sent: list[bytes] = []
+
+    def respond() -> None:
+        connection, _ = listener.accept()
         # (a command that sends nothing does not wait)
-        with held, contextlib.suppress(BrokenPipeError):
-            held.settimeout(60)
-            sent.append(held.recv(1_000))
-            held.sendall(told)
+        with connection, contextlib.suppress(BrokenPipeError):
+            connection.settimeout(60)
+            sent.append(connection.recv(1_000))
+            connection.sendall(answer)
 
     with socket.socket(socket.AF_UNIX) as listener:
         listener.bind("false")
         listener.listen()
-        thread = threading.Thread(target=tell)
+        thread = threading.Thread(target=respond)
         thread.start()
         ran = run([*words, "false"], before=before)
-        # (whom the thread takes if the command did not connect)
+        # (the thread accepts this one if the command did not connect)
         with socket.socket(socket.AF_UNIX) as nobody:
             nobody.connect("false")
         thread.join()
@@ -116,22 +129,27 @@ def by_false_server(words, told, before=()):
     return ran, b"".join(sent)
 
 
-class Load:
-    """Peers who ask on and on with one key, and what each request got, from when to when. They may be cut off."""
+class Askable(Protocol):
+    """A server as `Load` asks it."""
 
-    def __init__(self, server, key, count=4, is_cut=False):
-        self.server, self.request, self.stopped, self.seen, self.is_cut = (
-            server,
-            get(LIST, key),
-            threading.Event(),
-            [],
-            is_cut,
-        )
+    def status(self, request: bytes) -> int:
+        ...
+
+
+class Load:
+    """Peers who ask again and again with one key. `seen` has the start, the end and the status of each request.
+
+    If `is_cut`, a peer stops quietly when its connection is cut off."""
+
+    def __init__(self, server: Askable, key: str, count: int = 4, is_cut: bool = False) -> None:
+        self.server, self.request, self.is_cut = server, get(LIST, key), is_cut
+        self.stopped = threading.Event()
+        self.seen: list[tuple[float, float, int]] = []
         self.threads = [threading.Thread(target=self.ask) for _ in range(count)]
         for thread in self.threads:
             thread.start()
 
-    def ask(self):
+    def ask(self) -> None:
         while not self.stopped.is_set():
             begun = time.monotonic()
             try:
@@ -142,7 +160,7 @@ class Load:
                 raise
             self.seen.append((begun, time.monotonic(), status))
 
-    def stop(self):
+    def stop(self) -> None:
         self.stopped.set()
         for thread in self.threads:
             thread.join()

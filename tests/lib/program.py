@@ -3,6 +3,8 @@
 import os
 import shutil
 import subprocess
+from collections.abc import Iterable, Sequence
+from typing import Any
 
 from lib.keys import KEYS
 from lib.messages import get, replies, reply
@@ -12,37 +14,40 @@ ROOT = os.path.dirname(os.path.dirname(os.path.dirname(os.path.abspath(__file__)
 PROGRAM = os.path.abspath(os.environ.get("GOSHELF") or os.path.join(ROOT, "crates", "goshelf", "out", "goshelf"))
 
 
-def run(words, stdin=b"", timeout=120, before=(), **how):
-    """Runs goshelf with these words, and returns its exit status, standard output and standard error, the last as
-    text. The words before are those of a command that runs it, as `NOBODY`."""
+def run(
+    words: Iterable[str], stdin: bytes = b"", timeout: float = 120, before: Sequence[str] = (), **how: Any
+) -> tuple[int, bytes, str]:
+    """Runs goshelf with these words, and returns its exit status, its output and its errors.
+
+    `before` is the command that runs it, as `NOBODY`; `how` goes to `subprocess.run`."""
     ran = subprocess.run([*before, PROGRAM, *words], input=stdin, capture_output=True, timeout=timeout, **how)
     return ran.returncode, ran.stdout, ran.stderr.decode()
 
 
-def answered(words, requests, timeout=600):
-    """The replies of one run of `goshelf answer` to these requests, which has to end well."""
-    status, written, told = run(["answer", *words], b"".join(requests), timeout)
-    assert (status, told) == (0, ""), (status, told)
-    return replies(written)
+def answered(words: Iterable[str], requests: Iterable[bytes], timeout: float = 600) -> list[tuple[int, bytes]]:
+    """Has one run of `goshelf answer`, which must end well, answer requests. Returns the status and body of each."""
+    status, output, errors = run(["answer", *words], b"".join(requests), timeout)
+    assert (status, errors) == (0, ""), (status, errors)
+    return replies(output)
 
 
-def done(*words):
-    """Runs a command that has to end well."""
-    status, _, told = run(words)
-    assert (status, told) == (0, ""), (words, told)
+def done(*words: str) -> None:
+    """Runs a command that must end well."""
+    status, _, errors = run(words)
+    assert (status, errors) == (0, ""), (words, errors)
 
 
-def refusal(word):
-    """How a command ends that refuses with this word."""
+def refusal(word: str) -> tuple[int, bytes, str]:
+    """Returns how a command ends, as `run` does, that refuses with a word."""
     return 1, b"", f"goshelf: {word}\n"
 
 
-# what runs a command as nobody, whom rights of files bind, which root's do not
+# runs a command as nobody: the rights of files do not bind root
 NOBODY = ["setpriv", "--reuid=65534", "--regid=65534", "--clear-groups", "--no-new-privs"]
 
 
-def can_be_nobody():
-    """Whether a process can become nobody here."""
+def can_be_nobody() -> bool:
+    """Returns whether a process can become nobody here."""
     words = [*NOBODY, "true"]
     return (
         os.geteuid() == 0
@@ -51,25 +56,25 @@ def can_be_nobody():
     )
 
 
-def columns(row, count):
-    """The columns of a row of a table, which `|` parts. Those that it lacks are empty."""
-    found = [it.strip() for it in row.split("|")]
+def columns(row: str, count: int) -> list[str]:
+    """Returns the columns of a row of a table, between which is `|`. Those that the row lacks are empty."""
+    found = [column.strip() for column in row.split("|")]
     return found + [""] * (count - len(found))
 
 
-def words_of(line):
-    """The words of a command line, in which a letter behind `--key` stands for its key."""
+def words_of(line: str) -> list[str]:
+    """Returns the words of a command line. A letter after `--key` becomes its key."""
     words = line.split()
     return [KEYS.get(word, word) if before == "--key" else word for before, word in zip(["", *words], words)]
 
 
-def runs_of(table):
+def runs_of(table: str) -> list[tuple[str, list[str], bytes, tuple[int, bytes, str]]]:
     """The runs of a table, each as its line, its words, its input, and the triple that `run` is to return.
 
     A line has the words; behind `<` the letter of a key and the target that the input asks for; behind `|` the exit
     status, and the word on standard error where there is one. Indented below it stand the lines that are printed. Of
     a run that is asked for a target these are one reply: its status and its body."""
-    rows = []
+    rows: list[tuple[str, list[str]]] = []
     for line in filter(str.strip, table.split("\n")):
         if line.startswith("    "):
             rows[-1][1].append(line[4:] + "\n")
@@ -78,7 +83,7 @@ def runs_of(table):
     return [run_of(line, "".join(printed)) for line, printed in rows]
 
 
-def run_of(line, printed):
+def run_of(line: str, printed: str) -> tuple[str, list[str], bytes, tuple[int, bytes, str]]:
     """A run of a table, as `runs_of` returns it."""
     command, ending = columns(line, 2)
     command, _, asked = command.partition(" < ")

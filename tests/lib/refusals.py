@@ -2,6 +2,8 @@
 
 import os
 import subprocess
+from collections.abc import Sequence
+from typing import IO
 
 from lib import stores
 from lib.keys import KEY
@@ -11,8 +13,8 @@ from lib.suite import Suite
 DOCTOR = os.path.join(ROOT, "deploy", "goshelf-doctor")
 
 
-def word(line, *more, before=(), output=subprocess.PIPE):
-    """The word that a command ends with; nothing where it ends with 0."""
+def word(line: str, *more: str, before: Sequence[str] = (), output: int | IO = subprocess.PIPE) -> str:
+    """Runs a command, and returns the word of its refusal; nothing if it ends with 0."""
     ran = subprocess.run(
         [*before, PROGRAM, *line.split(), *more],
         stdin=subprocess.DEVNULL,
@@ -20,14 +22,15 @@ def word(line, *more, before=(), output=subprocess.PIPE):
         stderr=subprocess.PIPE,
         timeout=120,
     )
-    told = ran.stderr.decode()
-    if ran.returncode == 0 and told == "":
+    errors = ran.stderr.decode()
+    if ran.returncode == 0 and errors == "":
         return ""
-    assert ran.returncode == 1 and told.startswith("goshelf: ") and told.count("\n") == 1, (line, ran.returncode, told)
-    return told[len("goshelf: ") : -1]
+    is_word = errors.startswith("goshelf: ") and errors.count("\n") == 1
+    assert ran.returncode == 1 and is_word, (line, ran.returncode, errors)
+    return errors[len("goshelf: ") : -1]
 
 
-def doctor(*words, before=()):
+def doctor(*words: str, before: Sequence[str] = ()) -> subprocess.CompletedProcess[str]:
     """Runs goshelf-doctor over this program, which need not be installed."""
     settings = {**os.environ, "GOSHELF": PROGRAM}
     return subprocess.run([*before, DOCTOR, *words], capture_output=True, text=True, env=settings, timeout=120)
@@ -51,5 +54,6 @@ class Refusals(Suite):
         self.holds(f"the doctor: {wanted or 'nothing'}", is_right and not ran.stderr, found)
 
 
-def new_store(name):
+def new_store(name: str) -> None:
+    """Makes a store of alpha and its key."""
     stores.new_store(name, ("alpha", KEY))

@@ -1,12 +1,16 @@
 """The store of the worked rows, filled by the program, and everything that is asked of it."""
 
+from collections.abc import Iterable
+
 from lib.keys import KEYS, SHELVES
 from lib.messages import get, raw_replies
 from lib.program import run
+from lib.runs import read_runs
 from lib.stores import add_platform, new_store
+from lib.suite import Suite
 
 HEADER = "path,version,time,mod,zip\n"
-FILES = {
+FILES: dict[str, str] = {
     "none": "",
     "a": "a",
     "c": "c",
@@ -52,7 +56,7 @@ example.com/rd,v1.0.0,,rd.mod,none
     "many-delta.csv": HEADER + "".join(f"example.com/s,v1.{n}.0,,s.mod,one\n" for n in range(1, 101)),
 }
 
-# each version that is there, and lib v9.0.0, which is not, as targets have them
+# each version of the store, and lib v9.0.0, which it lacks, as targets spell them
 VERSIONS = """\
 example.com/!lib v1.0.0
 example.com/g v1.0.0
@@ -85,46 +89,69 @@ TARGETS = (
 )
 
 
-def published(count):
-    """What an import of this many versions prints."""
-    return "".join(f"    {n} 201 published\n" for n in range(1, count + 1))
+def imports_of(file: str, more: str = "") -> str:
+    """Returns the table of runs that imports the worked rows, after another list of beta's where one is named."""
+    return imports(file, ("B", more), ("B", "beta.csv"), ("A", "alpha.csv"), ("C", "common.csv"))
 
 
-def worked_store(suite, file, more=""):
-    """Makes the store of the worked rows, behind another list of beta's where one is named."""
-    new_store(file, *SHELVES)
-    imported(suite, file, ("B", more), ("B", "beta.csv"), ("A", "alpha.csv"), ("C", "common.csv"))
+def group_imports_of(file: str, more: str = "") -> str:
+    """Returns the table of runs that imports the group's rows, after another list of delta's where one is named."""
+    lists = (("D", more), ("D", "delta.csv"), ("M", "gamma.csv"), ("P", "platform.csv"), ("C", "common-h.csv"))
+    return imports(file, *lists)
 
 
-def filled_group(suite, file, more=""):
-    """Adds the group platform and its versions, behind another list of delta's where one is named."""
-    add_platform(file)
-    imported(
-        suite, file, ("D", more), ("D", "delta.csv"), ("M", "gamma.csv"), ("P", "platform.csv"), ("C", "common-h.csv")
+def imports(file: str, *lists: tuple[str, str]) -> str:
+    """Returns the table of runs that imports lists, each by the letter of a key and its name."""
+    return "".join(
+        f"import --db {file} --key {letter} --list {name} | 0\n{published(FILES[name].count(chr(10)) - 1)}"
+        for letter, name in lists
+        if name
     )
 
 
-def imported(suite, file, *lists):
-    """Imports lists, each by a key."""
-    for letter, name in filter(lambda it: it[1], lists):
-        count = FILES[name].count("\n") - 1
-        suite.runs("imports", f"import --db {file} --key {letter} --list {name} | 0\n{published(count)}")
+def published(count: int) -> str:
+    """Returns what an import of this many versions prints, as a table of runs has it."""
+    return "".join(f"    {number} 201 published\n" for number in range(1, count + 1))
 
 
-def everything():
-    """All targets of each version that is there, and of one that is not."""
+def make_worked_store(file: str, more: str = "") -> None:
+    """Makes the store of the worked rows from the lists of FILES, as `imports_of`."""
+    new_store(file, *SHELVES)
+    make_runs(imports_of(file, more))
+
+
+def fill_group(file: str, more: str = "") -> None:
+    """Adds the group platform and its versions, as `group_imports_of`."""
+    add_platform(file)
+    make_runs(group_imports_of(file, more))
+
+
+def make_runs(table: str) -> None:
+    """Makes the runs of a table, each of which must end as it says."""
+    for made in read_runs(table):
+        assert run(made.words, made.requests) == made.wanted, made.line
+
+
+def worked_store(suite: Suite, file: str, more: str = "") -> None:
+    """Makes the store of the worked rows. Each import is a row of a suite."""
+    new_store(file, *SHELVES)
+    suite.runs("imports", imports_of(file, more))
+
+
+def everything() -> list[str]:
+    """Returns all targets of each version of the store, and of one that it lacks."""
     return [target.format(*line.split()) for line in VERSIONS.split("\n") for target in TARGETS]
 
 
-def replies_of(file, requests):
-    """What one run of `goshelf answer` over a store replies to each request, as bytes. It has to end well."""
-    status, output, told = run(["answer", "--db", file], b"".join(requests), 600)
-    assert (status, told) == (0, ""), (status, told)
+def replies_of(file: str, requests: Iterable[bytes]) -> list[bytes]:
+    """Has one run of `goshelf answer`, which must end well, answer requests. Returns the bytes of each reply."""
+    status, output, errors = run(["answer", "--db", file], b"".join(requests), 600)
+    assert (status, errors) == (0, ""), (status, errors)
     return raw_replies(output)
 
 
-def seen_by(file, letter):
-    """Everything that is asked by a key of a store: each target with its reply."""
+def seen_by(file: str, letter: str) -> list[tuple[str, bytes]]:
+    """Asks a store for everything, by a key. Returns each target with the reply."""
     targets = everything()
     found = replies_of(file, [get(target, KEYS[letter]) for target in targets])
     assert len(found) == len(targets), len(found)

@@ -93,8 +93,9 @@ class Dialogue:
         while len(self.differences) <= number:
             made = self.exchanges[len(self.differences)]
             difference = find_difference(self.answer(made.requests), made.wanted)
-            asked = ", ".join(map(shorten, made.requests))
-            self.differences.append(difference and f"{made.name}: asked {asked}: {difference}")
+            if difference:
+                difference = f"{made.name}: asked {shorten(b''.join(made.requests))}: {difference}"
+            self.differences.append(difference)
         return self.differences[number]
 
 

@@ -1,12 +1,14 @@
 """The store of the worked rows, filled by the program, and everything that is asked of it."""
 
+import os
+import shutil
 from collections.abc import Iterable
 
 from lib.keys import KEYS, SHELVES
 from lib.messages import get, raw_replies
 from lib.program import run
-from lib.runs import read_runs
-from lib.stores import add_platform, new_store
+from lib.runs import Story, read_runs
+from lib.stores import new_store
 from lib.suite import Suite
 
 HEADER = "path,version,time,mod,zip\n"
@@ -78,6 +80,14 @@ example.com/rd v1.0.0
 example.com/s v1.0.0
 example.com/x v1.0.0
 example.com/y v1.0.0"""
+ADD_PLATFORM = """\
+group-add --db {0} --group platform | 0
+key-add --db {0} --shelf platform --key P | 0
+team-add --db {0} --team gamma --group platform | 0
+key-add --db {0} --shelf gamma --key M | 0
+team-add --db {0} --team delta --group platform | 0
+key-add --db {0} --shelf delta --key D | 0
+"""
 TARGETS = (
     "{0}/@v/{1}.info",
     "{0}/@v/{1}.mod",
@@ -94,10 +104,11 @@ def imports_of(file: str, more: str = "") -> str:
     return imports(file, ("B", more), ("B", "beta.csv"), ("A", "alpha.csv"), ("C", "common.csv"))
 
 
-def group_imports_of(file: str, more: str = "") -> str:
-    """Returns the table of runs that imports the group's rows, after another list of delta's where one is named."""
+def group_runs_of(file: str, more: str = "") -> str:
+    """Returns the table of runs that adds the group platform and imports its rows and those of its teams, after another
+    list of delta's where one is named."""
     lists = (("D", more), ("D", "delta.csv"), ("M", "gamma.csv"), ("P", "platform.csv"), ("C", "common-h.csv"))
-    return imports(file, *lists)
+    return ADD_PLATFORM.format(file) + imports(file, *lists)
 
 
 def imports(file: str, *lists: tuple[str, str]) -> str:
@@ -120,16 +131,15 @@ def make_worked_store(file: str, more: str = "") -> None:
     make_runs(imports_of(file, more))
 
 
-def fill_group(file: str, more: str = "") -> None:
-    """Adds the group platform and its versions, as `group_imports_of`."""
-    add_platform(file)
-    make_runs(group_imports_of(file, more))
-
-
 def make_runs(table: str) -> None:
     """Makes the runs of a table, each of which must end as it says."""
     for made in read_runs(table):
         assert run(made.words, made.requests) == made.wanted, made.line
+
+
+def finish(story: Story) -> None:
+    """Makes all runs of a story."""
+    story.ending(len(story.runs) - 1)
 
 
 def worked_store(suite: Suite, file: str, more: str = "") -> None:
@@ -156,3 +166,10 @@ def seen_by(file: str, letter: str) -> list[tuple[str, bytes]]:
     found = replies_of(file, [get(target, KEYS[letter]) for target in targets])
     assert len(found) == len(targets), len(found)
     return list(zip(targets, found))
+
+
+def copy_store(source: str, to: str) -> None:
+    """Copies the files of a store that no program has open."""
+    for end in ("", "-wal"):
+        if os.path.exists(source + end):
+            shutil.copy(source + end, to + end)

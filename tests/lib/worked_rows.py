@@ -1,28 +1,17 @@
-#!/usr/bin/env python3
-"""The worked rows: requests and the bytes of their replies.
+"""The worked rows: tables of requests, and the bytes of their replies.
 
-They run over a file by runs, in one stream and by `serve`, and over `--mem`. A line `# NAME` names the rows below it. A
-row has a method, the letter of a key and a target; the status and the body of the reply; of a PUT also its go.mod, its
-zip and further lines of its head. A PUT without a go.mod sends `module PATH` and a newline. A stream is a row too: its
-bytes, and each of its replies, with `&` between them. `;` is the end of a line: CR LF in heads and streams, a newline
-in bodies.
+A line `# NAME` names the rows below it. A row has a method, the letter of a key and a target; the status and the body
+of the reply; of a PUT also its go.mod, its zip and further lines of its head. A PUT without a go.mod sends `module
+PATH` and a newline. A stream is a row too: its bytes, and each of its replies, with `&` between them. `;` is the end of
+a line: CR LF in heads and streams, a newline in bodies.
 """
 
-import base64
-import hashlib
 import itertools
 import re
-import shutil
-import subprocess
-import sys
 
-from lib.keys import KEYS, MEMORY, SHELVES
-from lib.messages import get, put, raw_replies, reply
-from lib.peers import exchanged
-from lib.program import PROGRAM, columns, run
-from lib.scratch import in_new_folders
-from lib.stores import add_platform, new_store
-from lib.suite import Suite
+from lib.keys import KEYS
+from lib.messages import Exchange, get, put, reply
+from lib.program import columns
 
 REQUESTS = """
 # empty-modules
@@ -281,7 +270,7 @@ GET A -/modules | 200 example.com/h;
 GET M -/gosum/example.com/g/@v/v1.0.0 | 200 example.com/g v1.0.0/go.mod h1:OJ1klDEevVKLkxk3UnEX/d9Uk3DpmjQKYxb0X6M2RS0=;
 GET A -/gosum/example.com/g/@v/v1.0.0 | 404 not found;
 """
-# the same, where common has nothing
+# on that store too
 MEMBER_REQUESTS = """
 # a member and its group
 PUT M example.com/h/@v/v1.0.0 | 201 published; | | m
@@ -292,12 +281,6 @@ GET D example.com/h/@v/v1.0.0.zip | 200 h
 GET P example.com/h/@v/v1.0.0.zip | 200 h
 GET A example.com/h/@v/v1.0.0.zip | 404 not found;
 """
-# team-is-no-group and name-shared
-GROUP_COMMANDS = """
-team-add --db groups.db --team eps --group alpha | 1 no-group
-group-add --db groups.db --group gamma | 1 taken
-"""
-
 # each is asked with in a run of its own
 STREAMS = """
 # 64 headers
@@ -352,121 +335,51 @@ GET A -/gosum/example.com/Lib/@v/v1.0.0-a.mod | 404 not found;
 """
 
 
-def end_lines(text, end="\n"):
-    """The bytes of a column, in which `;` is the end of a line."""
+def end_lines(text: str, end: str = "\n") -> bytes:
+    """Returns the bytes of a column, in which `;` is the end of a line."""
     return text.replace(";", end).encode()
 
 
-def request_of(asked, gomod, zip_bytes, lines):
-    """The bytes that a row asks with."""
+def read_request(asked: str, gomod: str, zip_text: str, lines: str) -> bytes:
+    """Returns the bytes that a row asks with."""
     if " HTTP/1.1" in asked:
-        return re.sub(rb"<(\d+) headers>", lambda it: b"a:b\r\n" * int(it[1]), end_lines(asked, "\r\n"))
+        return re.sub(rb"<(\d+) headers>", lambda count: b"a:b\r\n" * int(count[1]), end_lines(asked, "\r\n"))
     method, letter, target = asked.split()
     if method == "GET":
         return get(target, KEYS[letter])
     path, version = target.split("/@v/")
-    own = "module " + re.sub("!(.)", lambda it: it[1].upper(), path) + ";"
-    head, _, body = put(path, version, end_lines(gomod or own), zip_bytes.encode(), KEYS[letter]).partition(b"\r\n\r\n")
+    own = "module " + re.sub("!(.)", lambda escaped: escaped[1].upper(), path) + ";"
+    head, _, body = put(path, version, end_lines(gomod or own), zip_text.encode(), KEYS[letter]).partition(b"\r\n\r\n")
     return head + b"\r\n" + end_lines(lines, "\r\n") + b"\r\n" + body
 
 
-def reply_of(told, asked):
-    """The bytes of the reply that a row names."""
-    status, _, body = told.strip().partition(" ")
+def read_reply(wanted: str, asked: str) -> bytes:
+    """Returns the bytes of the reply that a row names."""
+    status, _, body = wanted.strip().partition(" ")
     return reply(int(status), end_lines(body), asked)
 
 
-def rows_of(table):
-    """The rows of a table: the name that each stands under, the row, the request and the replies."""
+def read_rows(table: str, is_alone: bool = False) -> list[Exchange]:
+    """Returns the rows of a table.
+
+    If `is_alone`, only those under names whose rows all ask with alpha's key or with one that no shelf has."""
+    rows: list[tuple[str, str]] = []
     name = ""
-    for row in filter(None, table.split("\n")):
-        if row.startswith("# "):
-            name = row[2:]
+    for line in filter(None, table.split("\n")):
+        if line.startswith("# "):
+            name = line[2:]
         else:
-            asked, told, *rest = columns(row, 5)
-            yield name, row, request_of(asked, *rest), b"".join(reply_of(it, asked) for it in told.split("&"))
+            rows.append((name, line))
+    named = [list(group) for _, group in itertools.groupby(rows, lambda row: row[0])]
+    return [
+        read_row(*row)
+        for group in named
+        if not is_alone or all(line.split()[1] in "AN" for _, line in group)
+        for row in group
+    ]
 
 
-def of_alpha(table):
-    """The rows of a table that stand under names where alpha's key, or nobody's, asks alone."""
-    named = [(name, list(rows)) for name, rows in itertools.groupby(rows_of(table), lambda row: row[0])]
-    return [row for _, rows in named if all(row[1].split()[1] in "AN" for row in rows) for row in rows]
-
-
-def in_own_runs(suite, where, words, rows):
-    """Asks for each row in a run of its own."""
-    for name, row, request, wanted in rows:
-        suite.equal(f"{where}, {name}: {row}", run(["answer", *words], request), (0, wanted, ""))
-
-
-def in_one_stream(suite, where, words, rows):
-    """Asks for the rows in one stream, and compares each reply."""
-    rows = list(rows)
-    status, output, told = run(["answer", *words], b"".join(request for _, _, request, _ in rows))
-    found = raw_replies(output)
-    suite.equal(
-        f"{where}: the stream ends well, with a reply to each request", (status, told, len(found)), (0, "", len(rows))
-    )
-    for (name, row, _, wanted), raw in zip(rows, found):
-        suite.equal(f"{where}, {name}: {row}", raw, wanted)
-
-
-def by_serve(suite, where, words, rows):
-    """Asks `serve` for each row, on a connection of its own."""
-    rows = list(rows)
-    serve = subprocess.Popen(
-        [PROGRAM, "serve", *words, "--port", "0", "--connections", str(len(rows))], stdout=subprocess.PIPE
-    )
-    port = int(serve.stdout.readline().rpartition(b":")[2])
-    for name, row, request, wanted in rows:
-        suite.equal(f"{where}, {name}: {row}", exchanged(port, request), wanted)
-    suite.equal(f"{where}: it ends well", serve.wait(60), 0)
-
-
-def over_files(suite):
-    for name, table in (("requests", REQUESTS), ("streams", STREAMS), ("sums", SUMS)):
-        new_store(f"{name}.db", *SHELVES)
-        in_own_runs(suite, "a file, a run each", ["--db", f"{name}.db"], rows_of(table))
-    for name, table in (("requests", REQUESTS), ("sums", SUMS)):
-        new_store(f"{name}-once.db", *SHELVES)
-        in_one_stream(suite, "a file, one stream", ["--db", f"{name}-once.db"], rows_of(table))
-
-
-def groups(suite):
-    new_store("groups.db", *SHELVES)
-    run(["answer", "--db", "groups.db"], b"".join(request for _, _, request, _ in rows_of(REQUESTS)))
-    add_platform("groups.db")
-    suite.runs("groups", GROUP_COMMANDS)
-    new_store("new.db", *SHELVES)
-    add_platform("new.db")
-    for store, table in (("groups", GROUP_REQUESTS), ("new", CHAIN_REQUESTS), ("new", MEMBER_REQUESTS)):
-        for where, ask in (("a run each", in_own_runs), ("one stream", in_one_stream), ("serve", by_serve)):
-            for end in ("", "-wal"):
-                shutil.copy(f"{store}.db{end}", f"asked.db{end}")
-            ask(suite, f"groups, {where}", ["--db", "asked.db"], rows_of(table))
-
-
-def over_memory(suite):
-    for table in (REQUESTS, GROUP_REQUESTS, SUMS):
-        in_one_stream(suite, "--mem", MEMORY, of_alpha(table))
-    in_own_runs(suite, "--mem", MEMORY, rows_of(STREAMS))
-
-
-def sums(suite):
-    summed = (
-        ("example.com/lib", "v1.0.0"),
-        ("example.com/x", "v1.0.0"),
-        ("example.com/Lib", "v1.0.0-a.mod"),
-        ("example.com/t", "v1.5.0"),
-    )
-    for path, version in summed:
-        hash_of_gomod = hashlib.sha256(f"module {path}\n".encode()).hexdigest()
-        hash_of_list = hashlib.sha256(f"{hash_of_gomod}  go.mod\n".encode()).digest()
-        line = f"{path} {version}/go.mod h1:{base64.b64encode(hash_of_list).decode()};"
-        suite.holds(
-            f"the sum of {path} {version} is that of hashlib", f" | 200 {line}\n" in SUMS + GROUP_REQUESTS, line
-        )
-
-
-if __name__ == "__main__":
-    sys.exit(in_new_folders(Suite(), over_files, groups, over_memory, sums))
+def read_row(name: str, line: str) -> Exchange:
+    asked, wanted, *rest = columns(line, 5)
+    replies = b"".join(read_reply(one, asked) for one in wanted.split("&"))
+    return Exchange(f"{name}: {line}", [read_request(asked, *rest)], replies)

@@ -1,17 +1,17 @@
-#!/usr/bin/env python3
 """What hostile callers send, and the bytes that answer them: over shelves in memory and over a file.
 
-Build the program first (`./goshelf --version`). A publish that is cut at each byte; heads and lengths at their limits
-and beyond; what each key may do on each of eight shelves, of which one is a group, and what it sees; zips that end
-where a piece ends; 100,000 messages, each in a read of its own. Memory has one team with one key, so rows of other keys
-run over the file alone. tests/largest.py has the largest files and full shelves.
+A publish that is cut at each byte; heads and lengths at their limits and beyond; what each key may do on each of eight
+shelves, of which one is a group, and what it sees; zips that end where a piece ends; 100,000 messages, each in a read
+of its own. Memory has one team with one key, so rows of other keys run over the file alone. The suite of the largest
+sizes has the largest files and full shelves.
 """
 
-import sys
+import os
+
+import pytest
 
 from lib.keys import KEY, KEYS
-from lib.messages import get, put, reply
-from lib.scratch import in_new_folders
+from lib.messages import Dialogue, Exchange, find_difference, get, number_exchanges, put, reply
 from lib.shelves import (
     AGAIN,
     BAD,
@@ -23,54 +23,46 @@ from lib.shelves import (
     TOO_LARGE,
     File,
     Memory,
-    answer_rows,
     gomod_sum,
     info,
     run_in_reads,
     zipped,
 )
 from lib.stores import add_shelf
-from lib.suite import Suite
 from lib.tables import PIECE
 
 READER, NOBODY = KEYS["R"], KEYS["N"]
 GOMOD = b"module example.com/lib\n"
 
-# a publish, and what shows that it stands nowhere
+# a publish, and what shows that nothing of it is in the store
 PUT = put("example.com/lib", "v1.0.0", GOMOD)
 SEEN = [get("example.com/lib/@v/v1.0.0.mod"), get("example.com/lib/@v/list"), get("-/modules")]
 NOTHING = NOT_FOUND + NOT_FOUND + NO_MODULE
 
 
-def cuts(suite, store):
-    """A publish that is cut at each of its bytes is bad. Over a file nothing stands then; memory is lost when a run
-    ends."""
-    wrong = [end for end in range(1, len(PUT)) if store.answer([PUT[:end]]) != BAD]
-    suite.equal(f"{store.name} a publish of 121 bytes, cut at each", (len(PUT), wrong), (121, []))
-    if isinstance(store, File):
-        suite.equal(f"{store.name} after all these nothing stands", store.answer(SEEN), NOTHING)
+Row = tuple[str, list[bytes], list[bytes]]
 
 
-def front(*lines):
-    """A publish with these lines in its head. Behind it stands a GET, which is answered if the stream goes on."""
+def front(*lines: str) -> list[bytes]:
+    """Returns a publish with these lines in its head, and a GET after it, which is answered if the stream goes on."""
     head = "\r\n".join([f"PUT /k/{KEY}/example.com/lib/@v/v1.0.0 HTTP/1.1", *lines, "", ""])
     return [head.encode() + GOMOD, get("-/modules", NOBODY)]
 
 
-def head_of(*lines):
-    """A GET by an unknown key with these lines in its head, and another behind it."""
+def head_of(*lines: str) -> list[bytes]:
+    """Returns a GET by an unknown key with these lines in its head, and another after it."""
     head = "\r\n".join([f"GET /k/{NOBODY}/-/modules HTTP/1.1", *lines, "", ""])
     return [head.encode(), get("-/modules", NOBODY)]
 
 
-def head_of_size(size):
-    """The same with a line that makes the first head this long."""
+def head_of_size(size: int) -> list[bytes]:
+    """Returns two such GETs, the first with a line that makes its head this long."""
     return head_of("a: " + "x" * (size - len(head_of("a: ")[0])))
 
 
 MOD = "Mod-Length: 23"
 # a 400 or 413 of a front ends the stream: its own publish and what stands behind it are not read
-FRONTS = [
+FRONTS: list[Row] = [
     ("a length with a plus", front(MOD, "Content-Length: +23"), [BAD]),
     ("a length with a leading zero", front(MOD, "Content-Length: 023"), [BAD]),
     ("a length in base 16", front(MOD, "Content-Length: 0x17"), [BAD]),
@@ -122,11 +114,11 @@ OTHER_ZIPS = [
 ]
 
 
-def publish(version, zip_bytes):
+def publish(version: str, zip_bytes: bytes) -> bytes:
     return put(PATH, version, f"module {PATH}\n".encode(), zip_bytes)
 
 
-PIECES = [
+PIECES: list[Row] = [
     *[
         (f"a zip of {len(zip_bytes)} bytes", [publish(version, zip_bytes)], [PUBLISHED])
         for version, zip_bytes in ZIPS.items()
@@ -161,18 +153,18 @@ LATEST = info("v3.0.0+incompatible")
 MODULES = reply(200, f"{OWN}\n".encode())
 
 
-def own(version, key, zip_bytes=b"", time=""):
-    """A publish on the shelf of the key."""
+def own(version: str, key: str, zip_bytes: bytes = b"", time: str = "") -> bytes:
+    """Returns a publish on the shelf of the key."""
     return put(OWN, version, OWN_GOMOD, zip_bytes, key, time)
 
 
-def by_both(name, target, keys, wanted):
-    """A row whose GET is answered the same to each of the keys."""
+def by_both(name: str, target: str, keys: tuple[str, ...], wanted: bytes) -> Row:
+    """Returns a row whose GET is answered alike to each of the keys."""
     return name, [get(target, key) for key in keys], [wanted] * len(keys)
 
 
-def rights(shelf, key, reader):
-    """What the keys of a shelf are answered. The zip is the key that publishes it."""
+def rights(shelf: str, key: str, reader: str) -> list[Row]:
+    """Returns the rows of the keys of a shelf. The zip is the key that publishes it."""
     zip_bytes, keys = key.encode(), (key, reader)
     time = "2024-02-29T23:59:59Z"
     rows = [
@@ -212,8 +204,8 @@ PLATFORM, PLATFORM_READER = GROUP[1:]
 COMMON, COMMON_READER = TOP[1:]
 
 
-def came_last(name, key, parent, zip_bytes, more, others):
-    """What the key of a team that came last is answered: it sees what its parent published with this zip, conflicts
+def came_last(name: str, key: str, parent: str, zip_bytes: bytes, more: bytes, others: tuple[str, ...]) -> list[Row]:
+    """Returns the rows of the key of a team that came last: it sees what its parent published with this zip, conflicts
     with it or repeats it, and publishes another version, with one more zip, which others do not see."""
     version = f"{OWN}/@v/v1.0.1.zip"
     return [
@@ -231,7 +223,7 @@ def came_last(name, key, parent, zip_bytes, more, others):
 
 # once common has published too, each shelf goes on seeing its own; of two teams that came last, each with a key of 64
 # bytes, `late` sees common, and `member`, which is of the group, sees the group
-AFTER = [
+AFTER: list[Row] = [
     *[
         by_both(f"{shelf}: still sees its own", f"{OWN}/@v/v1.0.0.zip", keys, zipped(keys[0].encode()))
         for shelf, *keys in SHELVES
@@ -261,35 +253,106 @@ AFTER = [
 ]
 
 
-def many(suite, store):
-    """Five messages, 20,000 times, each message in a read of its own."""
-    first = put("example.com/lib", "v1.0.0", GOMOD, b"Z")
-    five = [first, get("example.com/lib/@v/v1.0.0.mod", store.reader), get("example.com/lib/@v/v1.0.0.mod", NOBODY)]
-    five += [get("example.com/lib/@v/v1.0.0.info"), get("example.com/lib/@v/list")]
-    wanted = AGAIN + reply(200, GOMOD) + NOT_FOUND + info("v1.0.0") + reply(200, b"v1.0.0\n")
-    status, written, told = run_in_reads(["answer", *store.words], [first, *five * 20_000])
-    suite.equal(f"{store.name} 100,001 messages, each in a read of its own: the end", (status, told), (0, ""))
-    suite.equal(
-        f"{store.name} 100,001 messages, each in a read of its own: the replies", written, PUBLISHED + wanted * 20_000
-    )
+def read_exchanges(rows: list[Row]) -> list[Exchange]:
+    return [Exchange(name, requests, b"".join(wanted)) for name, requests, wanted in rows]
 
 
-def over_both(suite):
-    """The rows over each store, of which each table has a new one."""
-    for number, part in enumerate((cuts, FRONTS, PIECES, many)):
-        for store in (Memory(), File(f"{number}.db", ("alpha", KEY, READER))):
-            part(suite, store) if callable(part) else answer_rows(suite, store, part)
+CUTS: list[Row] = [
+    *[(f"a publish of 121 bytes, cut at {end}", [PUT[:end]], [BAD]) for end in range(1, 121)],
+    ("after all these nothing is in the store", SEEN, [NOTHING]),
+]
+over_both = pytest.mark.parametrize("store", ["--mem", "--db"], indirect=True)
 
 
-def over_a_file(suite):
-    """What each key may do and sees, which wants several keys."""
-    store = File("rights.db", *ALONE, *((*it, GROUP[0]) for it in MEMBERS), TOP, groups=[GROUP])
-    for shelf in SHELVES:
-        answer_rows(suite, store, rights(*shelf))
-    add_shelf(store.file, "late", LATE)
-    add_shelf(store.file, "member", MEMBER, group=GROUP[0])
-    answer_rows(suite, store, AFTER)
+@pytest.fixture(scope="class")
+def store(request: pytest.FixtureRequest, class_folder: str) -> Memory | File:
+    if request.param == "--mem":
+        return Memory()
+    return File(os.path.join(class_folder, "shelves.db"), ("alpha", KEY, READER))
 
 
-if __name__ == "__main__":
-    sys.exit(in_new_folders(Suite(), over_both, over_a_file))
+@pytest.fixture(scope="class")
+def dialogue(request: pytest.FixtureRequest, store: Memory | File) -> Dialogue:
+    """The rows of a class over a store."""
+    return Dialogue(request.cls.ROWS, store.answer)
+
+
+def test_publish_has_121_bytes() -> None:
+    assert len(PUT) == 121
+
+
+@over_both
+class TestCuts:
+    ROWS = read_exchanges(CUTS)
+
+    @pytest.mark.parametrize(**number_exchanges(ROWS))
+    def test_row(self, dialogue: Dialogue, number: int) -> None:
+        assert not dialogue.find_difference(number)
+
+
+@over_both
+class TestFronts:
+    ROWS = read_exchanges(FRONTS)
+
+    @pytest.mark.parametrize(**number_exchanges(ROWS))
+    def test_row(self, dialogue: Dialogue, number: int) -> None:
+        assert not dialogue.find_difference(number)
+
+
+@over_both
+class TestPieces:
+    ROWS = read_exchanges(PIECES)
+
+    @pytest.mark.parametrize(**number_exchanges(ROWS))
+    def test_row(self, dialogue: Dialogue, number: int) -> None:
+        assert not dialogue.find_difference(number)
+
+
+@over_both
+class TestManyMessages:
+    def test_100_001_messages_each_in_a_read_of_its_own(self, store: Memory | File) -> None:
+        first = put("example.com/lib", "v1.0.0", GOMOD, b"Z")
+        five = [first, get("example.com/lib/@v/v1.0.0.mod", store.reader), get("example.com/lib/@v/v1.0.0.mod", NOBODY)]
+        five += [get("example.com/lib/@v/v1.0.0.info"), get("example.com/lib/@v/list")]
+        wanted = AGAIN + reply(200, GOMOD) + NOT_FOUND + info("v1.0.0") + reply(200, b"v1.0.0\n")
+        status, output, errors = run_in_reads(["answer", *store.words], [first, *five * 20_000])
+        assert (status, errors) == (0, "")
+        assert not find_difference(output, PUBLISHED + wanted * 20_000)
+
+
+RIGHT_ROWS = read_exchanges([row for shelf in SHELVES for row in rights(*shelf)])
+AFTER_ROWS = read_exchanges(AFTER)
+
+
+def make_eight_shelves(file: str) -> File:
+    members = ((*member, GROUP[0]) for member in MEMBERS)
+    return File(file, *ALONE, *members, TOP, groups=[GROUP])
+
+
+class TestRights:
+    """What each key may do and sees, of eight shelves, one after another."""
+
+    @pytest.fixture(scope="class")
+    def dialogue(self, class_folder: str) -> Dialogue:
+        store = make_eight_shelves(os.path.join(class_folder, "rights.db"))
+        return Dialogue(RIGHT_ROWS, store.answer)
+
+    @pytest.mark.parametrize(**number_exchanges(RIGHT_ROWS))
+    def test_row(self, dialogue: Dialogue, number: int) -> None:
+        assert not dialogue.find_difference(number)
+
+
+class TestRightsAfterAll:
+    """What keys may do and see once each shelf has published, and two teams came last."""
+
+    @pytest.fixture(scope="class")
+    def dialogue(self, class_folder: str) -> Dialogue:
+        store = make_eight_shelves(os.path.join(class_folder, "rights.db"))
+        store.answer([request for row in RIGHT_ROWS for request in row.requests])
+        add_shelf(store.file, "late", LATE)
+        add_shelf(store.file, "member", MEMBER, group=GROUP[0])
+        return Dialogue(AFTER_ROWS, store.answer)
+
+    @pytest.mark.parametrize(**number_exchanges(AFTER_ROWS))
+    def test_row(self, dialogue: Dialogue, number: int) -> None:
+        assert not dialogue.find_difference(number)

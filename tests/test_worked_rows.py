@@ -1,0 +1,208 @@
+"""The worked rows over a file, by runs, in one stream and by `serve`, and over `--mem`."""
+
+import base64
+import functools
+import hashlib
+from collections.abc import Callable, Iterator, Sequence
+from typing import NamedTuple
+
+import pytest
+
+from lib.keys import MEMORY, SHELVES
+from lib.messages import Dialogue, Exchange, raw_replies
+from lib.peers import exchanged
+from lib.program import answered, refusal, run
+from lib.scratch import entered_folder
+from lib.servers import Server
+from lib.shelves import answer
+from lib.stores import add_platform, new_store
+from lib.worked import copy_store
+from lib.worked_rows import CHAIN_REQUESTS, GROUP_REQUESTS, MEMBER_REQUESTS, REQUESTS, STREAMS, SUMS, read_rows
+
+
+class Session(NamedTuple):
+    """Rows that are asked of a store: a copy of one of STORES, or `--mem`."""
+
+    name: str
+    store: str
+    rows: Sequence[Exchange]
+
+
+def make_requested(file: str) -> None:
+    """Makes a store that has what REQUESTS publish, and the group platform."""
+    new_store(file, *SHELVES)
+    answered(["--db", file], [request for row in read_rows(REQUESTS) for request in row.requests])
+    add_platform(file)
+
+
+def make_grouped(file: str) -> None:
+    """Makes a store of no version that has the group platform."""
+    new_store(file, *SHELVES)
+    add_platform(file)
+
+
+STORES: dict[str, Callable[[str], None]] = {
+    "new": lambda file: new_store(file, *SHELVES),
+    "requested": make_requested,
+    "grouped": make_grouped,
+}
+FILES = [Session("requests", "new", read_rows(REQUESTS)), Session("sums", "new", read_rows(SUMS))]
+STREAMED = Session("streams", "new", read_rows(STREAMS))
+GROUPS = [
+    Session("groups", "requested", read_rows(GROUP_REQUESTS)),
+    Session("chain", "grouped", read_rows(CHAIN_REQUESTS)),
+    Session("members", "grouped", read_rows(MEMBER_REQUESTS)),
+]
+IN_MEMORY = [
+    Session("--mem requests", "--mem", read_rows(REQUESTS, True)),
+    Session("--mem groups", "--mem", read_rows(GROUP_REQUESTS, True)),
+    Session("--mem sums", "--mem", read_rows(SUMS, True)),
+]
+STREAMED_IN_MEMORY = Session("--mem streams", "--mem", read_rows(STREAMS))
+
+
+def parametrize_rows(fixture: str, sessions: Sequence[Session]) -> pytest.MarkDecorator:
+    """Has a test look at each row of sessions: at the fixture of its session, and at its number there."""
+    cases = [(session, number) for session in sessions for number in range(len(session.rows))]
+    ids = [f"{session.name}, {session.rows[number]}" for session, number in cases]
+    return pytest.mark.parametrize(f"{fixture}, number", cases, ids=ids, indirect=[fixture])
+
+
+def parametrize_sessions(fixture: str, sessions: Sequence[Session]) -> pytest.MarkDecorator:
+    return pytest.mark.parametrize(fixture, sessions, ids=[session.name for session in sessions], indirect=True)
+
+
+Opener = Callable[[Session], list[str]]
+
+
+@pytest.fixture(scope="module")
+def stores() -> Iterator[Callable[[str], str]]:
+    """Returns the file of one of STORES, which is made when it is first wanted."""
+    with entered_folder() as folder:
+
+        @functools.cache
+        def store(name: str) -> str:
+            file = f"{folder}/{name}.db"
+            STORES[name](file)
+            return file
+
+        yield store
+
+
+@pytest.fixture(scope="class")
+def open_store(stores: Callable[[str], str]) -> Iterator[Opener]:
+    """Returns the words that open the store of a session, which no other session has."""
+    with entered_folder() as folder:
+
+        def words(session: Session) -> list[str]:
+            if session.store == "--mem":
+                return MEMORY
+            file = f"{folder}/{session.name}.db"
+            copy_store(stores(session.store), file)
+            return ["--db", file]
+
+        yield words
+
+
+@pytest.fixture(scope="class")
+def dialogue(request: pytest.FixtureRequest, open_store: Opener) -> Dialogue:
+    words = open_store(request.param)
+    return Dialogue(request.param.rows, lambda requests: answer(words, requests))
+
+
+class TestRuns:
+    """Each row is asked in a run of its own."""
+
+    @parametrize_rows("dialogue", [*FILES, STREAMED, STREAMED_IN_MEMORY])
+    def test_reply(self, dialogue: Dialogue, number: int) -> None:
+        assert not dialogue.find_difference(number)
+
+
+class TestRunsOfGroups:
+    """Each row about a group is asked in a run of its own."""
+
+    @parametrize_rows("dialogue", GROUPS)
+    def test_reply(self, dialogue: Dialogue, number: int) -> None:
+        assert not dialogue.find_difference(number)
+
+
+class Stream(NamedTuple):
+    """The rows of a session in one stream: the status, the errors and the number of replies, and each reply."""
+
+    ending: tuple[int, str, int]
+    dialogue: Dialogue
+
+
+class TestOneStream:
+    """All rows are asked in one stream."""
+
+    @pytest.fixture(scope="class")
+    def stream(self, request: pytest.FixtureRequest, open_store: Opener) -> Stream:
+        rows = request.param.rows
+        status, output, errors = run(["answer", *open_store(request.param)], b"".join(row.requests[0] for row in rows))
+        found = raw_replies(output)
+        replies = iter(found)
+        return Stream((status, errors, len(found)), Dialogue(rows, lambda _: next(replies)))
+
+    @parametrize_sessions("stream", [*FILES, *GROUPS, *IN_MEMORY])
+    def test_stream_ends_well_with_a_reply_to_each_request(self, stream: Stream) -> None:
+        assert stream.ending == (0, "", len(stream.dialogue.exchanges))
+
+    @parametrize_rows("stream", [*FILES, *GROUPS, *IN_MEMORY])
+    def test_reply(self, stream: Stream, number: int) -> None:
+        assert not stream.dialogue.find_difference(number)
+
+
+class Served(NamedTuple):
+    """The rows of a session, and the server that they are asked of, which ends after as many connections."""
+
+    server: Server
+    dialogue: Dialogue
+
+
+class TestServe:
+    """Each row is asked of `serve`, on a connection of its own."""
+
+    @pytest.fixture(scope="class")
+    def served(self, request: pytest.FixtureRequest, open_store: Opener, module_serve: Callable[..., Server]) -> Served:
+        rows, (_, file) = request.param.rows, open_store(request.param)
+        server = module_serve(file, None, "--connections", str(len(rows)))
+        return Served(server, Dialogue(rows, lambda requests: exchanged(server.port, *requests)))
+
+    @parametrize_rows("served", GROUPS)
+    def test_reply(self, served: Served, number: int) -> None:
+        assert not served.dialogue.find_difference(number)
+
+    @parametrize_sessions("served", GROUPS)
+    def test_server_ends_well_after_all_rows(self, served: Served) -> None:
+        served.dialogue.find_difference(len(served.dialogue.exchanges) - 1)
+        assert served.server.child.wait(60) == 0
+
+
+# team-is-no-group and name-shared
+@pytest.mark.parametrize(
+    "line, word",
+    [
+        ("team-add --db store.db --team eps --group alpha", "no-group"),
+        ("group-add --db store.db --group gamma", "taken"),
+    ],
+)
+def test_a_name_has_one_kind(folder: str, stores: Callable[[str], str], line: str, word: str) -> None:
+    copy_store(stores("requested"), "store.db")
+    assert run(line.split()) == refusal(word)
+
+
+@pytest.mark.parametrize(
+    "path, version",
+    [
+        ("example.com/lib", "v1.0.0"),
+        ("example.com/x", "v1.0.0"),
+        ("example.com/Lib", "v1.0.0-a.mod"),
+        ("example.com/t", "v1.5.0"),
+    ],
+)
+def test_sum_of_the_rows_is_that_of_hashlib(path: str, version: str) -> None:
+    hash_of_gomod = hashlib.sha256(f"module {path}\n".encode()).hexdigest()
+    hash_of_list = hashlib.sha256(f"{hash_of_gomod}  go.mod\n".encode()).digest()
+    line = f"{path} {version}/go.mod h1:{base64.b64encode(hash_of_list).decode()};"
+    assert f" | 200 {line}\n" in SUMS + GROUP_REQUESTS

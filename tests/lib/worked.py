@@ -4,12 +4,10 @@ import os
 import shutil
 from collections.abc import Iterable
 
-from lib.keys import KEYS, SHELVES
+from lib.keys import KEYS
 from lib.messages import get, raw_replies
 from lib.program import run
-from lib.runs import Story, read_runs
-from lib.stores import new_store
-from lib.suite import Suite
+from lib.runs import Story
 
 HEADER = "path,version,time,mod,zip\n"
 FILES: dict[str, str] = {
@@ -125,27 +123,9 @@ def published(count: int) -> str:
     return "".join(f"    {number} 201 published\n" for number in range(1, count + 1))
 
 
-def make_worked_store(file: str, more: str = "") -> None:
-    """Makes the store of the worked rows from the lists of FILES, as `imports_of`."""
-    new_store(file, *SHELVES)
-    make_runs(imports_of(file, more))
-
-
-def make_runs(table: str) -> None:
-    """Makes the runs of a table, each of which must end as it says."""
-    for made in read_runs(table):
-        assert run(made.words, made.requests) == made.wanted, made.line
-
-
 def finish(story: Story) -> None:
     """Makes all runs of a story."""
     story.ending(len(story.runs) - 1)
-
-
-def worked_store(suite: Suite, file: str, more: str = "") -> None:
-    """Makes the store of the worked rows. Each import is a row of a suite."""
-    new_store(file, *SHELVES)
-    suite.runs("imports", imports_of(file, more))
 
 
 def everything() -> list[str]:

@@ -65,7 +65,7 @@ def parametrize_rows(fixture: str, sessions: Sequence[Session]) -> pytest.MarkDe
     """Has a test look at each row of sessions: at the fixture of its session, and at its number there."""
     cases = [(session, number) for session in sessions for number in range(len(session.rows))]
     ids = [f"{session.name}, {session.rows[number]}" for session, number in cases]
-    return pytest.mark.parametrize(f"{fixture}, number", cases, ids=ids, indirect=[fixture])
+    return pytest.mark.parametrize(f"{fixture}, number", cases, ids=ids, indirect=[fixture], scope="class")
 
 
 def parametrize_sessions(fixture: str, sessions: Sequence[Session]) -> pytest.MarkDecorator:

@@ -7,11 +7,12 @@ sizes has the largest files and full shelves.
 """
 
 import os
+from collections.abc import Sequence
 
 import pytest
 
 from lib.keys import KEY, KEYS
-from lib.messages import Dialogue, Exchange, find_difference, get, number_exchanges, put, reply
+from lib.messages import Dialogue, Row, find_difference, get, number_exchanges, put, read_exchanges, reply
 from lib.shelves import (
     AGAIN,
     BAD,
@@ -38,9 +39,6 @@ GOMOD = b"module example.com/lib\n"
 PUT = put("example.com/lib", "v1.0.0", GOMOD)
 SEEN = [get("example.com/lib/@v/v1.0.0.mod"), get("example.com/lib/@v/list"), get("-/modules")]
 NOTHING = NOT_FOUND + NOT_FOUND + NO_MODULE
-
-
-Row = tuple[str, list[bytes], list[bytes]]
 
 
 def front(*lines: str) -> list[bytes]:
@@ -158,7 +156,7 @@ def own(version: str, key: str, zip_bytes: bytes = b"", time: str = "") -> bytes
     return put(OWN, version, OWN_GOMOD, zip_bytes, key, time)
 
 
-def by_both(name: str, target: str, keys: tuple[str, ...], wanted: bytes) -> Row:
+def by_both(name: str, target: str, keys: Sequence[str], wanted: bytes) -> Row:
     """Returns a row whose GET is answered alike to each of the keys."""
     return name, [get(target, key) for key in keys], [wanted] * len(keys)
 
@@ -251,10 +249,6 @@ AFTER: list[Row] = [
     by_both("beta: does not", f"{OWN}/@v/v1.0.1.zip", (BETA, BETA_READER, COMMON), NOT_FOUND),
     ("an unknown key sees nothing", [get(f"{OWN}/@v/v1.0.0.zip", NOBODY)], [NOT_FOUND]),
 ]
-
-
-def read_exchanges(rows: list[Row]) -> list[Exchange]:
-    return [Exchange(name, requests, b"".join(wanted)) for name, requests, wanted in rows]
 
 
 CUTS: list[Row] = [

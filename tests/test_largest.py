@@ -11,7 +11,7 @@ import os
 import pytest
 
 from lib.keys import KEY, KEYS, PLATFORM, SHELVES
-from lib.messages import Dialogue, Exchange, get, number_exchanges, put, reply
+from lib.messages import Dialogue, Row, get, number_exchanges, put, read_exchanges, reply
 from lib.shelves import (
     AGAIN,
     CONFLICT,
@@ -29,7 +29,6 @@ from lib.shelves import (
 
 GOMOD, ZIP = 1_048_576, 16_777_216
 READER, BETA, COMMON, GROUP = KEYS["R"], KEYS["B"], KEYS["C"], KEYS["P"]
-Row = tuple[str, list[bytes], list[bytes]]
 
 
 def make_gomod(path: str, size: int) -> bytes:
@@ -233,10 +232,6 @@ ROOM_UNDER_GROUP: list[Row] = [
         [info("v1.0.4096"), info("v1.0.4095")],
     ),
 ]
-
-
-def read_exchanges(rows: list[Row]) -> list[Exchange]:
-    return [Exchange(name, requests, b"".join(wanted)) for name, requests, wanted in rows]
 
 
 ALPHA = ("alpha", KEY, READER, PLATFORM[0])

@@ -76,6 +76,11 @@ def feed(name: str, wait: float = 0) -> None:
         file.write(b"PK")
 
 
+def feed_both() -> None:
+    for name in ("second.zip", "third.zip"):
+        feed(name)
+
+
 def make_store(name: str = "store.db") -> str:
     new_store(name, *SHELVES)
     return name
@@ -108,7 +113,7 @@ class TestImport:
     @pytest.fixture(scope="class")
     def piped(self, files: None) -> tuple[int, bytes, str]:
         """How the same import ends whose standard error is a pipe."""
-        feeder = threading.Thread(target=lambda: (feed("second.zip"), feed("third.zip")))
+        feeder = threading.Thread(target=feed_both)
         feeder.start()
         ended = run(list_import(make_store("two.db")))
         feeder.join()

@@ -121,13 +121,21 @@ class Peer:
         self.connection.sendall(sent)
 
     def send(self, content: bytes) -> None:
+        assert self.connection
         self.connection.sendall(content)
 
     def receive(self, most: int) -> bytes:
         """Reads some bytes, and returns them: none at the end."""
+        assert self.connection
         part = self.connection.recv(most)
         self.received += part
         return part
+
+    def reset(self) -> None:
+        """Closes the connection so that it lingers for no time, which sends a reset."""
+        assert self.connection
+        self.connection.setsockopt(socket.SOL_SOCKET, socket.SO_LINGER, struct.pack("ii", 1, 0))
+        self.connection.close()
 
     def end(self) -> bytes:
         """Stops, and returns all that it received if the connection was closed."""
@@ -197,9 +205,7 @@ def is_reset_in_mid_zip(peer: Peer) -> Iterator[float]:
     yield 0
     while len(peer.received) < MIB and peer.receive(65_536):
         pass
-    # a close that lingers for no time sends a reset
-    peer.connection.setsockopt(socket.SOL_SOCKET, socket.SO_LINGER, struct.pack("ii", 1, 0))
-    peer.connection.close()
+    peer.reset()
 
 
 def sends_a_bare_cr(peer: Peer) -> Iterator[float]:
@@ -288,7 +294,8 @@ class TestOwnPort:
     def waits(self, request: pytest.FixtureRequest, class_folder: str) -> Waits:
         """The waits behind each kind that a test was chosen for, the kinds side by side."""
         make_store("shelves.db", "v1.0.0", ZIP)
-        chosen = {item.callspec.params["kind"] for item in request.session.items if item.parent is request.node}
+        tests = [item for item in request.session.items if item.parent is request.node]
+        chosen = {test.callspec.params["kind"] for test in tests if isinstance(test, pytest.Function)}
 
         def measure(kind: Kind) -> Waits:
             file = f"{class_folder}/{kind}.db"

@@ -4,6 +4,7 @@ import base64
 import functools
 import hashlib
 from collections.abc import Callable, Iterator, Sequence
+from dataclasses import dataclass
 from typing import NamedTuple
 
 import pytest
@@ -20,12 +21,16 @@ from lib.worked import copy_store
 from lib.worked_rows import CHAIN_REQUESTS, GROUP_REQUESTS, MEMBER_REQUESTS, REQUESTS, STREAMS, SUMS, read_rows
 
 
-class Session(NamedTuple):
+@dataclass(frozen=True, eq=False)
+class Session:
     """Rows that are asked of a store: a copy of one of STORES, or `--mem`."""
 
     name: str
     store: str
     rows: Sequence[Exchange]
+
+    def __str__(self) -> str:
+        return self.name
 
 
 def make_requested(file: str) -> None:
@@ -61,15 +66,16 @@ IN_MEMORY = [
 STREAMED_IN_MEMORY = Session("--mem streams", "--mem", read_rows(STREAMS))
 
 
-def parametrize_rows(fixture: str, sessions: Sequence[Session]) -> pytest.MarkDecorator:
-    """Has a test look at each row of sessions: at the fixture of its session, and at its number there."""
+def parametrize_rows(sessions: Sequence[Session]) -> pytest.MarkDecorator:
+    """Has a test look at each row of sessions: at its session, and at its number there."""
     cases = [(session, number) for session in sessions for number in range(len(session.rows))]
-    ids = [f"{session.name}, {session.rows[number]}" for session, number in cases]
-    return pytest.mark.parametrize(f"{fixture}, number", cases, ids=ids, indirect=[fixture], scope="class")
+    return pytest.mark.parametrize(
+        "session, number", cases, ids=[f"{session}, {session.rows[number]}" for session, number in cases]
+    )
 
 
-def parametrize_sessions(fixture: str, sessions: Sequence[Session]) -> pytest.MarkDecorator:
-    return pytest.mark.parametrize(fixture, sessions, ids=[session.name for session in sessions], indirect=True)
+def parametrize_sessions(sessions: Sequence[Session]) -> pytest.MarkDecorator:
+    return pytest.mark.parametrize("session", sessions, ids=str)
 
 
 Opener = Callable[[Session], list[str]]
@@ -105,25 +111,27 @@ def open_store(stores: Callable[[str], str]) -> Iterator[Opener]:
 
 
 @pytest.fixture(scope="class")
-def dialogue(request: pytest.FixtureRequest, open_store: Opener) -> Dialogue:
-    words = open_store(request.param)
-    return Dialogue(request.param.rows, lambda requests: answer(words, requests))
+def dialogues(open_store: Opener) -> Callable[[Session], Dialogue]:
+    """Returns the dialogue of a session, of which each row is asked in a run of its own."""
+
+    @functools.cache
+    def dialogue(session: Session) -> Dialogue:
+        words = open_store(session)
+        return Dialogue(session.rows, lambda requests: answer(words, requests))
+
+    return dialogue
 
 
 class TestRuns:
-    """Each row is asked in a run of its own."""
-
-    @parametrize_rows("dialogue", [*FILES, STREAMED, STREAMED_IN_MEMORY])
-    def test_reply(self, dialogue: Dialogue, number: int) -> None:
-        assert not dialogue.find_difference(number)
+    @parametrize_rows([*FILES, STREAMED, STREAMED_IN_MEMORY])
+    def test_reply(self, dialogues: Callable[[Session], Dialogue], session: Session, number: int) -> None:
+        assert not dialogues(session).find_difference(number)
 
 
 class TestRunsOfGroups:
-    """Each row about a group is asked in a run of its own."""
-
-    @parametrize_rows("dialogue", GROUPS)
-    def test_reply(self, dialogue: Dialogue, number: int) -> None:
-        assert not dialogue.find_difference(number)
+    @parametrize_rows(GROUPS)
+    def test_reply(self, dialogues: Callable[[Session], Dialogue], session: Session, number: int) -> None:
+        assert not dialogues(session).find_difference(number)
 
 
 class Stream(NamedTuple):
@@ -137,20 +145,26 @@ class TestOneStream:
     """All rows are asked in one stream."""
 
     @pytest.fixture(scope="class")
-    def stream(self, request: pytest.FixtureRequest, open_store: Opener) -> Stream:
-        rows = request.param.rows
-        status, output, errors = run(["answer", *open_store(request.param)], b"".join(row.requests[0] for row in rows))
-        found = raw_replies(output)
-        replies = iter(found)
-        return Stream((status, errors, len(found)), Dialogue(rows, lambda _: next(replies)))
+    def streams(self, open_store: Opener) -> Callable[[Session], Stream]:
+        @functools.cache
+        def stream(session: Session) -> Stream:
+            requests = b"".join(row.requests[0] for row in session.rows)
+            status, output, errors = run(["answer", *open_store(session)], requests)
+            found = raw_replies(output)
+            replies = iter(found)
+            return Stream((status, errors, len(found)), Dialogue(session.rows, lambda _: next(replies)))
 
-    @parametrize_sessions("stream", [*FILES, *GROUPS, *IN_MEMORY])
-    def test_stream_ends_well_with_a_reply_to_each_request(self, stream: Stream) -> None:
-        assert stream.ending == (0, "", len(stream.dialogue.exchanges))
+        return stream
 
-    @parametrize_rows("stream", [*FILES, *GROUPS, *IN_MEMORY])
-    def test_reply(self, stream: Stream, number: int) -> None:
-        assert not stream.dialogue.find_difference(number)
+    @parametrize_sessions([*FILES, *GROUPS, *IN_MEMORY])
+    def test_stream_ends_well_with_a_reply_to_each_request(
+        self, streams: Callable[[Session], Stream], session: Session
+    ) -> None:
+        assert streams(session).ending == (0, "", len(session.rows))
+
+    @parametrize_rows([*FILES, *GROUPS, *IN_MEMORY])
+    def test_reply(self, streams: Callable[[Session], Stream], session: Session, number: int) -> None:
+        assert not streams(session).dialogue.find_difference(number)
 
 
 class Served(NamedTuple):
@@ -164,19 +178,24 @@ class TestServe:
     """Each row is asked of `serve`, on a connection of its own."""
 
     @pytest.fixture(scope="class")
-    def served(self, request: pytest.FixtureRequest, open_store: Opener, module_serve: Callable[..., Server]) -> Served:
-        rows, (_, file) = request.param.rows, open_store(request.param)
-        server = module_serve(file, None, "--connections", str(len(rows)))
-        return Served(server, Dialogue(rows, lambda requests: exchanged(server.port, *requests)))
+    def served(self, open_store: Opener, module_serve: Callable[..., Server]) -> Callable[[Session], Served]:
+        @functools.cache
+        def serve(session: Session) -> Served:
+            _, file = open_store(session)
+            server = module_serve(file, None, "--connections", str(len(session.rows)))
+            return Served(server, Dialogue(session.rows, lambda requests: exchanged(server.port, b"".join(requests))))
 
-    @parametrize_rows("served", GROUPS)
-    def test_reply(self, served: Served, number: int) -> None:
-        assert not served.dialogue.find_difference(number)
+        return serve
 
-    @parametrize_sessions("served", GROUPS)
-    def test_server_ends_well_after_all_rows(self, served: Served) -> None:
-        served.dialogue.find_difference(len(served.dialogue.exchanges) - 1)
-        assert served.server.child.wait(60) == 0
+    @parametrize_rows(GROUPS)
+    def test_reply(self, served: Callable[[Session], Served], session: Session, number: int) -> None:
+        assert not served(session).dialogue.find_difference(number)
+
+    @parametrize_sessions(GROUPS)
+    def test_server_ends_well_after_all_rows(self, served: Callable[[Session], Served], session: Session) -> None:
+        server, dialogue = served(session)
+        dialogue.find_difference(len(session.rows) - 1)
+        assert server.child.wait(60) == 0
 
 
 # team-is-no-group and name-shared

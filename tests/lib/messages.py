@@ -1,6 +1,6 @@
 """Requests to goshelf and its replies, as bytes."""
 
-from collections.abc import Callable, Sequence
+from collections.abc import Callable, Iterable, Sequence
 from typing import NamedTuple
 
 from lib.keys import KEY
@@ -79,6 +79,14 @@ class Exchange(NamedTuple):
 
     def __str__(self) -> str:
         return self.name
+
+
+# an exchange as tables have it: its name, the requests, and the reply to each
+Row = tuple[str, list[bytes], list[bytes]]
+
+
+def read_exchanges(rows: Iterable[Row]) -> list[Exchange]:
+    return [Exchange(name, requests, b"".join(wanted)) for name, requests, wanted in rows]
 
 
 class Dialogue:

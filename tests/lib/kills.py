@@ -65,11 +65,3 @@ def is_kept(store: str, acknowledged: list[int], underway: list[int]) -> tuple[b
         if pairs[number] != whole[number] and [status for status, _ in pairs[number]] != [404, 404]:
             return False, f"version {number} is there in part"
     return any(pairs[number] == whole[number] for number in underway), None
-
-
-def seeded(words):
-    """Sets the seed that the words name, or a new one, prints it and returns it."""
-    seed = int(words[words.index("--seed") + 1]) if "--seed" in words else time.time_ns() % 10**9
-    random.seed(seed)
-    print(f"seed {seed}")
-    return seed

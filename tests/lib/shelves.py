@@ -79,13 +79,6 @@ class File:
         return answer(self.words, requests)
 
 
-def answer_rows(suite, store, rows):
-    """Adds a row for each name with its requests and the replies to them, in bytes. A row goes on from what those
-    before it published."""
-    for name, requests, wanted in rows:
-        suite.equal(f"{store.name} {name}", store.answer(requests), b"".join(wanted))
-
-
 def run_in_reads(words: Sequence[str], pieces: Iterable[bytes], timeout: float = 600) -> tuple[int, bytes, str]:
     """Runs goshelf as `run` does, on a standard input of which each read gives one piece. A piece is shorter than a
     read may be."""

@@ -194,7 +194,7 @@ def make_orders() -> Ordered:
     return Ordered(endings, lists, replies, (publish[0], publish[1]), held, inventories)
 
 
-@pytest.mark.parametrize("way", WAYS)
+@pytest.mark.parametrize("way", WAYS, ids=lambda way: f"by {way}")
 @pytest.mark.parametrize("number", range(len(ORDERS)), ids=ORDERS)
 def test_order_ends_alike_by_both_ways(ordered: Ordered, number: int, way: str) -> None:
     status, _, word = ORDERS[number].partition(" | ")[2].partition(" ")
@@ -237,7 +237,7 @@ class TestUnsayable:
         with Server("served.db", CONTROL):
             yield
 
-    @pytest.mark.parametrize("way", WAYS)
+    @pytest.mark.parametrize("way", WAYS, ids=lambda way: f"by {way}")
     @pytest.mark.parametrize(
         ("words", "word"), UNSAYABLE + BAD_GROUPS, ids=name_values(words for words, _ in UNSAYABLE + BAD_GROUPS)
     )

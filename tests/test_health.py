@@ -418,6 +418,17 @@ def test_ping_behind_a_publish_waits_for_its_answer(folder: str, serve: Callable
     assert [(health.counts, health.versions) for health in results] == [([1, 1, 0, 0, 0], 1)]
 
 
+def name_false(sent: bytes) -> str:
+    """Names a reply by what differs from LINE, or by its bytes if most of it does."""
+    start = len(os.path.commonprefix([sent, LINE]))
+    rest_of_both = min(len(sent), len(LINE)) - start
+    end = min(len(os.path.commonprefix([sent[::-1], LINE[::-1]])), rest_of_both)
+    if start + end < len(LINE) // 2:
+        return name_value(sent)
+    was, is_now = LINE[start : len(LINE) - end], sent[start : len(sent) - end]
+    return f"{name_value(was)} at {start} becomes {name_value(is_now)}"
+
+
 class TestFalseServers:
     """What the command prints of a server that lies: nothing but the lines of a health."""
 
@@ -431,7 +442,7 @@ class TestFalseServers:
     def test_health_is_printed(self, line: bytes) -> None:
         assert by_false_server(PING[:-1], line) == ((0, line, ""), b"ping\n")
 
-    @pytest.mark.parametrize("sent", FALSE, ids=name_value)
+    @pytest.mark.parametrize("sent", FALSE, ids=name_false)
     def test_reply_that_is_no_health(self, sent: bytes) -> None:
         assert by_false_server(PING[:-1], sent) == (refusal("io"), b"ping\n")
 

@@ -1,16 +1,23 @@
 """Names of the rows of tables, as pytest prints them."""
 
+import shlex
 from collections.abc import Iterable
 
+# characters of a value in a name
+MOST = 60
 
-def name_value(value: object, most: int = 60) -> str:
-    """Returns a readable name of words, text or bytes: long ones are cut, and their length follows."""
+
+def name_value(value: object) -> str:
+    """Returns a readable name of words, text or bytes. A long one is cut, and its length follows."""
     if isinstance(value, (list, tuple)):
-        return " ".join(name_value(word, most) for word in value) or "nothing"
-    text = repr(value).removeprefix("b")[1:-1] if isinstance(value, (bytes, str)) else str(value)
-    if len(text) > most and isinstance(value, (bytes, str)):
-        return f"{text[:most]}.. of {len(value)}"
-    return text or "nothing"
+        return " ".join(shlex.quote(cut(word)) for word in value)
+    return cut(value) or "nothing"
+
+
+def cut(value: object) -> str:
+    # (pytest escapes what is not ASCII)
+    text = value.decode("latin-1") if isinstance(value, bytes) else str(value)
+    return f"{text[:MOST]}.. of {len(text)}" if len(text) > MOST else text
 
 
 def name_values(values: Iterable[object]) -> list[str]:

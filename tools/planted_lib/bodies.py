@@ -19,6 +19,8 @@ class Body:
     functions: list[Function] = field(default_factory=list)
     # whether it changes anything but what stands between the braces of functions
     is_wide: bool = True
+    # the clause that refuses it by its file, or ''
+    clause: str = ""
     verdict: str = ""
     why: str = ""
 
@@ -72,7 +74,9 @@ def body_with(crate: Crate, name: str, texts: dict[str, str]) -> Body:
 def body_of(crate: Crate, edit: Edit) -> Body:
     """Returns the body of an edit, judged already if it cannot be applied."""
     try:
-        return body_with(crate, edit.name, texts_of(crate, edit))
+        body = body_with(crate, edit.name, texts_of(crate, edit))
+        body.clause = edit.clause
+        return body
     except Unusable as why:
         return Body(edit.name, verdict=NO_COUNT, why=f"BAD EDIT: {why}")
 

@@ -79,6 +79,13 @@ def kind_of(message: str) -> str:
     return CALLS if re.search(r"it calls|it passes|a call of", said) else ""
 
 
+def clause_of(message: str) -> str:
+    """Returns the clause of the goal that a message names: `ensures` for one without a name, or '' if it is none."""
+    goal = re.search(r"`(returns[\w-]*)`", message)
+    clause = re.search(r"-clause-(\w+)$", goal[1]) if goal else None
+    return clause[1] if clause else "ensures" if goal else ""
+
+
 def short(message: str) -> str:
     """Returns the beginning of a message in one line."""
     return re.sub(r"\s+", " ", message).removeprefix("note: ").removeprefix("./")[:240]

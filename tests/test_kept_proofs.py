@@ -158,7 +158,7 @@ class TestPack:
         "words",
         [[], ["nosuch"], ["--nosuch"], ["pack"], ["pack", ""], ["pack", "file", ""], ["unpack"], ["unpack", ""],
          ["unpack", "file", "more"], ["unpack", "file", "--nosuch"]],
-        ids=str,
+        ids=lambda words: " ".join(words) or "no words",
     )  # fmt: skip
     def test_bad_usage(self, words: list[str], rooms: Rooms) -> None:
         status, output, errors = rooms.kept(rooms.full, *words)
@@ -190,8 +190,9 @@ class TestPack:
     @pytest.mark.parametrize(
         ("crate", "why"),
         [("nosuch", "nosuch is no crate of crates.txt"), ("empty", "empty has no kept proofs: run rt check there")],
+        ids=["a crate that does not exist", "a crate without kept proofs"],
     )
-    def test_a_crate_without_kept_proofs_is_refused(self, crate: str, why: str, rooms: Rooms) -> None:
+    def test_a_crate_is_refused(self, crate: str, why: str, rooms: Rooms) -> None:
         self.check_refusal(rooms, rooms.full, why, crate)
 
     def test_a_repository_without_kept_proofs_is_refused(self, rooms: Rooms) -> None:

@@ -294,6 +294,7 @@ class TestHost:
     @pytest.mark.parametrize(
         ("path", "ref", "folder"),
         [("github.com/acme/tool", "v1.0.0", ""), ("github.com/acme/tool/sub", "sub/v0.1.0", "sub")],
+        ids=["at the top", "in a folder"],
     )
     def test_a_version_is_fetched_from_its_host(
         self, path: str, ref: str, folder: str, room: Room, server: Server, hosted: Repository

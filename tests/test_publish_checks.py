@@ -204,7 +204,9 @@ class TestSizes:
     @pytest.fixture(scope="class")
     def large(self, company: Company) -> Repository:
         large = Repository(company.room, "large")
-        large.commit({**module(LARGE), "data.bin": os.urandom(2 * MIB)}, "v1.0.0", "v1.1.0")
+        large.commit({**module(LARGE), "data.bin": os.urandom(2 * MIB)}, "v1.0.0")
+        # (more than the log of the store has room for in its blocks)
+        large.commit({"data.bin": os.urandom(12 * MIB)}, "v1.1.0")
         return large
 
     def test_a_body_that_nginx_does_not_take_is_refused(self, company: Company, large: Repository) -> None:

@@ -341,8 +341,8 @@ class TestChecks:
         assert room.publish(*words, LINES, version) == wanted
 
     def test_other_lines_are_taken(self, room: Room, lines: Repository, words: list[str]) -> None:
-        commit = lines.git("rev-parse", "v1.0.0").decode().strip()
-        wanted = 0, "checked " + lines.lines(LINES, "v1.0.0", commit), UNASKED
+        lines.git("checkout", "-q", "v1.0.0")
+        wanted = 0, "checked " + lines.lines(LINES, "v1.0.0", "v1.0.0"), UNASKED
         assert room.publish(*words, LINES, "v1.0.0") == wanted
 
     @pytest.mark.parametrize(
@@ -353,9 +353,9 @@ class TestChecks:
     def test_goshelf_accepts_a_version(
         self, path: str, version: str, room: Room, server: Server, lines: Repository, words: list[str], there: list[str]
     ) -> None:
-        commit = lines.git("rev-parse", version).decode().strip()
+        lines.git("checkout", "-q", version)
         note = f"publish: {server.url} accepts the go.mod and the key, and has no {path} {version} yet\n"
-        wanted = 0, "checked " + lines.lines(path, version, commit), note
+        wanted = 0, "checked " + lines.lines(path, version, version), note
         assert room.publish(*words, path, version, *there) == wanted
 
     def test_a_version_that_the_go_command_does_not_verify_is_refused(self, room: Room, words: list[str]) -> None:

@@ -6,7 +6,6 @@ those of a server in this file.
 
 import base64
 import contextlib
-import http.server
 import os
 import re
 import shutil
@@ -16,12 +15,12 @@ import subprocess
 import threading
 import time
 from collections.abc import Callable, Iterator
+from concurrent.futures import ThreadPoolExecutor
+from typing import NamedTuple
 
 import pytest
 
-from lib.keys import KEYS
 from lib.modules import escaped, h1, zipped
-from lib.peers import Quiet
 from lib.ports import free_port, wait_until
 from lib.publish_sentences import (
     ANOTHER_TIME,
@@ -29,6 +28,7 @@ from lib.publish_sentences import (
     ANSWERS_TO_CHECKS,
     ANSWERS_TO_USERS,
     BAD_LINE,
+    BUSY_ANSWERS,
     CLOSED,
     DEAF_PROXY,
     FORBIDDEN,
@@ -46,7 +46,7 @@ from lib.publish_sentences import (
     REFUSED_KEYS,
     SENTENCES,
 )
-from lib.publishing import Refusal, has_sentence, read_phrases, refused
+from lib.publishing import Answering, Refusal, has_sentence, read_phrases, refused
 from lib.repositories import KEY, PUBLISH, READER, TIME, Ran, Repository, Room, greet_of, module
 from lib.scratch import entered_folder, read, write
 from lib.servers import Server
@@ -158,51 +158,6 @@ class TestGoshelf:
         assert room.publish(*words, "example.com/bad", "v1.0.0") == refused(BAD_LINE)
 
 
-class Answering(http.server.ThreadingHTTPServer):
-    """A server that is not goshelf. It gives the `first` answers in order, and then `answer`. It notes what it is
-    asked, and the command lines of the processes below this one meanwhile."""
-
-    def __init__(self) -> None:
-        super().__init__(("127.0.0.1", 0), Handler)
-        self.url = f"http://127.0.0.1:{self.server_port}"
-        self.answer: tuple[int, bytes] = 200, b""
-        self.first: list[tuple[int, bytes]] = []
-        self.asked: list[tuple[str, str, str | None]] = []
-        self.commands: list[str] = []
-        threading.Thread(target=self.serve_forever, args=(0.02,), daemon=True).start()
-
-    def shown_keys(self) -> list[str]:
-        """Returns the command lines that have a key."""
-        return [command for command in self.commands if any(key in command for key in KEYS.values())]
-
-
-class Handler(Quiet):
-    """A connection to a server that is not goshelf."""
-
-    def do_GET(self) -> None:
-        self.rfile.read(int(self.headers.get("Content-Length") or 0))
-        self.server.asked.append((self.command, self.path, self.headers.get("Authorization")))
-        self.server.commands.extend(commands_below(os.getpid()))
-        status, body = self.server.first.pop(0) if self.server.first else self.server.answer
-        self.send_response(status)
-        self.send_header("Content-Length", str(len(body)))
-        self.end_headers()
-        self.wfile.write(body)
-
-    do_PUT = do_GET
-
-
-def commands_below(parent: int) -> list[str]:
-    """Returns the command lines of the processes below one."""
-    found = []
-    listed = subprocess.run(["ps", "-o", "pid=", "--ppid", str(parent)], capture_output=True, text=True).stdout
-    for child in map(int, listed.split()):
-        with contextlib.suppress(OSError):
-            found.append(read(f"/proc/{child}/cmdline").replace(b"\0", b" ").decode())
-            found += commands_below(child)
-    return found
-
-
 @pytest.fixture
 def answering() -> Iterator[Answering]:
     server = Answering()
@@ -244,28 +199,56 @@ class TestAnswers:
         assert errors.startswith("publish: " + NO_TLS.format(url=url))
 
 
+class Tries(NamedTuple):
+    """How a publish ended, what its server was asked, and after how many seconds."""
+
+    url: str
+    ran: Ran
+    asked: list[tuple[str, str, str | None]]
+    seconds: float
+
+
+# statuses before a server publishes, by how often it is asked again
+FIRST = {"once": [429], "twice": [502, 503], "four times": [504, 429, 502, 503]}
+
+
 class TestBusyServers:
     """A server that is busy is asked again, five times in all, and at most for half a minute."""
 
-    @pytest.mark.parametrize("first", [[429], [502, 503], [504, 429, 502, 503]], ids=str)
-    def test_a_busy_server_is_asked_again(
-        self, first: list[int], answering: Answering, publish: Callable[..., Ran]
-    ) -> None:
-        answering.first = [(status, b"unavailable\n") for status in first]
-        answering.answer = 201, b"published\n"
-        status, _, errors = publish("--to", answering.url)
-        assert (status, errors) == (0, "")
-        wanted = [("PUT", f"/k/{KEY}/example.com/greet/@v/v1.0.0", None)] * (len(first) + 1)
-        assert answering.asked == wanted
+    @pytest.fixture(scope="class")
+    def tries(self, room: Room, greet: Repository) -> dict[str, Tries]:
+        """Publishes to servers that are busy first, and to others that stay so, all at once."""
+        answers = {name: ([(status, b"") for status in first], (201, b"published\n")) for name, first in FIRST.items()}
+        answers.update({str(status): ([], (status, body.encode())) for status, body, _ in BUSY_ANSWERS})
+        with ThreadPoolExecutor(len(answers)) as pool:
+            running = {name: pool.submit(self.publish, room, greet, name, *row) for name, row in answers.items()}
+        return {name: run.result() for name, run in running.items()}
 
-    def test_a_server_that_stays_busy_is_asked_five_times(
-        self, answering: Answering, publish: Callable[..., Ran]
-    ) -> None:
-        answering.answer = 503, b"unavailable\n"
-        begun = time.monotonic()
-        assert publish("--to", answering.url)[:2] == (1, "")
-        assert len(answering.asked) == 5
-        assert time.monotonic() - begun < 40
+    @staticmethod
+    def publish(room: Room, greet: Repository, name: str, first: list, answer: tuple[int, bytes]) -> Tries:
+        """Publishes to a server that gives these answers, from a folder of its own."""
+        os.mkdir(f"{room.folder}/busy {name}")
+        own, server, begun = Room(f"{room.folder}/busy {name}"), Answering(), time.monotonic()
+        server.first, server.answer = first, answer
+        words = ["--to", server.url, "--key-file", f"{own.folder}/key", "--repository", greet.folder]
+        ran = own.publish(*words, "example.com/greet", "v1.0.0")
+        server.shutdown()
+        server.server_close()
+        return Tries(server.url, ran, server.asked, time.monotonic() - begun)
+
+    @pytest.mark.parametrize("name", FIRST)
+    def test_a_busy_server_is_asked_again(self, name: str, tries: dict[str, Tries]) -> None:
+        status, _, errors = tries[name].ran
+        assert (status, errors) == (0, "")
+        wanted = [("PUT", f"/k/{KEY}/example.com/greet/@v/v1.0.0", None)] * (len(FIRST[name]) + 1)
+        assert tries[name].asked == wanted
+
+    @pytest.mark.parametrize("row", BUSY_ANSWERS, ids=name_answer)
+    def test_a_server_that_stays_busy_is_asked_five_times(self, row: tuple, tries: dict[str, Tries]) -> None:
+        found = tries[str(row[0])]
+        assert found.ran == refused(row[2].format(url=found.url))
+        assert len(found.asked) == 5
+        assert found.seconds < 40
 
     def test_a_server_that_fails_is_asked_once(self, answering: Answering, publish: Callable[..., Ran]) -> None:
         answering.answer = 500, b""
@@ -442,7 +425,7 @@ class TestNames:
             found = publish("--to", url, https_proxy=url_of(listener))
         assert found == refused(FORBIDDEN.format(url=url))
 
-    @pytest.mark.parametrize("login", ["--key-file", "--netrc"])
+    @pytest.mark.parametrize("login", ["--key-file", "--netrc"], ids=["by a key", "by a login"])
     # (net/http takes LOCALHOST for another machine, and asks a proxy for it)
     @pytest.mark.parametrize(
         "host", ["shelf.example", "10.0.0.1:8080", "127.0.0.1.shelf.example", "localhost.shelf.example", "LOCALHOST"]

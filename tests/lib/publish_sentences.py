@@ -59,7 +59,6 @@ ANSWERS = [
     (409, "conflict\n",
      "example.com/greet v1.0.0 is there with another go.mod, zip or time, and {url} answers 409 to a GET of it: "
      "publish a new version"),
-    (429, "too many requests at once\n", "{url} gets too many requests at once: run this again in a minute"),
     (413, "", "{url} takes no body of SIZE bytes: raise client_max_body_size of the server in front"),
     (422, "major-mismatch\n",
      "v1.0.0 does not fit the path example.com/greet: version 2 and higher need a path that ends in /v2 and so on"),
@@ -70,11 +69,15 @@ ANSWERS = [
     (422, "incompatible-gomod\n",
      "v1.0.0 is +incompatible, which only a go.mod with a module line alone can be: "
      "name the module example.com/greet/v1"),
+    (507, "full\n", "the shelf has 4096 versions of example.com/greet and takes no more: go on under a new path"),
+]  # fmt: skip
+# what a server may answer that is busy, and is asked again
+BUSY_ANSWERS = [
+    (429, "too many requests at once\n", "{url} gets too many requests at once: run this again in a minute"),
     (502, "", "{url} answers 502: goshelf behind it is down or busy, so run this again in a minute, "
      "and if it stays, tell the operator"),
     (503, "unavailable\n",
      "the store met a fault and published nothing: run this again, and tell the operator if it stays"),
-    (507, "full\n", "the shelf has 4096 versions of example.com/greet and takes no more: go on under a new path"),
 ]  # fmt: skip
 # what a server may answer to a check
 ANSWERS_TO_CHECKS = [
@@ -120,7 +123,8 @@ FORBIDDEN = "{url} cannot be asked: Forbidden"
 NO_HOST = "no host has the name in https://nosuch.invalid: check the URL"
 IN_CLEAR = "http://{host} would show the key or the password to everybody on the way: give --to a URL with https://"
 SENTENCES = [
-    *(row.sentence for row in REFUSED_KEYS), *(row[-1] for row in ANSWERS), *(row[-1] for row in ANSWERS_TO_CHECKS),
+    *(row.sentence for row in REFUSED_KEYS), *(row[-1] for row in ANSWERS), *(row[-1] for row in BUSY_ANSWERS),
+    *(row[-1] for row in ANSWERS_TO_CHECKS),
     *(row[-1] for row in ANSWERS_TO_USERS), *(row[-1] for row in LOGINS), BAD_LINE, OTHER_BYTES, ANOTHER_TIME, NO_NETRC,
     NO_ANSWER, NO_ANSWER_TO_CHECK, NOBODY, f"{{url}} {CLOSED}", NO_TLS, NO_PROXY, DEAF_PROXY, FORBIDDEN, NO_HOST, IN_CLEAR,
 ]  # fmt: skip

@@ -16,7 +16,7 @@ from concurrent.futures import ThreadPoolExecutor
 
 import pytest
 
-from lib.behind_nginx import Front, Module
+from lib.behind_nginx import Front, Module, ask_as_stranger
 from lib.front import UNUSED, ZIP
 from lib.peers import rest_of
 from lib.scratch import opened
@@ -88,19 +88,19 @@ BAD_LOGINS: dict[str, Callable[[str], str | None]] = {
 @pytest.mark.parametrize("name", BAD_LOGINS)
 def test_a_bad_login_gets_a_401_in_plain_text(lib: Module, name: str) -> None:
     header = BAD_LOGINS[name](lib.front.login("ann").split()[1])
-    status, body = lib.front.ask_as_stranger("GET", f"{lib.at}/list", header)
+    status, body = ask_as_stranger(lib.front, "GET", f"{lib.at}/list", header)
     assert status == 401
     assert body.startswith(b"log in: ")
 
 
 def test_a_stranger_may_not_publish(lib: Module) -> None:
     headers = {"Mod-Length": str(len(lib.gomod))}
-    assert lib.front.ask_as_stranger("PUT", f"{lib.at}/v8.0.0", None, lib.gomod, headers)[0] == 401
+    assert ask_as_stranger(lib.front, "PUT", f"{lib.at}/v8.0.0", None, lib.gomod, headers)[0] == 401
 
 
 def test_a_key_in_the_url_is_no_login(lib: Module) -> None:
     target = f"/k/{lib.front.passwords['ann']}{lib.at}/list"
-    assert lib.front.ask_as_stranger("GET", target)[0] == 404
+    assert ask_as_stranger(lib.front, "GET", target)[0] == 404
     # nor is it with a login
     assert lib.front.get(target)[0] == 404
 
@@ -218,7 +218,7 @@ def test_a_list_is_not_kept(module: Module) -> None:
 
 
 def test_goshelf_is_alive(front: Front) -> None:
-    assert front.ask_as_stranger("GET", "/healthz") == (200, b"ok\n")
+    assert ask_as_stranger(front, "GET", "/healthz") == (200, b"ok\n")
 
 
 @pytest.fixture(scope="module")
@@ -231,8 +231,8 @@ def while_stopped(lib: Module) -> dict[str, tuple[int, bytes]]:
         return {
             **{user: lib.get("v1.0.0.zip", user) for user in (*READERS, "bob")},
             "a list": lib.get("list"),
-            "health": front.ask_as_stranger("GET", "/healthz"),
-            "a stranger": front.ask_as_stranger("GET", f"{lib.at}/v1.0.0.zip"),
+            "health": ask_as_stranger(front, "GET", "/healthz"),
+            "a stranger": ask_as_stranger(front, "GET", f"{lib.at}/v1.0.0.zip"),
         }
     finally:
         front.machine.does("systemctl start goshelf")

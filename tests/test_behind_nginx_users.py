@@ -15,7 +15,7 @@ from typing import NamedTuple
 
 import pytest
 
-from lib.behind_nginx import Front, Module, Reply
+from lib.behind_nginx import Front, Module, Reply, ask_as_stranger
 from lib.front import ZIP, Client, fingerprint, start, users_of
 from lib.keys import KEY
 from lib.machine import Machine
@@ -193,7 +193,7 @@ def test_a_key_is_worth_nothing_after_its_last_day(rotated: Rotated, front: Fron
 
 
 def test_strangers_who_ask_too_often_get_a_429_and_users_do_not(front: Front, lib: Module) -> None:
-    first = front.ask_as_stranger("GET", "/")
+    first = ask_as_stranger(front, "GET", "/")
     with ThreadPoolExecutor(30) as pool:
         replies = [first, *pool.map(lambda _: front.ask("GET", "/", None), range(90))]
     assert {status for status, _ in replies} == {401, 429}
@@ -218,7 +218,7 @@ def test_a_user_has_200_requests_at_a_time(front: Front, lib: Module) -> None:
 @pytest.fixture(scope="module")
 def log(front: Front, lib: Module) -> str:
     """nginx's log of requests, among which are some of a stranger, some of the cache, and some that failed."""
-    front.ask_as_stranger("GET", f"{lib.at}/list")
+    ask_as_stranger(front, "GET", f"{lib.at}/list")
     assert lib.get("v1.0.0.zip") == (200, ZIP)
     wait_until(lambda: front.ask("GET", "/", None) == TOO_MANY)
     front.machine.does("systemctl stop goshelf")

@@ -22,16 +22,17 @@ class Front(Client):
             for user in USERS:
                 self.add(*user)
 
-    def ask_as_stranger(self, method: str, target: str, header: str | None = None, *more: object) -> Reply:
-        """Returns the reply to a stranger, who asks again after a 429: nginx lets strangers ask five times a second."""
-        replies: list[Reply] = []
 
-        def is_answered() -> bool:
-            replies.append(self.ask(method, target, header, *more))
-            return replies[-1][0] != 429
+def ask_as_stranger(front: Client, method: str, target: str, header: str | None = None, *more: object) -> Reply:
+    """Returns the reply to a stranger, who asks again after a 429: nginx lets strangers ask five times a second."""
+    replies: list[Reply] = []
 
-        wait_until(is_answered)
-        return replies[-1]
+    def is_answered() -> bool:
+        replies.append(front.ask(method, target, header, *more))
+        return replies[-1][0] != 429
+
+    wait_until(is_answered)
+    return replies[-1]
 
 
 class Module:

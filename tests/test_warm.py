@@ -164,7 +164,8 @@ class Old(NamedTuple):
 
 @pytest.fixture
 def old(company: Warm) -> Old:
-    copied = company.copy()
+    company.copy()
+    copied = company.files()
     assert publishes(company, next(LATER)) == {CREATED}
     return Old(copied, company.answers(), store_of(company.warm))
 
@@ -185,9 +186,11 @@ def test_the_first_goshelf_is_stopped(company: Warm, old: Old) -> None:
         # also one whose name ends like a file's
         assert company.put("pub", "example.com/lib", "v1.2.0-rc.zip")[0] == 502
         company.first.stop_nginx()
-        assert company.alone(old.wanted, old.copied) == []
-        assert company.statuses(None, "/healthz") == [0, 200]
-        company.first.start_nginx()
+        try:
+            assert company.alone(old.wanted, old.copied) == []
+            assert company.statuses(None, "/healthz") == [0, 200]
+        finally:
+            company.first.start_nginx()
     finally:
         company.first.does("systemctl start goshelf")
     company.back()

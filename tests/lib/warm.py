@@ -159,10 +159,13 @@ class Warm(Company):
     def targets(self) -> list[str]:
         return [*super().targets(), *ELSEWHERE]
 
-    def copy(self) -> set[Asking]:
-        """Makes a copy and serves it, without a word. Returns the requests of files that it has a 200 for."""
+    def copy(self) -> None:
+        """Makes a copy and serves it, without a word."""
         ran = self.warm.sh("goshelf-warm store")
         assert ran == (0, "", ""), ran
+
+    def files(self) -> set[Asking]:
+        """Returns the requests of files that the store has."""
         return {asking for asking, answer in self.answers().items() if is_file(asking, answer)}
 
     def maps(self, command: str = "goshelf-warm front") -> None:

@@ -205,13 +205,16 @@ class TestSecondRuns:
 
 
 class Sum(NamedTuple):
-    """What the gate and pytest print last, each with its exit status, and the last line that is to come."""
+    """What the gate and pytest print last, each with its exit status, the last line that is to come, and what pytest
+    prints where what failed runs once more."""
 
     gate: str
     gate_status: int
     tests: str
     tests_status: int
     wanted: str
+    again: str = ""
+    again_status: int = 1
 
 
 ALL_PASSED = "==== 12 passed in 3.21s ===="
@@ -231,8 +234,33 @@ SUMS = {
         "==== 3 failed, 12 passed, 2 skipped, 1 error in 3.21s (0:00:03) ====",
         1,
         "95 passed, 4 failed, 2 skipped",
+        "==== 3 failed, 14 deselected, 1 error in 1.21s ====",
     ),
-    "errors alone": Sum("83 passed, 0 failed", 0, "== 12 passed, 2 errors in 3.21s ==", 1, "95 passed, 2 failed"),
+    "errors alone": Sum(
+        "83 passed, 0 failed",
+        0,
+        "== 12 passed, 2 errors in 3.21s ==",
+        1,
+        "95 passed, 2 failed",
+        "== 12 deselected, 2 errors in 1.21s ==",
+    ),
+    "what failed passes alone": Sum(
+        "83 passed, 0 failed",
+        0,
+        "== 1 failed, 10 passed, 3 skipped, 1 error in 3.21s ==",
+        1,
+        "95 passed, 0 failed, 3 skipped",
+        "== 2 passed, 13 deselected in 1.21s ==",
+        0,
+    ),
+    "some of it passes alone": Sum(
+        "83 passed, 0 failed",
+        0,
+        "== 2 failed, 10 passed in 3.21s ==",
+        1,
+        "94 passed, 1 failed",
+        "== 1 failed, 1 passed, 10 deselected in 1.21s ==",
+    ),
     "words that do not count": Sum(
         "83 passed, 0 failed",
         0,
@@ -242,7 +270,14 @@ SUMS = {
     ),
     "one warning": Sum("83 passed, 0 failed", 0, "== 12 passed, 1 warning in 3.21s ==", 0, "95 passed, 0 failed"),
     "a gate that fails": Sum("82 passed, 1 failed", 1, ALL_PASSED, 0, "94 passed, 1 failed"),
-    "both fail": Sum("82 passed, 1 failed", 1, "== 1 failed, 12 passed in 3.21s ==", 1, "94 passed, 2 failed"),
+    "both fail": Sum(
+        "82 passed, 1 failed",
+        1,
+        "== 1 failed, 12 passed in 3.21s ==",
+        1,
+        "94 passed, 2 failed",
+        "== 1 failed, 12 deselected in 1.21s ==",
+    ),
     "a gate that fails with nothing failed": Sum("83 passed, 0 failed", 1, ALL_PASSED, 0, "95 passed, 1 failed"),
     "a gate without a closing line": Sum("== world", 0, ALL_PASSED, 0, "12 passed, 1 failed"),
     "a gate that was killed": Sum("== world", 137, ALL_PASSED, 0, "12 passed, 1 failed"),
@@ -270,10 +305,10 @@ def run_all(gate: str, tests: str) -> tuple[int, list[str]]:
 
 
 def print_and_end(text: str, status: int) -> str:
-    """Returns a program that prints a text and ends with a status."""
+    """Returns lines of a program that prints a text and ends with a status."""
     write({f"printed-{status}-{len(text)}": text + "\n" if text else ""})
     end = 'kill -9 "$$"' if status == 137 else f"exit {status}"
-    return f"#!/bin/sh\ncat printed-{status}-{len(text)}\n{end}\n"
+    return f"cat printed-{status}-{len(text)}\n{end}\n"
 
 
 class TestSum:
@@ -282,13 +317,18 @@ class TestSum:
     @pytest.mark.parametrize("name", SUMS)
     def test_of(self, folder: str, name: str) -> None:
         row = SUMS[name]
-        programs = print_and_end(row.gate, row.gate_status), print_and_end(row.tests, row.tests_status)
-        status, lines = run_all(*programs)
+        again = print_and_end(row.again, row.again_status)
+        tests = print_and_end(row.tests, row.tests_status)
+        gate = f"#!/bin/sh\n{print_and_end(row.gate, row.gate_status)}"
+        status, lines = run_all(gate, f'#!/bin/sh\ncase "$*" in *--last-failed*)\n{again};;\nesac\n{tests}')
         assert lines[-1] == row.wanted
         assert status == (0 if " 0 failed" in row.wanted else 1)
 
     def test_root_has_missing_packages_installed(self, folder: str) -> None:
-        noted = run_all(print_and_end(PASSED.splitlines()[1], 0), f'#!/bin/sh\necho "words: $*"\necho {ALL_PASSED}\n')
+        noted = run_all(
+            "#!/bin/sh\n" + print_and_end(PASSED.splitlines()[1], 0),
+            f'#!/bin/sh\necho "words: $*"\necho {ALL_PASSED}\n',
+        )
         assert f"words: {'--install' if os.geteuid() == 0 else ''}" in noted[1]
 
     # tests in a file, words of pytest, and the line that is to come
@@ -309,7 +349,7 @@ class TestSum:
     def test_of_what_pytest_prints(self, folder: str, name: str) -> None:
         text, words, wanted = self.FILES[name]
         write({"test_own.py": text, "pytest.ini": "[pytest]\n"})
-        tests = f"#!/bin/sh\nexec {sys.executable} -m pytest -p no:cacheprovider {words} test_own.py\n"
-        status, lines = run_all(print_and_end("1 passed, 0 failed", 0), tests)
+        tests = f'#!/bin/sh\n[ "$1" != --install ] || shift\nexec {sys.executable} -m pytest {words} test_own.py "$@"\n'
+        status, lines = run_all("#!/bin/sh\n" + print_and_end("1 passed, 0 failed", 0), tests)
         assert lines[-1] == wanted
         assert status == (0 if " 0 failed" in wanted else 1)

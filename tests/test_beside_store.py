@@ -261,30 +261,41 @@ def find_loss(machine: Machine, old: list[bytes | None]) -> str:
     return ""
 
 
+def restore_until(machine: Machine, number: int) -> tuple[int, list[bytes | None]]:
+    """Runs goshelf-restore, which is killed before the change of a number, and returns its status and the old store."""
+    renew(machine, 0)
+    machine.write("root/calls", f"{number}\n")
+    machine.does("systemctl stop goshelf")
+    old = read_pair(machine)
+    machine.does("systemctl start goshelf")
+    machine.write("root/when", f"kill {' '.join(CHANGES)}\n")
+    status = machine.sh("goshelf-restore --yes last")[0]
+    machine.write("root/when", "none\n")
+    return status, old
+
+
 class TestKills:
     """goshelf-restore is killed before each change: the old store is somewhere whole, and the next run ends well."""
 
-    MOST = 60
+    # how many tests share the kills, so that each takes little
+    PARTS = 6
 
-    def restore_until(self, machine: Machine, number: int) -> tuple[int, list[bytes | None]]:
-        """Runs goshelf-restore, kills it at the change of a number, and returns its status and the old store."""
-        renew(machine, 0)
-        machine.write("root/calls", f"{number}\n")
-        machine.does("systemctl stop goshelf")
-        old = read_pair(machine)
-        machine.does("systemctl start goshelf")
-        machine.write("root/when", f"kill {' '.join(CHANGES)}\n")
-        status = machine.sh("goshelf-restore --yes last")[0]
-        machine.write("root/when", "none\n")
-        return status, old
+    @pytest.fixture(scope="class")
+    def changes(self, machine: Machine) -> int:
+        """How many changes goshelf-restore makes."""
+        status, _ = restore_until(machine, 1_000)
+        assert status == 0
+        return 1_000 - int(machine.read("root/calls"))
 
-    def test_no_kill_loses_a_store(self, machine: Machine) -> None:
-        number, status = 0, -9
-        while status != 0 and number < self.MOST:
-            number += 1
-            status, old = self.restore_until(machine, number)
+    def test_it_makes_many_changes(self, changes: int) -> None:
+        assert 10 < changes < 60
+
+    @pytest.mark.parametrize("first", range(1, PARTS + 1))
+    def test_no_kill_loses_a_store(self, machine: Machine, changes: int, first: int) -> None:
+        for number in range(first, changes + 1, self.PARTS):
+            status, old = restore_until(machine, number)
+            assert status != 0 or number > 10, f"change {number} was not killed"
             assert find_loss(machine, old) == "", f"kill {number}"
             ended = machine.sh("goshelf-restore --yes last")
             assert ended[0] == 0, f"the run after kill {number}: {ended}"
             assert find_loss(machine, old) == "", f"the run after kill {number}"
-        assert 10 < number < self.MOST

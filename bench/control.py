@@ -9,7 +9,7 @@ bench/RESULTS.md, of six parts, or of those that --only names:
             connection of its own, and the server's processor time of one, which other processes on the machine hardly
             change
   orders    how long orders take while eight clients ask on and on: keys that are added and revoked, each on the disk
-            before it is told
+            before it is reported
   revoke    on a store of a million versions, made by sqlite3: how long a key's revocation takes while eight clients
             ask with it, and how many requests that began after `done` were answered 200, of which there may be none
   pings     on a store of 100,000 versions: the server's processor time of the first ping, which counts them, and of

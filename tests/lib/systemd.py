@@ -5,8 +5,9 @@ import os
 import shutil
 import subprocess
 import tempfile
-import time
 from collections.abc import Iterator
+
+from lib.ports import wait_until
 
 # the settings of a command on the copy
 SETTINGS = [
@@ -65,16 +66,19 @@ class Copy:
 
     def starts(self) -> str | None:
         """Waits until systemd runs. Returns None then, and otherwise why it does not."""
-        for _ in range(600):
-            if self.child.poll() is not None:
-                self.log.seek(0)
-                return self.log.read().decode(errors="replace").strip()[-300:] or "it ended"
+        with contextlib.suppress(AssertionError):
+            wait_until(lambda: self.is_running() or self.child.poll() is not None, 60)
+        if self.child.poll() is not None:
+            self.log.seek(0)
+            return self.log.read().decode(errors="replace").strip()[-300:] or "it ended"
+        return None if self.is_running() else "systemd did not come up in a minute"
+
+    def is_running(self) -> bool:
+        """Whether its systemd has started all that it starts."""
+        with contextlib.suppress(FileNotFoundError, ProcessLookupError):
             with open(f"/proc/{self.child.pid}/task/{self.child.pid}/children", encoding="ascii") as file:
                 self.first = file.read().strip()
-            if self.first and self.sh("systemctl is-system-running")[1] in ("running\n", "degraded\n"):
-                return None
-            time.sleep(0.1)
-        return "systemd did not come up in a minute"
+        return bool(self.first) and self.sh("systemctl is-system-running")[1] in ("running\n", "degraded\n")
 
     def sh(self, script: str, **settings: str) -> tuple[int, str, str]:
         """Runs a script on the copy, as root. Returns its exit status, and what it prints on standard output and on
@@ -104,15 +108,15 @@ class Copy:
         self.child.kill()
         self.child.wait()
         self.log.close()
-        for _ in range(100):
-            left = [at for at, _, _ in os.walk(self.group, topdown=False)]
-            if not left:
-                return
-            for at in left:
-                try:
-                    os.rmdir(at)
-                except OSError:
-                    time.sleep(0.05)
+        with contextlib.suppress(AssertionError):
+            wait_until(self.removes_group, 10)
+
+    def removes_group(self) -> bool:
+        """Removes the control groups in which nothing runs any more, and returns whether all are gone."""
+        for folder, _, _ in os.walk(self.group, topdown=False):
+            with contextlib.suppress(OSError):
+                os.rmdir(folder)
+        return not os.path.exists(self.group)
 
 
 @contextlib.contextmanager

@@ -133,20 +133,25 @@ class TestFullDisks:
         assert len(disks) > 3
 
     def test_old_store_is_as_it_was(self, disks: list[OnDisk]) -> None:
-        assert [disk.pages for disk in disks if not disk.is_old_unchanged] == []
+        for disk in disks:
+            assert disk.is_old_unchanged, f"a disk of {disk.pages} pages"
 
     def test_full_disk_is_refused(self, disks: list[OnDisk]) -> None:
-        assert {disk.pages: disk.ending for disk in disks[:-1] if disk.ending != refusal("device")} == {}
+        for disk in disks[:-1]:
+            assert disk.ending == refusal("device"), f"a disk of {disk.pages} pages"
 
     def test_no_copy_of_the_old_store_is_left(self, disks: list[OnDisk]) -> None:
-        assert {disk.pages: disk.others for disk in disks if disk.others} == {}
+        for disk in disks:
+            assert disk.others == (), f"a disk of {disk.pages} pages"
 
     def test_what_is_left_has_common_alone(self, disks: list[OnDisk]) -> None:
-        assert [disk.pages for disk in disks if not disk.is_common_alone] == []
+        for disk in disks:
+            assert disk.is_common_alone, f"a disk of {disk.pages} pages"
 
     def test_what_is_left_is_taken_with_more_room(self, disks: list[OnDisk]) -> None:
-        assert {disk.pages: disk.ending_with_room for disk in disks if disk.ending_with_room != DONE} == {}
-        assert {disk.pages: disk.versions for disk in disks if disk.versions != ON_DISKS} == {}
+        for disk in disks:
+            assert disk.ending_with_room == DONE, f"a disk of {disk.pages} pages"
+            assert disk.versions == ON_DISKS, f"a disk of {disk.pages} pages"
 
     def test_disk_with_room_has_all(self, disks: list[OnDisk]) -> None:
         status, written, errors = run(["answer", "--db", "done/new.db"], requests_for(ON_DISKS))

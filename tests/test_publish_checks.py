@@ -211,6 +211,7 @@ class TestSizes:
 
     def test_a_body_that_nginx_does_not_take_is_refused(self, company: Company, large: Repository) -> None:
         words, conf = ["--repository", large.folder, LARGE, "v1.0.0"], "etc/nginx/goshelf/locations.conf"
+        large.git("checkout", "-q", "v1.0.0")
         company.machine.edit(conf, ("client_max_body_size 18m;", "client_max_body_size 1m;"))
         company.machine.does("systemctl restart nginx")
         try:
@@ -232,6 +233,7 @@ class TestSizes:
         if not company.is_small:
             pytest.skip("no tmpfs can be mounted here")
         words = ["--repository", large.folder, LARGE, "v1.1.0"]
+        large.git("checkout", "-q", "v1.1.0")
         fill(f"{company.disk}/rest")
         company.check_acceptance(large, LARGE, "v1.1.0")
         found = company.publish(*words)

@@ -124,9 +124,9 @@ def send(company: Company, *words: str) -> str:
     return company.tool("send", *words)[1][-1]
 
 
-def status(company: Company, shelf: str, target: str, **how: dict) -> int:
+def status(company: Company, shelf: str, target: str, headers: dict[str, str] | None = None) -> int:
     """Returns the status that nginx answers to the user of a shelf."""
-    return company.ask("GET", shelf, target, **how)[0]
+    return company.ask("GET", shelf, target, headers=headers)[0]
 
 
 @pytest.mark.parametrize("version", RELEASES)

@@ -43,7 +43,6 @@ team delta
 CONF, FRONT = "etc/nginx/conf.d/goshelf.conf", "etc/nginx/goshelf/goshelf.json"
 # folders that nginx's files name
 FOLDERS = ("etc/nginx/goshelf", "var/cache/nginx/goshelf", "var/cache/nginx/goshelf-public", "var/log/goshelf")
-FILES = ("goshelf.js", "locations.conf", "errors.conf", "page.conf", "public.conf")
 # where the stores are that those of each company are copies of
 _STORES = tempfile.TemporaryDirectory(prefix="goshelf-")
 
@@ -179,8 +178,7 @@ class Company:
         os.chmod(f"{machine.folder}/var/cache/nginx/goshelf", 0o777)
         write_keys(self.keys, SHELVES)
         machine.write(FRONT, front(SHELVES))
-        names = " ".join(f"deploy/nginx/{name}" for name in FILES)
-        machine.does(f"install -m 0644 {names} /etc/nginx/goshelf/")
+        machine.does("install -m 0644 deploy/nginx/*.js deploy/nginx/*.conf /etc/nginx/goshelf/")
         machine.does(f"{TOOL} conf {self.file} < deploy/nginx/goshelf.conf > /{CONF}")
         machine.does("nginx")
         wait_for(machine.front)

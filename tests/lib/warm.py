@@ -169,7 +169,7 @@ class Warm(Company):
         return {asking for asking, answer in self.answers().items() if is_file(asking, answer)}
 
     def maps(self, command: str = "goshelf-warm front") -> None:
-        """Fetches the files of the first host's front, and has nginx take them."""
+        """Fetches the files of the first host's front, which have changed, and has nginx take them."""
         before = self.warm.workers()
         ran = self.warm.sh(command)
         assert ran == (0, "", ""), ran

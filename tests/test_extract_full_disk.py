@@ -25,12 +25,14 @@ VERSIONS = 12
 PAGE = 4_096
 # disks whose sizes are in as many parts of what an extract needs, and some that are larger
 DISKS, LARGER = 20, 4
+Replies = list[tuple[int, bytes]]
 
 
-def fetch_all(file: str, key: str) -> list[tuple[int, bytes]]:
-    """Returns what a store answers a key for the files of each version of both teams."""
-    numbers = (*range(VERSIONS), *range(100, 100 + VERSIONS))
-    return answered(["--db", file], [fetch(number, kind, key) for number in numbers for kind in ("mod", "zip")])
+def fetch_all(file: str) -> tuple[Replies, Replies]:
+    """Returns what a store answers alpha, and what beta, for the files of each version of both teams."""
+    asked = [(number, kind) for number in (*range(VERSIONS), *range(100, 100 + VERSIONS)) for kind in ("mod", "zip")]
+    replies = answered(["--db", file], [fetch(*file_of, key) for key in (KEY, OTHER_KEY) for file_of in asked])
+    return replies[: len(asked)], replies[len(asked) :]
 
 
 def read_store(file: str) -> tuple[bytes, bytes]:
@@ -42,8 +44,7 @@ def extract(file: str, to: str) -> tuple[int, bytes, str]:
 
 
 class Whole:
-    """A store of two teams, each with versions of its own: its files, its replies to alpha, and the pages of alpha's
-    part."""
+    """A store of two teams, each with versions of its own: its files, its replies, and the pages of alpha's part."""
 
     def __init__(self, folder: str) -> None:
         self.file, part = os.path.join(folder, "whole.db"), os.path.join(folder, "part.db")
@@ -52,7 +53,7 @@ class Whole:
             replies = answered(["--db", self.file], [publish(first + number, key) for number in range(VERSIONS)])
             assert [status for status, _ in replies] == [201] * VERSIONS
         # a first opening may still change the files
-        self.replies = fetch_all(self.file, KEY)
+        self.replies = fetch_all(self.file)
         self.files = read_store(self.file)
         assert extract(self.file, part) == (0, b"", "")
         self.pages = sum(map(len, read_store(part))) // PAGE
@@ -82,7 +83,7 @@ class TestFullDisk:
         subprocess.run(["umount", "-q", at])
 
     def mount(self, at: str, pages: int) -> str:
-        """Mounts a disk of so many pages, and returns the name of a part there."""
+        """Mounts a disk of this many pages, and returns the name of a part there."""
         if not mounted(at, pages * PAGE):
             pytest.skip("no tmpfs can be mounted")
         return os.path.join(at, "part.db")
@@ -92,9 +93,10 @@ class TestFullDisk:
         subprocess.run(["mount", "-o", "remount,size=64m", os.path.dirname(part)], check=True)
         assert extract(whole.file, part) == (0, b"", "")
         assert read_store(whole.file) == whole.files
-        assert fetch_all(whole.file, KEY) == whole.replies
-        assert fetch_all(part, KEY) == whole.replies
-        assert {status for status, _ in fetch_all(part, OTHER_KEY)} == {404}
+        assert fetch_all(whole.file) == whole.replies
+        for_alpha, for_beta = fetch_all(part)
+        assert for_alpha == whole.replies[0]
+        assert {status for status, _ in for_beta} == {404}
 
     @pytest.mark.parametrize("disk", range(DISKS), ids=lambda disk: f"{disk} of {DISKS} parts")
     def test_a_disk_too_small_is_full(self, whole: Whole, small: str, disk: int) -> None:
@@ -115,4 +117,4 @@ class TestFullDisk:
     def test_a_disk_of_three_times_the_size_has_room(self, whole: Whole, small: str) -> None:
         part = self.mount(small, 3 * whole.pages)
         assert extract(whole.file, part) == (0, b"", "")
-        assert fetch_all(part, KEY) == whole.replies
+        assert fetch_all(part)[0] == whole.replies[0]

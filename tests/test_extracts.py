@@ -1,10 +1,10 @@
 """A team's part answers that team as the whole does, and extracts are refused in order.
 
 Another team's versions change no answer. The store is that of the worked rows, with versions of beta's own before those
-of the others. Each version of it, and one that it lacks, is asked for in every way, by each key, of two stores: of the
-whole and of alpha's part, and of two stores of which one has 100 versions of beta more. So it is of gamma, a team of
-the group platform, whose part has the group too, of the group's other team, delta, and of the part of both. The bytes
-of the replies are compared. A table holds runs, as lib/runs.py reads them.
+of the others. Two stores are asked for each version, and for one that they lack, in every way and by each key: the
+whole and alpha's part; two stores, one with 100 more versions of beta; the whole and the parts of gamma and delta,
+teams of the group platform, which have the group too. The bytes of the replies are compared. A table holds runs, as
+lib/runs.py reads them.
 """
 
 import functools
@@ -186,7 +186,7 @@ OTHER_RUNS = read_runs(OTHERS)
 
 
 class TestAnotherTeam:
-    """Two stores, of which one has 100 versions of beta more."""
+    """Two stores, one with 100 more versions of beta."""
 
     @pytest.fixture(scope="class")
     def story(self, class_folder: str) -> Story:
@@ -313,7 +313,7 @@ GROUP_OTHER_RUNS = read_runs(GROUP_OTHERS)
 
 
 class TestAnotherTeamOfTheGroup:
-    """Two stores, of which one has 100 versions of delta more."""
+    """Two stores, one with 100 more versions of delta."""
 
     @pytest.fixture(scope="class")
     def story(self, class_folder: str) -> Story:

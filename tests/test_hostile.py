@@ -1,7 +1,7 @@
 """What hostile callers send, and the bytes that answer them: over shelves in memory and over a file.
 
 A publish that is cut at each byte; heads and lengths at their limits and beyond; what each key may do on each of eight
-shelves, of which one is a group, and what it sees; zips that end where a piece ends; 100,000 messages, each in a read
+shelves, one of them a group, and what it sees; zips that end where a piece ends; 100,000 messages, each in a read
 of its own. Memory has one team with one key, so rows of other keys run over the file alone. The suite of the largest
 sizes has the largest files and full shelves.
 """
@@ -59,7 +59,7 @@ def head_of_size(size: int) -> list[bytes]:
 
 
 MOD = "Mod-Length: 23"
-# a 400 or 413 of a front ends the stream: its own publish and what stands behind it are not read
+# a 400 or 413 of a front ends the stream: its own publish and what follows are not read
 FRONTS: list[Row] = [
     ("a length with a plus", front(MOD, "Content-Length: +23"), [BAD]),
     ("a length with a leading zero", front(MOD, "Content-Length: 023"), [BAD]),
@@ -80,7 +80,7 @@ FRONTS: list[Row] = [
     ("a head of 16,385 bytes", head_of_size(16_385), [BAD]),
     ("64 headers", head_of(*["a: b"] * 64), [NOT_FOUND, NOT_FOUND]),
     ("65 headers", head_of(*["a: b"] * 65), [BAD]),
-    ("after all these nothing stands", SEEN, [NOTHING]),
+    ("all these publish nothing", SEEN, [NOTHING]),
     (
         "and the right publish is taken",
         front(MOD, "Content-Length: 23")[:1] + [get("-/modules")],
@@ -181,7 +181,7 @@ def rights(shelf: str, key: str, reader: str) -> list[Row]:
         ("publishes a pre-release", [own("v1.1.0-rc.1", key, b"T", time)], [PUBLISHED]),
         ("publishes a pseudo-version", [own("v0.0.0-20240101000000-aaaaaaaaaaaa", key)], [PUBLISHED]),
         ("publishes an incompatible version", [own("v3.0.0+incompatible", key)], [PUBLISHED]),
-        ("the reader publishes nothing that stands", [own("v1.0.0", reader, zip_bytes)], [FORBIDDEN]),
+        ("the reader publishes no version again", [own("v1.0.0", reader, zip_bytes)], [FORBIDDEN]),
         by_both("sees the go.mod", f"{OWN}/@v/v1.0.0.mod", keys, reply(200, OWN_GOMOD)),
         by_both("sees the zip", f"{OWN}/@v/v1.0.0.zip", keys, zipped(zip_bytes)),
         by_both("sees the info", f"{OWN}/@v/v1.0.0.info", keys, info("v1.0.0")),
@@ -253,9 +253,9 @@ AFTER: list[Row] = [
 
 CUTS: list[Row] = [
     *[(f"a publish of 121 bytes, cut at {end}", [PUT[:end]], [BAD]) for end in range(1, 121)],
-    ("after all these nothing is in the store", SEEN, [NOTHING]),
+    ("all these publish nothing", SEEN, [NOTHING]),
 ]
-over_both = pytest.mark.parametrize("store", ["--mem", "--db"], indirect=True)
+over_both = pytest.mark.parametrize("store", ["--mem", "--db"], ids=["memory", "a file"], indirect=True)
 
 
 @pytest.fixture(scope="class")

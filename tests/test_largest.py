@@ -68,7 +68,7 @@ def list_too_large(zip_size: int) -> list[Row]:
             [put(path, "v1.0.0", gomod, make_zip(zip_size + 1)), modules],
             [TOO_LARGE],
         ),
-        ("after all these nothing stands", [modules, mod], [NO_MODULE, NOT_FOUND]),
+        ("all these publish nothing", [modules, mod], [NO_MODULE, NOT_FOUND]),
     ]
 
 
@@ -151,7 +151,7 @@ LONG: list[Row] = [
     ),
     make_bad_row("80,000 nested blocks", b"require (\n" * 80_000, 3),
     make_bad_row("a quotation of 1,000,000 bytes that stays open", b'"' + b"a" * 1_000_000 + b"\n", 2),
-    ("what was refused stands nowhere", [get("-/modules")], [reply(200, f"{R}\n{S}\n".encode())]),
+    ("what was refused is not published", [get("-/modules")], [reply(200, f"{R}\n{S}\n".encode())]),
 ]
 
 B = "example.com/b"
@@ -181,7 +181,7 @@ SHELF: list[Row] = [
     ("4,096 versions of a path", [publish(patch) for patch in range(4096)], [PUBLISHED] * 4096),
     ("the next is refused", [publish(4096), fetch("v1.0.4096.mod")], [FULL, NOT_FOUND]),
     (
-        "the last stands",
+        "the last is published",
         [get(f"{F}/@latest"), fetch("v1.0.4095.mod")],
         [info("v1.0.4095"), reply(200, f"module {F}\n".encode())],
     ),
@@ -236,7 +236,7 @@ ROOM_UNDER_GROUP: list[Row] = [
 
 ALPHA = ("alpha", KEY, READER, PLATFORM[0])
 OTHERS = [shelf for shelf in SHELVES if shelf[0] != "alpha"]
-over_both = pytest.mark.parametrize("store", ["--mem", "--db"], indirect=True)
+over_both = pytest.mark.parametrize("store", ["--mem", "--db"], ids=["memory", "a file"], indirect=True)
 
 
 def make_store(folder: str) -> File:

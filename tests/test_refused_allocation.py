@@ -1,7 +1,7 @@
 """One refused allocation gives at most one 503, and changes nothing but that one answer.
 
 Runs the program on a stream of publishes and fetches, over shelves in memory and over a file, once for each N, with the
-Nth allocation refused by a small library that stands before the C library's (made with `cc`). Each run has to end as a
+Nth allocation refused by a small library that is loaded before the C library (made with `cc`). Each run has to end as a
 run of the machine: the replies are those to the requests that were not answered 503; where the 503 closes the stream,
 it is the last. A run whose memory ends before the first request says `goshelf: memory`. A file is opened again after
 it: what was answered 201 is there, and is answered 200 when it comes again. The short form refuses each tenth

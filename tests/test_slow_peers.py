@@ -262,11 +262,12 @@ by_count = pytest.mark.parametrize("count", [1, 3], ids=["one", "three"])
 
 
 class Wait(NamedTuple):
-    """A request behind peers: its reply, the seconds until it came, and what each peer received."""
+    """A request behind peers: its reply, the seconds until it came, and the bytes and the status of each peer."""
 
     reply: bytes
     seconds: float
-    received: list[bytes]
+    sizes: list[int]
+    statuses: list[bytes]
 
 
 def wait_behind(door: Door | Front, kind: Kind, count: int) -> Wait:
@@ -277,7 +278,8 @@ def wait_behind(door: Door | Front, kind: Kind, count: int) -> Wait:
     begun = time.monotonic()
     answer = door.ask()
     seconds = time.monotonic() - begun
-    return Wait(answer, seconds, [peer.end() for peer in peers])
+    received = [peer.end() for peer in peers]
+    return Wait(answer, seconds, list(map(len, received)), [content[9:12] for content in received])
 
 
 def make_store(file: str, version: str, zip_bytes: bytes) -> None:
@@ -314,12 +316,12 @@ class TestOwnPort:
     def test_a_request_waits_as_long_as_the_bounds(self, waits: Waits, kind: Kind, count: int) -> None:
         wait = waits[kind, count]
         assert wait.reply == LIST
-        assert wait.seconds <= count * kind.patience + sum(map(len, wait.received)) / MIB + MARGIN
+        assert wait.seconds <= count * kind.patience + sum(wait.sizes) / MIB + MARGIN
 
     @by_kind
     @by_count
     def test_peers_get_their_status(self, waits: Waits, kind: Kind, count: int) -> None:
-        assert [received[9:12] for received in waits[kind, count].received] == [kind.status] * count
+        assert waits[kind, count].statuses == [kind.status] * count
 
 
 class TestSlowLine:
@@ -328,7 +330,7 @@ class TestSlowLine:
     BODY, RATE = ZIP[: 12 * MIB], 1_600_000
 
     def keep_rate(self, begun: float, sent: int) -> None:
-        """Waits until a line of this rate has carried so many bytes."""
+        """Waits until a line of this rate has carried this many bytes."""
         time.sleep(max(0, begun + sent / self.RATE - time.monotonic()))
 
     def test_publish_of_12_mib_in_8_seconds(self, folder: str, serve: Callable[..., Server]) -> None:

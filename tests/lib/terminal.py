@@ -1,4 +1,4 @@
-"""A terminal of a suite's own, and what stands on it."""
+"""A terminal for the program, and what is on it."""
 
 import os
 import pty

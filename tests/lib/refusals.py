@@ -8,7 +8,6 @@ from typing import IO
 from lib import stores
 from lib.keys import KEY
 from lib.program import PROGRAM, ROOT
-from lib.suite import Suite
 
 DOCTOR = os.path.join(ROOT, "deploy", "goshelf-doctor")
 
@@ -34,24 +33,6 @@ def doctor(*words: str, before: Sequence[str] = ()) -> subprocess.CompletedProce
     """Runs goshelf-doctor over this program, which need not be installed."""
     settings = {**os.environ, "GOSHELF": PROGRAM}
     return subprocess.run([*before, DOCTOR, *words], capture_output=True, text=True, env=settings, timeout=120)
-
-
-class Refusals(Suite):
-    """Rows of a cause and the expected error word, which is empty where the command ends well."""
-
-    def wants(self, cause, wanted, told):
-        self.equal(f"{wanted or 'done'}: {cause}", told, wanted)
-
-    def finds(self, wanted, *words, before=()):
-        """goshelf-doctor finds one cause, and prints this of it; none if nothing is wanted."""
-        ran = doctor(*words, before=before)
-        lines = ran.stdout.splitlines()
-        if wanted:
-            is_right = ran.returncode == 1 and len(lines) == 2 and wanted in lines[0] and lines[1].startswith("    ")
-        else:
-            is_right = ran.returncode == 0 and len(lines) == 1 and lines[0].startswith("no cause is found")
-        found = ran.returncode, ran.stdout, ran.stderr
-        self.holds(f"the doctor: {wanted or 'nothing'}", is_right and not ran.stderr, found)
 
 
 def new_store(name: str) -> None:

@@ -72,7 +72,7 @@ EVEN = [
 
 
 def catalog(way: str, name: str, key: str = KEY) -> Ending:
-    return run(["catalog", way, name, "--key", key])
+    return run(["catalog", way, name, "--key", key], timeout=600)
 
 
 def order_of(key: str) -> bytes:
@@ -121,7 +121,7 @@ def begin_catalog(server: Server) -> subprocess.Popen[bytes]:
 
 def ending(child: subprocess.Popen[bytes]) -> Ending:
     """Returns how a command ends: its status, what it printed, and the line of its refusal."""
-    printed, errors = child.communicate(timeout=120)
+    printed, errors = child.communicate(timeout=600)
     return child.returncode, printed, errors.decode()
 
 

@@ -18,8 +18,10 @@ from lib.operating import (
     PUBLISHED,
     READER,
     SECRET,
+    TIME,
     Published,
     ask_store,
+    empty_store,
     is_running,
     list_backups,
     opened_machine,
@@ -36,10 +38,6 @@ pytestmark = [pytest.mark.root, pytest.mark.needs("sqlite3", "curl", "flock", "s
 UNCACHE = '#!/bin/sh\n[ "$*" != uncache ] || echo >> @/root/uncached\n'
 OLDER = [f"2020-01-{day:02}T031500Z" for day in (1, 2, 3)]
 BUSY = "another goshelf-backup, goshelf-restore or goshelf-forget has not ended"
-EMPTY_STORE = """systemctl stop goshelf
-rm /var/lib/goshelf/shelves.db*
-cp /dev/null /var/lib/goshelf/shelves.db
-systemctl start goshelf"""
 # words of goshelf-restore, the status that they get, and what is said; `night` is empty
 RESTORES = (
     ('"$night"', 2, "usage: goshelf-restore"),
@@ -62,7 +60,7 @@ goshelf team-add "$@" --team omega
 goshelf key-add "$@" --shelf omega --key {OMEGA}"""
 LATE, LATE_LINE = (
     Published(BETA, "example.com/late", "v1.0.0", b"late"),
-    "beta|example.com/late|v1.0.0|2024-01-31T12:00:00Z",
+    f"beta|example.com/late|v1.0.0|{TIME}",
 )
 # what leaked, and words of goshelf-forget, as above
 LEAKED = "alpha example.com/lib v1.1.0"
@@ -196,7 +194,7 @@ class TestRefusedRestores:
         with opened_machine() as machine:
             add_front(machine)
             add_backups(machine)
-            machine.does(EMPTY_STORE)
+            empty_store(machine)
             yield machine
 
     def test_without_words_it_lists_the_backups(self, machine: Machine) -> None:
@@ -261,7 +259,7 @@ class TestRestores:
         return machine
 
     def test_the_last_backup_replaces_a_store_that_has_lost_all(self, machine: Machine) -> None:
-        machine.does(EMPTY_STORE)
+        empty_store(machine)
         before = read(machine.store)
         status, printed, _ = machine.sh("goshelf-restore last < yes")
         assert status == 0

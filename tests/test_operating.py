@@ -24,8 +24,10 @@ from lib.operating import (
     PUBLISHED,
     READER,
     SECRET,
+    TIME,
     Published,
     ask_store,
+    empty_store,
     is_running,
     list_backups,
     opened_machine,
@@ -45,10 +47,6 @@ LIB = "example.com/lib/@v"
 BAD_SCHEMA = (1, b"", "goshelf: bad-schema\n")
 # the ways to copy a store by sqlite3 that the pages name
 WAYS = re.findall(r"`(sqlite3 F [^`]*COPY[^`]*)`", "".join(map(read_page, OPERATORS)))
-EMPTY_STORE = """systemctl stop goshelf
-rm /var/lib/goshelf/shelves.db*
-cp /dev/null /var/lib/goshelf/shelves.db
-systemctl start goshelf"""
 
 
 @pytest.fixture
@@ -190,9 +188,7 @@ class TestBackups:
         paths = (os.path.dirname(made), made, f"{made}/shelves.db")
         assert {os.stat(path).st_mode & 0o077 for path in paths} == {0}
         shelves = ["alpha"] * 3 + ["beta", "common"]
-        lines = sorted(
-            f"{shelf}|{row.module}|{row.version}|2024-01-31T12:00:00Z" for row, shelf in zip(PUBLISHED, shelves)
-        )
+        lines = sorted(f"{shelf}|{row.module}|{row.version}|{TIME}" for row, shelf in zip(PUBLISHED, shelves))
         assert read(f"{made}/versions").decode().splitlines() == lines
         shutil.copytree(made, f"{machine.folder}/root/copy")
         assert ask_store(f"{machine.folder}/root/copy/shelves.db", f"{LIB}/v1.1.0.zip") == [(200, SECRET)]
@@ -218,14 +214,14 @@ class TestBackups:
 
     def test_an_empty_copy_is_no_backup(self, machine: Machine) -> None:
         name_backup(machine, "2020-01-01T031500Z")
-        machine.does(EMPTY_STORE)
+        empty_store(machine)
         assert machine.sh("goshelf-backup")[0] != 0
         assert list_backups(machine) == ["2020-01-01T031500Z"]
         assert is_running(machine)
 
     def test_the_last_backup_takes_the_place_of_the_store(self, machine: Machine) -> None:
         name_backup(machine, "2020-01-01T031500Z")
-        machine.does(EMPTY_STORE)
+        empty_store(machine)
         machine.write("root/yes", "yes\n")
         machine.does(find_block("goshelf-restore\n").replace("goshelf-restore last", "goshelf-restore last < yes"))
         machine.does("systemctl stop goshelf")

@@ -80,6 +80,12 @@ def opened_machine() -> Iterator[Machine]:
         yield machine
 
 
+def empty_store(machine: Machine) -> None:
+    """Puts a file without bytes in the place of the store, over which the program then runs."""
+    machine.does("systemctl stop goshelf; rm /var/lib/goshelf/shelves.db*")
+    machine.does("cp /dev/null /var/lib/goshelf/shelves.db; systemctl start goshelf")
+
+
 def is_running(machine: Machine) -> bool:
     """Whether the machine's program runs."""
     return machine.sh(f'kill -0 "$(cat {machine.folder}/serve.pid)"')[0] == 0

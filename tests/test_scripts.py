@@ -1,4 +1,4 @@
-"""The scripts of users and operators, tests/all, .ci/ and benches print their usage and refuse unknown words.
+"""Scripts of users, operators and contributors, tests/all, .ci/ and benches print their usage, refuse unknown words.
 
 Those in sh pass shellcheck, as the package's own do, and all files in Python pyflakes and black, which lays them out
 by pyproject.toml; mypy finds nothing in what has type hints. No line in Rattle has more than 120 characters, and none
@@ -26,6 +26,12 @@ TOOLS = ["tools/catalog", "tools/publish/build", "tools/release", "tools/shards"
 SCRIPTS = [*TOOLS, ".ci/gate", ".ci/run", "tests/all", *COMMANDS]
 # run programs of tools/publish, which answer
 LAUNCHERS = ["tools/goshelf-adopt", "tools/goshelf-publish", "tools/publish/run"]
+# tools of contributors, whose usage has other words before the command
+REPOSITORY_TOOLS = sorted(
+    name
+    for name in glob.glob("tools/*", root_dir=ROOT)
+    if os.path.isfile(os.path.join(ROOT, name)) and "." not in name and name not in [*TOOLS, *LAUNCHERS]
+)
 # what several of the commands source
 COMMON = "deploy/common.sh"
 PACKAGED = [f"deploy/debian/{name}" for name in ("postinst", "prerm", "postrm")]
@@ -93,6 +99,19 @@ class TestWords:
         status, output, errors = run(os.path.join(ROOT, script), "--nosuch")
         assert (status, output) == (2, "")
         assert f"usage: {script}" in errors
+
+    @pytest.mark.parametrize("option", ["--help", "-h"])
+    @pytest.mark.parametrize("tool", REPOSITORY_TOOLS)
+    def test_tool_prints_its_usage(self, tool: str, option: str) -> None:
+        status, output, errors = run(os.path.join(ROOT, tool), option)
+        assert (status, errors) == (0, "")
+        assert re.search(rf"^usage\b.*{tool}", output, re.M)
+
+    @pytest.mark.parametrize("tool", REPOSITORY_TOOLS)
+    def test_tool_refuses_an_unknown_word(self, tool: str) -> None:
+        status, output, errors = run(os.path.join(ROOT, tool), "--nosuch")
+        assert (status, output) == (2, "")
+        assert re.search(rf"^usage\b.*{os.path.basename(tool)}", errors, re.M)
 
     def test_pytest_refuses_an_unknown_word_of_all_tests(self) -> None:
         status, output, errors = run(os.path.join(ROOT, "tests", "all"), "--nosuch")

@@ -1,4 +1,4 @@
-"""Scripts of users, operators and contributors, tests/all, .ci/ and benches print their usage, refuse unknown words.
+"""Scripts of users, operators and contributors, tests/all, .ci/ and benches print their usage and refuse unknown words.
 
 Those in sh pass shellcheck, as the package's own do, and all files in Python pyflakes and black, which lays them out
 by pyproject.toml; mypy finds nothing in what has type hints. No line in Rattle has more than 120 characters, and none

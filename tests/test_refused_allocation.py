@@ -27,7 +27,9 @@ from lib.stores import new_store
 from lib.worked import copy_store
 
 pytestmark = pytest.mark.needs("cc")
-# a test refuses one in this many allocations
+# a test over a file refuses one in 100 allocations, one in memory one in ten, which has fewer
+FILE_STEP, MEMORY_STEP = 100, 10
+# the short form over a file refuses one in this many allocations
 SHARE = 10
 
 LIBRARY = """
@@ -125,9 +127,9 @@ class Runs:
             is_right = found[: places[0]] + found[places[0] + 1 :] == self.replies_without(places[0])
         return "" if is_right else f"{number}: the other replies differ: {found}"
 
-    def check_from(self, first: int) -> None:
-        """Refuses one in SHARE allocations, from this one on."""
-        numbers = range(first, int(self.ample[2]) + 1, SHARE)
+    def check(self, first: int, step: int) -> None:
+        """Refuses one in `step` allocations, from the `first` on."""
+        numbers = range(first, int(self.ample[2]) + 1, step)
         with ThreadPoolExecutor(os.cpu_count()) as pool:
             for wrong in pool.map(self.judge, numbers):
                 assert not wrong
@@ -161,8 +163,10 @@ def library() -> Iterator[str]:
         yield os.path.join(folder, "refuse.so")
 
 
-def name_share(first: int) -> str:
-    return f"allocations {first}, {first + SHARE}, .."
+def parametrize_first(step: int) -> pytest.MarkDecorator:
+    """Has a test refuse one in `step` allocations, from each of the first ones on."""
+    ids = [f"allocations {first}, {first + step}, .." for first in range(1, step + 1)]
+    return pytest.mark.parametrize("first", range(1, step + 1), ids=ids)
 
 
 def check_ample(ended: Ending) -> None:
@@ -179,9 +183,9 @@ class TestInMemory:
     def test_ample_memory_gives_no_503(self, runs: Runs) -> None:
         check_ample(runs.ample)
 
-    @pytest.mark.parametrize("first", range(1, SHARE + 1), ids=name_share)
+    @parametrize_first(MEMORY_STEP)
     def test_a_refused_allocation_changes_one_answer(self, runs: Runs, first: int) -> None:
-        runs.check_from(first)
+        runs.check(first, MEMORY_STEP)
 
 
 class TestOverAFile:
@@ -192,11 +196,17 @@ class TestOverAFile:
     def test_ample_memory_gives_no_503(self, runs: Runs) -> None:
         check_ample(runs.ample)
 
-    def test_each_tenth_refused_allocation_changes_one_answer(self, runs: Runs) -> None:
+    @pytest.fixture(scope="class")
+    def start(self) -> int:
+        """One of the first allocations, from which on each tenth is refused."""
+        return RANDOM.randint(1, SHARE)
+
+    @pytest.mark.parametrize("part", range(SHARE), ids=lambda part: f"part {part + 1} of {SHARE}")
+    def test_each_tenth_refused_allocation_changes_one_answer(self, runs: Runs, start: int, part: int) -> None:
         print_seed()
-        runs.check_from(RANDOM.randint(1, SHARE))
+        runs.check(start + part * SHARE, FILE_STEP)
 
     @pytest.mark.long
-    @pytest.mark.parametrize("first", range(1, SHARE + 1), ids=name_share)
+    @parametrize_first(FILE_STEP)
     def test_a_refused_allocation_changes_one_answer(self, runs: Runs, first: int) -> None:
-        runs.check_from(first)
+        runs.check(first, FILE_STEP)

@@ -271,8 +271,10 @@ class TestMadeKeys:
         reader = run([*NEW_KEY, "--read-only"])[1].decode().strip()
         return Made(endings, reader, run("key-list --db store.db".split()))
 
-    def test_each_run_ends_well(self, made: Made) -> None:
-        assert [(status, errors) for status, _, errors in made.endings] == [(0, "")] * 40
+    @pytest.mark.parametrize("number", range(40), ids=lambda number: f"{number + 1} of 40")
+    def test_run_ends_well(self, made: Made, number: int) -> None:
+        status, _, errors = made.endings[number]
+        assert (status, errors) == (0, "")
 
     def test_each_key_has_26_characters(self, made: Made) -> None:
         assert [key for key in made.keys if not re.fullmatch(r"[a-z0-9]{26}\n", key)] == []

@@ -1,7 +1,8 @@
 #!/usr/bin/env python3
 """What the gate costs: runs `rt ci` on a fresh clone of a commit, from nothing.
 
-It prints processor time by kind and crate, and peaks. COMMIT is HEAD if it is left out. With --kept, proofs of earlier runs on this machine count, as they do at a landing;
+It prints processor time by kind and crate, and peaks. COMMIT is HEAD if it is left out. With --kept, proofs of
+earlier runs on this machine count, as they do at a landing;
 kit 13b keeps none, so it is refused there. The total is what the system counted for all processes of the run. The rest
 is a sample of the run's processes of the prover, twice a second: it misses the end of each. A peak is the most memory
 that one process held. The output of the run goes to gate.log in the folder that is printed first.

@@ -2,8 +2,8 @@
 """The most expensive goals of crates: the modules of a check from nothing that take most processor time.
 
 It checks a copy of each crate at one job, over the libraries that `rt check` of the crate built below it, and prints
-each module that took at least SECONDS (3), the most expensive first. The prover writes a file for each module once it is
-checked, so a module took what the prover used since the file before. A goal that takes long may want an answer in
+each module that took at least SECONDS (3), the most expensive first. The prover writes a file for each module once it
+is checked, so a module took what the prover used since the file before. A goal that takes long may want an answer in
 proofs/FUNCTION/Answers.antt.
 """
 

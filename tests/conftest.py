@@ -2,6 +2,7 @@
 
 import os
 from collections.abc import Callable, Iterator
+from typing import Any
 
 import pytest
 
@@ -74,7 +75,7 @@ def module_serve() -> Iterator[Callable[..., Server]]:
 def _servers() -> Iterator[Callable[..., Server]]:
     started: list[Server] = []
 
-    def start(*words: str, **how: object) -> Server:
+    def start(*words: Any, **how: Any) -> Server:
         started.append(Server(*words, **how))
         return started[-1]
 

@@ -103,7 +103,7 @@ class Acknowledged:
         return "" if found == wanted else f"found {found}, wanted {wanted}"
 
     def find_wrong_of_beta(self) -> str:
-        """Returns how the keys of beta are answered if neither all nor, where they were being revoked, none is there."""
+        """Returns how the keys of beta are answered unless all are there, or none while they are revoked."""
         found, count = self.statuses(self.of_beta), len(self.of_beta)
         is_right = found == [200] * count or (self.is_revoking_beta and found == [404] * count)
         if self.is_revoking_beta and 200 not in found:

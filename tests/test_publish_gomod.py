@@ -111,7 +111,7 @@ def unescape(text: str) -> str:
 
 
 def read_listed() -> Iterator[tuple[bytes, str]]:
-    """Yields the go.mods of the reader's own tests, each with the line of its fault as a text, or with an empty text."""
+    """Yields the go.mods of the reader's own tests, each with the line of its fault as a text, or with ''."""
     with open(os.path.join(ROOT, "crates", "test_formats", "src", "gomod_faults.rt"), encoding="utf-8") as file:
         rows = re.findall(r"^read\|(.*)\|(\w+)(?:\((\d+)\))?$", file.read(), re.M)
     for text, fault, line in rows:

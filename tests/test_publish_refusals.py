@@ -71,7 +71,10 @@ PARTIAL = "{folder}/partial is a partial clone, which lacks files of its commits
 NO_FOLDER = "no folder can be made in {folder}: name another by TMPDIR"
 NO_COMMAND = "there is no command {name}: install it"
 NOT_VERIFIED = "go mod verify fails: it was modified"
-OTHER_PATH = "the go.mod at v1.0.0 names github.com/acme/tool, not github.com/acme/wrong: publish it by that path; capitals count"
+OTHER_PATH = (
+    "the go.mod at v1.0.0 names github.com/acme/tool, not github.com/acme/wrong: publish it by that path; "
+    "capitals count"
+)
 SENTENCES = [
     *(row.sentence for row in NAMES), NO_VERSION, CHANGES, NO_REPOSITORY, LARGE_ZIP, LARGE_GO_MOD, NO_ZIP, SHALLOW,
     PARTIAL, NO_FOLDER, NO_COMMAND, NOT_VERIFIED, OTHER_PATH,

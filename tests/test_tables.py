@@ -270,31 +270,46 @@ UNFIT_SHELVES = {
     "a team that is its own parent": "UPDATE shelf SET parent = name WHERE name = 'alpha'",
     "a team of a group that is its own parent": "UPDATE shelf SET parent = name WHERE name = 'gamma'",
     "a group that is its own parent": "UPDATE shelf SET parent = name WHERE name = 'platform'",
-    "a cycle of two teams": "UPDATE shelf SET parent = iif(name = 'gamma', 'delta', 'gamma') WHERE name IN ('gamma', 'delta')",
+    "a cycle of two teams": (
+        "UPDATE shelf SET parent = iif(name = 'gamma', 'delta', 'gamma') WHERE name IN ('gamma', " "'delta')"
+    ),
     "a cycle of a group and its team": "UPDATE shelf SET parent = 'gamma' WHERE name = 'platform'",
-    "a cycle of three": "UPDATE shelf SET parent = iif(name = 'gamma', 'alpha', 'gamma') WHERE name IN ('gamma', 'platform');"
-    " UPDATE shelf SET parent = 'platform' WHERE name = 'alpha'",
+    "a cycle of three": (
+        "UPDATE shelf SET parent = iif(name = 'gamma', 'alpha', 'gamma') WHERE name IN ('gamma', "
+        "'platform');"
+        " UPDATE shelf SET parent = 'platform' WHERE name = 'alpha'"
+    ),
     "a group of teams whose parent is common": "UPDATE shelf SET parent = 'common' WHERE name = 'platform'",
-    "a group in a group": "INSERT INTO shelf VALUES ('tools', NULL); UPDATE shelf SET parent = 'tools' WHERE name = 'platform'",
+    "a group in a group": (
+        "INSERT INTO shelf VALUES ('tools', NULL); UPDATE shelf SET parent = 'tools' WHERE name = " "'platform'"
+    ),
     "common in a group": "UPDATE shelf SET parent = 'platform' WHERE name = 'common'",
     "common as a team": "UPDATE shelf SET parent = 'alpha' WHERE name = 'common'",
     "common that is its own parent": "UPDATE shelf SET parent = name WHERE name = 'common'",
     "common with a parent that is no shelf": "UPDATE shelf SET parent = 'nosuch' WHERE name = 'common'",
     "no common": "DELETE FROM shelf WHERE name = 'common'",
-    "no common, and nothing that names it": "DELETE FROM shelf WHERE name = 'common'; UPDATE shelf SET parent = NULL WHERE parent = 'common'; UPDATE"
-    " access SET shelf = 'alpha' WHERE shelf = 'common'; UPDATE version SET shelf = 'alpha' WHERE shelf ="
-    " 'common'",
+    "no common, and nothing that names it": (
+        "DELETE FROM shelf WHERE name = 'common'; UPDATE shelf SET parent = NULL WHERE parent = "
+        "'common'; UPDATE"
+        " access SET shelf = 'alpha' WHERE shelf = 'common'; UPDATE version SET shelf = 'alpha' WHERE shelf ="
+        " 'common'"
+    ),
     "no shelf at all": "DELETE FROM shelf",
     "the group is gone": "DELETE FROM shelf WHERE name = 'platform'",
-    "the group is gone, and its key and version": "DELETE FROM shelf WHERE name = 'platform'; DELETE FROM access WHERE shelf = 'platform'; DELETE FROM piece"
-    " WHERE version = (SELECT id FROM version WHERE shelf = 'platform'); DELETE FROM version WHERE shelf ="
-    " 'platform'",
+    "the group is gone, and its key and version": (
+        "DELETE FROM shelf WHERE name = 'platform'; DELETE FROM access WHERE shelf = 'platform'; DELETE "
+        "FROM piece"
+        " WHERE version = (SELECT id FROM version WHERE shelf = 'platform'); DELETE FROM version WHERE shelf ="
+        " 'platform'"
+    ),
     "a team that is gone, with a key": "DELETE FROM shelf WHERE name = 'delta'",
     "a team's name that is none": "INSERT INTO shelf VALUES ('No Team', 'common')",
     "a group's name that is none": "INSERT INTO shelf VALUES ('No Group', NULL)",
     "a group's name of 33 bytes": "INSERT INTO shelf VALUES ('a23456789012345678901234567890123', NULL)",
     "an empty name": "INSERT INTO shelf VALUES ('', NULL)",
-    "a group's name that is none, and its team": "INSERT INTO shelf VALUES ('No Group', NULL); UPDATE shelf SET parent = 'No Group' WHERE name = 'gamma'",
+    "a group's name that is none, and its team": (
+        "INSERT INTO shelf VALUES ('No Group', NULL); UPDATE shelf SET parent = 'No Group' WHERE name = " "'gamma'"
+    ),
 }
 # shelves of a world, with a group that is there, and what the keys of alpha, the group, gamma, delta and common see of
 # `PUBLISHED`
@@ -369,17 +384,26 @@ OF = "(SELECT id FROM version WHERE version = 'v1.0.5')"
 SPOILT = {
     "a gap in the numbers": f"UPDATE piece SET number = 2 WHERE number = 1 AND version = {OF}",
     "no first piece": f"DELETE FROM piece WHERE number = 0 AND version = {OF}",
-    "a piece behind the last that is not full": "INSERT INTO piece SELECT id, 1, X'5A' FROM version WHERE version = 'v1.0.1'",
+    "a piece behind the last that is not full": (
+        "INSERT INTO piece SELECT id, 1, X'5A' FROM version WHERE version = 'v1.0.1'"
+    ),
     "a short piece before another": f"UPDATE piece SET bytes = substr(bytes, 2) WHERE number = 0 AND version = {OF}",
-    "a piece of a byte too many": f"UPDATE piece SET bytes = CAST(bytes || X'5A' AS BLOB) WHERE number = 1 AND version = {OF}",
+    "a piece of a byte too many": (
+        f"UPDATE piece SET bytes = CAST(bytes || X'5A' AS BLOB) WHERE number = 1 AND version = {OF}"
+    ),
     "an empty piece": f"INSERT INTO piece VALUES ({OF}, 2, X'')",
     "an empty piece of an empty zip": "INSERT INTO piece SELECT id, 0, X'' FROM version WHERE version = 'v1.0.0'",
     "a zip of a byte too many": "INSERT INTO piece SELECT id, 256, X'5A' FROM version WHERE version = 'v1.0.6'",
     "a piece without its version": "INSERT INTO piece VALUES (99, 0, X'5A')",
     "pieces whose version is gone": "DELETE FROM version WHERE version = 'v1.0.5'",
-    "pieces of a version taken by another": f"UPDATE piece SET version = {OF} WHERE number > 2 AND version = (SELECT id FROM version WHERE version"
-    " = 'v1.0.6')",
-    "an order_key of another version": f"UPDATE version SET order_key = X'{order_key('v1.0.4').hex()}' WHERE version = 'v1.0.5'",
+    "pieces of a version taken by another": (
+        f"UPDATE piece SET version = {OF} WHERE number > 2 AND version = (SELECT id FROM version WHERE "
+        "version"
+        " = 'v1.0.6')"
+    ),
+    "an order_key of another version": (
+        f"UPDATE version SET order_key = X'{order_key('v1.0.4').hex()}' WHERE version = 'v1.0.5'"
+    ),
     "a rank_key that is the order_key": "UPDATE version SET rank_key = order_key WHERE version = 'v1.0.5'",
     "schema 1 by its number": "UPDATE meta SET value = 1",
     "schema 2 by its number": "UPDATE meta SET value = 2",

@@ -6,7 +6,7 @@ import subprocess
 
 
 def settings(home: str, **more: str) -> dict[str, str]:
-    """Returns the environment of a go command with a home of its own, and with none of this machine's settings of Go."""
+    """Returns the environment of a go command with a home of its own, and without this machine's settings of Go."""
     clean = {name: text for name, text in os.environ.items() if not name.startswith(("GO", "GIT_")) and name != "NETRC"}
     own = {"HOME": home, "GOPATH": f"{home}/go", "GOFLAGS": "-modcacherw", "GOTOOLCHAIN": "local", "CGO_ENABLED": "0"}
     return {**clean, **own, "GOCACHE": build_cache(), **more}

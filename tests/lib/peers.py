@@ -7,7 +7,7 @@ import os
 import socket
 import threading
 import time
-from collections.abc import Callable, Iterable, Sequence
+from collections.abc import Callable, Iterable, Mapping, Sequence
 from typing import Protocol
 
 from lib.messages import get
@@ -61,7 +61,7 @@ def fetched(
     method: str,
     target: str,
     body: bytes | None = None,
-    headers: dict[str, str] | None = None,
+    headers: Mapping[str, str] | None = None,
 ) -> tuple[int, str, bytes]:
     """Returns the status, the content type and the body of a reply, and closes the connection."""
     try:

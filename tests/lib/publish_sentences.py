@@ -126,5 +126,6 @@ SENTENCES = [
     *(row.sentence for row in REFUSED_KEYS), *(row[-1] for row in ANSWERS), *(row[-1] for row in BUSY_ANSWERS),
     *(row[-1] for row in ANSWERS_TO_CHECKS),
     *(row[-1] for row in ANSWERS_TO_USERS), *(row[-1] for row in LOGINS), BAD_LINE, OTHER_BYTES, ANOTHER_TIME, NO_NETRC,
-    NO_ANSWER, NO_ANSWER_TO_CHECK, NOBODY, f"{{url}} {CLOSED}", NO_TLS, NO_PROXY, DEAF_PROXY, FORBIDDEN, NO_HOST, IN_CLEAR,
+    NO_ANSWER, NO_ANSWER_TO_CHECK, NOBODY, f"{{url}} {CLOSED}", NO_TLS, NO_PROXY, DEAF_PROXY, FORBIDDEN, NO_HOST,
+    IN_CLEAR,
 ]  # fmt: skip

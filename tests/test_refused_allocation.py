@@ -27,8 +27,8 @@ from lib.stores import new_store
 from lib.worked import copy_store
 
 pytestmark = pytest.mark.needs("cc")
-# a test over a file refuses one in 100 allocations, one in memory one in ten, which has fewer
-FILE_STEP, MEMORY_STEP = 100, 10
+# a test refuses one in this many allocations: in memory, which has few, and over a file in the short and long forms
+MEMORY_STEP, FILE_STEP, LONG_STEP = 10, 100, 20
 # the short form over a file refuses one in this many allocations
 SHARE = 10
 
@@ -207,6 +207,6 @@ class TestOverAFile:
         runs.check(start + part * SHARE, FILE_STEP)
 
     @pytest.mark.long
-    @parametrize_first(FILE_STEP)
+    @parametrize_first(LONG_STEP)
     def test_a_refused_allocation_changes_one_answer(self, runs: Runs, first: int) -> None:
-        runs.check(first, FILE_STEP)
+        runs.check(first, LONG_STEP)

@@ -11,7 +11,7 @@ NAME_SERVERS = "/etc/resolv.conf"
 CACHES = ("/var/cache/nginx/goshelf", "/var/cache/nginx/goshelf-public")
 LOGS = ("/var/log/nginx/goshelf.log", "/var/log/nginx/goshelf-errors.log", publishes.LOG)
 # what each release brings anew, and what the host has of its own
-OURS = ("goshelf.js", "locations.conf", "errors.conf", "page.conf", "public.conf", "keys.conf")
+OURS = ("goshelf.js", "locations.conf", "errors.conf", "headers.conf", "page.conf", "public.conf", "keys.conf")
 # nobody may log in by it
 EMPTY = '{"users": {}}\n'
 HOST = re.compile(r"[a-z0-9-]+(\.[a-z0-9-]+)*")

@@ -164,7 +164,8 @@ function published(v, target, shelf) {
 }
 
 // The location of a GET or a HEAD.
-function read(r, v, front, target, shelf) {
+function read(r, v, front, target, who) {
+    const shelf = who.shelf;
     if (front.gone && isTakenOut(target, true, shelf)) {
         return 'taken_out';
     }
@@ -185,7 +186,16 @@ function read(r, v, front, target, shelf) {
         return 'nowhere';
     }
     v.goshelf_out = 'out';
+    v[who.isMachine ? 'goshelf_machine_out' : 'goshelf_person_out'] = who.name;
     return found;
+}
+
+// The text without the keys in it. They are words of the form of a key whose sum goshelf.json has.
+function withoutKeys(text) {
+    return text.replace(/[a-z0-9]{16,64}/g, (word) => {
+        const sum = crypto.createHash('sha256').update(word).digest('hex');
+        return goshelf_front.users[sum.slice(0, 16)] ? '...' : word;
+    });
 }
 
 function way(r) {
@@ -194,8 +204,18 @@ function way(r) {
         return front.before && header ? 'before' : 'login';
     }
     greet(v, front, who);
+    // (nothing behind this has a key in its path, which the log of errors would have)
+    if (v.goshelf_long && withoutKeys(v.uri) !== v.uri) {
+        return 'in_url';
+    }
     const target = v.request_uri, method = r.method;
-    return method === 'GET' || method === 'HEAD' ? read(r, v, front, target, who.shelf) : published(v, target, who.shelf);
+    return method === 'GET' || method === 'HEAD' ? read(r, v, front, target, who) : published(v, target, who.shelf);
+}
+
+// The target as the log has it: without its query, and without keys. Where escapes hide a key it is `/...`.
+function masked(r) {
+    const v = r.variables, text = withoutKeys(v.goshelf_plain);
+    return text === v.goshelf_plain && withoutKeys(v.uri) !== v.uri ? '/...' : text;
 }
 
 // The number of the goshelf.json that this process has read.
@@ -208,4 +228,4 @@ function login(r) {
     return r.variables.goshelf_user.replace(/[^A-Za-z0-9._@-]+/g, '-');
 }
 
-export default {way, serial, login};
+export default {way, serial, login, masked};

@@ -8,9 +8,11 @@ import os
 import re
 import subprocess
 import time
+from collections.abc import Iterable, Mapping
 
 from lib import go_command
-from lib.front import Client, start
+from lib.front import Client, Reply, start
+from lib.logins import log_in
 from lib.machine import AUTHORITIES, Machine
 from lib.modules import escaped
 from lib.outside import NAME, STORE, Outside, module
@@ -38,7 +40,7 @@ PATIENCE = 2
 class Developers:
     """The company. `client` has its users."""
 
-    def __init__(self, folder):
+    def __init__(self, folder: str) -> None:
         os.chmod(folder, 0o755)
         self.folder, self.count = folder, 0
         self.outside = Outside(f"{folder}/outside")
@@ -46,7 +48,8 @@ class Developers:
         with closed_on_failure(self):
             self.start()
 
-    def start(self):
+    def start(self) -> None:
+        """Starts goshelf and nginx, and adds the users."""
         new_store(self.machine.store, ("alpha", "firstkey00000001"), ("beta", "firstkey00000002"))
         start(self.machine, {path: shelves.replace("-", "").split() for path, shelves in PATHS.items()}, self.change)
         self.client = Client(self.machine)
@@ -56,8 +59,8 @@ class Developers:
         self.url = f"https://localhost:{self.machine.front}"
         write({f"{self.folder}/trusted.pem": read(self.client.pem) + read(self.outside.authority)})
 
-    def change(self, machine):
-        """What nginx's files say of the outside is put on this host."""
+    def change(self, machine: Machine) -> None:
+        """Puts what nginx's files say of the outside on this host."""
         os.unlink(f"{machine.folder}{AUTHORITIES}")
         os.symlink(self.outside.authority, f"{machine.folder}{AUTHORITIES}")
         store = STORE.replace(".", r"\.")
@@ -73,50 +76,86 @@ class Developers:
         )
         machine.edit("etc/nginx/goshelf/public.conf", ("proxy_read_timeout 30s", f"proxy_read_timeout {PATIENCE}s"))
 
-    def conf(self, *pairs):
+    def conf(self, *pairs: tuple[str, str]) -> None:
+        """Replaces texts of nginx's file."""
         self.machine.edit("etc/nginx/conf.d/goshelf.conf", *pairs)
 
-    def reload(self):
+    def reload(self) -> str:
         """Has nginx read its files, and waits until its processes of before have ended. Returns why it refuses them."""
         status, _, errors = self.machine.sh("nginx -q -t")
         if status:
             return errors
         before = self.workers()
         self.machine.does("nginx -s reload")
-        wait_until(lambda: self.workers() and not before & self.workers())
+        wait_until(lambda: bool(self.workers()) and not before & self.workers())
         return ""
 
-    def workers(self):
-        told = subprocess.run(["pgrep", "-P", self.machine.read("nginx.pid").strip()], capture_output=True, text=True)
-        return set(told.stdout.split())
+    def workers(self) -> set[str]:
+        """Returns the processes of nginx beside the first."""
+        words = ["pgrep", "-P", self.machine.read("nginx.pid").strip()]
+        return set(subprocess.run(words, capture_output=True, text=True).stdout.split())
 
-    def ask(self, target, user="ann", method="GET", body=None, headers=None):
-        """The status and the body of an answer; status 0 and the error where none comes whole."""
+    def give(self, words: str, user: str = "") -> str:
+        """Has goshelf-front make a key, and returns it. A user, if one is named, has it as a password."""
+        key = self.machine.does(f"goshelf-front {words}").split()[5]
+        self.client.passwords[user or f"{len(self.client.passwords)} {words}"] = key
+        return key
+
+    def status(
+        self,
+        key: str,
+        target: str,
+        method: str = "GET",
+        body: bytes | None = None,
+        headers: Mapping[str, str] | None = None,
+    ) -> int:
+        """Returns the status of the answer to a login by a key."""
+        return self.client.ask(method, target, log_in(key), body, headers)[0]
+
+    def ask(
+        self,
+        target: str,
+        user: str | None = "ann",
+        method: str = "GET",
+        body: bytes | None = None,
+        headers: Mapping[str, str] | None = None,
+    ) -> Reply:
+        """Returns the status and the body of an answer; status 0 and the error if none comes whole."""
         try:
             return self.client.ask(method, target, self.client.login(user) if user else None, body, headers)
         except (OSError, http.client.HTTPException) as error:
             return 0, repr(error).encode()
 
-    def publish(self, user, path, version="v1.0.0", gomod=None, files=None):
+    def publish(
+        self,
+        user: str,
+        path: str,
+        version: str = "v1.0.0",
+        gomod: str | None = None,
+        files: Mapping[str, str] | None = None,
+    ) -> Reply:
+        """Publishes a version, which has a file and a go.mod if none is given."""
         head, zipped, _ = module(path, version, gomod, files)
         headers = {"Mod-Length": str(len(head)), "Version-Time": "2024-01-31T12:00:00Z"}
         return self.ask(f"/{escaped(path)}/@v/{escaped(version)}", user, "PUT", head + zipped, headers)
 
-    def fresh(self):
-        """A folder that is new."""
+    def fresh(self) -> str:
+        """Makes a new folder, and returns it."""
         self.count += 1
-        os.makedirs(at := f"{self.folder}/work{self.count}")
-        return at
+        os.makedirs(folder := f"{self.folder}/work{self.count}")
+        return folder
 
-    def work(self, *imports, requires=(), main=""):
-        """The folder of a new module that imports packages."""
-        at, named = self.fresh(), "".join(f'import _ "{it}"\n' for it in imports)
-        lines = "".join(f"require {it}\n" for it in requires)
-        write({f"{at}/go.mod": f"module my.example/app\n\ngo 1.17\n\n{lines}"})
-        write({f"{at}/main.go": f"package main\n\n{named}{main or 'func main() {}'}\n"})
-        return at
+    def work(self, *imports: str, requires: Iterable[str] = (), main: str = "") -> str:
+        """Makes the folder of a new module that imports packages, and returns it."""
+        folder, named = self.fresh(), "".join(f'import _ "{package}"\n' for package in imports)
+        lines = "".join(f"require {required}\n" for required in requires)
+        write({f"{folder}/go.mod": f"module my.example/app\n\ngo 1.17\n\n{lines}"})
+        write({f"{folder}/main.go": f"package main\n\n{named}{main or 'func main() {}'}\n"})
+        return folder
 
-    def go(self, at, *words, user="ann", cache=None, **settings):
+    def go(
+        self, folder: str, *words: str, user: str = "ann", cache: str | None = None, **settings: str
+    ) -> tuple[bool, str, str]:
         """Runs the go command in a folder, with an empty module cache unless one is named. Returns whether it ended
         well, what it printed, and its errors."""
         home = self.fresh()
@@ -131,31 +170,31 @@ class Developers:
             "SSL_CERT_FILE": f"{self.folder}/trusted.pem",
         }
         env = go_command.settings(home, **{**own, **settings})
-        ran = subprocess.run(["go", *words], cwd=at, env=env, capture_output=True, text=True, timeout=120)
+        ran = subprocess.run(["go", *words], cwd=folder, env=env, capture_output=True, text=True, timeout=120)
         return ran.returncode == 0, ran.stdout, ran.stderr
 
-    def leaks(self, since=0):
-        """What was asked outside that names a path of the company."""
+    def leaks(self, since: int = 0) -> list[str]:
+        """Returns what was asked outside that names a path of the company."""
         return self.outside.leaks(PATHS, since)
 
-    def asked_outside(self):
-        """How often anything was asked outside."""
+    def asked_outside(self) -> int:
+        """Returns how often anything was asked outside."""
         return len(self.outside.asked)
 
-    def log(self, since=0):
-        """The lines of nginx's log, once it writes no more: a line follows the end of its answer."""
+    def log(self, since: int = 0) -> list[str]:
+        """Returns the lines of nginx's log, once it writes no more: a line follows the end of its answer."""
         text = None
         while text != (now := self.machine.read("var/log/nginx/goshelf.log")):
             text = now
             time.sleep(0.1)
-        return text.splitlines()[since:]
+        return now.splitlines()[since:]
 
-    def secrets(self):
-        """Keys, passwords and logins."""
+    def secrets(self) -> list[str]:
+        """Returns keys and logins."""
         passwords = self.client.passwords
-        return [*passwords.values(), *(self.client.login(it).split()[1] for it in passwords)]
+        return [*passwords.values(), *(self.client.login(user).split()[1] for user in passwords)]
 
-    def close(self):
+    def close(self) -> None:
         self.machine.close()
         self.outside.close()
 

@@ -2,19 +2,26 @@
 
 import base64
 
+from lib.machine import Machine
+
 
 class Logins:
     """Users by their passwords, which are keys of goshelf."""
 
-    def __init__(self):
-        self.passwords = {}
+    def __init__(self) -> None:
+        self.passwords: dict[str, str] = {}
 
-    def add_at(self, machine, host, user, shelf, right):
-        """Adds a user of a host by the commands of NGINX, and keeps the password that they print."""
-        line = machine.does(f"goshelf-front add {user} {shelf} {right}")
-        assert line.split()[:4] == ["machine", host, "login", user], line
-        self.passwords[user] = line.split()[5]
+    def add_at(self, machine: Machine, host: str, user: str, shelf: str, right: str) -> None:
+        """Adds a user of a host by the command of NGINX, and keeps the password that it prints."""
+        words = machine.does(f"goshelf-front add {user} {shelf} {right}").split()
+        assert words[:4] == ["machine", host, "login", user], words
+        self.passwords[user] = words[5]
 
-    def login(self, user):
-        """The header by which a user logs in."""
-        return "Basic " + base64.b64encode(f"{user}:{self.passwords[user]}".encode()).decode()
+    def login(self, user: str) -> str:
+        """Returns the header by which a user logs in."""
+        return log_in(self.passwords[user], user)
+
+
+def log_in(key: str, login: str = "any") -> str:
+    """Returns the header of a login by a key. nginx does not look at what is before the colon."""
+    return "Basic " + base64.b64encode(f"{login}:{key}".encode()).decode()

@@ -85,8 +85,9 @@ def keys(name):
 
 def make(name, shelf, machine):
     """Makes a key of a person for a machine. Returns the line for ~/.netrc, and the fingerprint."""
-    if not files.LABEL.fullmatch(machine) or machine != machine.strip():
-        raise Forged(400, "The name of a machine has 1 to 64 characters, none of them a tab or an end of line.")
+    if not files.is_label(machine):
+        said = "1 to 64 characters, none of them a tab, an end of line or one that does not show"
+        raise Forged(400, f"The name of a machine has {said}.")
     with locked():
         own = rights(name)
         if shelf not in own:

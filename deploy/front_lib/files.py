@@ -9,15 +9,19 @@ import json
 import os
 import re
 import time
+import unicodedata
 
 FOLDER = "/etc/nginx/goshelf"
 NAME_LINE = re.compile(
     r"([0-9a-f]{64}|[0-9a-f]{16})\t([^\t\n\r]+)\t(|\d{4}-\d\d-\d\d(?:T\d\d:\d\d)?)(?:\t(|machine)(?:\t([^\t\n\r]+))?)?"
 )
-# (a name is one word of a line of a log, in quotes)
-NAME = re.compile(r"[^\x00-\x1f\x7f-\x9f\u2028\u2029\u202a-\u202e\u2066-\u2069]{1,128}")
-# what a person calls a machine
-LABEL = re.compile(NAME.pattern.replace("128", "64"))
+# most characters of a name, and of what a person calls a machine
+LONGEST_NAME, LONGEST_LABEL = 128, 64
+# what a line of names may have in the place of either, also by a rule of before, so that it can be removed
+WORD = re.compile(r"[^\x00-\x1f\x7f-\x9f\u2028\u2029\u202a-\u202e\u2066-\u2069]{1,128}")
+LABEL = re.compile(WORD.pattern.replace("128", "64"))
+# characters that Python calls printable, and that show nothing
+UNSEEN = re.compile("[\u034f\u115f\u1160\u17b4\u17b5\u180b-\u180f\u2800\u3164\ufe00-\ufe0f\uffa0\U000e0100-\U000e01ef]")
 SHELF = re.compile(r"[a-z][a-z0-9-]{0,31}")
 HOST = re.compile(r"[a-z0-9-]+(\.[a-z0-9-]+)+")
 ELEMENT = re.compile(r"[a-z0-9_~-]([a-z0-9._~-]*[a-z0-9_~-])?")
@@ -84,6 +88,22 @@ def last(text, place=""):
     return ""
 
 
+def is_seen(letter):
+    """Whether a character shows something, if only a gap. Controls, marks of direction and halves of others do not."""
+    return unicodedata.category(letter) == "Zs" or letter.isprintable() and not UNSEEN.match(letter)
+
+
+def is_name(text, longest=LONGEST_NAME):
+    """Whether a text can be a name, which is one word of a line of a log, in quotes. No two look alike by what does
+    not show."""
+    return 0 < len(text) <= longest and text == text.strip() and all(map(is_seen, text))
+
+
+def is_label(text):
+    """Whether a text can be what a person calls a machine."""
+    return is_name(text, LONGEST_LABEL)
+
+
 def is_over(until):
     """Whether a last day or minute is over."""
     return bool(until) and until < now().isoformat()[: len(until)]
@@ -114,7 +134,7 @@ def names():
         if not line or line.startswith("#"):
             continue
         it = NAME_LINE.fullmatch(line)
-        if not it or not NAME.fullmatch(it[2]) or it[5] and not LABEL.fullmatch(it[5]):
+        if not it or not WORD.fullmatch(it[2]) or it[5] and not LABEL.fullmatch(it[5]):
             raise Refused(f"names:{number}: not of the form SHA256<tab>NAME<tab>LAST DAY")
         last(it[3], f"names:{number}: ")
         if it[1][:16] in seen:

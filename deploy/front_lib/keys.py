@@ -24,6 +24,8 @@ class Keys:
             self.why = str(why)
             users = files.front().get("users", {}).items()
             self.known = {it: (user["shelf"], user["right"], user.get("sha256", "")) for it, user in users}
+        # (an older goshelf prints 16 digits of it, and knows a key by no more)
+        self.has_sums = bool(self.known) and not self.why and all(digest for _, _, digest in self.known.values())
 
     def of(self, name, shelf=None):
         """The lines of a name, and of a shelf, whose keys are valid."""
@@ -41,7 +43,7 @@ class Keys:
         key = orders.new_key(shelf, right)
         line = Name(hashlib.sha256(key.encode()).hexdigest(), name, until, machine, label)
         self.lines.append(line)
-        self.known[line.fingerprint] = shelf, right, line.digest
+        self.known[line.fingerprint] = shelf, right, line.digest if self.has_sums else ""
         return key, line
 
     def put(self, generation=None):
@@ -115,8 +117,8 @@ def give(keys, name, shelf, right, until="", machine=None, label=None):
     key, line = keys.make(name, shelf, right, until, machine, label)
     try:
         keys.put()
-    except (Refused, OSError):
-        orders.revoke(line.fingerprint)
+    except BaseException:
+        orders.revoke(keys.digits(line))
         files.write("names", names)
         files.put_front(front)
         raise

@@ -4,7 +4,7 @@ import base64
 import hashlib
 from html import escape
 
-from front_lib.files import LABEL
+from front_lib.files import LONGEST_LABEL
 
 STYLE = """:root { color-scheme: light dark }
 body { font: 1rem/1.5 sans-serif; max-width: 60rem; margin: 2rem auto; padding: 0 1rem }
@@ -24,7 +24,6 @@ HEADERS = {
     "X-Content-Type-Options": "nosniff",
 }
 TOP = "/keys/"
-MOST_LETTERS = LABEL.pattern.rpartition(",")[2].rstrip("}")
 HEADS = ("Machine", "Shelf", "Right", "Fingerprint", "Last day", "")
 
 
@@ -52,7 +51,7 @@ def makes(shelf, right, until, token):
     """A form that makes a key of a shelf."""
     until = f", until {until}" if until else ""
     label = f"A key that may {right} on <b>{escape(shelf)}</b>{escape(until)}, for the machine "
-    field = f'<input name="machine" maxlength="{MOST_LETTERS}" required autocomplete="off">'
+    field = f'<input name="machine" maxlength="{LONGEST_LABEL}" required autocomplete="off">'
     return form("make", token, f"<label>{label}{field}</label> <button>Make a key</button>", shelf=shelf)
 
 

@@ -14,8 +14,9 @@ LAST = f"{files.FOLDER}/people"
 
 def checked(place, name, shelf, right, until=""):
     """The words of a person, if they are of their forms."""
-    if not files.NAME.fullmatch(name) or name != name.strip():
-        raise Refused(f"{place}a name has 1 to 128 characters, none of them a tab or an end of line: {name!r}")
+    if not files.is_name(name):
+        said = "1 to 128 characters, none of them a tab, an end of line or one that does not show"
+        raise Refused(f"{place}a name has {said}: {name!a}")
     if not files.SHELF.fullmatch(shelf):
         raise Refused(f"{place}no shelf has the name {shelf!r}")
     if right not in RIGHTS:

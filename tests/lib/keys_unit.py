@@ -1,18 +1,17 @@
 """goshelf-keys as its unit runs it, confined, on a copy of this machine (systemd.py) with goshelf and nginx."""
 
+import contextlib
 import os
 import re
-import subprocess
 import tarfile
 import tempfile
+from collections.abc import Iterator
 
-from lib.front import fingerprint
 from lib.own_keys import NAMED
+from lib.ports import wait_until
 from lib.program import PROGRAM, ROOT
 from lib.systemd import Copy, groups
 
-# the rating of systemd-analyze below which the unit has to stay
-SAFE = 5.0
 SET_UP = """
 install -m 755 /root/program /usr/local/bin/goshelf
 mkdir -p /usr/share/goshelf
@@ -33,75 +32,63 @@ goshelf-front set-up localhost example.com=alpha > /dev/null
 systemctl restart nginx
 goshelf-front add ann alpha read 2> /dev/null
 """
-PAGE = "curl -sk https://localhost/keys/{} -H 'X-Forwarded-User: ann'"
-SENDS = f"{PAGE} -H 'Origin: https://localhost' --data-urlencode token={{}} --data-urlencode {{}} --data-urlencode {{}}"
+ASK = "curl -sk https://localhost/keys/{} -H 'X-Forwarded-User: ann'"
 
 
-def under_systemd(suite):
-    """Has the unit make a key and revoke it, or skips that where the machine cannot."""
-    name = "goshelf-keys as its unit runs it"
-    if not groups():
-        suite.skip(name, "this needs control groups of version 2")
-        return
+class Unable(Exception):
+    """Why this machine cannot run a copy of itself."""
+
+
+class KeysUnit:
+    """A copy of this machine with goshelf, nginx, and the page of keys, which is turned on."""
+
+    def __init__(self, copy: Copy) -> None:
+        self.copy = copy
+        status, printed, errors = copy.sh(SET_UP)
+        assert status == 0 and printed.startswith("machine localhost"), errors
+        turns_on = NAMED.replace("192.0.2.10", "127.0.0.1").replace("nginx -s reload", "systemctl reload nginx")
+        status, _, errors = copy.sh(turns_on)
+        assert status == 0, errors
+        self.sockets = copy.prints(
+            "stat -c '%F %a %U %G' /run/goshelf-keys/socket; systemctl is-active goshelf-keys; true"
+        )
+        # (the processes of nginx from before go on for a moment)
+        wait_until(lambda: "Keys of ann" in self.ask(""))
+
+    def ask(self, target: str, words: str = "") -> str:
+        """Returns what the page answers to ann."""
+        return self.copy.sh(f"{ASK.format(target)} {words}")[1]
+
+    def send(self, action: str, *fields: str) -> str:
+        """Sends a form of ann with these fields, and returns what the page answers."""
+        found = re.search(r'name="token" value="([^"]+)"', self.ask(""))
+        assert found
+        sent = " ".join(f"--data-urlencode {field}" for field in (f"token={found[1]}", *fields))
+        return self.ask(action, f"-H 'Origin: https://localhost' {sent}")
+
+    def log(self) -> str:
+        """Returns what the unit has printed."""
+        return self.copy.sh("journalctl -u goshelf-keys -o cat --no-pager")[1]
+
+    def status_of(self, key: str) -> str:
+        """Returns what nginx answers to a login by a key."""
+        return self.copy.prints(f"curl -sk -o /dev/null -w '%{{http_code}}' -u any:{key} https://localhost/login")
+
+
+@contextlib.contextmanager
+def running_unit() -> Iterator[KeysUnit]:
+    """Runs the unit on a copy of this machine."""
+    folder_of_groups = groups()
+    if not folder_of_groups:
+        raise Unable("this needs control groups of version 2")
     with tempfile.TemporaryDirectory(prefix="goshelf-unit-") as folder:
-        copy = Copy(tempfile.mkdtemp(prefix="goshelf-copy-", dir=folder), groups())
-        try:
+        copy = Copy(tempfile.mkdtemp(prefix="goshelf-copy-", dir=folder), folder_of_groups)
+        with contextlib.closing(copy):
             if why := copy.starts():
-                suite.skip(name, f"systemd does not start on one: {why}")
-                return
-            filled(copy, folder)
-            used(suite, copy)
-        finally:
-            copy.close()
-
-
-def filled(copy, folder):
-    """Puts the files of the checkout on the copy."""
-    with tarfile.open(f"{folder}/deploy.tar", "w") as held:
-        held.add(os.path.join(ROOT, "deploy"), "deploy")
-    os.symlink(PROGRAM, f"{folder}/program")
-    for it in ("deploy.tar", "program"):
-        copy.put(f"{folder}/{it}")
-
-
-def sent(copy, action, one, other):
-    """What a form of the page gets."""
-    token = re.search(r'name="token" value="([^"]+)"', copy.sh(PAGE.format(""))[1])[1]
-    return copy.sh(SENDS.format(action, token, one, other))[1]
-
-
-def used(suite, copy):
-    """Turns the page on, and makes and revokes a key there."""
-    status, printed, errors = copy.sh(SET_UP)
-    suite.holds("goshelf and nginx run under systemd", status == 0 and printed.startswith("machine localhost"), errors)
-    status, _, errors = copy.sh(
-        NAMED.replace("192.0.2.10", "127.0.0.1").replace("nginx -s reload", "systemctl reload nginx")
-    )
-    suite.holds("the commands of the page turn it on", status == 0, errors)
-    told = copy.prints("stat -c '%F %a %U %G' /run/goshelf-keys/socket; systemctl is-active goshelf-keys")
-    suite.equal("its socket is nginx's, and it waits for a request", told, "socket 660 root www-data inactive")
-    # (the processes of nginx from before go on for a moment)
-    copy.sh(f"for it in $(seq 100); do ! {PAGE.format('')} | grep -q 'Keys of ann' || exit 0; sleep 0.1; done")
-    told = sent(copy, "make", "shelf=alpha", "machine=box")
-    key = re.search(r"password ([a-z0-9]+)<", told)
-    log = lambda: copy.sh("journalctl -u goshelf-keys -o cat --no-pager")[1]
-    suite.holds("a key is made", key, (told, log()))
-    asks = f"curl -sk -o /dev/null -w '%{{http_code}}' -u any:{key[1] if key else ''} https://localhost/login"
-    suite.equal("it is a login", copy.prints(asks), "204")
-    told = sent(copy, "revoke", f"fingerprint={fingerprint(key[1])}", "x=") if key else ""
-    suite.holds("a field too many", "no form" in told, told)
-    token = re.search(r'name="token" value="([^"]+)"', copy.sh(PAGE.format(""))[1])[1]
-    form = f"-H 'Origin: https://localhost' -d token={token} -d fingerprint={fingerprint(key[1])}"
-    told = copy.sh(f"{PAGE.format('revoke')} {form}")[1]
-    suite.holds("and revoked", "worth nothing" in told and copy.prints(asks) == "401", (told, log()))
-    suite.holds("its log has no key", key[1] not in log(), log())
-    suite.equal(
-        "the unit is right", copy.sh("systemd-analyze verify goshelf-keys.service goshelf-keys.socket"), (0, "", "")
-    )
-    unit = os.path.join(ROOT, "deploy", "systemd", "goshelf-keys.service")
-    words = ["systemd-analyze", "security", "--offline=true", "--no-pager", unit]
-    found = re.search(
-        r"exposure level for goshelf-keys.service: ([\d.]+)",
-        subprocess.run(words, capture_output=True, text=True).stdout,
-    )
-    suite.holds(f"and rated below {SAFE}", found and float(found[1]) < SAFE, found and found[1])
+                raise Unable(f"systemd does not start on a copy: {why}")
+            with tarfile.open(f"{folder}/deploy.tar", "w") as archive:
+                archive.add(os.path.join(ROOT, "deploy"), "deploy")
+            os.symlink(PROGRAM, f"{folder}/program")
+            for name in ("deploy.tar", "program"):
+                copy.put(f"{folder}/{name}")
+            yield KeysUnit(copy)

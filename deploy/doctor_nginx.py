@@ -15,6 +15,7 @@ import ssl
 import struct
 import subprocess
 import time
+from collections.abc import Iterator, Mapping
 from dataclasses import dataclass, field
 
 # what a user sees: rows of docs/TROUBLE.md
@@ -36,36 +37,41 @@ TOKEN = re.compile(
 )
 
 
+# what is seen, what mends it, and the row of docs/TROUBLE.md
+Cause = tuple[str, str, str]
+
+
 @dataclass
 class Directive:
     """A directive of nginx: its words, and the directives of its block."""
 
-    words: list
-    block: list = field(default_factory=list)
+    words: list[str]
+    block: list["Directive"] = field(default_factory=list)
 
     @property
-    def name(self):
+    def name(self) -> str:
         return self.words[0] if self.words else ""
 
-    def all(self, *names):
-        """The directives of these names in the block, however deep, or all."""
-        for it in self.block:
-            if not names or it.name in names:
-                yield it
-            yield from it.all(*names)
+    def all(self, *names: str) -> Iterator["Directive"]:
+        """Yields the directives of these names in the block, however deep, or all."""
+        for directive in self.block:
+            if not names or directive.name in names:
+                yield directive
+            yield from directive.all(*names)
 
-    def values(self, name):
-        """The first values of the directives of a name in the block, each once."""
-        return sorted({it.words[1] for it in self.all(name) if len(it.words) > 1})
+    def values(self, name: str) -> list[str]:
+        """Returns the first values of the directives of a name in the block, each once."""
+        return sorted({directive.words[1] for directive in self.all(name) if len(directive.words) > 1})
 
-    def is_goshelfs(self):
+    def is_goshelfs(self) -> bool:
         """Whether its block answers for goshelf."""
-        return any("goshelf" in it.words[1] for it in self.all("access_log", "proxy_pass", "root"))
+        return any("goshelf" in found.words[1] for found in self.all("access_log", "proxy_pass", "root"))
 
 
-def parsed(text):
-    """The directives of a file of nginx."""
-    blocks, words = [[]], []
+def parsed(text: str) -> list[Directive]:
+    """Returns the directives of a file of nginx."""
+    blocks: list[list[Directive]] = [[]]
+    words: list[str] = []
     for found in TOKEN.finditer(text):
         kind = found.lastgroup
         if kind == "mark" and found["mark"] == "}":
@@ -80,34 +86,34 @@ def parsed(text):
     return blocks[0]
 
 
-def included(directives, files):
-    """Directives with those of the files that they include in the place of each `include`."""
+def included(directives: list[Directive], files: Mapping[str, str]) -> list[Directive]:
+    """Returns directives with those of the files that they include in the place of each `include`."""
     found = []
-    for it in directives:
-        it.block = included(it.block, files)
-        if it.name == "include":
-            pattern = os.path.join(PREFIX, it.words[1])
-            names = sorted(fnmatch.filter(files, pattern))
-            found += [one for name in names for one in included(parsed(files[name]), files)]
+    for directive in directives:
+        directive.block = included(directive.block, files)
+        if directive.name == "include":
+            pattern = os.path.join(PREFIX, directive.words[1])
+            for name in sorted(fnmatch.filter(files, pattern)):
+                found += included(parsed(files[name]), files)
         else:
-            found.append(it)
+            found.append(directive)
     return found
 
 
-def dumped(text):
-    """What nginx reads, as the block of one directive, by what `nginx -T` prints."""
+def dumped(text: str) -> Directive:
+    """Returns what nginx reads, as the block of one directive, by what `nginx -T` prints."""
     parts = re.split(r"^# configuration file (.*):\n", text, flags=re.M)[1:]
     files = dict(zip(parts[::2], parts[1::2]))
     return Directive([], included(parsed(parts[1]), files) if parts else [])
 
 
-def ran(*words):
+def ran(*words: str) -> tuple[int, str, str]:
     """Runs a command, and returns its exit status, what it prints, and its errors."""
-    told = subprocess.run(words, stdin=subprocess.DEVNULL, capture_output=True, text=True, errors="replace")
-    return told.returncode, told.stdout, told.stderr
+    done = subprocess.run(words, stdin=subprocess.DEVNULL, capture_output=True, text=True, errors="replace")
+    return done.returncode, done.stdout, done.stderr
 
 
-def causes(port, is_down):
+def causes(port: int | None, is_down: bool) -> list[Cause] | None:
     """Returns why nginx does not answer for goshelf, which listens at a port, or None, and may be down. None if it has
     nothing to do with it here."""
     where = f"{os.environ.get('PATH', '')}:/usr/sbin:/sbin"
@@ -118,15 +124,15 @@ def causes(port, is_down):
     if status:
         return [refused(errors)]
     conf = dumped(printed)
-    servers = [it for it in conf.all("server") if it.is_goshelfs() and listened(it)]
+    servers = [server for server in conf.all("server") if server.is_goshelfs() and listened(server)]
     if not servers:
         return None
-    found = [it for server in servers for it in answer(server, conf, port, is_down)]
+    found = [cause for server in servers for cause in answer(server, conf, port, is_down)]
     return [*found, *caches(conf), *names(conf)]
 
 
-def refused(errors):
-    """The cause by which nginx does not take its files."""
+def refused(errors: str) -> Cause:
+    """Returns the cause by which nginx does not take its files."""
     lines = re.findall(r"\[emerg\] (?:\d+#\d+: )?(.*)", errors) or errors.splitlines() or ["no reason"]
     if host := re.search(r"host not found in upstream \"([^\"]*)\"", lines[0]):
         return f"nginx does not start while {host[1]} has no address", f"getent hosts {host[1].split(':')[0]}", REFUSED
@@ -137,18 +143,18 @@ def refused(errors):
     return f"nginx does not take its files: {lines[0]}", f"mend that line; {RELOAD}", REFUSED
 
 
-def listened(server):
-    """The host and the port at which a server listens with TLS, or None."""
-    for it in server.all("listen"):
-        host, _, port = it.words[1].rpartition(":")
-        if "ssl" in it.words and port.isdigit():
+def listened(server: Directive) -> tuple[str, int] | None:
+    """Returns the host and the port at which a server listens with TLS, or None."""
+    for listen in server.all("listen"):
+        host, _, port = listen.words[1].rpartition(":")
+        if "ssl" in listen.words and port.isdigit():
             return host if host.strip("[]*") not in ("", "0.0.0.0", "::") else "127.0.0.1", int(port)
     return None
 
 
-def answer(server, conf, port, is_down):
+def answer(server: Directive, conf: Directive, port: int | None, is_down: bool) -> Iterator[Cause]:
     """Yields why a server does not answer: nobody listens, its certificate, or what it asks."""
-    host, own = listened(server)
+    host, own = listened(server) or ("127.0.0.1", 443)
     name = (server.values("server_name") or ["localhost"])[0]
     try:
         served, status = healthy(host, own, name)
@@ -166,7 +172,7 @@ def answer(server, conf, port, is_down):
         yield said, f"nginx -T | grep -n 'server_name.*{name}'", ELSEWHERE
 
 
-def healthy(host, port, name):
+def healthy(host: str, port: int, name: str) -> tuple[bytes | None, int]:
     """Asks a server by its name, and returns its certificate and the status of `/healthz`."""
     context = ssl.create_default_context()
     context.check_hostname, context.verify_mode = False, ssl.CERT_NONE
@@ -180,7 +186,7 @@ def healthy(host, port, name):
         return served, reply.status
 
 
-def certificate(server, name, served):
+def certificate(server: Directive, name: str, served: bytes | None) -> Iterator[Cause]:
     """Yields what is wrong with the certificate of a server, beside what it serves, as far as there is an openssl."""
     for file in server.values("ssl_certificate") if shutil.which("openssl") else ():
         mend = f"put a new certificate and its key in their places; {RELOAD}"
@@ -189,7 +195,7 @@ def certificate(server, name, served):
             yield f"openssl cannot read the certificate {file}", mend, CERTIFICATE
             continue
         if status:
-            yield f"the certificate {file} ended on {re.search('notAfter=(.*)', ends)[1]}", mend, CERTIFICATE
+            yield f"the certificate {file} ended on {ends.partition('notAfter=')[2].splitlines()[0]}", mend, CERTIFICATE
         begins = ran("openssl", "x509", "-noout", "-startdate", "-in", file)[1].strip().removeprefix("notBefore=")
         if begins and ssl.cert_time_to_seconds(begins) > time.time():
             yield f"the certificate {file} begins on {begins}", "date; set the clock of this host", CERTIFICATE
@@ -203,27 +209,22 @@ def certificate(server, name, served):
             yield f"nginx serves another certificate than {file}, which it has not read", RELOAD, CERTIFICATE
 
 
-def other_key(server, file):
-    """The file of the key that a server has for the only certificate that it names, if it is another's. nginx does not
+def other_key(server: Directive, file: str) -> str | None:
+    """Returns the file of the key that a server has for the only certificate that it names, if it is another's. nginx does not
     refuse a key of another kind."""
     keys = server.values("ssl_certificate_key")
     if len(keys) != 1 or server.values("ssl_certificate") != [file]:
         return None
-    wanted, found = ran("openssl", "x509", "-noout", "-pubkey", "-in", file), ran(
-        "openssl", "pkey", "-pubout", "-in", *keys
-    )
-    return keys[0] if wanted[1] != found[1] else None
+    wanted = ran("openssl", "x509", "-noout", "-pubkey", "-in", file)[1]
+    return keys[0] if wanted != ran("openssl", "pkey", "-pubout", "-in", *keys)[1] else None
 
 
-def behind(conf, port, is_down):
+def behind(conf: Directive, port: int | None, is_down: bool) -> Iterator[Cause]:
     """Yields why what nginx asks does not answer."""
-    asked = [
-        it.words[1]
-        for upstream in conf.all("upstream")
-        if upstream.words[1].startswith("goshelf")
-        for it in upstream.all("server")
-    ]
-    wrong = [it for it in asked if re.fullmatch(r"127\.0\.0\.1:\d+", it) and not is_heard(int(it.split(":")[1]))]
+    upstreams = [upstream for upstream in conf.all("upstream") if upstream.words[1].startswith("goshelf")]
+    asked = [server.words[1] for upstream in upstreams for server in upstream.all("server")]
+    own = [address for address in asked if re.fullmatch(r"127\.0\.0\.1:\d+", address)]
+    wrong = [address for address in own if not is_heard(int(address.split(":")[1]))]
     if port and wrong and f"127.0.0.1:{port}" not in wrong:
         said = f"nginx asks {wrong[0]}, where nobody listens, and goshelf is at 127.0.0.1:{port}"
         yield said, f"put {port} into the upstream of {PREFIX}/conf.d/goshelf.conf; {RELOAD}", AWAY
@@ -231,13 +232,13 @@ def behind(conf, port, is_down):
         yield f"nginx asks {', '.join(asked)} for goshelf, and gets no answer", "ss -ltnp", AWAY
 
 
-def is_heard(port):
+def is_heard(port: int) -> bool:
     """Whether somebody listens at a port of 127.0.0.1."""
     with socket.socket() as probe:
         return probe.connect_ex(("127.0.0.1", port)) == 0
 
 
-def caches(conf):
+def caches(conf: Directive) -> Iterator[Cause]:
     """Yields the caches that the processes of nginx cannot write, or whose disk is full."""
     worker = (conf.values("user") or ["www-data"])[0]
     try:
@@ -247,7 +248,7 @@ def caches(conf):
     for folder in conf.values("proxy_cache_path"):
         if not os.path.isdir(folder):
             yield f"there is no folder {folder}", f"install -d -o {worker} -m 0700 {folder}; {RELOAD}", UNKEPT
-        elif others := [it.path for it in os.scandir(folder) if it.stat(follow_symlinks=False).st_uid != uid]:
+        elif others := [entry.path for entry in os.scandir(folder) if entry.stat(follow_symlinks=False).st_uid != uid]:
             # (nginx itself takes the folder over when it reads its files, and nothing below it)
             said = f"{worker}, who runs nginx, may not write to {min(others)}"
             yield said, f"chown -R {worker} {folder}", UNKEPT
@@ -255,23 +256,24 @@ def caches(conf):
             yield f"the disk of {folder} is full", f"free space: df {folder}", UNKEPT
 
 
-def names(conf):
+def names(conf: Directive) -> Iterator[Cause]:
     """Yields the name servers of nginx that do not know the public proxy, unless nginx asks nobody else."""
-    if any(it.words[-1] == "nowhere" for it in conf.all("default", "js_var")):
+    if any(directive.words[-1] == "nowhere" for directive in conf.all("default", "js_var")):
         return
-    hosts = {host for it in conf.all() for word in it.words for host in re.findall(r"^([\w.-]+\.[a-z]+):443$", word)}
+    words = {word for directive in conf.all() for word in directive.words}
+    hosts = {found[1] for word in words if (found := re.search(r"^([\w.-]+\.[a-z]+):443$", word))}
     # (nginx's http and its way to the public proxy name one each)
-    for server in sorted({word for it in conf.all("resolver") for word in it.words[1:] if "=" not in word}):
+    for server in sorted({word for found in conf.all("resolver") for word in found.words[1:] if "=" not in word}):
         for host in sorted(hosts):
             if why := unknown(server, host):
                 said = f"the name server {server}, which nginx asks, {why} {host}"
                 yield said, f"put another into `resolver` of nginx's files; {RELOAD}", PUBLIC
 
 
-def unknown(server, host):
-    """Why a name server does not say where a host is, or None."""
+def unknown(server: str, host: str) -> str | None:
+    """Returns why a name server does not say where a host is, or None."""
     number = random.getrandbits(16)
-    labels = b"".join(bytes([len(it)]) + it.encode() for it in host.split("."))
+    labels = b"".join(bytes([len(label)]) + label.encode() for label in host.split("."))
     query = struct.pack(">6H", number, 0x100, 1, 0, 0, 0) + labels + b"\0" + struct.pack(">2H", 1, 1)
     with socket.socket(socket.AF_INET, socket.SOCK_DGRAM) as asked:
         asked.settimeout(3)

@@ -5,6 +5,7 @@ usage: python3 -I front_words.py
 
 import re
 import sys
+from collections.abc import Sequence
 
 sys.dont_write_bytecode = True
 sys.path.insert(0, "/usr/share/goshelf/deploy")
@@ -17,7 +18,7 @@ from words import take  # noqa: E402
 SECOND = re.compile(r"^js_var \$goshelf_others nowhere;", re.M)
 
 
-def main(words):
+def main(words: Sequence[str]) -> int:
     take(__doc__, words)
     try:
         host, is_second = nginx.host(), SECOND.search(nginx.conf())

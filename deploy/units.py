@@ -4,7 +4,7 @@ import re
 import subprocess
 
 
-def shown(unit, name):
+def shown(unit: str, name: str) -> str:
     """Returns a property of a unit, or nothing."""
     words = ["systemctl", "show", "-P", name, unit]
     try:
@@ -13,7 +13,7 @@ def shown(unit, name):
         return ""
 
 
-def port_of(unit):
+def port_of(unit: str) -> int | None:
     """Returns the port of 127.0.0.1 of a unit, which is that of its socket, or None."""
     found = re.search(r":(\d+) \(Stream\)", shown(f"{unit}.socket", "Listen"))
     return int(found[1]) if found else None

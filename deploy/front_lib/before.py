@@ -4,6 +4,7 @@ import json
 import os
 import re
 import subprocess
+from collections.abc import Iterable
 
 from front_lib import files, nginx, people
 from front_lib.files import FOLDER, Refused
@@ -38,7 +39,7 @@ http {
 """
 
 
-def read(name):
+def read(name: str) -> str:
     try:
         with open(name, encoding="utf-8") as file:
             return file.read()
@@ -46,12 +47,12 @@ def read(name):
         raise Refused(f"{name} cannot be read: {error}") from None
 
 
-def is_there():
+def is_there() -> bool:
     """Whether nginx's file is still that of the front with passwords."""
     return os.path.exists(nginx.CONF) and "/users.map;" in read(nginx.CONF)
 
 
-def set_aside():
+def set_aside() -> None:
     """Moves the front with passwords into a folder of its own, which an nginx of its own serves."""
     os.makedirs(PLACE, 0o700, exist_ok=True)
     for name in (*MAPS, "elsewhere.conf", "public.conf"):
@@ -60,37 +61,39 @@ def set_aside():
     files.replace(f"{PLACE}/nginx.conf", NGINX)
     if not os.path.exists(f"{FOLDER}/owners.json"):
         files.write("owners.json", owners())
-    for name in (*(f"{FOLDER}/{it}" for it in (*MAPS, "elsewhere.conf")), nginx.CONF):
+    for name in (*(f"{FOLDER}/{name}" for name in (*MAPS, "elsewhere.conf")), nginx.CONF):
         os.remove(name)
     print(f"moved the front with passwords to {PLACE}: nginx -c {PLACE}/nginx.conf")
 
 
-def edited(text):
+def edited(text: str) -> str:
+    """Returns a file of the front with passwords as it is beside the new one."""
     for old, new in EDITS:
         text = text.replace(old, new)
     return text
 
 
-def owners():
-    """The text of owners.json that says what paths.map says."""
-    found = [PATH_LINE.match(it.strip()) for it in read(f"{PLACE}/paths.map").splitlines()]
-    told = {it[1]: [name for name in it[2].split() if name != "-"] for it in found if it}
-    return "{\n" + ",\n".join(f"    {json.dumps(path)}: {json.dumps(who)}" for path, who in told.items()) + "\n}\n"
+def owners() -> str:
+    """Returns the text of owners.json that says what paths.map says."""
+    found = [PATH_LINE.match(line.strip()) for line in read(f"{PLACE}/paths.map").splitlines()]
+    paths = {words[1]: [shelf for shelf in words[2].split() if shelf != "-"] for words in found if words}
+    lines = (f"    {json.dumps(path)}: {json.dumps(shelves)}" for path, shelves in paths.items())
+    return "{\n" + ",\n".join(lines) + "\n}\n"
 
 
-def users():
-    """The users of users.map: name, shelf and right."""
-    found = [USER_LINE.fullmatch(it.strip()) for it in read(f"{PLACE}/users.map").splitlines()]
-    return [people.checked("users.map: ", it[3], it[4], it[5])[:3] for it in found if it]
+def users() -> list[tuple[str, str, str]]:
+    """Returns the users of users.map: name, shelf and right."""
+    found = [USER_LINE.fullmatch(line.strip()) for line in read(f"{PLACE}/users.map").splitlines()]
+    return [people.checked("users.map: ", words[3], words[4], words[5])[:3] for words in found if words]
 
 
-def drop(name):
+def drop(name: str) -> bool:
     """Removes a user of the front with passwords. Returns whether there was one."""
     if not os.path.exists(f"{PLACE}/users.map"):
         return False
     lines = read(f"{PLACE}/users.map").splitlines(True)
-    found = [(USER_LINE.fullmatch(it.strip()), it) for it in lines]
-    left = [line for it, line in found if not it or it[3] != name]
+    found = [(USER_LINE.fullmatch(line.strip()), line) for line in lines]
+    left = [line for words, line in found if not words or words[3] != name]
     if len(left) == len(lines):
         return False
     files.replace(f"{PLACE}/users.map", "".join(left))
@@ -98,10 +101,12 @@ def drop(name):
     return True
 
 
-def still():
-    """Who logged in by a password of before, and when last."""
-    seen = {}
-    for line in read(LOG).splitlines() if os.path.exists(LOG) and os.path.isdir(PLACE) else ():
+def still() -> list[str]:
+    """Returns who logged in by a password of before, and when last."""
+    seen: dict[str, str] = {}
+    lines: Iterable[str] = read(LOG).splitlines() if os.path.exists(LOG) and os.path.isdir(PLACE) else ()
+    for line in lines:
         time, _, name, *_ = [*line.split(), "", "", ""]
         seen[name] = time
-    return [f"{it} still logs in by a password of before, last at {seen[it]}" for it in sorted(seen) if it > "-"]
+    names = [name for name in sorted(seen) if name > "-"]
+    return [f"{name} still logs in by a password of before, last at {seen[name]}" for name in names]

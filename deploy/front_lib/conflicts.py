@@ -4,6 +4,7 @@ import hashlib
 import os
 import sqlite3
 import urllib.parse
+from collections.abc import Collection, Iterator
 
 from front_lib.files import Refused
 
@@ -14,15 +15,15 @@ CHAINS = """SELECT low.id, high.id, low.path, low.version, low.shelf, high.shelf
     ORDER BY low.path, low.order_key, low.version, low.shelf, high.shelf"""
 
 
-def opened(name):
+def opened(name: str) -> sqlite3.Connection:
     """Opens a copy of a store, read-only."""
     if not os.path.isfile(name):
         raise Refused(f"{name}: no such file")
     return sqlite3.connect(f"file:{urllib.parse.quote(os.path.abspath(name))}?mode=ro", uri=True)
 
 
-def digest(store, number):
-    """The hash of what a version has."""
+def digest(store: sqlite3.Connection, number: int) -> bytes:
+    """Returns the hash of what a version has."""
     [(gomod,)] = store.execute("SELECT mod FROM version WHERE id = ?", (number,))
     found = hashlib.sha256(b"%d " % len(gomod) + gomod)
     for (piece,) in store.execute("SELECT bytes FROM piece WHERE version = ? ORDER BY number", (number,)):
@@ -30,13 +31,13 @@ def digest(store, number):
     return found.digest()
 
 
-def is_ours(path, ours):
+def is_ours(path: str, ours: Collection[str]) -> bool:
     """Whether a path is at or below one of the company's."""
     elements = path.lower().split("/")
-    return any("/".join(elements[:it]) in ours for it in range(1, len(elements) + 1))
+    return any("/".join(elements[:count]) in ours for count in range(1, len(elements) + 1))
 
 
-def found(copy, ours):
+def found(copy: str, ours: Collection[str]) -> Iterator[str]:
     """Yields the versions that have other bytes on two shelves of a chain, and the paths that are not the company's."""
     try:
         store = opened(copy)

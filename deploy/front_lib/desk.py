@@ -4,12 +4,13 @@ import contextlib
 import fcntl
 import os
 import time
-from dataclasses import dataclass
+from collections.abc import Iterator, Mapping
 
 from front_lib import files, people, publishes
 from front_lib.files import Refused
 from front_lib.guard import Forged
 from front_lib.keys import Keys, give, netrc
+from front_lib.page import Key
 
 # keys of one person, and seconds to wait for a goshelf-front that runs
 MOST, WAIT = 10, 30
@@ -19,24 +20,13 @@ BY = "the page"
 class Away(Exception):
     """What the person reads, and the cause, which the log has."""
 
-    def __init__(self, said, cause):
+    def __init__(self, said: str, cause: str) -> None:
         super().__init__(said)
         self.cause = cause
 
 
-@dataclass(frozen=True)
-class Key:
-    """A key as its owner sees it."""
-
-    label: str
-    shelf: str
-    right: str
-    fingerprint: str
-    until: str
-
-
 @contextlib.contextmanager
-def locked():
+def locked() -> Iterator[None]:
     """Lets nobody else change the files meanwhile."""
     lock, end = os.open(files.FOLDER, os.O_RDONLY | os.O_CLOEXEC), time.monotonic() + WAIT
     try:
@@ -54,7 +44,7 @@ def locked():
 
 
 @contextlib.contextmanager
-def or_away(said):
+def or_away(said: str) -> Iterator[None]:
     """Says this to the person if the front fails."""
     try:
         yield
@@ -62,8 +52,8 @@ def or_away(said):
         raise Away(said, str(why)) from None
 
 
-def rights(name):
-    """The rights of a person, by shelf. Refuses whoever has none."""
+def rights(name: str) -> dict[str, tuple[str, str]]:
+    """Returns the rights of a person, by shelf. Refuses whoever has none."""
     with or_away("The files of the front cannot be read. Tell an operator."):
         found = people.rights(name)
     if not found:
@@ -71,19 +61,19 @@ def rights(name):
     return found
 
 
-def keys(name):
-    """The keys of a person that nginx takes."""
+def keys(name: str) -> list[Key]:
+    """Returns the keys of a person that nginx takes."""
     with or_away("The files of the front cannot be read. Tell an operator."):
-        labels = {it.fingerprint: it.label for it in files.names()}
+        labels = {line.fingerprint: line.label for line in files.names()}
     users = files.front().get("users", {}).items()
     return [
-        Key(labels.get(fingerprint) or "", it["shelf"], it["right"], fingerprint, it.get("until", ""))
-        for fingerprint, it in users
-        if it["name"] == name and not it.get("machine") and not files.is_over(it.get("until", ""))
+        Key(labels.get(fingerprint) or "", user["shelf"], user["right"], fingerprint, user.get("until", ""))
+        for fingerprint, user in users
+        if user["name"] == name and not user.get("machine") and not files.is_over(user.get("until", ""))
     ]
 
 
-def make(name, shelf, machine):
+def make(name: str, shelf: str, machine: str) -> tuple[str, str]:
     """Makes a key of a person for a machine. Returns the line for ~/.netrc, and the fingerprint."""
     if not files.is_label(machine):
         said = "1 to 64 characters, none of them a tab, an end of line or one that does not show"
@@ -101,15 +91,17 @@ def make(name, shelf, machine):
         return netrc(name, key), fingerprint
 
 
-def revoke(name, fingerprint):
-    """Ends a key of a person. Returns what became of it."""
+def revoke(name: str, fingerprint: str) -> str:
+    """Ends a key of a person. Returns a sentence that says what became of it."""
     failed = "The key is not revoked everywhere yet. Look again in a minute, and tell an operator if it is still there."
     with locked(), or_away(failed):
         own, held = rights(name), Keys(is_needed=False)
-        gone = [it for it in held.lines if (it.name, it.fingerprint) == (name, fingerprint) and not it.machine]
+        gone = [
+            line for line in held.lines if (line.name, line.fingerprint) == (name, fingerprint) and not line.machine
+        ]
         if not gone or gone[0].is_over():
             raise Forged(404, "You have no such key.")
-        shelf = held.known.get(fingerprint, "-")[0]
+        shelf = held.shelf_of(gone[0])
         keep(name, shelf, own)
         gone[0].until = files.REMOVED
         publishes.note("remove", by=BY, name=name, fingerprint=fingerprint, shelf=shelf)
@@ -122,7 +114,7 @@ def revoke(name, fingerprint):
         return f"The key {fingerprint} is worth nothing from now on."
 
 
-def keep(name, shelf, own):
+def keep(name: str, shelf: str, own: Mapping[str, tuple[str, str]]) -> None:
     """Has the front remember who revokes a key, which may be the person's last."""
     listed = people.last()
     if shelf in own and (name, shelf) not in listed:

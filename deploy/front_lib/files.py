@@ -10,6 +10,8 @@ import os
 import re
 import time
 import unicodedata
+from collections.abc import Iterable, Mapping
+from typing import Any
 
 FOLDER = "/etc/nginx/goshelf"
 NAME_LINE = re.compile(
@@ -27,6 +29,10 @@ HOST = re.compile(r"[a-z0-9-]+(\.[a-z0-9-]+)+")
 ELEMENT = re.compile(r"[a-z0-9_~-]([a-z0-9._~-]*[a-z0-9_~-])?")
 VERSION = re.compile(r"v[0-9][A-Za-z0-9.+-]*")
 FORM = 'not of the form {"PATH": ["SHELF", ..], ..}'
+# the shelves that publish at each path of the company, in small letters
+Owners = dict[str, list[str]]
+# shelf, right and SHA-256, if goshelf prints it, of each key that goshelf has, by its fingerprint
+Known = dict[str, tuple[str, str, str]]
 # a file that is there until nginx has read goshelf.json
 UNREAD = "unread"
 # the last day of a name that was removed, until goshelf has revoked the key
@@ -41,7 +47,8 @@ class BadUsage(Exception):
     """A word that is not one of the usage."""
 
 
-def read(name):
+def read(name: str) -> str:
+    """Returns the text of a file of the folder."""
     try:
         with open(f"{FOLDER}/{name}", encoding="utf-8") as file:
             return file.read()
@@ -49,11 +56,12 @@ def read(name):
         raise Refused(f"{FOLDER}/{name} cannot be read: {error}") from None
 
 
-def write(name, text):
+def write(name: str, text: str) -> None:
+    """Writes a file of the folder."""
     replace(f"{FOLDER}/{name}", text)
 
 
-def replace(name, text, mode=0o600):
+def replace(name: str, text: str, mode: int = 0o600) -> None:
     """Puts a file in the place of another, whole or not at all."""
     if os.path.islink(name):
         raise Refused(f"{name} is a link, and a new file would take its place: put the file itself there")
@@ -66,20 +74,20 @@ def replace(name, text, mode=0o600):
     os.replace(f"{name}.new", name)
 
 
-def now():
+def now() -> datetime.datetime:
     return datetime.datetime.now(datetime.timezone.utc)
 
 
-def day(days):
-    """The day that is so many from now, as names has it."""
+def day(days: int) -> str:
+    """Returns the day that is a number of days from now, as names has it."""
     try:
         return (now().date() + datetime.timedelta(days)).isoformat()
     except OverflowError:
         raise BadUsage(f"--days {days} ends behind all days") from None
 
 
-def last(text, place=""):
-    """A last day or minute, or nothing."""
+def last(text: str, place: str = "") -> str:
+    """Returns a last day or minute, or nothing."""
     for form in ("%Y-%m-%d", "%Y-%m-%dT%H:%M") if text else ():
         with contextlib.suppress(ValueError):
             return datetime.datetime.strptime(text, form).strftime(form)
@@ -88,23 +96,23 @@ def last(text, place=""):
     return ""
 
 
-def is_seen(letter):
+def is_seen(letter: str) -> bool:
     """Whether a character shows something, if only a gap. Controls, marks of direction and halves of others do not."""
     return unicodedata.category(letter) == "Zs" or letter.isprintable() and not UNSEEN.match(letter)
 
 
-def is_name(text, longest=LONGEST_NAME):
+def is_name(text: str, longest: int = LONGEST_NAME) -> bool:
     """Whether a text can be a name, which is one word of a line of a log, in quotes. No two look alike by what does
     not show."""
     return 0 < len(text) <= longest and text == text.strip() and all(map(is_seen, text))
 
 
-def is_label(text):
+def is_label(text: str) -> bool:
     """Whether a text can be what a person calls a machine."""
     return is_name(text, LONGEST_LABEL)
 
 
-def is_over(until):
+def is_over(until: str) -> bool:
     """Whether a last day or minute is over."""
     return bool(until) and until < now().isoformat()[: len(until)]
 
@@ -113,45 +121,50 @@ class Name:
     """A line of names: a key, by its SHA-256 or the 16 digits of it that goshelf prints, whose it is, and what its
     owner calls the machine that has it."""
 
-    def __init__(self, digest, name, until="", machine=None, label=None):
+    def __init__(
+        self, digest: str, name: str, until: str = "", machine: str | None = None, label: str | None = None
+    ) -> None:
         self.digest, self.fingerprint, self.name, self.until = digest, digest[:16], name, until
         self.machine, self.label = machine, label
 
-    def is_over(self):
+    def is_over(self) -> bool:
         return is_over(self.until)
 
-    def line(self):
+    def line(self) -> str:
+        """Returns the line."""
         words = [self.digest, self.name, self.until]
         if self.machine or self.label:
             words.append(self.machine or "")
         return "\t".join([*words, self.label] if self.label else words) + "\n"
 
 
-def names():
-    """The lines of names."""
-    found, seen = [], set()
+def names() -> list[Name]:
+    """Returns the lines of names."""
+    found: list[Name] = []
+    seen: set[str] = set()
     for number, line in enumerate(read("names").split("\n"), 1):
         if not line or line.startswith("#"):
             continue
-        it = NAME_LINE.fullmatch(line)
-        if not it or not WORD.fullmatch(it[2]) or it[5] and not LABEL.fullmatch(it[5]):
+        words = NAME_LINE.fullmatch(line)
+        if not words or not WORD.fullmatch(words[2]) or words[5] and not LABEL.fullmatch(words[5]):
             raise Refused(f"names:{number}: not of the form SHA256<tab>NAME<tab>LAST DAY")
-        last(it[3], f"names:{number}: ")
-        if it[1][:16] in seen:
-            raise Refused(f"names:{number}: {it[1][:16]} has a line already")
-        seen.add(it[1][:16])
-        found.append(Name(*it.groups()))
+        last(words[3], f"names:{number}: ")
+        if words[1][:16] in seen:
+            raise Refused(f"names:{number}: {words[1][:16]} has a line already")
+        seen.add(words[1][:16])
+        found.append(Name(*words.groups()))
     return found
 
 
-def put_names(lines):
-    text = "".join(it.line() for it in lines)
+def put_names(lines: Iterable[Name]) -> None:
+    """Writes names, unless it has these lines."""
+    text = "".join(line.line() for line in lines)
     if text != read("names"):
         write("names", text)
 
 
-def wrong_path(path):
-    """Why a path cannot be the company's, or nothing."""
+def wrong_path(path: str) -> str:
+    """Returns why a path cannot be the company's, or nothing."""
     host, *rest = path.lower().split("/")
     if "!" in path or "%" in path:
         return f"{path} is escaped: write it as in a go.mod"
@@ -160,85 +173,86 @@ def wrong_path(path):
     return ""
 
 
-def wrong_shelves(shelves):
-    """Why a list cannot be that of the shelves that publish at a path, or nothing."""
-    if not isinstance(shelves, list) or not all(isinstance(it, str) for it in shelves):
+def wrong_shelves(shelves: Any) -> str:
+    """Returns why a list cannot be that of the shelves that publish at a path, or nothing."""
+    if not isinstance(shelves, list) or not all(isinstance(shelf, str) for shelf in shelves):
         return FORM
-    if odd := [it for it in shelves if not SHELF.fullmatch(it)]:
+    if odd := [shelf for shelf in shelves if not SHELF.fullmatch(shelf)]:
         return f"{odd[0]!r} is no shelf; [] is a path where nobody publishes"
-    if twice := [it for it in shelves if shelves.count(it) > 1]:
+    if twice := [shelf for shelf in shelves if shelves.count(shelf) > 1]:
         return f"{twice[0]} is listed twice"
     return ""
 
 
-def owner_faults(text):
-    """The faults of the text of owners.json."""
+def owner_faults(text: str) -> list[str]:
+    """Returns the faults of the text of owners.json."""
     try:
-        told = json.loads(text, object_pairs_hook=list)
+        pairs = json.loads(text, object_pairs_hook=list)
     except ValueError as error:
         return [str(error)]
-    if not isinstance(told, list) or not told:
+    if not isinstance(pairs, list) or not pairs:
         return ["it names no path, so every module would be public"]
-    if not all(isinstance(it, tuple) for it in told):
+    if not all(isinstance(pair, tuple) for pair in pairs):
         return [FORM]
-    paths = [path.lower() for path, _ in told]
-    found = [(path, why) for path, shelves in told for why in (wrong_path(path), wrong_shelves(shelves)) if why]
-    found += [(path, "it is there twice") for at, (path, _) in enumerate(told) if path.lower() in paths[:at]]
+    paths = [path.lower() for path, _ in pairs]
+    found = [(path, why) for path, shelves in pairs for why in (wrong_path(path), wrong_shelves(shelves)) if why]
+    found += [(path, "it is there twice") for at, (path, _) in enumerate(pairs) if path.lower() in paths[:at]]
     return [why if "module path" in why or "escaped" in why else f"{path}: {why}" for path, why in found]
 
 
-def owners():
-    """The company's paths in small letters, and the shelves that publish there."""
+def owners() -> Owners:
+    """Returns the company's paths, and the shelves that publish there."""
     text = read("owners.json")
     if faults := owner_faults(text):
-        raise Refused("\ngoshelf-front: ".join(f"owners.json: {it}" for it in faults))
+        raise Refused("\ngoshelf-front: ".join(f"owners.json: {fault}" for fault in faults))
     return {path.lower(): shelves for path, shelves in json.loads(text).items()}
 
 
-def taken_out():
-    """Each version that was taken out: path, version, and the shelves, or none for all."""
+def taken_out() -> list[tuple[str, str, list[str]]]:
+    """Returns each version that was taken out: path, version, and the shelves, or none for all."""
     try:
-        lines = [it.split() for it in read("taken-out").split("\n") if it and not it.startswith("#")]
+        lines = [line.split() for line in read("taken-out").split("\n") if line and not line.startswith("#")]
     except Refused:
         if os.path.exists(f"{FOLDER}/taken-out"):
             raise
         return []
-    if wrong := [it for it in lines if len(it) < 2]:
+    if wrong := [words for words in lines if len(words) < 2]:
         raise Refused(f"taken-out: not of the form PATH VERSION SHELF..: {' '.join(wrong[0])}")
     return [(path, version, shelves) for path, version, *shelves in lines]
 
 
-def target_of(path, version):
-    """The target of a version, without the end of a file's name."""
-    return re.sub("[A-Z]", lambda it: "!" + it[0].lower(), f"/{path}/@v/{version}")
+def target_of(path: str, version: str) -> str:
+    """Returns the target of a version, without the end of a file's name."""
+    return re.sub("[A-Z]", lambda letter: "!" + letter[0].lower(), f"/{path}/@v/{version}")
 
 
-def front():
-    """What nginx has now, or nothing."""
+def front() -> dict[str, Any]:
+    """Returns what nginx has now, or nothing."""
     try:
         return json.loads(read("goshelf.json"))
     except (Refused, ValueError):
         return {}
 
 
-def put_front(told):
-    write("goshelf.json", json.dumps(told, ensure_ascii=False, indent=1) + "\n")
+def put_front(settings: Mapping[str, Any]) -> None:
+    """Writes what nginx is to have."""
+    write("goshelf.json", json.dumps(settings, ensure_ascii=False, indent=1) + "\n")
 
 
-def user_of(it, shelf, right, digest):
-    """A key as nginx knows it."""
-    digest = digest or (it.digest if len(it.digest) == 64 else "")
-    more = {"sha256": digest, "until": it.until, "machine": bool(it.machine)}
-    return {"name": it.name, "shelf": shelf, "right": right, **{key: value for key, value in more.items() if value}}
+def user_of(line: Name, shelf: str, right: str, digest: str) -> dict[str, Any]:
+    """Returns a key as nginx knows it."""
+    digest = digest or (line.digest if len(line.digest) == 64 else "")
+    more = {"sha256": digest, "until": line.until, "machine": bool(line.machine)}
+    return {"name": line.name, "shelf": shelf, "right": right, **{key: value for key, value in more.items() if value}}
 
 
-def made(lines, known, paths, generation=None):
-    """The new goshelf.json: names, the keys of goshelf, the company's paths and what was taken out."""
+def made(lines: Iterable[Name], known: Known, paths: Owners, generation: int | None = None) -> dict[str, Any]:
+    """Returns the new goshelf.json: names, the keys of goshelf, the company's paths and what was taken out."""
     before, users = front(), {}
-    for it in lines:
-        if it.fingerprint in known and not it.is_over():
-            users[it.fingerprint] = user_of(it, *known[it.fingerprint])
-    told = {
+    for line in lines:
+        if line.fingerprint in known and not line.is_over():
+            users[line.fingerprint] = user_of(line, *known[line.fingerprint])
+    settings = {
         "serial": before.get("serial", 0),
         "generation": generation or before.get("generation", 1),
         "deepest": max(path.count("/") + 1 for path in paths),
@@ -246,10 +260,10 @@ def made(lines, known, paths, generation=None):
         "users": users,
     }
     if gone := taken_out():
-        told["gone"] = {target_of(path, version): shelves for path, version, shelves in gone}
+        settings["gone"] = {target_of(path, version): shelves for path, version, shelves in gone}
     if os.path.exists(f"{FOLDER}/before/users.map"):
-        told["before"] = True
-    if told != before:
+        settings["before"] = True
+    if settings != before:
         now_ms = time.time_ns() // 1_000_000
-        told["serial"] = now_ms + (now_ms == told["serial"])
-    return told
+        settings["serial"] = now_ms + (now_ms == settings["serial"])
+    return settings

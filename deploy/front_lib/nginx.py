@@ -10,6 +10,8 @@ import ssl
 import subprocess
 import sys
 import time
+from collections.abc import Iterator, Mapping
+from typing import Any
 
 import doctor_nginx
 from front_lib import files, logs
@@ -26,7 +28,8 @@ SAYS = "127.0.0.1:8445"
 LIMIT, ROW = 20, 15
 
 
-def conf():
+def conf() -> str:
+    """Returns nginx's file."""
     try:
         with open(CONF, encoding="utf-8") as file:
             return file.read()
@@ -34,14 +37,14 @@ def conf():
         raise Refused(f"{CONF} cannot be read: {error.strerror}") from None
 
 
-def host():
-    """The name of the host in nginx's file, for a line of ~/.netrc."""
+def host() -> str:
+    """Returns the name of the host in nginx's file, for a line of ~/.netrc."""
     found = re.search(r"listen [^;]*\bssl\b[^;]*;\s*(?:listen [^;]*;\s*)*server_name\s+([\w.-]+)", conf())
     return found[1] if found else "HOST"
 
 
-def said():
-    """The number of the goshelf.json that a process of nginx has read, or nothing."""
+def said() -> str:
+    """Returns the number of the goshelf.json that a process of nginx has read, or nothing."""
     conn = http.client.HTTPConnection(SAYS, timeout=5)
     try:
         conn.request("GET", "/")
@@ -52,7 +55,7 @@ def said():
         conn.close()
 
 
-def wait(serial):
+def wait(serial: int) -> None:
     """Waits until each process of nginx that takes connections has read the goshelf.json of a number."""
     begun, row = time.monotonic(), 0
     while row < ROW:
@@ -62,24 +65,24 @@ def wait(serial):
         time.sleep(0.02)
 
 
-def logs_of(text):
-    """The logs that nginx's file names."""
+def logs_of(text: str) -> list[str]:
+    """Returns the logs that nginx's file names."""
     return sorted(set(re.findall(r"^\s*(?:access|error)_log\s+(/(?!dev/)\S+?)[\s;]", text, re.M)))
 
 
-def make_logs():
+def make_logs() -> list[str]:
     """Makes the logs that are missing, before nginx makes them for all to read. Returns those."""
     return logs.make(logs_of(conf())) if os.path.exists(CONF) else []
 
 
-def refusal():
-    """Why nginx refuses its files, or nothing."""
+def refusal() -> str:
+    """Returns why nginx refuses its files, or nothing."""
     make_logs()
     tried = subprocess.run(["nginx", "-q", "-t"], capture_output=True, text=True)
     return (tried.stderr.strip() or "it says no more") if tried.returncode else ""
 
 
-def reload(serial):
+def reload(serial: int) -> None:
     """Has nginx read goshelf.json, and waits until it obeys."""
     if why := refusal():
         raise Refused(f"goshelf.json is written, but nginx refuses its files and goes on by the old ones:\n{why}")
@@ -90,8 +93,8 @@ def reload(serial):
     os.remove(f"{FOLDER}/{files.UNREAD}")
 
 
-def certificate_faults(text):
-    """What is wrong with the certificate of nginx's file."""
+def certificate_faults(text: str) -> list[str]:
+    """Returns what is wrong with the certificate of nginx's file."""
     named = re.search(r"ssl_certificate\s+([^;\s]+);", text)
     if not named:
         return [f"{CONF} names no certificate"]
@@ -105,13 +108,13 @@ def certificate_faults(text):
     return found + ([f"{named[1]} is not for {host()}"] if "NOT match" in matches else [])
 
 
-def x509(name, *words):
-    """What openssl says of a certificate."""
+def x509(name: str, *words: str) -> str:
+    """Returns what openssl says of a certificate."""
     return subprocess.run(["openssl", "x509", "-noout", "-in", name, *words], capture_output=True, text=True).stdout
 
 
-def folder_faults(text):
-    """Which caches have no room, and which logs others may read. (nginx itself makes a cache that is not there.)"""
+def folder_faults(text: str) -> Iterator[str]:
+    """Yields which caches have no room, and which logs others may read. (nginx itself makes a cache that is not there.)"""
     for name, count, unit in re.findall(r"^proxy_cache_path\s+(\S+)\s.*min_free=(\d+)([mg])", text, re.M):
         room = int(count) << {"m": 20, "g": 30}[unit]
         if os.path.isdir(name) and shutil.disk_usage(name).free < room:
@@ -121,13 +124,13 @@ def folder_faults(text):
             yield f"others than root and its group may read {name}: chmod 640 {name}"
 
 
-def is_asked_outside(text):
+def is_asked_outside(text: str) -> bool:
     """Whether nginx asks the public proxy."""
     return bool(re.search(r"^js_var \$goshelf_others public;", text, re.M))
 
 
-def port_faults(text):
-    """Which addresses nobody listens on that nginx asks: its own way out, and each goshelf."""
+def port_faults(text: str) -> Iterator[str]:
+    """Yields which addresses nobody listens on that nginx asks: its own way out, and each goshelf."""
     asked = re.findall(r"^upstream goshelf[\w-]* \{\s*server ([\w.:-]+);", text, re.M)
     way = [WAY] if is_asked_outside(text) else []
     for address in (*asked, *way):
@@ -138,8 +141,8 @@ def port_faults(text):
             yield f"nobody answers at {address}, which nginx asks: {error.strerror or error}"
 
 
-def name_faults(text):
-    """Which name server of nginx's files does not know the public proxy, if nginx asks it."""
+def name_faults(text: str) -> Iterator[str]:
+    """Yields which name server of nginx's files does not know the public proxy, if nginx asks it."""
     if not is_asked_outside(text):
         return
     try:
@@ -148,38 +151,39 @@ def name_faults(text):
     except OSError as error:
         yield f"{STREAM} cannot be read: {error.strerror}"
         return
-    host = re.search(r"^\s*set \$goshelf_public ([\w.-]+\.[a-z]+):\d+;", stream, re.M)
-    for server in sorted({*re.findall(r"^\s*resolver (\S+) ", f"{text}\n{stream}", re.M)} if host else ()):
-        if why := doctor_nginx.unknown(server, host[1]):
-            yield f"the name server {server}, which nginx asks, {why} {host[1]}"
+    found = re.search(r"^\s*set \$goshelf_public ([\w.-]+\.[a-z]+):\d+;", stream, re.M)
+    if not found:
+        return
+    for server in sorted({*re.findall(r"^\s*resolver (\S+) ", f"{text}\n{stream}", re.M)}):
+        if why := doctor_nginx.unknown(server, found[1]):
+            yield f"the name server {server}, which nginx asks, {why} {found[1]}"
 
 
-def clock_faults(told):
-    """A clock that was set back lets keys live whose last day is over."""
-    if told.get("serial", 0) > time.time() * 1000 + 60_000:
+def clock_faults(settings: Mapping[str, Any]) -> list[str]:
+    """Returns that the clock was set back, by which keys live whose last day is over."""
+    if settings.get("serial", 0) > time.time() * 1000 + 60_000:
         return ["the clock of this host is behind the last change of goshelf.json: last days count by it"]
     return []
 
 
-def page_faults():
-    """Which locations of goshelf-keys let a caller name a person: one needs auth_request, which alone says who it is,
+def page_faults() -> Iterator[str]:
+    """Yields which locations of goshelf-keys let a caller name a person: one needs auth_request, which alone says who it is,
     or else to take nobody but the company's proxy."""
     for name in sorted(glob.glob(f"{FOLDER}/login*.conf")):
         with open(name, encoding="utf-8", errors="replace") as file:
             found = doctor_nginx.Directive([], doctor_nginx.parsed(file.read()))
-        for it in found.all("location"):
-            held = {tuple(one.words) for one in it.block}
-            sets = {one.words[0] for one in it.block if one.words[1:2] == ["$goshelf_name"]}
-            is_asked = any(one[0] == "auth_request" and one[1] != "off" for one in held) and sets == {
-                "auth_request_set"
-            }
+        for location in found.all("location"):
+            held = {tuple(directive.words) for directive in location.block}
+            sets = {directive.words[0] for directive in location.block if directive.words[1:2] == ["$goshelf_name"]}
+            asks = any(words[0] == "auth_request" and words[1] != "off" for words in held)
+            is_asked = asks and sets == {"auth_request_set"}
             is_closed = ("deny", "all") in held and ("satisfy", "any") not in held
             if ("include", f"{FOLDER}/keys.conf") in held and not is_asked and not is_closed:
-                yield f"{name}: anybody may name a person at {it.words[-1]}: docs/NGINX.md has its two forms"
+                yield f"{name}: anybody may name a person at {location.words[-1]}: docs/NGINX.md has its two forms"
 
 
-def faults():
-    """What is wrong with nginx's side of the front, apart from names and paths."""
+def faults() -> list[str]:
+    """Returns what is wrong with nginx's side of the front, apart from names and paths."""
     try:
         text = conf()
     except Refused as why:

@@ -2,25 +2,26 @@
 
 import re
 import subprocess
+from collections.abc import Iterator, Mapping
 
-from front_lib.files import Refused
+from front_lib.files import Known, Refused
 
 SETTINGS = "/etc/default/goshelf"
 UNITS = re.compile(r"GOSHELF_UNITS=(['\"]?)([a-z0-9 -]+)\1")
 KEY = re.compile(r"[a-z0-9]{16,64}")
 
 
-def units():
-    """The units of the goshelfs: one, or a shard each."""
+def units() -> list[str]:
+    """Returns the units of the goshelfs: one, or a shard each."""
     try:
         with open(SETTINGS, encoding="utf-8") as file:
-            found = [UNITS.fullmatch(it.strip()) for it in file]
+            found = [UNITS.fullmatch(line.strip()) for line in file]
     except OSError:
         found = []
-    return next((it[2].split() for it in reversed(found) if it), ["goshelf"])
+    return next((words[2].split() for words in reversed(found) if words), ["goshelf"])
 
 
-def order(unit, command, *words):
+def order(unit: str, command: str, *words: str) -> tuple[str, str]:
     """Gives a goshelf an order. Returns what it prints, and the word of its refusal or nothing."""
     ran = subprocess.run(
         ["goshelf", command, "--control", f"/run/{unit}/control", *words], capture_output=True, text=True
@@ -29,8 +30,8 @@ def order(unit, command, *words):
     return ran.stdout, "" if ran.returncode == 0 else word
 
 
-def listed(command):
-    """The words of each line that each goshelf prints of an order, with its unit."""
+def listed(command: str) -> Iterator[tuple[str, list[str]]]:
+    """Yields the unit and the words of each line that each goshelf prints of an order."""
     for unit in units():
         printed, word = order(unit, command)
         if word:
@@ -40,29 +41,29 @@ def listed(command):
         yield from ((unit, line.split()) for line in printed.splitlines())
 
 
-def keys(named):
-    """The keys of goshelf: shelf, right, and the SHA-256 where goshelf prints it, by fingerprint. `named` has the
+def keys(named: Mapping[str, str]) -> Known:
+    """Returns the keys of goshelf: shelf, right, and the SHA-256 where goshelf prints it, by fingerprint. `named` has the
     SHA-256 of names, or 16 digits of it, by fingerprint too: another key with such a fingerprint is left out."""
-    found = {}
+    found: dict[str, tuple[str, str, str] | None] = {}
     for _, (shelf, right, fingerprint, *digest) in listed("key-list"):
-        told = shelf, right, "".join(digest[:1])
-        if told[2] and not told[2].startswith(named.get(fingerprint, "")):
+        key = shelf, right, "".join(digest[:1])
+        if key[2] and not key[2].startswith(named.get(fingerprint, "")):
             continue
         # two keys with one fingerprint are nobody's, unless they are one key at two shards
-        found[fingerprint] = told if found.get(fingerprint, told) == told else None
-    return {it: told for it, told in found.items() if told}
+        found[fingerprint] = key if found.get(fingerprint, key) == key else None
+    return {fingerprint: key for fingerprint, key in found.items() if key}
 
 
-def shelves():
-    """The unit of each shelf. That of common is the first."""
-    found = {}
+def shelves() -> dict[str, str]:
+    """Returns the unit of each shelf. That of common is the first."""
+    found: dict[str, str] = {}
     for unit, (name, *_) in listed("shelf-list"):
         found.setdefault(name, unit)
     return found
 
 
-def new_key(shelf, right):
-    """Has the goshelf of a shelf make a key."""
+def new_key(shelf: str, right: str) -> str:
+    """Has the goshelf of a shelf make a key, and returns it."""
     unit = shelves().get(shelf)
     if not unit:
         raise Refused(f"there is no shelf {shelf!r}")
@@ -73,7 +74,7 @@ def new_key(shelf, right):
     return key
 
 
-def revoke(digits):
+def revoke(digits: str) -> str:
     """Has each goshelf revoke the key with a SHA-256 or a fingerprint. Returns why one still has it, or nothing."""
     words = [order(unit, "key-revoke", "--fingerprint", digits)[1] for unit in units()]
-    return next((it for it in words if it not in ("", "no-key")), "")
+    return next((word for word in words if word not in ("", "no-key")), "")

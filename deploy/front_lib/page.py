@@ -2,6 +2,8 @@
 
 import base64
 import hashlib
+from collections.abc import Mapping, Sequence
+from dataclasses import dataclass
 from html import escape
 
 from front_lib.files import LONGEST_LABEL
@@ -27,40 +29,56 @@ TOP = "/keys/"
 HEADS = ("Machine", "Shelf", "Right", "Fingerprint", "Last day", "")
 
 
-def whole(title, body):
+@dataclass(frozen=True)
+class Key:
+    """A key as its owner sees it."""
+
+    label: str
+    shelf: str
+    right: str
+    fingerprint: str
+    until: str
+
+
+def whole(title: str, body: str) -> str:
+    """Returns a page."""
     head = f'<meta charset="utf-8"><meta name="viewport" content="width=device-width"><title>{escape(title)}</title>'
     return f'<!DOCTYPE html><html lang="en"><head>{head}<style>{STYLE}</style></head><body>{body}</body></html>\n'
 
 
-def form(action, token, body, **hidden):
+def form(action: str, token: str, body: str, **hidden: str) -> str:
+    """Returns a form with hidden fields."""
     fields = "".join(
-        f'<input type="hidden" name="{it}" value="{escape(text)}">' for it, text in {"token": token, **hidden}.items()
+        f'<input type="hidden" name="{name}" value="{escape(text)}">'
+        for name, text in {"token": token, **hidden}.items()
     )
     return f'<form method="post" action="{TOP}{action}">{fields}{body}</form>'
 
 
-def row(key, token):
-    """A key that a person has."""
-    told = [key.label or "-", key.shelf, key.right, key.fingerprint, key.until or "-"]
+def row(key: Key, token: str) -> str:
+    """Returns a key that a person has, as a row of the table."""
+    words = [key.label or "-", key.shelf, key.right, key.fingerprint, key.until or "-"]
     button = f'<button aria-label="Revoke {escape(key.fingerprint)}">Revoke</button>'
-    cells = [*map(escape, told), form("revoke", token, button, fingerprint=key.fingerprint)]
-    return f'<tr>{"".join(f"<td>{it}</td>" for it in cells)}</tr>'
+    cells = [*(escape(word) for word in words), form("revoke", token, button, fingerprint=key.fingerprint)]
+    return f'<tr>{"".join(f"<td>{cell}</td>" for cell in cells)}</tr>'
 
 
-def makes(shelf, right, until, token):
-    """A form that makes a key of a shelf."""
+def makes(shelf: str, right: str, until: str, token: str) -> str:
+    """Returns a form that makes a key of a shelf."""
     until = f", until {until}" if until else ""
     label = f"A key that may {right} on <b>{escape(shelf)}</b>{escape(until)}, for the machine "
     field = f'<input name="machine" maxlength="{LONGEST_LABEL}" required autocomplete="off">'
     return form("make", token, f"<label>{label}{field}</label> <button>Make a key</button>", shelf=shelf)
 
 
-def listing(host, name, keys, rights, most, token):
-    """A person's keys, and forms that make one and revoke one."""
-    rows = "".join(row(it, token) for it in keys)
-    heads = "".join(f"<th>{it}</th>" for it in HEADS)
+def listing(
+    host: str, name: str, keys: Sequence[Key], rights: Mapping[str, tuple[str, str]], most: int, token: str
+) -> str:
+    """Returns the page of a person's keys, with forms that make one and revoke one."""
+    rows = "".join(row(key, token) for key in keys)
+    heads = "".join(f"<th>{head}</th>" for head in HEADS)
     table = f"<table><tr>{heads}</tr>{rows}</table>" if rows else "<p>You have none.</p>"
-    forms = "".join(makes(shelf, *what, token) for shelf, what in sorted(rights.items()))
+    forms = "".join(makes(shelf, right, until, token) for shelf, (right, until) in sorted(rights.items()))
     if len(keys) >= most:
         forms = f"<p>You have {len(keys)} keys, the most that one person may have. Revoke one to make another.</p>"
     said = f"A key is the password for <code>https://{escape(host)}</code>, in the file <code>~/.netrc</code>."
@@ -68,14 +86,14 @@ def listing(host, name, keys, rights, most, token):
     return whole(f"Keys of {name}", text)
 
 
-def shown(line, machine, fingerprint):
-    """A new key, which no other page shows."""
+def shown(line: str, machine: str, fingerprint: str) -> str:
+    """Returns the page of a new key, which no other page shows."""
     place = f"the file <code>~/.netrc</code> of {escape(machine)}, which only you may read"
     text = f"<h1>A new key</h1><p>Put this line into {place}. <b>It is shown only now.</b></p><pre>{escape(line)}</pre>"
     text += f"<p>Its fingerprint is <code>{fingerprint}</code>.</p>"
     return whole("A new key", f'{text}<p><a href="{TOP}">All keys</a></p>')
 
 
-def note(title, said):
-    """A sentence."""
+def note(title: str, said: str) -> str:
+    """Returns the page of a sentence."""
     return whole(title, f'<h1>{escape(title)}</h1><p>{escape(said)}</p><p><a href="{TOP}">All keys</a></p>')

@@ -3,17 +3,21 @@
 import csv
 import io
 import os
+from collections.abc import Mapping
+from typing import TextIO
 
 from front_lib import files
 from front_lib.files import Refused
 
+# right and last day, by name and shelf
+People = dict[tuple[str, str], tuple[str, str]]
 RIGHTS = ("read", "publish")
 # the people of the last list, in its form
 LAST = f"{files.FOLDER}/people"
 
 
-def checked(place, name, shelf, right, until=""):
-    """The words of a person, if they are of their forms."""
+def checked(place: str, name: str, shelf: str, right: str, until: str = "") -> tuple[str, str, str, str]:
+    """Returns the words of a person. Refuses those that are not of their forms."""
     if not files.is_name(name):
         said = "1 to 128 characters, none of them a tab, an end of line or one that does not show"
         raise Refused(f"{place}a name has {said}: {name!a}")
@@ -24,24 +28,24 @@ def checked(place, name, shelf, right, until=""):
     return name, shelf, right, files.last(until, place)
 
 
-def listed(name):
-    """The people of a file, at least one: right and last day, by name and shelf."""
+def listed(name: str) -> People:
+    """Returns the people of a file, at least one."""
     found = read(name)
     if not found:
         raise Refused(f"{name} names nobody")
     return found
 
 
-def read(name):
-    """The people of a file."""
+def read(name: str) -> People:
+    """Returns the people of a file."""
     try:
         with open(name, encoding="utf-8-sig", newline="") as file:
             rows = list(enumerate(csv.reader(file, strict=True), 1))
     except (OSError, UnicodeDecodeError, csv.Error) as error:
         raise Refused(f"{name} cannot be read: {error}") from None
-    found = {}
+    found: People = {}
     for number, row in rows:
-        words = [it.strip() for it in row]
+        words = [word.strip() for word in row]
         if not any(words) or words[0].startswith("#"):
             continue
         if not 3 <= len(words) <= 4:
@@ -53,23 +57,23 @@ def read(name):
     return found
 
 
-def last():
-    """The people of the last list, and who revoked a key since."""
+def last() -> People:
+    """Returns the people of the last list, and who revoked a key since."""
     return read(LAST) if os.path.exists(LAST) else {}
 
 
-def keep(people):
+def keep(people: Mapping[tuple[str, str], tuple[str, str]]) -> None:
     """Writes who may have keys, also those who have none."""
     text = io.StringIO()
     csv.writer(text, lineterminator="\n").writerows((*who, *what) for who, what in people.items())
     files.replace(LAST, text.getvalue())
 
 
-def is_listed(name):
-    return any(it == name for it, _ in last())
+def is_listed(name: str) -> bool:
+    return any(person == name for person, _ in last())
 
 
-def drop(name):
+def drop(name: str) -> bool:
     """Removes a name from the last list. Returns whether it was there."""
     people = last()
     left = {who: what for who, what in people.items() if who[0] != name}
@@ -79,18 +83,19 @@ def drop(name):
     return True
 
 
-def rights(name):
-    """What a person may have keys for: right and last day, by shelf. The last list counts, then the person's keys."""
-    found = {}
-    for it in files.front().get("users", {}).values():
-        told = it["right"], it.get("until", "")
-        if it["name"] == name and not it.get("machine"):
-            found[it["shelf"]] = max(told, found.get(it["shelf"], told), key=lambda it: it[1] or "9")
+def rights(name: str) -> dict[str, tuple[str, str]]:
+    """Returns what a person may have keys for: right and last day, by shelf. The last list counts, then the person's
+    keys."""
+    found: dict[str, tuple[str, str]] = {}
+    for user in files.front().get("users", {}).values():
+        own = user["right"], user.get("until", "")
+        if user["name"] == name and not user.get("machine"):
+            found[user["shelf"]] = max(own, found.get(user["shelf"], own), key=lambda right: right[1] or "9")
     found.update({shelf: what for (who, shelf), what in last().items() if who == name})
     return {shelf: what for shelf, what in found.items() if not files.is_over(what[1])}
 
 
-def new_file(name):
+def new_file(name: str) -> TextIO:
     """Opens a new file that only its owner reads, for lines of ~/.netrc."""
     try:
         return os.fdopen(os.open(name, os.O_WRONLY | os.O_CREAT | os.O_EXCL, 0o600), "w", encoding="utf-8")

@@ -1,7 +1,9 @@
 """Puts the files of deploy/nginx in their places, and makes the folders and logs that nginx needs."""
 
+import argparse
 import os
 import re
+from collections.abc import Iterable
 
 from front_lib import before, files, logs, nginx, publishes
 from front_lib.files import FOLDER, Refused
@@ -17,7 +19,8 @@ EMPTY = '{"users": {}}\n'
 HOST = re.compile(r"[a-z0-9-]+(\.[a-z0-9-]+)*")
 
 
-def source(name):
+def source(name: str) -> str:
+    """Returns the text of a file of deploy."""
     try:
         with open(f"{DEPLOY}/{name}", encoding="utf-8") as file:
             return file.read()
@@ -25,7 +28,7 @@ def source(name):
         raise Refused(f"{DEPLOY}/{name} cannot be read: {error.strerror}") from None
 
 
-def own(name, text):
+def own(name: str, text: str) -> None:
     """Writes a file of the host's own, unless it is there."""
     if os.path.exists(name):
         print(f"kept {name}")
@@ -34,8 +37,8 @@ def own(name, text):
     print(f"made {name}")
 
 
-def with_name_server(text):
-    """A file of nginx with the name server of this host."""
+def with_name_server(text: str) -> str:
+    """Returns a file of nginx with the name server of this host."""
     try:
         with open(NAME_SERVERS, encoding="utf-8") as file:
             found = re.search(r"^nameserver\s+([\d.]+)\s*$", file.read(), re.M)
@@ -44,8 +47,8 @@ def with_name_server(text):
     return text.replace("resolver 127.0.0.53 ", f"resolver {found[1]} ") if found else text
 
 
-def conf(host, first):
-    """goshelf.conf of a host, or of one that is warm beside the first."""
+def conf(host: str, first: str | None) -> str:
+    """Returns goshelf.conf of a host, or of one that is warm beside the first."""
     text = source("nginx/goshelf.conf")
     if first:
         above = re.sub(r"(?m)^proxy_cache_path .*keys_zone=goshelf:.*\n", "", text[: text.index("\nserver {") + 1])
@@ -53,17 +56,17 @@ def conf(host, first):
     return with_name_server(text.replace("shelf.example.com", first or host))
 
 
-def owners(words):
-    """The text of owners.json for words PATH=SHELF,SHELF."""
-    pairs = [it.partition("=") for it in words]
-    lines = [f'    "{path}": [{", ".join(f"{it!r}" for it in who.split(",") if it)}]' for path, _, who in pairs]
-    text = "{\n" + ",\n".join(lines).replace("'", '"') + "\n}\n"
+def owners(words: Iterable[str]) -> str:
+    """Returns the text of owners.json for words PATH=SHELF,SHELF."""
+    pairs = [word.partition("=") for word in words]
+    lists = [(path, ", ".join(f"{shelf!r}" for shelf in shelves.split(",") if shelf)) for path, _, shelves in pairs]
+    text = "{\n" + ",\n".join(f'    "{path}": [{shelves}]' for path, shelves in lists).replace("'", '"') + "\n}\n"
     if faults := files.owner_faults(text):
         raise Refused("\ngoshelf-front: ".join(faults))
     return text
 
 
-def folders():
+def folders() -> None:
     """Makes nginx's caches and logs, before nginx makes the logs for all to read."""
     user, _ = logs.owner()
     for name in CACHES:
@@ -75,11 +78,12 @@ def folders():
     print(f"{publishes.LOG} is {f'not append-only: {why}' if why else 'append-only from now on: chattr -a undoes it'}")
 
 
-def set_up(words):
+def set_up(words: argparse.Namespace) -> None:
     """Puts all in place."""
-    for it in filter(None, (words.host, words.warm)):
-        if not HOST.fullmatch(it):
-            raise Refused(f"{it!r} is not the name of a host")
+    hosts: list[str] = [host for host in (words.host, words.warm) if host]
+    for host in hosts:
+        if not HOST.fullmatch(host):
+            raise Refused(f"{host!r} is not the name of a host")
     text = owners(words.paths) if words.paths else ""
     if before.is_there():
         before.set_aside()

@@ -167,7 +167,7 @@ def hostile(suite):
 
 def stamp(folder):
     """What the foot of the pages says of their age: the moment and the number of versions."""
-    form = r'\.made::after \{ content: " Made at (.+) of ([\d,]+) versions?\."; \}\n'
+    form = r'\.made::after \{ content: " Made at (.+) of ([\d,]+) versions?\."; \}\n(\.findings::after .*\n)?'
     found = re.fullmatch(form, read(f"{folder}/parts/made.css").decode())
     return found and (found[1], found[2])
 

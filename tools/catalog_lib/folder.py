@@ -1,4 +1,9 @@
-"""The folder of a shelf: made anew beside the old one, with its files that did not change, and swapped by a rename."""
+"""The folder of a shelf: made anew beside the old one, with its files that did not change, and swapped by a rename.
+
+A folder of many files has a spare beside it, which holds the same files. The next run changes the spare where pages
+change, swaps the two, and then brings the other one up to date: it touches no other file.
+"""
+import contextlib
 import fcntl
 import json
 import os
@@ -11,15 +16,23 @@ from catalog_lib.lines import Refused
 
 # the file in each folder made here that says of what it was made
 MADE = ".made"
-# the style that says at the foot of each page how old it is: a page that did not change stays the same file
+# the style that says on each page how old it is and how much needs attention: a page that did not change stays the same
+# file
 STAMP = "parts/made.css"
+# a folder of as many files has a spare
+SPARE_LEAST = 2_000
 
 
-def stamped(versions):
-    """The style that says when the pages were made, and of how many versions."""
+def stamped(versions, findings):
+    """Returns the style that says when the pages were made, of how many versions, and how many findings there are."""
     now = datetime.now(timezone.utc).strftime("%Y-%m-%d %H:%M")
     words = f"Made at {now} of {versions:,} {'version' if versions == 1 else 'versions'}."
-    return f'.made::after {{ content: " {words}"; }}\n'
+    style = f'.made::after {{ content: " {words}"; }}\n'
+    if not findings:
+        return style
+    # (the second form says to a screen reader what the number is)
+    badge, spoken = f"{findings:,}", f" {findings:,} {'finding' if findings == 1 else 'findings'}"
+    return f'{style}.findings::after {{ content: "{badge}"; content: "{badge}" / "{spoken}"; }}\n'
 
 
 class Folder:
@@ -29,7 +42,9 @@ class Folder:
         self.at = os.path.abspath(at)
         self.parent, self.name = os.path.split(self.at)
         self.made = re.compile(re.escape(f".{self.name}.") + "[0-9a-f]{16}")
-        self.new = self.old = None
+        self.new = self.old = self.spare = None
+        # the files of the pages, and those among them that differ from the folder of the last run
+        self.names, self.changed = [], []
 
     def lock(self):
         """Takes the lock of the folder, refuses names that are something else, and removes what killed runs left."""
@@ -41,6 +56,7 @@ class Folder:
         except BlockingIOError:
             raise Refused(f"another run makes {self.at}") from None
         self.old = self.before()
+        self.spare = self.spare_of()
         self.clean()
 
     def beside(self, name):
@@ -56,11 +72,19 @@ class Folder:
             raise Refused(f"{self.at} was not made by this command: name another folder, or move it away")
         return os.path.join(self.parent, target)
 
+    def spare_of(self):
+        """Returns the folder that holds the same files as that of the last run, or None."""
+        name = self.mark().get("spare") if self.old else None
+        at = os.path.join(self.parent, name) if isinstance(name, str) and self.made.fullmatch(name) else None
+        is_same = at and marked(at).get("same") == os.path.basename(self.old) and not os.path.islink(at)
+        return at if is_same else None
+
     def clean(self):
         """Removes the folders and the link that a killed run left."""
         for name in os.listdir(self.parent):
             at = os.path.join(self.parent, name)
-            if self.made.fullmatch(name) and at != self.old and os.path.isdir(at) and not os.path.islink(at):
+            is_other = self.made.fullmatch(name) and at not in (self.old, self.spare)
+            if is_other and os.path.isdir(at) and not os.path.islink(at):
                 remove(at)
         link = os.path.join(self.parent, f".{self.name}.link")
         if os.path.islink(link):
@@ -68,75 +92,144 @@ class Folder:
 
     def is_made_of(self, inputs):
         """Whether the folder of the last run was made of these inputs."""
-        return bool(self.old) and self.made_of().get("inputs") == inputs
+        return bool(self.old) and self.mark().get("inputs") == inputs
 
-    def made_of(self):
-        """What the folder of the last run says of itself."""
-        try:
-            with open(os.path.join(self.old, MADE), encoding="utf-8") as file:
-                told = json.load(file)
-                return told if isinstance(told, dict) else {}
-        except (OSError, ValueError):
-            return {}
+    def mark(self):
+        """Returns what the folder of the last run says of itself."""
+        return marked(self.old)
 
     def stamp(self):
         """Says at the foot of all pages that they are of now, by a style that they share. Nothing else changes."""
-        count = self.made_of().get("versions") if self.old else None
-        if not isinstance(count, int):
+        mark = self.mark() if self.old else {}
+        count, findings = mark.get("versions"), mark.get("findings", 0)
+        if not isinstance(count, int) or not isinstance(findings, int):
             raise Refused(f"{self.at} has no pages")
-        at = os.path.join(self.old, STAMP)
-        with open(f"{at}.new", "w", encoding="utf-8") as file:
-            file.write(stamped(count))
-        os.replace(f"{at}.new", at)
+        replace(os.path.join(self.old, STAMP), stamped(count, findings).encode())
 
     def begin(self):
-        self.new = os.path.join(self.parent, f".{self.name}.{secrets.token_hex(8)}")
-        os.mkdir(self.new)
-        with open(os.path.join(self.new, MADE), "w", encoding="utf-8") as file:
-            file.write("{}\n")
+        """Begins the new folder: the spare, or an empty one."""
+        self.new = self.spare or os.path.join(self.parent, f".{self.name}.{secrets.token_hex(8)}")
+        if not self.spare:
+            os.mkdir(self.new)
+        replace(os.path.join(self.new, MADE), b"{}\n")
 
     def put(self, name, content):
         """Writes a file, or keeps that of the last run if its content is the same. Returns whether it is another."""
         at = os.path.join(self.new, name)
+        self.names.append(name)
         os.makedirs(os.path.dirname(at), exist_ok=True)
         if self.old and self.keeps(os.path.join(self.old, name), at, content):
             return False
-        with open(at, "wb") as file:
-            file.write(content)
+        self.changed.append(name)
+        if self.spare:
+            replace(at, content)
+        else:
+            with open(at, "wb") as file:
+                file.write(content)
         return True
 
-    @staticmethod
-    def keeps(before, at, content):
+    def keeps(self, before, at, content):
         """Gives an old file a name in the new folder, if it has the content and this disk has hard links."""
         try:
             with open(before, "rb") as file:
                 is_same = file.read() == content
-            if is_same:
+            if is_same and not self.spare:
                 os.link(before, at)
             return is_same
         except OSError:
             return False
 
-    def swap(self, inputs, versions):
-        """Puts the new folder in the place of the old one, at once, and removes the old one. `versions` counts those of
-        the shelf."""
-        with open(os.path.join(self.new, STAMP), "w", encoding="utf-8") as file:
-            file.write(stamped(versions))
-        made = os.path.join(self.new, MADE)
-        with open(f"{made}.new", "w", encoding="utf-8") as file:
-            file.write(json.dumps({"inputs": inputs, "versions": versions}) + "\n")
-        os.replace(f"{made}.new", made)
+    def keep(self, folder, names):
+        """Keeps files of the last run that are below a folder. Returns whether they are there."""
+        if not self.spare:
+            os.makedirs(os.path.join(self.new, folder), exist_ok=True)
+            try:
+                for name in names:
+                    share(os.path.join(self.old, folder, name), os.path.join(self.new, folder, name))
+            except OSError:
+                return False
+        self.names += [f"{folder}/{name}" for name in names]
+        return True
+
+    def swap(self, mark, lines, gone):
+        """Puts the new folder in the place of the old one, at once. `mark` says of what it was made, `lines` hold what
+        the next run takes from this one, and `gone` are files of the last run that this one does not have."""
+        if self.spare:
+            drop(self.new, gone)
+        replace(os.path.join(self.new, STAMP), stamped(mark["versions"], mark["findings"]).encode())
+        spare = self.spare_name() if len(self.names) >= SPARE_LEAST else None
+        first = json.dumps({**mark, "spare": spare}).encode()
+        replace(os.path.join(self.new, MADE), b"\n".join([first, *lines, b""]))
         link = os.path.join(self.parent, f".{self.name}.link")
         os.symlink(os.path.basename(self.new), link)
         os.rename(link, self.at)
         old, self.old, self.new = self.old, self.new, None
-        if old:
+        if spare:
+            self.follow(old, os.path.join(self.parent, spare), gone)
+        elif old:
             remove(old)
+
+    def spare_name(self):
+        """Returns the name of the folder that becomes the spare: the old one, if there is one."""
+        return os.path.basename(self.old) if self.old else f".{self.name}.{secrets.token_hex(8)}"
+
+    def follow(self, old, spare, gone):
+        """Brings the spare up to date with the folder that is shown now."""
+        if old:
+            replace(os.path.join(spare, MADE), b"{}\n")
+            drop(spare, gone)
+        else:
+            os.mkdir(spare)
+            replace(os.path.join(spare, MADE), b"{}\n")
+        for name in self.changed if old else self.names:
+            at = os.path.join(spare, name)
+            os.makedirs(os.path.dirname(at), exist_ok=True)
+            if old and os.path.lexists(at):
+                os.unlink(at)
+            share(os.path.join(self.old, name), at)
+        replace(os.path.join(spare, MADE), json.dumps({"same": os.path.basename(self.old)}).encode())
 
     def give_up(self):
         """Removes what was begun. The folder of the last run stays."""
         if self.new and os.path.isdir(self.new):
             remove(self.new)
+
+
+def marked(folder):
+    """Returns what a folder says of itself in the first line of its mark."""
+    try:
+        with open(os.path.join(folder, MADE), encoding="utf-8") as file:
+            mark = json.loads(file.readline())
+            return mark if isinstance(mark, dict) else {}
+    except (OSError, ValueError):
+        return {}
+
+
+def replace(at, content):
+    """Writes a file beside its name and renames it, because another folder may share the file that has the name."""
+    with open(f"{at}.new", "wb") as file:
+        file.write(content)
+    os.replace(f"{at}.new", at)
+
+
+def share(before, at):
+    """Gives a file another name, or copies it where this disk has no hard links."""
+    try:
+        os.link(before, at)
+    except OSError:
+        shutil.copyfile(before, at)
+
+
+def drop(folder, names):
+    """Removes files of a folder, and the folders that are empty then."""
+    for name in names:
+        with contextlib.suppress(OSError):
+            os.unlink(os.path.join(folder, name))
+        above = os.path.dirname(name)
+        with contextlib.suppress(OSError):
+            while above:
+                os.rmdir(os.path.join(folder, above))
+                above = os.path.dirname(above)
 
 
 def remove(folder):

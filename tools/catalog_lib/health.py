@@ -74,8 +74,9 @@ def kinds_of(module):
 
 def health_page(place, shelf, found):
     """The page of what needs attention, and of what changed."""
+    number_of_findings = count(sum(len(rows) for *_, rows in found), "finding")
     main = [
-        html('<h1>Health of {}</h1>\n<p class="facts">{}</p>\n', shelf.name, count(place.findings, "finding")),
+        html('<h1>Health of {}</h1>\n<p class="facts">{}</p>\n', shelf.name, number_of_findings),
         [finding_section(place, shelf, *it) for it in found],
         changed_section(place, shelf),
     ]

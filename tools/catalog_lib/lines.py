@@ -1,4 +1,5 @@
 """The lines of what one shelf sees, a JSON object for each version: reads, checks and compares them."""
+import hashlib
 import json
 import re
 from dataclasses import dataclass
@@ -42,20 +43,24 @@ class Line:
 
 
 def line_of(text):
-    """The Line of a line that was checked."""
-    it = json.loads(text)
-    requires = [(entry["Path"], entry["Version"]) for entry in it["Require"]]
+    """Returns the Line of a line that was checked."""
+    return line_with(json.loads(text))
+
+
+def line_with(fields):
+    """Returns the Line with these fields."""
+    requires = [(entry["Path"], entry["Version"]) for entry in fields["Require"]]
     return Line(
-        it["Path"],
-        it["Version"],
-        it.get("Time"),
-        "Retracted" in it,
-        "Latest" in it,
-        it.get("GoVersion"),
+        fields["Path"],
+        fields["Version"],
+        fields.get("Time"),
+        "Retracted" in fields,
+        "Latest" in fields,
+        fields.get("GoVersion"),
         requires,
-        it["Shelf"],
-        it["GoModSum"],
-        it["ZipSize"],
+        fields["Shelf"],
+        fields["GoModSum"],
+        fields["ZipSize"],
     )
 
 
@@ -69,7 +74,7 @@ def checked(text, place):
         raise Refused(f"{place}: not a JSON object with the fields of a version")
     if wrong := wrong_fields(found):
         raise Refused(f"{place}: {wrong} is not of its form")
-    return line_of(text)
+    return line_with(found)
 
 
 def wrong_fields(found):
@@ -151,13 +156,75 @@ def is_stamp(text):
         return False
 
 
-def read(file, name):
-    """Yields each line of a file: where it begins, its length, and its Line. Refuses lines that are out of order."""
-    place, before = 0, ("", ())
+# how goshelf begins a line: a path in this form has no escape of JSON
+HEAD = re.compile(rb'\{"Path":"([A-Za-z0-9._~/-]+)","Version":"')
+
+
+@dataclass(slots=True)
+class Part:
+    """The lines of a module: its path, the number of the first line, where that stands, their length and their sum."""
+
+    path: str
+    number: int
+    place: int
+    length: int
+    sum: str
+
+
+def parts(file, name):
+    """Yields the Part of each module of a file. Refuses paths that are out of order. `name` names the file."""
+    file.seek(0)
+    place, first, begin, path, found, start = 0, 0, 0, "", [], b""
     for number, text in enumerate(file, 1):
-        found = checked(text, f"{name}:{number}")
-        now = found.path, precedence(found.version)
-        if now <= before:
-            raise Refused(f"{name}:{number}: not above the line before, by path and then by precedence")
-        yield place, len(text), found
-        place, before = place + len(text), now
+        if not start or not text.startswith(start):
+            head = HEAD.match(text)
+            now = head[1].decode() if head else checked(text, f"{name}:{number}").path
+            if found and now != path:
+                yield part_of(path, first, begin, found)
+                found = []
+            if not found:
+                if now < path:
+                    raise out_of_order(name, number)
+                path, first, begin = now, number, place
+            start = head[0] if head else b""
+        found.append(text)
+        place += len(text)
+    if found:
+        yield part_of(path, first, begin, found)
+
+
+def part_of(path, number, place, found):
+    content = b"".join(found)
+    return Part(path, number, place, len(content), hashlib.blake2b(content, digest_size=16).hexdigest())
+
+
+def out_of_order(name, number):
+    return Refused(f"{name}:{number}: not above the line before, by path and then by precedence")
+
+
+def lines_in(file, part, name):
+    """Returns the Lines of a module, the lowest version first, once each is checked."""
+    file.seek(part.place)
+    found, before = [], ()
+    for number, text in enumerate(file.read(part.length).removesuffix(b"\n").split(b"\n"), part.number):
+        line = checked(text, f"{name}:{number}")
+        now = precedence(line.version)
+        if now <= before or line.path != part.path:
+            raise out_of_order(name, number)
+        found.append(line)
+        before = now
+    return found
+
+
+# of so many versions below the latest one the pages tell which files changed
+BEFORE = 2
+
+
+def chosen(lines):
+    """Returns the versions of a module whose zips are read, each with whether it is read whole: the latest, the one
+    whose go.mod says which are retracted, and those before the latest."""
+    ruling = max(lines, key=lambda line: rank(line.version))
+    shown = next((line for line in lines if line.is_latest), ruling)
+    below = [line for line in lines[: lines.index(shown)] if is_before(line, shown)]
+    brief = {line.version: line for line in [ruling, *below[-BEFORE:]] if line is not shown}
+    return [(shown, True), *((line, False) for line in brief.values())]

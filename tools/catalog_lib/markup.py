@@ -6,7 +6,7 @@ from functools import lru_cache
 
 SPECIAL = re.compile("[&<>\"']")
 # where a page stands, and what its header says
-Place = namedtuple("Place", "root shelf findings")
+Place = namedtuple("Place", "root shelf")
 
 
 class Html(str):
@@ -50,7 +50,7 @@ FRAME = """<!DOCTYPE html>
 <a class="brand" href="{}">{}</a>
 <ul>
 <li><a href="{}"{}>Modules</a></li>
-<li><a href="{}health/"{}>Health{}</a></li>
+<li><a class="findings" href="{}health/"{}>Health</a></li>
 </ul>
 </nav>
 </header>
@@ -70,8 +70,8 @@ def page(place, title, main, here=""):
     """A whole page. `here` is `modules` or `health` if the page is the one of that name in its header."""
     root, top = place.root, place.root or "./"
     on_modules, on_health = (HERE if here == it else "" for it in ("modules", "health"))
-    found = html(' <span class="count">{}</span><span class="unseen"> findings</span>', place.findings)
-    links = top, place.shelf, top, on_modules, root, on_health, found if place.findings else ""
+    # (how many findings there are stands in the style that all pages share: `stamped` of folder.py)
+    links = top, place.shelf, top, on_modules, root, on_health
     return html(FRAME, title, *[root] * 6, *links, main, place.shelf).encode()
 
 

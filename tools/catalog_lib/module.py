@@ -34,22 +34,39 @@ STATES = {
 }
 
 
-def module_pages(place, shelf, module, names, read):
-    """The pages of a module: the name of the file of each, and its content. `read` has what was read, by versions."""
+# the pages that are made of the zip of the latest version alone
+OF_ZIP = ("readme.html", "packages.html", "files.html")
+
+
+def files_of(module):
+    """Returns the names of the files of a module's pages."""
+    told = module.told
+    are_there = {
+        "index.html": True,
+        "readme.html": told.get("has_readme"),
+        "packages.html": told.get("packages"),
+        "files.html": told.get("has_files"),
+        "versions.html": module.about,
+    }
+    return [name for name, is_there in are_there.items() if is_there]
+
+
+def module_pages(place, shelf, module, names, read, files):
+    """Yields the pages of a module: the name of the file of each, and its content. `read` has what was read, by
+    versions, and `files` are those that are made."""
     found = read.get(module.latest or module.highest, {})
-    bodies = {"index.html": overview(place, shelf, module, names, reasons_of(module, read))}
-    if "readme" in found:
-        bodies["readme.html"] = documents.readme_of(found)
-    if found.get("packages"):
-        bodies["packages.html"] = documents.packages_of(module.path, found)
-    if found.get("files"):
-        bodies["files.html"] = documents.files_of(found)
-    if read:
-        bodies["versions.html"] = changes.versions_page(place, shelf, module, shelf.lines(module)[::-1], read)
-    tabs = [(name, words) for name, words in TABS if name in bodies]
+    bodies = {
+        "index.html": lambda: overview(place, shelf, module, names, reasons_of(module, read)),
+        "readme.html": lambda: documents.readme_of(found),
+        "packages.html": lambda: documents.packages_of(module.path, found),
+        "files.html": lambda: documents.files_of(found),
+        "versions.html": lambda: changes.versions_page(place, shelf, module, shelf.lines(module)[::-1], read),
+    }
+    tabs = [(name, words) for name, words in TABS if name in files_of(module)]
     for name, words in tabs:
-        title = module.path if name == "index.html" else f"{module.path}: {words}"
-        yield name, page(place, f"{title} · {shelf.name}", [head(module, tabs, name), bodies[name]])
+        if name in files:
+            title = module.path if name == "index.html" else f"{module.path}: {words}"
+            yield name, page(place, f"{title} · {shelf.name}", [head(module, tabs, name), bodies[name]()])
 
 
 def head(module, tabs, here):

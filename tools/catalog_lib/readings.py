@@ -2,13 +2,12 @@
 import json
 import re
 
-from catalog_lib import godoc, gomod, reading
+from catalog_lib import changes, godoc, gomod, reading
 from catalog_lib.checks import REPLACES_MOST
-from catalog_lib.lines import is_before, rank
+from catalog_lib.kept import mark_of
+from catalog_lib.lines import VERSION
 from catalog_lib.text import shortened
 
-# of so many versions below the latest one is told which files changed
-BEFORE = 2
 SYNOPSIS_MOST = 200
 # as many bytes of the names of its packages are searched
 PACKAGES_MOST = 2_000
@@ -28,48 +27,44 @@ class Readings:
             return
         wanted = set()
         for module in shelf.modules.values():
-            lines = shelf.lines(module)
-            for line, is_whole in chosen(lines):
-                wanted.add((line.path, line.version))
-                if not self.kept.has(line, is_whole):
-                    self.read(line, is_whole)
+            for version, is_whole, content in module.zips:
+                wanted.add((module.path, version))
+                if not self.kept.has(module.path, version, is_whole, content):
+                    line = next(line for line in shelf.lines(module) if line.version == version)
+                    self.read(line, is_whole, mark_of(content, is_whole))
         self.kept.keep_only(wanted)
         self.kept.commit()
         for path, version, about in self.kept.rows("path, version, about"):
             shelf.modules[path].about[version] = json.loads(about)
 
-    def read(self, line, is_whole):
+    def read(self, line, is_whole, mark):
         """Reads a version. One that goshelf does not have any more is asked for again by the next run."""
         content = self.source.get(line.path, line.version, "zip")
         if content is not None:
             served = lambda: self.source.get(line.path, line.version, "mod") or b""  # noqa: E731
             found = reading.read(content, line, served, is_whole)
-            self.kept.put(line, is_whole, found, about_of(found))
+            words = words_of(found["readme"][1]) if "readme" in found else ""
+            self.kept.put(line.path, line.version, mark, found, about_of(found, len(words)), words)
 
     def of(self, module):
         """What was read of a module, by its versions."""
-        return {it: self.kept.get(module.path, it) for it in module.about} if self.kept else {}
+        return {version: self.kept.get(module.path, version) for version in module.about} if self.kept else {}
+
+    def words(self):
+        """Returns the words of READMEs by paths and versions."""
+        return self.kept.words() if self.kept else {}
 
 
-def chosen(lines):
-    """The versions of a module that are read, each with whether it is read whole: the latest, the one whose go.mod
-    says which are retracted, and those before the latest."""
-    ruling = max(lines, key=lambda it: rank(it.version))
-    shown = next((it for it in lines if it.is_latest), ruling)
-    below = [it for it in lines[: lines.index(shown)] if is_before(it, shown)]
-    brief = {it.version: it for it in [ruling, *below[-BEFORE:]] if it is not shown}
-    return [(shown, True), *((it, False) for it in brief.values())]
-
-
-def about_of(found):
-    """What lists and the search tell of what was read."""
+def about_of(found, words):
+    """What lists and the search tell of what was read. `words` counts the letters of the words of its README."""
     told, about = gomod.read(found["gomod"]), {}
     packages = found.get("packages", [])
     names = [folder or name for folder, name, _ in packages]
     about["synopsis"] = shortened(synopsis_of(found), SYNOPSIS_MOST)
     about["packages"] = " ".join(names)[:PACKAGES_MOST]
-    if "readme" in found:
-        about["words"] = words_of(found["readme"][1])
+    about["words"] = words
+    about["has_readme"], about["has_files"] = "readme" in found, bool(found.get("files"))
+    about["names"] = sorted({word for word in changes.WORD.findall(found["gomod"]) if not VERSION.fullmatch(word)})
     about["licence"] = found.get("licence")
     if told.deprecated is not None:
         about["deprecated"] = gomod.message(told.deprecated, "")

@@ -16,17 +16,32 @@ CUTS = (
 )
 
 
-def script(shelf):
-    """The bytes of the script."""
+def script(shelf, readings):
+    """Returns the bytes of the script."""
     modules = list(shelf.modules.values())
+    words = None
     for cut in CUTS:
-        made = encoded(modules, *cut)
+        if least_length(modules, *cut) > BYTES_MOST:
+            continue
+        if cut[2] and words is None:
+            words = readings.words()
+        made = encoded(modules, words or {}, *cut)
         if len(made) <= BYTES_MOST:
             break
     return made
 
 
-def encoded(modules, synopsis, packages, readme):
+def least_length(modules, synopsis, packages, readme):
+    """Returns a number of bytes that the script exceeds with these cuts. Only the last cut is taken at any length."""
+    cuts, length = (synopsis, packages, readme), 0
+    for module in modules:
+        told = module.told
+        lengths = len(told.get("synopsis", "")), len(told.get("packages", "")), told.get("words", 0)
+        length += sum(min(count, cut) - 1 for count, cut in zip(lengths, cuts) if count and cut)
+    return length if any(cuts) else 0
+
+
+def encoded(modules, all_words, synopsis, packages, readme):
     """The script, with synopses, names of packages and words of READMEs of at most these letters."""
     lines, before = [], ""
     for module in modules:
@@ -34,13 +49,8 @@ def encoded(modules, synopsis, packages, readme):
         told = module.told
         words = shortened(told.get("synopsis", ""), synopsis) if synopsis else ""
         names = told.get("packages", "")[:packages]
-        fields = (
-            base36(shared) + module.path[shared:],
-            module.latest or "",
-            words,
-            names,
-            told.get("words", "")[:readme],
-        )
+        of_readme = all_words.get((module.path, module.latest or module.highest), "")[:readme] if readme else ""
+        fields = base36(shared) + module.path[shared:], module.latest or "", words, names, of_readme
         lines.append("\t".join(fields).rstrip("\t"))
         before = module.path
     text = json.dumps("\n".join(lines), ensure_ascii=False)

@@ -1,10 +1,9 @@
 """What the pages say of a shelf: its modules, who requires whom, and what needs attention."""
 import json
-from array import array
 from dataclasses import dataclass, field
 from datetime import timedelta
 
-from catalog_lib.lines import Refused, kind, line_of, precedence, rank, read
+from catalog_lib.lines import Refused, chosen, kind, line_of, lines_in, parts, precedence, rank
 
 # how far back `changed` and `fresh` look
 RECENT, WEEK = timedelta(days=30), timedelta(days=7)
@@ -12,24 +11,30 @@ RECENT, WEEK = timedelta(days=30), timedelta(days=7)
 
 @dataclass(slots=True)
 class Module:
-    """A module of the shelf. `versions` has each version, the lowest first, with whether it is retracted, and `about`
-    what was read of some."""
+    """A module of the shelf.
+
+    `sum` is that of its lines, which stand at `place`. `versions` has each version, the lowest first, with whether it is
+    retracted. `needs` has for each path that it requires a text: `REQUIRED VERSION OTHERS` for each required version,
+    the highest version that requires it and how many others do. `times` has the shelf and the own time of each version,
+    and `newest` the latest such time. `zips` are the versions that are read, each with whether it is read whole and what
+    tells its content from any other. `about` has what was read of them, and `line` is `text` if the
+    last run had the same lines."""
 
     path: str
-    place: int
-    length: int = 0
-    versions: dict = field(default_factory=dict)
+    sum: str
+    length: int
+    versions: dict
     latest: str = None
     time: str = None
     shelf: str = None
     requires: list = field(default_factory=list)
+    needs: dict = field(default_factory=dict)
+    times: list = field(default_factory=list)
+    newest: str = ""
+    zips: list = field(default_factory=list)
+    place: int = 0
     about: dict = field(default_factory=dict)
-
-    def add(self, line, length):
-        self.length += length
-        self.versions[line.version] = line.is_retracted
-        if line.is_latest:
-            self.latest, self.time, self.shelf, self.requires = line.version, line.time, line.shelf, line.requires
+    line: str = ""
 
     @property
     def told(self):
@@ -46,7 +51,59 @@ class Module:
         return self.latest is not None and precedence(version) < precedence(self.latest)
 
     def kinds(self):
-        return {kind(it) for it in self.versions}
+        return {kind(version) for version in self.versions}
+
+    def text(self):
+        """Returns what stands in the lines of the module, as a line of JSON for the next run."""
+        self.line = self.line or json.dumps([getattr(self, name) for name in IN_LINES], separators=(",", ":"))
+        return self.line
+
+
+# the fields of a Module that stand in its lines
+IN_LINES = Module.__slots__[:-3]
+
+
+def module_of(part, lines, source):
+    """Returns the Module of a part and its lines."""
+    module = Module(part.path, part.sum, part.length, {line.version: line.is_retracted for line in lines})
+    for line in lines:
+        if line.is_latest and (module.latest or line.is_retracted):
+            raise Refused(f"{source}: {line.path} {line.version} cannot be the latest version")
+        if line.is_latest:
+            module.latest, module.time, module.shelf, module.requires = (
+                line.version,
+                line.time,
+                line.shelf,
+                line.requires,
+            )
+    module.needs = needs_of(lines)
+    module.times = [(line.shelf, line.time) for line in lines]
+    module.newest = max((line.time or "" for line in lines), default="")
+    module.zips = [(line.version, is_whole, content_of(line)) for line, is_whole in chosen(lines)]
+    return module
+
+
+def needs_of(lines):
+    """Returns what the versions of a module require: `Module.needs`."""
+    found = {}
+    for line in lines:
+        # (a go.mod may require the same twice)
+        for path, required in dict.fromkeys(line.requires):
+            rows = found.setdefault(path, {})
+            rows[required] = line.version, rows[required][1] + 1 if required in rows else 0
+    places = {line.version: at for at, line in enumerate(lines)}
+    return {path: joined(rows, places) for path, rows in found.items()}
+
+
+def joined(rows, places):
+    """Returns the text of a path in `Module.needs`. The highest version stands first."""
+    order = sorted(rows.items(), key=lambda row: (-places[row[1][0]], row[0]))
+    return ";".join(f"{required} {version} {others}" for required, (version, others) in order)
+
+
+def content_of(line):
+    """Returns what tells the content of a version on a shelf from any other."""
+    return f"{line.shelf} {line.sum} {line.size} {line.time}"
 
 
 @dataclass(slots=True)
@@ -64,80 +121,65 @@ class Shelf:
 
     def __init__(self, file, name, today, ours):
         self.file, self.name, self.today, self.ours = file, name, today, ours
-        self.modules, self.recent = {}, {}
-        self.users, self.words, self.numbers = {}, [], {}
+        self.modules, self.recent, self.users = {}, {}, {}
         self.held = None, []
         # how to set a machine up for the shelf, and which versions were taken when and by whom, as far as that is known
         self.setup, self.taken = None, {}
         self.version_count = self.retracted_count = 0
 
-    def fill(self, source):
-        """Reads the lines. `source` names them in a refusal."""
-        module, needs = None, {}
-        for place, length, line in read(self.file, source):
-            if module is None or line.path != module.path:
-                self.keep(module, needs)
-                module, needs = Module(line.path, place), {}
-            if line.is_latest and (module.latest or line.is_retracted):
-                raise Refused(f"{source}: {line.path} {line.version} cannot be the latest version")
-            module.add(line, length)
-            self.count(line)
-            # (a go.mod may require the same twice)
-            for required in dict.fromkeys(line.requires):
-                needs.setdefault(required, []).append(len(module.versions) - 1)
-        self.keep(module, needs)
+    def fill(self, source, known):
+        """Reads the lines. `source` names them in a refusal, and `known` has the modules of the last run by their
+        paths: one whose lines have the same sum is taken from there."""
+        for part in list(parts(self.file, source)):
+            module = known.get(part.path)
+            if not module or module.sum != part.sum:
+                module = module_of(part, lines_in(self.file, part, source), source)
+            module.place = part.place
+            self.modules[part.path] = module
+            self.version_count += len(module.versions)
+            self.retracted_count += sum(module.versions.values())
+        self.index()
 
-    def count(self, line):
-        self.version_count += 1
-        self.retracted_count += line.is_retracted
-        taken = self.taken_at(line)
-        time = taken.time if taken else line.time
-        if time and (self.today - RECENT).isoformat() <= time[:10] <= self.today.isoformat():
-            self.recent.setdefault(line.path, []).append((time, line.version, taken.name if taken else ""))
+    def index(self):
+        """Sorts the modules as people read them, and notes who requires whom and what is new."""
+        self.modules = dict(sorted(self.modules.items(), key=lambda row: as_read(row[0])))
+        taken = {path for _, path, _ in self.taken}
+        first = (self.today - RECENT).isoformat()
+        for path, module in self.modules.items():
+            for needed in module.needs:
+                self.users.setdefault(needed, []).append(module)
+            if module.newest >= first or path in taken:
+                self.note_recent(module, first)
+
+    def note_recent(self, module, first):
+        """Notes the versions of a module since a day."""
+        rows = []
+        for version, (shelf, own) in zip(module.versions, module.times):
+            taken = self.taken.get((shelf, module.path, version))
+            time = taken.time if taken else own
+            if time and first <= time[:10] <= self.today.isoformat():
+                rows.append((time, version, taken.name if taken else ""))
+        if rows:
+            self.recent[module.path] = rows
 
     def taken_at(self, line):
         """When goshelf took a version and from whom, or None."""
         return self.taken.get((line.shelf, line.path, line.version))
 
-    def keep(self, module, needs):
-        """Keeps a module, and what its versions require: of each, the highest version that does, and how many do."""
-        if module is None:
-            return
-        number = len(self.modules)
-        self.modules[module.path] = module
-        for (path, required), rows in needs.items():
-            entry = number, rows[-1], self.number(required), len(rows) - 1
-            self.users.setdefault(path, array("I")).extend(entry)
-
-    def number(self, version):
-        """A small number for the text of a version."""
-        if version not in self.numbers:
-            self.numbers[version] = len(self.words)
-            self.words.append(version)
-        return self.numbers[version]
-
     def lines(self, module):
         """The Lines of a module, the lowest version first. Those of the last module are kept."""
         if self.held[0] is not module:
             self.file.seek(module.place)
-            self.held = module, [line_of(it) for it in self.file.read(module.length).split(b"\n") if it]
+            self.held = module, [line_of(text) for text in self.file.read(module.length).split(b"\n") if text]
         return self.held[1]
 
     def users_of(self, path):
         """The users of a module by their paths, and of each the highest version first."""
-        numbers = self.users.get(path, array("I"))
-        rows = (numbers[at : at + 4] for at in range(0, len(numbers), 4))
-        order = sorted(rows, key=lambda it: (*as_read(self.in_order[it[0]][0].path), -it[1], it[2]))
-        return [self.user(*it) for it in order]
-
-    def user(self, number, row, required, others):
-        module, versions = self.in_order[number]
-        return User(module, versions[row], self.words[required], others)
-
-    def index(self):
-        """Makes ready to look modules and their versions up by their numbers, and sorts them as people read them."""
-        self.in_order = [(it, tuple(it.versions)) for it in self.modules.values()]
-        self.modules = dict(sorted(self.modules.items(), key=lambda it: as_read(it[0])))
+        return [
+            User(module, version, required, int(others))
+            for module in self.users.get(path, ())
+            for required, version, others in (row.split(" ") for row in module.needs[path].split(";"))
+        ]
 
     def is_ours(self, path):
         """Whether a module is the company's: the shelf sees some version of it, or a line of the map has it."""
@@ -190,23 +232,35 @@ def as_read(path):
     return path.lower(), path
 
 
-def differing(file, above, word, source):
-    """Each path and version that a shelf above in the chain has with another go.mod, size of the zip or time.
+def differing(shelf, above, word, source, known):
+    """Returns for each path of a shelf: the sums of its lines there and on a shelf above, and the versions that both
+    have with another go.mod, size of the zip or time.
 
-    `word` is what `Shelf` calls that shelf. Refuses lines of another shelf: they lack a version that is seen there."""
-    file.seek(0)
-    found, upper = [], read(above, source)
-    other = next(upper, None)
-    for _, _, line in read(file, "the lines"):
-        now = line.path, precedence(line.version)
-        while other and (other[2].path, precedence(other[2].version)) < now:
-            other = next(upper, None)
-        is_there = other is not None and (other[2].path, other[2].version) == (line.path, line.version)
-        is_same = is_there and other[2].content() == line.content()
-        if line.shelf == word and not (is_same and other[2].shelf == "own"):
+    `word` is what `Shelf` calls that shelf, and `known` has what this returned before: a path of the same sums is taken
+    from there. Refuses lines of another shelf: they lack a version that is seen there."""
+    upper = {part.path: part for part in parts(above, source)}
+    found = {}
+    for path, module in shelf.modules.items():
+        other = upper.get(path)
+        sums = [module.sum, other.sum if other else ""]
+        before = known.get(path, [])
+        if before[:2] != sums:
+            lines = {line.version: line for line in lines_in(above, other, source)} if other else {}
+            before = [*sums, differing_versions(shelf.lines(module), lines, word, source)]
+        found[path] = before
+    return found
+
+
+def differing_versions(lines, above, word, source):
+    """Returns the versions of a path that have other content among the lines above."""
+    found = []
+    for line in lines:
+        other = above.get(line.version)
+        is_same = other is not None and other.content() == line.content()
+        if line.shelf == word and not (is_same and other.shelf == "own"):
             raise Refused(f"{source}: not of the shelf `{word}` of these lines, which has {line.path} {line.version}")
-        if is_there and not is_same:
-            found.append((line.path, line.version))
+        if other is not None and not is_same:
+            found.append(line.version)
     return found
 
 

@@ -95,7 +95,12 @@ def wrong_fields(found):
 
 
 def is_text(form, value):
-    return isinstance(value, str) and form.fullmatch(value) is not None
+    return isinstance(value, str) and is_of(form, value)
+
+
+@lru_cache(maxsize=16_384)
+def is_of(form, text):
+    return form.fullmatch(text) is not None
 
 
 def is_requirement(entry):

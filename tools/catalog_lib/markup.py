@@ -18,10 +18,11 @@ def escaped(value):
     kind = type(value)
     if kind is Html:
         return value
+    if kind is str:
+        return escapes.escape(value) if SPECIAL.search(value) else value
     if kind is list or kind is tuple:
         return "".join([it if type(it) is Html else escaped(it) for it in value])
-    text = value if kind is str else str(value)
-    return escapes.escape(text) if SPECIAL.search(text) else text
+    return escaped(str(value))
 
 
 def html(template, *values):
@@ -95,7 +96,12 @@ def module_folder(path):
 
 def link(place, path):
     """A link to the page of a module that the shelf sees."""
-    return html('<a href="{}m/{}/">{}</a>', place.root, module_folder(path), broken(path))
+    return link_from(place.root, path)
+
+
+@lru_cache(maxsize=4_096)
+def link_from(root, path):
+    return html('<a href="{}m/{}/">{}</a>', root, module_folder(path), broken(path))
 
 
 @lru_cache(maxsize=16_384)
@@ -106,8 +112,13 @@ def broken(path):
 
 def gomod_link(place, path, version):
     """A link to a go.mod, which goshelf serves on the same host."""
+    return gomod_link_from(place.root, path, version)
+
+
+@lru_cache(maxsize=256)
+def gomod_link_from(root, path, version):
     words = html('go.mod<span class="unseen"> of {}</span>', version)
-    return html('<a href="{}{}/@v/{}.mod">{}</a>', place.root, cased(path), cased(version), words)
+    return html('<a href="{}{}/@v/{}.mod">{}</a>', root, cased(path), cased(version), words)
 
 
 def zip_link(place, line):
@@ -119,17 +130,20 @@ def zip_link(place, line):
 CAPITAL = re.compile("[A-Z]")
 
 
+@lru_cache(maxsize=256)
 def cased(text):
     """A path or a version as URLs of goshelf have it: with `!` and the small letter for each capital."""
     return CAPITAL.sub(lambda it: f"%21{it[0].lower()}", text.replace("!", "%21"))
 
 
+@lru_cache(maxsize=1_024)
 def date(time):
     if time is None:
         return Html('<span class="quiet">no time</span>')
     return html('<time datetime="{}">{}</time>', time, time[:10])
 
 
+@lru_cache(maxsize=4_096)
 def size(count):
     """A number of bytes, as people read it."""
     units = ((1 << 20, "MiB"), (1 << 10, "KiB"))
@@ -166,16 +180,23 @@ def count(number, one, many=None):
 
 
 def row(first, *cells):
-    return html('<tr><th scope="row">{}</th>{}</tr>\n', first, cells)
+    return Html(f'<tr><th scope="row">{escaped(first)}</th>{escaped(cells)}</tr>\n')
 
 
 def cell(value, word=""):
     """A cell. On a phone, which shows no heads, `word` says what its value is."""
-    return html("<td{}>{}</td>", labelled(word), value)
+    return Html(f"<td{labelled(word)}>{escaped(value)}</td>")
 
 
 def code(value, word=""):
-    return html('<td class="code"{}>{}</td>', labelled(word), value)
+    return (
+        code_of(value, word) if type(value) is str else Html(f'<td class="code"{labelled(word)}>{escaped(value)}</td>')
+    )
+
+
+@lru_cache(maxsize=4_096)
+def code_of(text, word):
+    return html('<td class="code"{}>{}</td>', labelled(word), text)
 
 
 def number(value, word=""):

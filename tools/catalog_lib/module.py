@@ -1,5 +1,6 @@
 """The page of a module: what it is, what it requires, who uses it, and its versions."""
 import re
+from functools import lru_cache
 from itertools import groupby
 
 from catalog_lib import changes, checks, documents, gomod
@@ -14,6 +15,7 @@ from catalog_lib.markup import (
     chip,
     code,
     date,
+    escaped,
     gomod_link,
     html,
     link,
@@ -213,15 +215,20 @@ def used_by(place, shelf, module, users):
 
 def user_row(place, shelf, module, user, state, height):
     """The row of a user; the first of `height` rows names it."""
-    span = html(' rowspan="{}"', height) if height > 1 else ""
-    name = html('<th scope="row"{}>{}</th>', span, link(place, user.module.path)) if height else ""
-    version = [html('<span class="code">{}</span>', user.version)]
+    span = f' rowspan="{height}"' if height > 1 else ""
+    name = Html(f'<th scope="row"{span}>{link(place, user.module.path)}</th>') if height else ""
+    version = [in_code(user.version)]
     if user.version == user.module.latest:
         version += [" ", chip("latest")]
     if user.others:
         version.append(html(' <span class="quiet">and {} older</span>', f"{user.others:,}"))
     cells = [cell(version), code(user.required, "requires"), cell(remark(shelf, module.path, state))]
-    return html("<tr>{}{}</tr>\n", name, cells)
+    return Html(f"<tr>{name}{escaped(cells)}</tr>\n")
+
+
+@lru_cache(maxsize=4_096)
+def in_code(text):
+    return html('<span class="code">{}</span>', text)
 
 
 def versions(place, shelf, lines, names, reasons):

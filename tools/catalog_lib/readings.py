@@ -5,7 +5,6 @@ import re
 from catalog_lib import changes, godoc, gomod, reading
 from catalog_lib.checks import REPLACES_MOST
 from catalog_lib.kept import mark_of
-from catalog_lib.lines import VERSION
 from catalog_lib.text import shortened
 
 SYNOPSIS_MOST = 200
@@ -64,7 +63,7 @@ def about_of(found, words):
     about["packages"] = " ".join(names)[:PACKAGES_MOST]
     about["words"] = words
     about["has_readme"], about["has_files"] = "readme" in found, bool(found.get("files"))
-    about["names"] = sorted({word for word in changes.WORD.findall(found["gomod"]) if not VERSION.fullmatch(word)})
+    about["names"] = sorted(set(changes.WORD.findall(found["gomod"])))
     about["licence"] = found.get("licence")
     if told.deprecated is not None:
         about["deprecated"] = gomod.message(told.deprecated, "")

@@ -8,7 +8,6 @@ from catalog_lib.markup import (
     chip,
     code,
     count,
-    date,
     gomod_link,
     html,
     linked,
@@ -18,6 +17,7 @@ from catalog_lib.markup import (
     table,
 )
 from catalog_lib.markup import zip_link
+from catalog_lib.taken import when
 
 # so many versions are on the page, the highest first, and so many files are named of each
 VERSIONS_MOST, FILES_MOST = 50, 100
@@ -43,7 +43,8 @@ def before_of(at, lines):
 def version_section(place, shelf, line, before, read):
     """The section of a version."""
     marks = [[" ", chip(it)] for it, holds in (("latest", line.is_latest), ("retracted", line.is_retracted)) if holds]
-    facts = [date(line.time), html(" · Go {}", line.go) if line.go else "", " · ", zip_link(place, line), " "]
+    facts = [when(line.time, shelf.taken_at(line)), html(" · Go {}", line.go) if line.go else ""]
+    facts += [" · ", zip_link(place, line), " "]
     facts += [size(line.size), " · ", gomod_link(place, line.path, line.version)]
     get = html('<pre tabindex="0"><code>go get {}@{}</code></pre>\n', line.path, line.version)
     found = read.get(line.version, {})

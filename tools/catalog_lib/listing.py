@@ -21,11 +21,13 @@ def pages_of(place, shelf, names):
     """The rows of all modules, page by page. `place` makes the Place of a root."""
     found, size = [[]], 0
     for module in shelf.modules.values():
-        made = module_row(place(root_of(len(found))), module, names)
+        taken = shelf.taken.get((module.shelf, module.path, module.latest))
+        time = module.time or (taken and taken.time)
+        made = module_row(place(root_of(len(found))), module, time, names)
         size += len(made)
         if len(found[-1]) == ROWS_MOST or (size > BYTES_MOST and found[-1]):
             found.append([])
-            made = module_row(place(root_of(len(found))), module, names)
+            made = module_row(place(root_of(len(found))), module, time, names)
             size = len(made)
         found[-1].append(made)
     return found
@@ -65,8 +67,8 @@ def target(number):
     return "" if number == 1 else file_of(number)
 
 
-def module_row(place, module, names):
-    """The row of a module: what it is for, and its latest version."""
+def module_row(place, module, time, names):
+    """The row of a module: what it is for, and its latest version and when that was made."""
     words = module.told.get("synopsis", "")
     synopsis = html(' <span class="below" dir="auto">{}</span>', shortened(words, SYNOPSIS_MOST)) if words else ""
     first = [link(place, module.path), [" ", chip("deprecated")] if "deprecated" in module.told else "", synopsis]
@@ -75,4 +77,4 @@ def module_row(place, module, names):
         none = Html('<span class="quiet">all retracted</span>')
         return row(first, cell(none), cell(""), versions, cell(""))
     where = chip(module.shelf, names[module.shelf])
-    return row(first, code(module.latest), cell(date(module.time)), versions, cell(where))
+    return row(first, code(module.latest), cell(date(time)), versions, cell(where))

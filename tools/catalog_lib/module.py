@@ -27,7 +27,7 @@ from catalog_lib.markup import (
     table,
 )
 from catalog_lib.setup import box
-from catalog_lib.taken import published
+from catalog_lib.taken import published, when
 
 STATES = {
     "behind": "behind the latest",
@@ -135,9 +135,7 @@ def about(shelf, module, shown, names):
     """What a module is at its latest version, and how to get it."""
     if module.latest is None:
         return Html('<p class="facts">All versions are retracted, so there is no latest version.</p>\n')
-    facts = [html('<b class="code">{}</b> ', shown.version), date(shown.time)]
-    if taken := shelf.taken_at(shown):
-        facts.append([", published ", published(taken)])
+    facts = [html('<b class="code">{}</b> ', shown.version), when(shown.time, shelf.taken_at(shown))]
     if shown.go:
         facts.append(html(" · Go {}", shown.go))
     if licence := module.told.get("licence"):
@@ -234,8 +232,8 @@ def in_code(text):
 def versions(place, shelf, lines, names, reasons):
     """The versions, the highest first. `reasons` has why some are retracted."""
     rows = [version_row(place, shelf, it, names, reasons.get(it.version)) for it in lines]
-    when = ("Own date", "Published") if shelf.taken else ("Date",)
-    return table("versions", ("Version", "Remark", *when, "#Zip", "Go", "Shelf", "go.mod"), rows)
+    dates = ("Own date", "Published") if shelf.taken else ("Date",)
+    return table("versions", ("Version", "Remark", *dates, "#Zip", "Go", "Shelf", "go.mod"), rows)
 
 
 def version_row(place, shelf, line, names, reason):
@@ -248,9 +246,9 @@ def version_row(place, shelf, line, names, reason):
     length = html('<td class="number">{}</td>', size(line.size))
     where = chip(line.shelf, names[line.shelf])
     taken = shelf.taken_at(line)
-    when = [cell(date(line.time), "own date" if taken else "")]
+    dates = [cell(date(line.time), "own date" if taken else "") if line.time or not taken else cell("")]
     if shelf.taken:
-        when.append(cell(published(taken), "published" if taken else ""))
+        dates.append(cell(published(taken), "published" if taken else ""))
     go = cell(line.go or "", "Go" if line.go else "")
     gomod = gomod_link(place, line.path, line.version)
-    return row(line.version, cell(remarks), *when, length, go, cell(where), cell(gomod))
+    return row(line.version, cell(remarks), *dates, length, go, cell(where), cell(gomod))

@@ -209,6 +209,8 @@ function searching(form) {
   const input = form.querySelector("input");
   const status = form.querySelector("[role=status]");
   const [results, list] = ["results", "list"].map((it) => document.getElementById(it));
+  // (what is new stands above the search, and would fill a phone)
+  const fresh = document.querySelector("section[aria-labelledby=fresh]");
   const whole = status.textContent;
   let modules = null;
   let index = null;
@@ -228,6 +230,9 @@ function searching(form) {
     results.replaceChildren(...(rows.length > 0 ? [table(rows)] : []));
     results.hidden = rows.length === 0;
     list.hidden = isAsked;
+    if (fresh) {
+      fresh.hidden = isAsked;
+    }
     history.replaceState(null, "", isAsked ? `?q=${encodeURIComponent(text)}` : location.pathname);
     status.textContent = isAsked ? told(answer, text, modules.length) : whole;
   }

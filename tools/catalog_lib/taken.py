@@ -5,7 +5,7 @@ from collections import namedtuple
 from datetime import datetime, timezone
 
 from catalog_lib.lines import PATH, VERSION, Refused
-from catalog_lib.markup import html
+from catalog_lib.markup import date, html
 
 # the moment in UTC, and the name that published
 Taken = namedtuple("Taken", "time name")
@@ -77,6 +77,13 @@ def in_utc(text):
 def published(taken):
     """When it was taken and by whom, for a page."""
     return [minute(taken.time), " ", by(taken.name)] if taken else ""
+
+
+def when(own, taken):
+    """The date of a version that its publisher gave, and when it was taken and by whom, as far as they are known."""
+    if not taken:
+        return date(own)
+    return [date(own), ", published ", published(taken)] if own else ["published ", published(taken)]
 
 
 def minute(time):

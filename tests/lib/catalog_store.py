@@ -72,9 +72,9 @@ OWNERS = {"example.com": ["common"], "gopkg.in": ["beta", "omega"], "forge.test/
 HOST = "shelf.example.com"
 
 
-def rows_of(text):
-    """The rows of a text, each with the lines that stand indented below it."""
-    rows = []
+def rows_of(text: str) -> list[tuple[str, list[str]]]:
+    """Returns the rows of a text, each with the lines that stand indented below it."""
+    rows: list[tuple[str, list[str]]] = []
     for line in filter(str.strip, text.split("\n")):
         if line.startswith("    "):
             rows[-1][1].append(line[4:])
@@ -83,25 +83,25 @@ def rows_of(text):
     return rows
 
 
-def published(row, lines):
-    """The publish of a row of STORE."""
+def published(row: str, lines: list[str]) -> bytes:
+    """Returns the publish of a row of STORE."""
     letter, path, version, day, size = row.split()
-    first = [] if any(it.startswith("module ") for it in lines) else [f"module {path}"]
-    gomod = "".join(f"{it}\n" for it in (*first, *lines)).encode()
+    first = [] if any(line.startswith("module ") for line in lines) else [f"module {path}"]
+    gomod = "".join(f"{line}\n" for line in (*first, *lines)).encode()
     when = "" if day == "-" else f"{day}T12:00:00Z"
     return put(escaped(path), escaped(version), gomod, bytes(int(size)), KEYS[letter], when)
 
 
-def make_store(suite, name):
+def make_store(name: str) -> None:
     """Makes a store of STORE."""
     new_store(name, *SHELVES)
     add_platform(name)
     rows = rows_of(STORE)
-    told = answered(["--db", name], [published(*it) for it in rows])
-    suite.equal("the store is made", told, [(201, b"published\n")] * len(rows))
+    replies = answered(["--db", name], [published(*row) for row in rows])
+    assert replies == [(201, b"published\n")] * len(rows), replies
 
 
-def tool(*words, lines=None, commands="bin"):
+def tool(*words: str, lines: str | None = None, commands: str = "bin") -> tuple[int, str, str]:
     """Runs the tool on lines, with the commands of a folder. Returns its status, what it prints, and the last line of
     its errors."""
     where = {**os.environ, "PATH": f"{os.path.abspath(commands)}:{os.environ['PATH']}"}
@@ -109,7 +109,7 @@ def tool(*words, lines=None, commands="bin"):
     return ran.returncode, ran.stdout, (ran.stderr.splitlines() or [""])[-1]
 
 
-def make(shelf, *words):
+def make(shelf: str, *words: str) -> str:
     """Makes the pages of a shelf of the store store.db, in a folder of its name. Returns what the tool prints."""
     lines = catalog_lines.lines("store.db", shelf)
     status, printed, errors = tool("--to", shelf, "--shelf", shelf, "--today", TODAY, *words, lines=lines)
@@ -117,7 +117,7 @@ def make(shelf, *words):
     return printed
 
 
-def write_lines():
+def write_lines() -> None:
     """Writes the lines of each shelf of the store, and the company's paths."""
     for shelf in SHELF_KEYS:
         with open(f"{shelf}.lines", "w", encoding="utf-8") as file:
@@ -126,7 +126,7 @@ def write_lines():
         json.dump(OWNERS, file)
 
 
-def line_of(**fields):
-    """A line that is right, but for these fields. One that is None is left out."""
+def line_of(**fields: object) -> str:
+    """Returns a line that is right, but for these fields. One that is None is left out."""
     right = {"Path": "example.com/a", "Version": "v1.0.0", "Require": [], "Shelf": "own", "GoModSum": SUM, "ZipSize": 1}
-    return json.dumps({name: it for name, it in {**right, **fields}.items() if it is not None}) + "\n"
+    return json.dumps({name: value for name, value in {**right, **fields}.items() if value is not None}) + "\n"

@@ -5,7 +5,8 @@ import os
 import socket
 import struct
 import threading
-from http.client import HTTPException, HTTPSConnection
+from collections.abc import Callable, Iterator
+from http.client import HTTPException, HTTPMessage, HTTPSConnection
 
 from lib.catalog_store import TODAY, make_store
 from lib.front import Client, start
@@ -33,21 +34,26 @@ exec {ROOT}/tools/catalog --today {TODAY} "$@"
 class Reader(Client):
     """What users see of a machine with pages, each on one connection."""
 
-    def __init__(self, machine):
+    def __init__(self, machine: Machine) -> None:
         super().__init__(machine)
-        self.held = {}
+        self.held: dict[str | None, HTTPSConnection] = {}
 
-    def read(self, target, user="ann", method="GET", **headers):
-        """The answer to a request of a user, or of nobody: its status, its headers and its body."""
+    def read(
+        self, target: str, user: str | None = "ann", method: str = "GET", **headers: str
+    ) -> tuple[int, HTTPMessage, bytes]:
+        """Returns the answer to a request of a user, or of nobody: its status, its headers and its body."""
         login = {"Authorization": self.login(user)} if user else {}
         try:
-            return self.told(user, method, target, {**login, **headers})
+            return self.ask(user, method, target, {**login, **headers})
         except (HTTPException, OSError):
             # (nginx closes the connections of before when it is reloaded)
             self.held.pop(user).close()
-            return self.told(user, method, target, {**login, **headers})
+            return self.ask(user, method, target, {**login, **headers})
 
-    def told(self, user, method, target, headers):
+    def ask(
+        self, user: str | None, method: str, target: str, headers: dict[str, str]
+    ) -> tuple[int, HTTPMessage, bytes]:
+        """Returns the answer to a request on the connection of a user."""
         if user not in self.held:
             port = self.machine.front
             self.held[user] = HTTPSConnection("localhost", port, timeout=60, context=self.context)
@@ -55,28 +61,36 @@ class Reader(Client):
         reply = self.held[user].getresponse()
         return reply.status, reply.headers, reply.read()
 
-    def close(self):
-        for it in self.held.values():
-            it.close()
+    def close(self) -> None:
+        for connection in self.held.values():
+            connection.close()
         super().close()
 
 
-def lines_of(machine, store, key):
-    """What a key sees of a store, as goshelf prints it."""
+def lines_of(machine: Machine, store: str, key: str) -> str:
+    """Returns what a key sees of a store, as goshelf prints it."""
     return machine.does(f"goshelf catalog --db {store} --key {key}")
 
 
-def own_goshelf(machine, text):
+def own_goshelf(machine: Machine, text: str) -> None:
     """Puts a script in the place of the command goshelf, which is a link to the program."""
     os.remove(f"{machine.folder}/usr/local/bin/goshelf")
     machine.command("goshelf", text)
 
 
+# what is done with the words of an order, and with the number of the process that sends it. None is goshelf's reply.
+Does = Callable[[list[str], int], bytes | None]
+
+
+def _pass(words: list[str], sender: int) -> bytes | None:
+    return None
+
+
 @contextlib.contextmanager
-def between(machine, does=lambda words, sender: None):
-    """Takes the orders for a machine's goshelf meanwhile, and yields them as they come. `does` gets the words of each
-    and the number of the process that sends it, and returns the reply. None stands for that of goshelf."""
-    at, orders = f"{machine.folder}/run/goshelf/control", []
+def between(machine: Machine, does: Does = _pass) -> Iterator[list[str]]:
+    """Takes the orders for a machine's goshelf meanwhile, and yields them as they come. `does` returns the reply."""
+    orders: list[str] = []
+    at = f"{machine.folder}/run/goshelf/control"
     os.rename(at, f"{at}.own")
     with socket.socket(socket.AF_UNIX) as listener:
         listener.bind(at)
@@ -91,7 +105,7 @@ def between(machine, does=lambda words, sender: None):
             os.rename(f"{at}.own", at)
 
 
-def pass_on(listener, own, does, orders):
+def pass_on(listener: socket.socket, own: str, does: Does, orders: list[str]) -> None:
     """Passes orders on to a socket, one after another, until nobody listens any more."""
     while True:
         try:
@@ -107,10 +121,10 @@ def pass_on(listener, own, does, orders):
             held.sendall(told_at(own, line) if reply is None else reply)
 
 
-def told_at(at, line):
-    """What the goshelf that listens at a socket replies to an order."""
+def told_at(at: str, line: bytes) -> bytes:
+    """Returns what the goshelf that listens at a socket replies to an order."""
 
-    def connected():
+    def connected() -> socket.socket:
         held = socket.socket(socket.AF_UNIX)
         held.connect(at)
         return held
@@ -118,11 +132,11 @@ def told_at(at, line):
     return asked_by(connected, line)
 
 
-def set_up(suite, folder):
-    """Users of each shelf of the store of lib/catalog_store.py, and their pages."""
+def set_up(folder: str) -> Reader:
+    """Returns the users of each shelf of the store of lib/catalog_store.py, once their pages are made."""
     machine = Machine(folder)
     with closed_on_failure(machine):
-        make_store(suite, machine.store)
+        make_store(machine.store)
         own_goshelf(machine, GOSHELF)
         start(machine, PATHS)
         os.mkdir(f"{folder}/root/tools")
@@ -132,7 +146,8 @@ def set_up(suite, folder):
         for user, shelf in USERS.items():
             reader.add(user, shelf, "read")
         machine.does(block("sh", "/var/lib/goshelf-catalog"))
-        suite.equal("the pages are made", machine.sh("goshelf-catalog"), (0, MADE, ""))
+        made = machine.sh("goshelf-catalog")
+        assert made == (0, MADE, ""), made
     return reader
 
 

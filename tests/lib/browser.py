@@ -12,6 +12,7 @@ import select
 import signal
 import subprocess
 import time
+from typing import Any
 
 WORDS = (
     "--headless --no-sandbox --disable-gpu --disable-dev-shm-usage --no-first-run --hide-scrollbars --no-proxy-server "
@@ -43,7 +44,7 @@ def high(descriptor):
 class Browser:
     """A browser, whose files are in a folder. It takes the certificate in a file."""
 
-    def __init__(self, folder, pem):
+    def __init__(self, folder: str, pem: str) -> None:
         reads, self.writes = map(high, os.pipe())
         self.reads, writes = map(high, os.pipe())
         words = [
@@ -102,8 +103,8 @@ class Browser:
         message, _, self.rest = self.rest.partition(b"\0")
         return json.loads(message)
 
-    def page(self, login=None, **look):
-        """A new window of a person who has not logged in yet, and will do so by this name and password."""
+    def page(self, login: tuple[str, str] | None = None, **look: Any) -> "Page":
+        """Returns a new window of a person who has not logged in yet, and will do so by this name and password."""
         context = self.call("Target.createBrowserContext")["browserContextId"]
         target = self.call("Target.createTarget", url="about:blank", browserContextId=context)["targetId"]
         session = self.call("Target.attachToTarget", targetId=target, flatten=True)["sessionId"]
@@ -121,7 +122,7 @@ class Page:
     URLs of what it loaded."""
 
     def __init__(self, browser, session, login, is_dark=False, width=1_200, height=900, has_scripts=True):
-        self.browser, self.session, self.login = browser, session, login
+        self.browser, self.session, self.login, self.width = browser, session, login, width
         self.faults, self.logins, self.loads, self.asked = [], 0, 0, []
         browser.pages[session] = self
         for name in ("Page", "Runtime", "Log", "Network"):
@@ -171,7 +172,7 @@ class Page:
     def go(self, url):
         self.loaded(lambda: self.call("Page.navigate", url=url))
 
-    def value(self, code):
+    def value(self, code: str) -> Any:
         """The value of an expression in the page."""
         told = self.call("Runtime.evaluate", expression=code, returnByValue=True, awaitPromise=True)
         assert "exceptionDetails" not in told, (code, told)
@@ -190,7 +191,7 @@ class Page:
         number = told["entries"][told["currentIndex"] - 1]["id"]
         self.loaded(lambda: self.call("Page.navigateToHistoryEntry", entryId=number))
 
-    def shown(self, selector):
+    def shown(self, selector: str) -> list[str]:
         """The texts that a person sees of the elements that a selector chooses."""
         return self.value(SHOWN.format(json.dumps(selector)))
 
@@ -219,3 +220,11 @@ class Page:
     def picture(self):
         """What the window shows, as a PNG."""
         return base64.b64decode(self.call("Page.captureScreenshot")["data"])
+
+    def draw(self, name: str, most: int = 2_400) -> None:
+        """Writes the whole page as a PNG, of which at most this height."""
+        height = min(most, self.value("document.documentElement.scrollHeight"))
+        size = {"width": self.width, "deviceScaleFactor": 1, "mobile": self.width < 600}
+        self.call("Emulation.setDeviceMetricsOverride", height=height, **size)
+        with open(name, "wb") as file:
+            file.write(self.picture())

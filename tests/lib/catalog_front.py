@@ -7,7 +7,9 @@ import struct
 import threading
 from collections.abc import Callable, Iterator
 from http.client import HTTPException, HTTPMessage, HTTPSConnection
+from typing import Any
 
+from lib.browser import Browser, Page
 from lib.catalog_store import TODAY, make_store
 from lib.front import Client, start
 from lib.machine import Machine
@@ -159,3 +161,23 @@ delta: 8 pages, 8 new or changed
 gamma: 12 pages, 12 new or changed
 platform: 8 pages, 8 new or changed
 """
+
+
+class Visitors:
+    """A machine with pages, and the browser of those who visit them."""
+
+    def __init__(self, folder: str) -> None:
+        self.reader = set_up(folder)
+        with closed_on_failure(self.reader):
+            self.browser = Browser(f"{folder}/browser", self.reader.pem)
+        self.url = f"https://localhost:{self.reader.machine.front}"
+
+    def visit(self, user: str | None, target: str = "/", **look: Any) -> Page:
+        """Returns a new window of a user, or of nobody, at a target."""
+        page = self.browser.page((user, self.reader.passwords[user]) if user else None, **look)
+        page.go(self.url + target)
+        return page
+
+    def close(self) -> None:
+        self.browser.close()
+        self.reader.close()

@@ -106,8 +106,12 @@ class Folder:
             raise Refused(f"{self.at} has no pages")
         replace(os.path.join(self.old, STAMP), stamped(count, findings).encode())
 
-    def begin(self):
-        """Begins the new folder: the spare, or an empty one."""
+    def begin(self, is_known):
+        """Begins the new folder: the spare, or an empty one unless it `is_known` which files the last run made."""
+        if self.spare and not is_known:
+            remove(self.spare)
+            self.spare = None
+        self.is_known = is_known
         self.new = self.spare or os.path.join(self.parent, f".{self.name}.{secrets.token_hex(8)}")
         if not self.spare:
             os.mkdir(self.new)
@@ -165,26 +169,25 @@ class Folder:
         os.rename(link, self.at)
         old, self.old, self.new = self.old, self.new, None
         if spare:
-            self.follow(old, os.path.join(self.parent, spare), gone)
-        elif old:
+            self.follow(os.path.join(self.parent, spare), gone)
+        if old and os.path.basename(old) != spare:
             remove(old)
 
     def spare_name(self):
-        """Returns the name of the folder that becomes the spare: the old one, if there is one."""
-        return os.path.basename(self.old) if self.old else f".{self.name}.{secrets.token_hex(8)}"
+        """Returns the name of the folder that becomes the spare: the old one, if it is known which files it has."""
+        return os.path.basename(self.old) if self.old and self.is_known else f".{self.name}.{secrets.token_hex(8)}"
 
-    def follow(self, old, spare, gone):
+    def follow(self, spare, gone):
         """Brings the spare up to date with the folder that is shown now."""
-        if old:
-            replace(os.path.join(spare, MADE), b"{}\n")
-            drop(spare, gone)
-        else:
+        is_new = not os.path.exists(spare)
+        if is_new:
             os.mkdir(spare)
-            replace(os.path.join(spare, MADE), b"{}\n")
-        for name in self.changed if old else self.names:
+        replace(os.path.join(spare, MADE), b"{}\n")
+        drop(spare, gone)
+        for name in self.names if is_new else self.changed:
             at = os.path.join(spare, name)
             os.makedirs(os.path.dirname(at), exist_ok=True)
-            if old and os.path.lexists(at):
+            if not is_new and os.path.lexists(at):
                 os.unlink(at)
             share(os.path.join(self.old, name), at)
         replace(os.path.join(spare, MADE), json.dumps({"same": os.path.basename(self.old)}).encode())

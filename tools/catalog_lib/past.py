@@ -27,7 +27,7 @@ class Past:
     what differs from the shelves above. Empty if another form of this tool ran, or before the machine started."""
 
     def __init__(self, folder=None, form=None):
-        self.modules, self.pages, self.differing, self.others = {}, {}, {}, []
+        self.modules, self.pages, self.differing, self.others, self.is_there = {}, {}, {}, [], False
         if folder and folder.old and form and folder.mark().get("form") == form:
             try:
                 self.read(os.path.join(folder.old, MADE))
@@ -41,6 +41,7 @@ class Past:
         for line, fields in zip(modules, json.loads(f"[{','.join(modules)}]")):
             module = Module(*fields, line=line)
             self.modules[module.path] = module
+        self.is_there = True
 
     def files(self):
         """Returns the files of all pages."""

@@ -14,7 +14,7 @@ from typing import NamedTuple
 import pytest
 
 from lib.catalog_pages import Page, pages_in
-from lib.catalog_zips import deflated, lines_of, made_pages, raw, read_pages, stored, zipped
+from lib.catalog_zips import Entry, deflated, lines_of, made_pages, raw, read_pages, stored, zipped
 from lib.go_command import settings
 from lib.keys import KEYS, SHELVES
 from lib.messages import put
@@ -82,7 +82,6 @@ LICENCES = (f"SPDX-License-Identifier: {EVIL}", "SPDX-License-Identifier: MIT\u2
 ZEROS, FEWER = bytes(64 << 20), bytes(4 << 20)
 
 
-Entry = tuple[str, bytes, int, int, int]
 Zips = dict[str, Callable[[], bytes]]
 
 

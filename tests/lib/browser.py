@@ -12,6 +12,7 @@ import select
 import signal
 import subprocess
 import time
+from collections.abc import Callable
 from typing import Any
 
 WORDS = (
@@ -25,7 +26,7 @@ LIMIT = 60
 SHOWN = "[...document.querySelectorAll({})].filter((it) => it.checkVisibility()).map((it) => it.innerText)"
 
 
-def hash_of_key(pem):
+def hash_of_key(pem: str) -> str:
     """The hash of the key of a certificate, by which the browser is told to take it."""
     key = subprocess.run(["openssl", "x509", "-in", pem, "-pubkey", "-noout"], capture_output=True, check=True).stdout
     words = ["openssl", "pkey", "-pubin", "-outform", "der"]
@@ -34,7 +35,7 @@ def hash_of_key(pem):
     return base64.b64encode(told).decode()
 
 
-def high(descriptor):
+def high(descriptor: int) -> int:
     """The same file by a number above those that the browser reads and writes, 3 and 4."""
     copy = fcntl.fcntl(descriptor, fcntl.F_DUPFD_CLOEXEC, 10)
     os.close(descriptor)
@@ -66,16 +67,18 @@ class Browser:
         self.pid = os.posix_spawnp("chromium", ["chromium", *words], where, file_actions=files, setpgroup=0)
         for it in (reads, writes):
             os.close(it)
-        self.number, self.rest, self.pages, self.answers = 0, b"", {}, {}
+        self.number, self.rest = 0, b""
+        self.pages: dict[str, Page] = {}
+        self.answers: dict[int, dict[str, Any]] = {}
 
-    def send(self, method, session=None, **values):
+    def send(self, method: str, session: str | None = None, **values: Any) -> int:
         """Sends a message and returns its number."""
         self.number += 1
         message = {"id": self.number, "method": method, "params": values}
         os.write(self.writes, json.dumps({**message, **({"sessionId": session} if session else {})}).encode() + b"\0")
         return self.number
 
-    def call(self, method, session=None, **values):
+    def call(self, method: str, session: str | None = None, **values: Any) -> dict[str, Any]:
         """Sends a message and returns what is answered."""
         number = self.send(method, session, **values)
         self.wait_until(lambda: number in self.answers)
@@ -83,7 +86,7 @@ class Browser:
         assert "error" not in told, (method, told)
         return told["result"]
 
-    def wait_until(self, holds):
+    def wait_until(self, holds: Callable[[], bool]) -> None:
         """Takes messages until something holds. Answers are kept, and each page is told of its events."""
         end = time.monotonic() + LIMIT
         while not holds():
@@ -93,7 +96,7 @@ class Browser:
             elif page := self.pages.get(message.get("sessionId")):
                 page.told(message)
 
-    def message(self, end):
+    def message(self, end: float) -> dict[str, Any]:
         """The next message."""
         while b"\0" not in self.rest:
             is_ready = select.select([self.reads], [], [], max(0, end - time.monotonic()))[0]
@@ -110,7 +113,7 @@ class Browser:
         session = self.call("Target.attachToTarget", targetId=target, flatten=True)["sessionId"]
         return Page(self, session, login, **look)
 
-    def close(self):
+    def close(self) -> None:
         for it in (self.reads, self.writes):
             os.close(it)
         os.killpg(self.pid, signal.SIGKILL)
@@ -134,10 +137,10 @@ class Page:
         self.call("Emulation.setDeviceMetricsOverride", **size)
         self.call("Emulation.setScriptExecutionDisabled", value=not has_scripts)
 
-    def call(self, method, **values):
+    def call(self, method: str, **values: Any) -> dict[str, Any]:
         return self.browser.call(method, self.session, **values)
 
-    def told(self, message):
+    def told(self, message: dict[str, Any]) -> None:
         """Notes what is wrong, logs in once where that is asked for, and lets requests go on."""
         kind, values = message["method"], message.get("params", {})
         if kind == "Fetch.requestPaused":
@@ -163,13 +166,13 @@ class Page:
         elif kind == "Runtime.exceptionThrown":
             self.faults.append(str(values["exceptionDetails"]))
 
-    def loaded(self, begin):
+    def loaded(self, begin: Callable[[], object]) -> None:
         """Does what begins to load a page, and waits until it is there."""
         before = self.loads
         begin()
         self.browser.wait_until(lambda: self.loads > before)
 
-    def go(self, url):
+    def go(self, url: str) -> None:
         self.loaded(lambda: self.call("Page.navigate", url=url))
 
     def value(self, code: str) -> Any:
@@ -178,14 +181,14 @@ class Page:
         assert "exceptionDetails" not in told, (code, told)
         return told["result"].get("value")
 
-    def until(self, code):
+    def until(self, code: str) -> None:
         """Waits until an expression in the page holds."""
         end = time.monotonic() + LIMIT
         while not self.value(code):
             assert time.monotonic() < end, code
             time.sleep(0.02)
 
-    def back(self):
+    def back(self) -> None:
         """Goes back to the page before this one."""
         told = self.call("Page.getNavigationHistory")
         number = told["entries"][told["currentIndex"] - 1]["id"]
@@ -195,7 +198,7 @@ class Page:
         """The texts that a person sees of the elements that a selector chooses."""
         return self.value(SHOWN.format(json.dumps(selector)))
 
-    def click(self, selector):
+    def click(self, selector: str) -> None:
         """Clicks on the middle of an element."""
         found = f"document.querySelector({json.dumps(selector)})"
         box = f"(it => (it.scrollIntoView({{block: 'center'}}), it.getClientRects()[0].toJSON()))({found})"
@@ -204,20 +207,20 @@ class Page:
         for kind in ("mousePressed", "mouseReleased"):
             self.call("Input.dispatchMouseEvent", type=kind, **place)
 
-    def follow(self, selector):
+    def follow(self, selector: str) -> None:
         """Clicks on a link, and waits until its page is there."""
         self.loaded(lambda: self.click(selector))
 
-    def press(self, key, text=""):
+    def press(self, key: str, text: str = "") -> None:
         """Presses a key, which types a text if one is named."""
         self.call("Input.dispatchKeyEvent", type="keyDown", key=key, text=text)
         self.call("Input.dispatchKeyEvent", type="keyUp", key=key)
 
-    def type(self, text):
+    def type(self, text: str) -> None:
         for it in text:
             self.press(it, it)
 
-    def picture(self):
+    def picture(self) -> bytes:
         """What the window shows, as a PNG."""
         return base64.b64decode(self.call("Page.captureScreenshot")["data"])
 

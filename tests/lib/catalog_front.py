@@ -46,13 +46,13 @@ class Reader(Client):
         """Returns the answer to a request of a user, or of nobody: its status, its headers and its body."""
         login = {"Authorization": self.login(user)} if user else {}
         try:
-            return self.ask(user, method, target, {**login, **headers})
+            return self.ask_as(user, method, target, {**login, **headers})
         except (HTTPException, OSError):
             # (nginx closes the connections of before when it is reloaded)
             self.held.pop(user).close()
-            return self.ask(user, method, target, {**login, **headers})
+            return self.ask_as(user, method, target, {**login, **headers})
 
-    def ask(
+    def ask_as(
         self, user: str | None, method: str, target: str, headers: dict[str, str]
     ) -> tuple[int, HTTPMessage, bytes]:
         """Returns the answer to a request on the connection of a user."""

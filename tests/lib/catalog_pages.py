@@ -2,6 +2,7 @@
 
 import os
 from html.parser import HTMLParser
+from typing import Any
 
 EMPTY = {"meta", "link", "input", "wbr", "img", "br", "hr"}
 # what a link to another host says, so that the host learns nothing
@@ -11,14 +12,21 @@ OUTWARD = "noopener noreferrer"
 class Page(HTMLParser):
     """A page: its title, its headings, the rows of each table by the id of its heading, its links and what it loads."""
 
-    def __init__(self, name):
+    def __init__(self, name: str) -> None:
         super().__init__()
-        self.name, self.open, self.tables, self.headings = name, [], {}, []
-        self.title, self.ids, self.links, self.loads, self.scripts, self.tags = "", [], [], [], [], []
-        self.outward = []
-        self.rows = self.table = None
+        self.name, self.title = name, ""
+        self.open: list[tuple[str, dict[str, Any]]] = []
+        self.tags: list[tuple[str, dict[str, Any]]] = []
+        self.tables: dict[str, list[list[str]]] = {}
+        self.headings: list[list[str]] = []
+        self.ids: list[str] = []
+        self.links: list[str] = []
+        self.outward: list[str] = []
+        self.loads: list[str] = []
+        self.scripts: list[str] = []
+        self.table = ""
         # each text to copy, by its id
-        self.pre = {}
+        self.pre: dict[Any, str] = {}
         with open(name, encoding="utf-8") as file:
             self.text = file.read()
         self.feed(self.text)
@@ -70,11 +78,11 @@ class Page(HTMLParser):
         if self.is_in("script") and data.strip():
             self.scripts.append(data)
 
-    def table_of(self, name):
+    def table_of(self, name: str) -> list[str]:
         """The rows of a table without its heads, each as its cells, joined by `|`."""
         return ["|".join(" ".join(it.split()) for it in row) for row in self.tables.get(name, [])[1:]]
 
-    def target(self, link):
+    def target(self, link: str) -> tuple[str, str]:
         """The file to which a link leads, and the part of it."""
         name, _, part = link.partition("#")
         if not name:
@@ -83,7 +91,7 @@ class Page(HTMLParser):
         return os.path.normpath(f"{whole}index.html" if name.endswith("/") else whole), part
 
 
-def pages_in(folder):
+def pages_in(folder: str) -> dict[str, Page]:
     """Each page below a folder, by its name there."""
     found = {}
     for at, _, names in os.walk(folder):

@@ -6,6 +6,7 @@ import re
 import struct
 import zipfile
 import zlib
+from collections.abc import Mapping
 from functools import lru_cache
 
 from lib.catalog_store import SHELF_KEYS, TODAY, tool
@@ -17,10 +18,12 @@ from lib.scratch import read, write
 
 # what the style sheet of a shelf says about the making of its pages
 MADE_AT = re.compile(rb"(?<=Made at )\d{4}-\d\d-\d\d \d\d:\d\d")
+# an entry of a zip: its name, its packed content, its method, and the size and the sum that it claims
+Entry = tuple[str | bytes, bytes, int, int, int]
 SHELF_OF = {letter: shelf for shelf, letter in SHELF_KEYS.items()}
 
 
-def zipped(path, version, files):
+def zipped(path: str, version: str, files: Mapping[str, str | bytes]) -> bytes:
     """The zip of a module with these files."""
     made = io.BytesIO()
     with zipfile.ZipFile(made, "w", zipfile.ZIP_DEFLATED) as held:
@@ -43,7 +46,7 @@ def raw(entries, count=None, comment=b""):
     return body + heads + b"PK\5\6" + end + comment
 
 
-def stored(name, content):
+def stored(name: str | bytes, content: bytes) -> Entry:
     """An entry whose content is not packed."""
     return name, content, 0, len(content), zlib.crc32(content)
 
@@ -55,31 +58,33 @@ def deflated(name, content, size=None, crc=None):
 
 
 @lru_cache(maxsize=8)
-def packed_of(content):
+def packed_of(content: bytes) -> tuple[bytes, int]:
     """A content that is packed, and its sum."""
     packer = zlib.compressobj(6, zlib.DEFLATED, -15)
     return packer.compress(content) + packer.flush(), zlib.crc32(content)
 
 
-def published(letter, path, version, files, gomod=None):
+def published(
+    letter: str, path: str, version: str, files: Mapping[str, str | bytes], gomod: str | None = None
+) -> bytes:
     """The publish of a module with these files. Its go.mod is among them, unless it is named by itself."""
-    gomod = gomod or files.get("go.mod") or f"module {path}\n"
+    gomod = gomod or str(files.get("go.mod") or f"module {path}\n")
     content = zipped(path, version, {"go.mod": gomod, **files})
     return put(escaped(path), escaped(version), gomod.encode(), content, KEYS[letter])
 
 
-def lines_of(letter, store):
+def lines_of(letter: str, store: str) -> str:
     """What a key sees of a store."""
     status, lines, told = run(["catalog", "--db", store, "--key", KEYS[letter]])
     assert (status, told) == (0, ""), told
     return lines.decode()
 
 
-def made_pages(to, letter, lines, *words):
+def made_pages(to: str, letter: str, lines: str, *words: str) -> str:
     """Makes the pages of a key's shelf of these lines, and of the zips. Returns what the tool prints."""
     write({"key": KEYS[letter]})
-    words = ["--to", to, "--shelf", SHELF_OF[letter], "--today", TODAY, "--key-file", "key", *words]
-    status, printed, errors = tool(*words, lines=lines)
+    own = ("--to", to, "--shelf", SHELF_OF[letter], "--today", TODAY, "--key-file", "key")
+    status, printed, errors = tool(*own, *words, lines=lines)
     assert (status, errors) == (0, ""), errors
     return printed
 

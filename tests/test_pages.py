@@ -120,12 +120,7 @@ def is_there(name: str) -> bool:
     if "*" in name:
         pattern = re.compile(re.escape(name).replace(r"\*", "[^/]*"))
         return any(pattern.fullmatch(file) for file in list_files())
-    # (a suite that is no file of pytest yet, and one that became one, are cited by either name)
-    suites = [
-        re.sub(r"^tests/(\w+\.py)$", r"tests/test_\1", name),
-        re.sub(r"^tests/test_(\w+\.py)$", r"tests/\1", name),
-    ]
-    names = [name, *suites] if "/" in name else [name, os.path.join("docs", name)]
+    names = [name] if "/" in name else [name, os.path.join("docs", name)]
     return any(os.path.exists(os.path.join(ROOT, found)) for found in names)
 
 
@@ -157,8 +152,6 @@ def read_words(crate: str) -> set[str]:
 def list_tests() -> set[str]:
     """Returns the names of the files of tests, and of the tests."""
     files = {os.path.basename(file).removesuffix(".py") for file in list_files("tests/*.py")}
-    # (a suite that is no file of pytest yet has the name that it gets)
-    files |= {f"test_{name}" for name in files}
     defined = read_lines("git", "grep", "--untracked", "-hoE", r"def test_\w+", "--", "tests")
     return files | {line.removeprefix("def ") for line in defined}
 

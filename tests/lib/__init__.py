@@ -13,5 +13,4 @@
 - Machines and hosts behind nginx: `machine`, `systemd`, `front`, `behind_nginx`, `shards`, `operating`, `hosts`,
   `company`, `warm` and `outside`, and `releases` and `packages`, which are installed there.
 - Those who use them: `logins`, `developers`, `own_keys` and `keys_unit`.
-- Suites that are no tests of pytest: `suite` counts their rows, and `registry` lists them.
 """

@@ -16,8 +16,8 @@ from concurrent.futures import ThreadPoolExecutor
 
 import pytest
 
-from lib.behind_nginx import Front, Module, ask_as_stranger
-from lib.front import UNUSED, ZIP
+from lib.behind_nginx import Module, ask_as_stranger
+from lib.front import Front, UNUSED, ZIP
 from lib.peers import rest_of
 from lib.scratch import opened
 

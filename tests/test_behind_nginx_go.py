@@ -12,7 +12,7 @@ from typing import NamedTuple
 
 import pytest
 
-from lib.behind_nginx import Front
+from lib.front import Front
 from lib.go_command import settings
 from lib.modules import zipped
 from lib.pages import block

@@ -15,8 +15,8 @@ from typing import NamedTuple
 
 import pytest
 
-from lib.behind_nginx import Front, Module, Reply, ask_as_stranger
-from lib.front import ZIP, Client, fingerprint, start, users_of
+from lib.behind_nginx import Module, ask_as_stranger
+from lib.front import Client, Front, Reply, ZIP, fingerprint, start, users_of
 from lib.keys import KEY
 from lib.machine import Machine
 from lib.pages import block, read_page

@@ -303,7 +303,7 @@ def test_what_cannot_be_migrated(store: str, name: str) -> None:
     ids=["no socket", "no folder", "too long", "another file"],
 )
 def test_a_name_of_no_socket(store: str, name: str, said: str) -> None:
-    """tests/control.py has the words of the commands."""
+    """tests/test_control.py has the words of the commands."""
     assert said in find_cause("--control", name)
 
 

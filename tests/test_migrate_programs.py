@@ -21,7 +21,7 @@ from collections.abc import Sequence
 
 import pytest
 
-from lib.go_sessions import ALPHA, BETA, COMMON, PUBLISHED, READER, Client, asks
+from lib.go_sessions import ALPHA, BETA, COMMON, PUBLISHED, READER, Developer, ask_all
 from lib.keys import KEYS, SHELVES
 from lib.messages import get, put, raw_replies
 from lib.modules import escaped
@@ -75,13 +75,6 @@ class Passing(socketserver.BaseRequestHandler):
         reply = exchanged(self.server.behind, request)
         self.server.kept.append((request, reply))
         self.request.sendall(reply)
-
-
-class Checks:
-    """What a developer of go_sessions reports to."""
-
-    def holds(self, name: str, is_right: object, why: object = "") -> None:
-        assert is_right, f"{name}: {why}"
 
 
 # the shelves of test_go_client that schema 2 has, with their keys
@@ -141,9 +134,9 @@ def record_go(program: str, file: str) -> list[Exchange]:
     publish_by(program, file)
     with Server(file, program=program) as server, Recorder(server.port) as recorder:
         alpha, beta = (
-            Client(Checks(), recorder, os.path.abspath(name), key) for name, key in (("alpha", READER), ("beta", BETA))
+            Developer(recorder, os.path.abspath(name), key) for name, key in (("alpha", READER), ("beta", BETA))
         )
-        asks(alpha, beta)
+        ask_all(alpha, beta)
         recorder.shutdown()
         return recorder.kept
 

@@ -9,8 +9,8 @@ from typing import NamedTuple
 
 import pytest
 
-from lib.behind_nginx import Front, Module, Reply
-from lib.front import LONG, UNUSED, ZIP
+from lib.behind_nginx import Module
+from lib.front import Front, LONG, Reply, UNUSED, ZIP
 from lib.scratch import opened
 
 pytestmark = [pytest.mark.needs("nginx", "nginx-js", "nginx-stream", "openssl", "sqlite3"), pytest.mark.root]

@@ -1,29 +1,12 @@
-"""goshelf behind nginx on a machine in a folder, by the page's commands: its users, and modules of a test's own."""
+"""Modules of a test's own behind nginx, and strangers who ask there."""
 
-from lib.front import LONG, UNUSED, USERS, Client, start
-from lib.machine import Machine
+from typing import Any
+
+from lib.front import Client, Front, Reply
 from lib.ports import wait_until
-from lib.scratch import closed_on_failure
-from lib.stores import new_store
-
-# the status and the body of a reply
-Reply = tuple[int, bytes]
 
 
-class Front(Client):
-    """The users of a machine with goshelf behind nginx."""
-
-    def __init__(self, folder: str) -> None:
-        machine = Machine(folder)
-        with closed_on_failure(machine):
-            new_store(machine.store, ("alpha", UNUSED), ("beta", "firstkey00000002"), (LONG, "firstkey00000003"))
-            start(machine, {"example.com": ["alpha", "beta", LONG]})
-            super().__init__(machine)
-            for user in USERS:
-                self.add(*user)
-
-
-def ask_as_stranger(front: Client, method: str, target: str, header: str | None = None, *more: object) -> Reply:
+def ask_as_stranger(front: Client, method: str, target: str, header: str | None = None, *more: Any) -> Reply:
     """Returns the reply to a stranger, who asks again after a 429: nginx lets strangers ask five times a second."""
     replies: list[Reply] = []
 

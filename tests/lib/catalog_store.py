@@ -1,4 +1,4 @@
-"""What the suites of tools/catalog share: a store with hostile go.mods, and the tool's runs over its lines."""
+"""What the tests of tools/catalog share: a store with hostile go.mods, and the tool's runs over its lines."""
 
 import base64
 import hashlib

@@ -1,4 +1,4 @@
-"""Zips of modules for the suites of tools/catalog: right ones, and such as no tool makes."""
+"""Zips of modules for the tests of tools/catalog: right ones, and such as no tool makes."""
 
 import io
 import os

@@ -167,18 +167,6 @@ def trust_own(machine: Machine) -> None:
     os.symlink(f"{machine.folder}/etc/ssl/goshelf.pem", f"{machine.folder}{AUTHORITIES}")
 
 
-def set_up(suite: Any, folder: str) -> Client:
-    """Opens the front for a suite that has not come to pytest yet."""
-    front = Front(folder)
-    names = [f"{folder}/{FOLDER}/{name}" for name in ("", "names", "goshelf.json")]
-    modes = [os.stat(name).st_mode & 0o777 for name in names]
-    suite.equal("only root may read who may log in", modes, [0o700, 0o600, 0o600])
-    logs = ("nginx/goshelf.log", "nginx/goshelf-errors.log", "goshelf/publishes.log")
-    modes = [os.stat(f"{folder}/var/log/{name}").st_mode & 0o777 for name in logs]
-    suite.equal("and only root and its group the logs", modes, [0o640] * 3)
-    return front
-
-
 def start(
     machine: Machine, paths: Mapping[str, list[str]], change: Callable[[Machine], None] = lambda machine: None
 ) -> None:

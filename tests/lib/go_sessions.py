@@ -241,13 +241,3 @@ def check_downloads(developer: Developer, entries: Iterable[Version]) -> None:
     for entry in entries:
         found = developer.download(*entry[:2])
         assert found == find_sums(entry), (entry[:2], found)
-
-
-class Client(Developer):
-    """A developer, as a suite of rows makes one."""
-
-    def __init__(self, suite: object, server: Proxy, folder: str, key: str) -> None:
-        super().__init__(server, folder, key)
-
-
-asks = ask_all

@@ -3,7 +3,7 @@
 Their absolute names are put below the folder, and ports that are free in place of 443 and 8080. The commands
 `goshelf`, `nginx` and `systemctl` stand in its /usr/local/bin: the first is the built program, the second starts with
 the machine's configuration, and the third starts and stops the program on the machine's store. The public proxy is a
-port of this host, on which nobody listens unless a suite names another.
+port of this host, on which nobody listens unless a test names another.
 """
 
 import contextlib

@@ -18,6 +18,7 @@ PACKAGES: dict[str, tuple[str, ...]] = {
     "nginx": ("nginx-light",),
     "nginx-js": ("libnginx-mod-http-js",),
     "nginx-stream": ("libnginx-mod-stream",),
+    "nft": ("nftables",),
     "openssl": ("openssl",),
     "pgrep": ("procps",),
     "pyflakes3": ("pyflakes3",),

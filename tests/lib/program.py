@@ -7,7 +7,7 @@ from collections.abc import Iterable, Sequence
 from typing import Any
 
 from lib.keys import KEYS
-from lib.messages import get, replies, reply
+from lib.messages import replies
 
 ROOT = os.path.dirname(os.path.dirname(os.path.dirname(os.path.abspath(__file__))))
 # GOSHELF names another program to test
@@ -66,31 +66,3 @@ def words_of(line: str) -> list[str]:
     """Returns the words of a command line. A letter after `--key` becomes its key."""
     words = line.split()
     return [KEYS.get(word, word) if before == "--key" else word for before, word in zip(["", *words], words)]
-
-
-def runs_of(table: str) -> list[tuple[str, list[str], bytes, tuple[int, bytes, str]]]:
-    """The runs of a table, each as its line, its words, its input, and the triple that `run` is to return.
-
-    A line has the words; behind `<` the letter of a key and the target that the input asks for; behind `|` the exit
-    status, and the word on standard error where there is one. Indented below it stand the lines that are printed. Of
-    a run that is asked for a target these are one reply: its status and its body."""
-    rows: list[tuple[str, list[str]]] = []
-    for line in filter(str.strip, table.split("\n")):
-        if line.startswith("    "):
-            rows[-1][1].append(line[4:] + "\n")
-        else:
-            rows.append((line, []))
-    return [run_of(line, "".join(printed)) for line, printed in rows]
-
-
-def run_of(line: str, printed: str) -> tuple[str, list[str], bytes, tuple[int, bytes, str]]:
-    """A run of a table, as `runs_of` returns it."""
-    command, ending = columns(line, 2)
-    command, _, asked = command.partition(" < ")
-    status, _, word = ending.partition(" ")
-    requests, output = b"", printed.encode()
-    if asked:
-        letter, target = asked.split()
-        code, _, body = output.partition(b" ")
-        requests, output = get(target, KEYS[letter]), reply(int(code), body, target) if code else b""
-    return line, words_of(command), requests, (int(status), output, f"goshelf: {word}\n" if word else "")

@@ -1,25 +1,25 @@
-"""Folders and files of a suite's own, and disks that are small."""
+"""Folders and files of a test's own, and disks that are small."""
 
 import contextlib
 import os
 import subprocess
 import tarfile
 import tempfile
-from collections.abc import Callable, Iterator
+from collections.abc import Callable, Iterator, Mapping
 from typing import Protocol, TypeVar
 
 
-def mounted(at, size):
+def mounted(at: str, size: int | str) -> bool:
     """Mounts a tmpfs of a size at a folder, and returns whether this machine could. `umount` takes it away."""
     options = (f"size={size},noswap", f"size={size}")
     return any(
-        subprocess.run(["mount", "-t", "tmpfs", "-o", it, "tmpfs", at], capture_output=True).returncode == 0
-        for it in options
+        subprocess.run(["mount", "-t", "tmpfs", "-o", option, "tmpfs", at], capture_output=True).returncode == 0
+        for option in options
     )
 
 
 @contextlib.contextmanager
-def small_disk(at, size):
+def small_disk(at: str, size: int | str) -> Iterator[bool]:
     """Gives a folder a disk of a size, until the block ends. Yields whether this machine could."""
     is_there = mounted(at, size)
     try:
@@ -29,9 +29,9 @@ def small_disk(at, size):
             subprocess.run(["umount", at], check=True)
 
 
-def unpack(archive, folder):
-    """Unpacks an open archive of a suite's own into a folder. The Python of Debian 12 knows no filter for that."""
-    archive.extraction_filter = getattr(tarfile, "tar_filter", None)
+def unpack(archive: tarfile.TarFile, folder: str) -> None:
+    """Unpacks an open archive of a test's own into a folder. The Python of Debian 12 knows no filter for that."""
+    setattr(archive, "extraction_filter", getattr(tarfile, "tar_filter", None))
     archive.extractall(folder)
 
 
@@ -61,66 +61,31 @@ def opened(make: Callable[[str], C]) -> Iterator[C]:
             yield made
 
 
-def in_new_folders(suite, *parts):
-    """Calls each part with the suite, in a new folder of its own, and ends the suite."""
-    for part in parts:
-        with tempfile.TemporaryDirectory(prefix="goshelf-") as folder:
-            os.chdir(folder)
-            part(suite)
-            os.chdir("/")
-    return suite.end()
-
-
-def in_a_folder(suite, session):
-    """Calls a session with a new folder, and ends the suite."""
-    with tempfile.TemporaryDirectory(prefix="goshelf-") as folder:
-        session(folder)
-    return suite.end()
-
-
 @contextlib.contextmanager
-def closed_on_failure(it):
+def closed_on_failure(opened: Closable) -> Iterator[None]:
     """Closes a thing if the block that sets it up fails."""
     try:
         yield
     except BaseException:
-        it.close()
+        opened.close()
         raise
 
 
-def play(suite, about, why, made, parts, is_able=True):
-    """Has a suite play parts with what `made` makes in a new folder, closes it, and returns the suite's exit status.
-
-    For anybody but root, and where the machine is not able, it skips a row about it and says why."""
-    if os.geteuid() != 0 or not is_able:
-        suite.skip(about, why)
-        return suite.end()
-    with tempfile.TemporaryDirectory(prefix="goshelf-") as folder:
-        os.chmod(folder, 0o755)
-        them = made(folder)
-        try:
-            for part in parts:
-                part(suite, them)
-        finally:
-            them.close()
-    return suite.end()
-
-
-def write(files):
+def write(files: Mapping[str, str | bytes]) -> None:
     """Writes files, by their names. A text is written as UTF-8."""
     for name, content in files.items():
         with open(name, "wb") as file:
             file.write(content if isinstance(content, bytes) else content.encode())
 
 
-def read(name):
-    """The bytes of a file."""
+def read(name: str) -> bytes:
+    """Returns the bytes of a file."""
     with open(name, "rb") as file:
         return file.read()
 
 
-def files_of(folder="."):
-    """The files of a folder, with their bytes."""
+def files_of(folder: str = ".") -> dict[str, bytes]:
+    """Returns the files of a folder, with their bytes."""
     return {
         name: read(os.path.join(folder, name))
         for name in sorted(os.listdir(folder))
@@ -128,11 +93,8 @@ def files_of(folder="."):
     }
 
 
-def fill(name):
+def fill(name: str) -> None:
     """Writes a file until its disk is full."""
-    with open(name, "wb", buffering=0) as file:
-        try:
-            while True:
-                file.write(bytes(4_096))
-        except OSError:
-            pass
+    with open(name, "wb", buffering=0) as file, contextlib.suppress(OSError):
+        while True:
+            file.write(bytes(4_096))

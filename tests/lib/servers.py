@@ -87,7 +87,12 @@ class Server:
         return asked_by(self.operator, line)
 
     def ask(
-        self, method: str, target: str, body: bytes | None = None, key: str = KEY, headers: Mapping[str, str] | None = None
+        self,
+        method: str,
+        target: str,
+        body: bytes | None = None,
+        key: str = KEY,
+        headers: Mapping[str, str] | None = None,
     ) -> tuple[int, bytes]:
         """Returns the status and the body of the reply to a request by a key."""
         connection = http.client.HTTPConnection("127.0.0.1", self.port, timeout=60)

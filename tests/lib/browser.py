@@ -93,7 +93,7 @@ class Browser:
             message = self.message(end)
             if "id" in message:
                 self.answers[message["id"]] = message
-            elif page := self.pages.get(message.get("sessionId", "")):
+            elif page := self.pages.get(str(message.get("sessionId"))):
                 page.told(message)
 
     def message(self, end: float) -> dict[str, Any]:

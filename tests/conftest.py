@@ -18,7 +18,12 @@ def pytest_addoption(parser: pytest.Parser) -> None:
 
 def pytest_sessionstart(session: pytest.Session) -> None:
     if not session.config.option.collectonly and not os.access(PROGRAM, os.X_OK):
-        raise pytest.UsageError(f"there is no program {PROGRAM}: ./goshelf --version builds it, GOSHELF names another")
+        why = "./goshelf --version proves and builds it, ./goshelf --unproved --version only builds it"
+        raise pytest.UsageError(f"there is no program {PROGRAM}: {why}, and GOSHELF names another")
+
+
+def pytest_report_header() -> str:
+    return f"program: {PROGRAM}"
 
 
 def pytest_collection_modifyitems(config: pytest.Config, items: list[pytest.Item]) -> None:

@@ -10,8 +10,18 @@ from lib.keys import KEYS
 from lib.messages import replies
 
 ROOT = os.path.dirname(os.path.dirname(os.path.dirname(os.path.abspath(__file__))))
-# GOSHELF names another program to test
-PROGRAM = os.path.abspath(os.environ.get("GOSHELF") or os.path.join(ROOT, "crates", "goshelf", "out", "goshelf"))
+PROVED = os.path.join(ROOT, "crates", "goshelf", "out", "goshelf")
+UNPROVED = os.path.join(ROOT, "out", "unproved", "goshelf")
+
+
+def find_program() -> str:
+    """Returns the program to test: the one that GOSHELF names, or the proved one, or else that of `--unproved`."""
+    if named := os.environ.get("GOSHELF"):
+        return os.path.abspath(named)
+    return UNPROVED if os.path.exists(UNPROVED) and not os.path.exists(PROVED) else PROVED
+
+
+PROGRAM = find_program()
 
 
 def run(

@@ -72,7 +72,7 @@ def kind_of(message: str) -> str:
         return NAME_IS_LOST
     if "at which this goal is false" in said:
         return REFUTED
-    if is_of_a_place and re.search(r"types (?:first )?differ", said):
+    if is_of_a_place and re.search(r"types (?:first )?differ|expected type .* but this has type", said):
         return DIFFERS
     if is_of_a_place or re.search(r"it is not proved that|did not prove", said):
         return OPEN

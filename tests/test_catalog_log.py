@@ -256,7 +256,9 @@ def test_foot_says_when_the_pages_were_made() -> None:
 
 def test_style_says_how_many_findings_there_are() -> None:
     style = read("gamma/parts/made.css").decode()
-    assert style.endswith('.findings::after { content: "4"; content: "4" / " 4 findings"; }\n')
+    assert style.endswith('.findings::after { content: "3"; content: "3" / " 3 findings"; }\n')
+    # (each of three sections of the page has one)
+    assert re.findall(r'class="count bad">(\d+)<', read("gamma/health/index.html").decode()) == ["1"] * 3
     for page in pages_in("gamma").values():
         assert [values["href"] for _, values in page.tags if values.get("class") == "findings"], page.name
 

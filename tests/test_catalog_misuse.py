@@ -304,6 +304,8 @@ class TestSpare:
     gives."""
 
     COUNT = 2_100
+    # the pages of the list of so many modules
+    LISTS = 6
 
     def lines(self, latest: int, left_out: int = -1) -> str:
         """Returns lines of many modules, each of which requires the next. The first has versions up to a number."""
@@ -345,8 +347,8 @@ class TestSpare:
         count = self.COUNT + 7
         assert first == f"{count} pages, {count} new or changed\n"
         before = files_below("many")
-        # (the list, the module, and the one that it requires)
-        assert self.run(self.lines(1)) == f"{count} pages, 3 new or changed\n"
+        # (each page of the list says how many versions there are; the module, and the one that it requires)
+        assert self.run(self.lines(1)) == f"{count} pages, {self.LISTS + 2} new or changed\n"
         name = f"m/example.com/m{self.COUNT - 1:04}/index.html"
         assert files_below("many")[name] == before[name], "a page that did not change is the same file"
         printed = self.run(self.lines(1, left_out=7))

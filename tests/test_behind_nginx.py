@@ -69,7 +69,7 @@ BAD_LOGINS: dict[str, Callable[[str], str | None]] = {
     "a wrong password": lambda text: basic("ann:wrong"),
     "a password in other case": lambda text: f"Basic {text[:-8] + text[-8:].swapcase()}",
     "a login in other case": lambda text: f"Basic {text.swapcase()}",
-    "a scheme in other case": lambda text: f"basic {text[:-8] + text[-8:].swapcase()}",
+    "a scheme in other case": lambda text: f"basic {text}",
     "a login and more": lambda text: f"Basic {text}AAAA",
     "a login and what a line has behind it": lambda text: f"Basic {text} ann alpha publish",
     "a line of names": lambda text: f"{text}\tann\t",

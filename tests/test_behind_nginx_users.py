@@ -219,6 +219,9 @@ def test_a_user_has_200_requests_at_a_time(front: Front, lib: Module) -> None:
 def log(front: Front, lib: Module) -> str:
     """nginx's log of requests, among which are some of a stranger, some of the cache, and some that failed."""
     ask_as_stranger(front, "GET", f"{lib.at}/list")
+    in_url = f"/k/{front.passwords['ann']}{lib.at}/list"
+    assert ask_as_stranger(front, "GET", in_url)[0] == front.get(in_url)[0] == 404
+    assert ask_as_stranger(front, "GET", f"{lib.at}/list", f"{front.login('ann')}AAAA")[0] == 401
     assert lib.get("v1.0.0.zip") == (200, ZIP)
     wait_until(lambda: front.ask("GET", "/", None) == TOO_MANY)
     front.machine.does("systemctl stop goshelf")

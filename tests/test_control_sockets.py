@@ -95,6 +95,9 @@ class TestRefusedSockets:
         assert self.read_all() == before
         assert before[2:] == (b"text\n", [], "file")
         assert (live.order(b"team-add alpha\n"), live.status(get(LIST))) == (b"taken\n", 404)
+        # (its store takes writes)
+        assert live.order(b"key-add alpha livekey000000001\n") == b"done\n"
+        assert live.order(b"key-revoke livekey000000001\n") == b"done\n"
 
     def test_socket_of_a_port_that_is_taken_is_removed(self, live: Server) -> None:
         with socket.create_server(("127.0.0.1", 0)) as taken:
@@ -184,6 +187,8 @@ class TestAnotherUser:
         assert run(words, before=NOBODY) == refusal("io")
         assert not os.path.lexists("new")
         assert server.order(b"team-add alpha\n") == b"taken\n"
+        assert server.order(b"key-add alpha livekey000000001\n") == b"done\n"
+        assert server.order(b"key-revoke livekey000000001\n") == b"done\n"
 
 
 class TestStop:

@@ -295,7 +295,7 @@ class TestRefused:
         assert server.status(get(LIST)) == 200
         assert [read(name) for name in FILES] == before
         # (opening a file that is no store leaves a log beside it)
-        assert {*os.listdir(".")} - names <= {"text-wal"}
+        assert {*os.listdir(".")} - names <= ({"text-wal"} if os.path.basename(to).startswith("text") else set())
 
     @pytest.mark.parametrize(("sent", "outcome"), LINES, ids=name_values(sent for sent, _ in LINES))
     def test_line(self, server: Server, sent: bytes, outcome: bytes) -> None:

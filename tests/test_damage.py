@@ -295,8 +295,9 @@ class TestServing:
         return Served(replies, [line for line in notices if line.startswith("fault: ")], ran, copied, status_after)
 
     def test_what_is_read_of_a_bad_page_is_a_503(self, served: Served, target: str) -> None:
-        if DAMAGED[target]:
-            assert served.replies[target] == UNAVAILABLE
+        # (what some pages hold may be in memory)
+        others = set() if DAMAGED[target] else {(200, TARGETS.get(target))}
+        assert served.replies[target] in {UNAVAILABLE, *others}
 
     def test_no_answer_is_wrong(self, served: Served, target: str) -> None:
         answers = {asked: reply for asked, reply in served.replies.items() if asked not in served.failed()}
@@ -315,8 +316,9 @@ class TestServing:
         assert "damaged pages (1," in served.doctor.stdout
 
     def test_damaged_zip_is_not_copied(self, served: Served, target: str) -> None:
-        if target.startswith(BIG_PATH):
-            assert served.copy == refusal("device")
+        # (a copy may have read other pages before)
+        others = set() if target.startswith(BIG_PATH) else {(0, b"", "")}
+        assert served.copy in {refusal("device"), *others}
 
     def test_bit_that_turned_back(self, served: Served, target: str) -> None:
         assert served.status_after == 200

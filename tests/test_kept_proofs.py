@@ -435,7 +435,9 @@ def test_rt_takes_a_library_that_lies_for_proved_and_rt_ci_does_not(folder: str)
     stamp = run(liar, sys.executable, "-c", STAMP, shutil.which("rt"))[1]
     write({f"{liar}/crates/text/out/rlib/stamp": stamp})
     run(liar, KEPT, "pack", f"{folder}/lie.kept", "text")
-    assert run(victim, KEPT, "unpack", f"{folder}/lie.kept") == (0, f"1 crates have kept proofs of {folder}/lie.kept")
+    words = [KEPT, "unpack", f"{folder}/lie.kept"]
+    unpacked = subprocess.run(words, cwd=victim, env=env, stdin=subprocess.DEVNULL, capture_output=True, text=True)
+    assert (unpacked.returncode, unpacked.stdout) == (0, f"1 crates have kept proofs of {folder}/lie.kept\n")
     assert run(f"{victim}/crates/text", "rt", "lib")[0] == 0
     last = "0 passed, 1 failed (text and the crates below alone: not the gate)"
     assert run(victim, "rt", "ci", "text") == (1, last)

@@ -421,6 +421,7 @@ def second_way(company: Developers) -> Iterator[str]:
     begun, port = company.asked_outside(), company.outside.listen("local")
     yield f"{company.url},https://127.0.0.1:{port}"
     company.outside.stop(port)
+    assert [head for _, head, _ in company.outside.asked[begun:] if "Authorization" in head or "Cookie" in head] == []
     # (what was asked there is no leak of the first way)
     del company.outside.asked[begun:]
     company.conf((SECOND_WAY, FIRST_WAY))

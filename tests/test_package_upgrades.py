@@ -171,8 +171,8 @@ class TestSecondShard:
         second.copy.sh(STOP)
         ping = second.copy.sh("goshelf ping --control /run/goshelf-second/control")
         found = ping[0], ask(second.copy, "-/modules", 8081)
-        second.copy.sh("systemctl start goshelf")
-        assert found == (0, "200")
+        started = second.copy.sh("systemctl start goshelf")[0]
+        assert (started, *found) == (0, 0, "200")
 
     def test_it_has_a_backup_of_its_own(self, second: Started) -> None:
         ran = second.copy.sh("export GOSHELF_UNIT=goshelf-second; goshelf-backup; goshelf-backup stop; ls /var/backups")

@@ -200,11 +200,13 @@ class TestAnswers:
 
 
 class Tries(NamedTuple):
-    """How a publish ended, what its server was asked, and after how many seconds."""
+    """How a publish ended, what its server was asked, which keys stood among the words of a process meanwhile, and
+    after how many seconds it ended."""
 
     url: str
     ran: Ran
     asked: list[tuple[str, str, str | None]]
+    shown: list[str]
     seconds: float
 
 
@@ -218,7 +220,10 @@ class TestBusyServers:
     @pytest.fixture(scope="class")
     def tries(self, room: Room, greet: Repository) -> dict[str, Tries]:
         """Publishes to servers that are busy first, and to others that stay so, all at once."""
-        answers = {name: ([(status, b"") for status in first], (201, b"published\n")) for name, first in FIRST.items()}
+        answers = {
+            name: ([(status, b"unavailable\n") for status in first], (201, b"published\n"))
+            for name, first in FIRST.items()
+        }
         answers.update({str(status): ([], (status, body.encode())) for status, body, _ in BUSY_ANSWERS})
         with ThreadPoolExecutor(len(answers)) as pool:
             running = {name: pool.submit(self.publish, room, greet, name, *row) for name, row in answers.items()}
@@ -234,7 +239,7 @@ class TestBusyServers:
         ran = own.publish(*words, "example.com/greet", "v1.0.0")
         server.shutdown()
         server.server_close()
-        return Tries(server.url, ran, server.asked, time.monotonic() - begun)
+        return Tries(server.url, ran, server.asked, server.shown_keys(), time.monotonic() - begun)
 
     @pytest.mark.parametrize("name", FIRST)
     def test_a_busy_server_is_asked_again(self, name: str, tries: dict[str, Tries]) -> None:
@@ -242,12 +247,14 @@ class TestBusyServers:
         assert (status, errors) == (0, "")
         wanted = [("PUT", f"/k/{KEY}/example.com/greet/@v/v1.0.0", None)] * (len(FIRST[name]) + 1)
         assert tries[name].asked == wanted
+        assert tries[name].shown == []
 
     @pytest.mark.parametrize("row", BUSY_ANSWERS, ids=name_answer)
     def test_a_server_that_stays_busy_is_asked_five_times(self, row: tuple, tries: dict[str, Tries]) -> None:
         found = tries[str(row[0])]
         assert found.ran == refused(row[2].format(url=found.url))
         assert len(found.asked) == 5
+        assert found.shown == []
         assert found.seconds < 40
 
     def test_a_server_that_fails_is_asked_once(self, answering: Answering, publish: Callable[..., Ran]) -> None:

@@ -130,6 +130,7 @@ class Runs:
     def check(self, first: int, step: int) -> None:
         """Refuses one in `step` allocations, from the `first` on."""
         numbers = range(first, int(self.ample[2]) + 1, step)
+        assert numbers, "no allocation to refuse"
         with ThreadPoolExecutor(os.cpu_count()) as pool:
             for wrong in pool.map(self.judge, numbers):
                 assert not wrong

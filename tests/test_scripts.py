@@ -150,8 +150,8 @@ class TestPython:
         functions = [
             (name, node) for name in list_python() for node in parse(name) if isinstance(node, ast.FunctionDef)
         ]
-        lengths = {f"{name}: {node.name}": (node.end_lineno or 0) - node.lineno + 1 for name, node in functions}
-        assert [name for name, length in lengths.items() if length > LONGEST_FUNCTION] == []
+        lengths = [(f"{name}: {node.name}", (node.end_lineno or 0) - node.lineno + 1) for name, node in functions]
+        assert [name for name, length in lengths if length > LONGEST_FUNCTION] == []
 
     @pytest.mark.needs("pyflakes3")
     def test_pyflakes(self) -> None:

@@ -96,7 +96,7 @@ def test_the_doctor_lists_it(taken_out: TakenOut) -> None:
     status, printed, errors = taken_out.doctor
     *listed, last = printed.splitlines()
     assert status == 0, errors
-    assert f"{LISTED}example.com/lib v1.0.0 alpha" in listed
+    assert [line for line in listed if "example.com/lib " in line] == [f"{LISTED}example.com/lib v1.0.0 alpha"]
     assert [line for line in listed if not line.startswith(LISTED)] == []
     assert last.startswith("no cause is found: ")
 

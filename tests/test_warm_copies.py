@@ -240,6 +240,12 @@ def test_a_bad_copy_is_named_and_the_one_before_is_served(
     assert sorted(os.listdir(f"{company.warm.folder}/{HOME}")) == left
 
 
+def test_each_answer_is_right_after_bad_copies(company: Warm, whole: Whole) -> None:
+    for name in ("an empty file", "no store", "the store of a day before"):
+        assert company.tried(BAD_COPIES[name][0](whole))[0] == 1
+    assert company.wrong_answers() == []
+
+
 def test_the_line_is_cut_in_the_middle_of_a_copy(company: Warm) -> None:
     new, ran = f"{company.warm.folder}/{HOME}/new", []
     copying = threading.Thread(target=lambda: ran.append(company.warm.sh("goshelf-warm store")))
@@ -434,7 +440,7 @@ class TestRush:
 
         def publish() -> None:
             # (the store grows by 4 MB each time)
-            for _ in range(10):
+            for _ in range(20):
                 if is_over.wait(0.3):
                     return
                 first.does(script)

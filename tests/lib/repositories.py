@@ -62,18 +62,17 @@ class Room:
     def publish(self, *words: str, stdin: bytes = b"", at: str | None = None, **more: str | None) -> Ran:
         """Runs goshelf-publish in a folder, and returns its status, output and errors. A setting of None is left out.
 
-        Files that it leaves, keys that it shows, and refusals that docs/REFERENCE.md does not have are added to the
-        errors."""
+        It may leave no file and show no key, and docs/REFERENCE.md has to list what it refuses."""
         settings: dict[str, str | None] = {**self.env}
         settings.update(more)
         env = {name: text for name, text in settings.items() if text is not None}
         folder = at or self.folder
         ran = subprocess.run([PUBLISH, *words], cwd=folder, input=stdin, env=env, capture_output=True, timeout=300)
         output, errors = ran.stdout.decode(), ran.stderr.decode()
-        shown = [f"shown {key}\n" for key in KEYS.values() if key in output + errors]
-        unlisted = find_unlisted(errors) if ran.returncode == 1 else []
-        wrong = [f"left {name}\n" for name in os.listdir(self.tmp)] + [f"unlisted {line}\n" for line in unlisted]
-        return ran.returncode, output, errors + "".join([*wrong, *shown])
+        shown = [key for key in KEYS.values() if key in output + errors]
+        assert ran.returncode != 1 or find_unlisted(errors) == []
+        assert (os.listdir(self.tmp), shown) == ([], []), errors
+        return ran.returncode, output, errors
 
     def go(self, at: str, proxies: str, *words: str) -> subprocess.CompletedProcess[str]:
         """Runs the go command as a user with a module cache below a folder of its own."""

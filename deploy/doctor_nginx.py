@@ -210,8 +210,8 @@ def certificate(server: Directive, name: str, served: bytes | None) -> Iterator[
 
 
 def other_key(server: Directive, file: str) -> str | None:
-    """Returns the file of the key that a server has for the only certificate that it names, if it is another's. nginx does not
-    refuse a key of another kind."""
+    """Returns the file of the key that a server has for the only certificate that it names, if it is another's. nginx
+    does not refuse a key of another kind."""
     keys = server.values("ssl_certificate_key")
     if len(keys) != 1 or server.values("ssl_certificate") != [file]:
         return None

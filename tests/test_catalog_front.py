@@ -14,9 +14,24 @@ from collections.abc import Iterator
 
 import pytest
 
-from lib.catalog_front import GOSHELF, MADE, USERS, Reader, between, lines_of, own_goshelf, set_up
+from lib.catalog_front import (
+    AT,
+    GOSHELF,
+    MADE,
+    USERS,
+    Reader,
+    all_pages,
+    between,
+    files_below,
+    lines_of,
+    list_left,
+    own_goshelf,
+    pages_of,
+    set_up,
+)
 from lib.catalog_store import TODAY, tool
 from lib.catalog_zips import published
+from lib.front import list_keys
 from lib.keys import KEYS
 from lib.machine import Machine
 from lib.peers import exchanged
@@ -25,7 +40,6 @@ from lib.scratch import opened, read, write
 
 pytestmark = [pytest.mark.root, pytest.mark.needs("flock", "nginx", "nginx-js", "nginx-stream", "openssl", "sqlite3")]
 
-AT = "var/lib/goshelf-catalog"
 # the header of each answer with a page, a part of one, or the text that there is no page
 POLICY = (
     "default-src 'none'; img-src 'self'; script-src 'self'; style-src 'self'; "
@@ -70,25 +84,6 @@ def unmade(reader: Reader) -> Iterator[Machine]:
     yield reader.machine
     made = reader.machine.sh("goshelf-catalog")
     assert made[::2] == (0, ""), made
-
-
-def files_below(folder: str) -> dict[str, bytes]:
-    """Returns the files of the pages in a folder, by their targets. The foot of all pages has the time of the run."""
-    found, top = {}, os.path.realpath(folder)
-    for at, _, names in os.walk(top):
-        for name in names:
-            if name not in (".made", "made.css"):
-                path = os.path.join(at, name)
-                found[("/" + os.path.relpath(path, top)).removesuffix("index.html") or "/"] = read(path)
-    return found
-
-
-def pages_of(reader: Reader, shelf: str) -> dict[str, bytes]:
-    return files_below(f"{reader.machine.folder}/{AT}/{shelf}")
-
-
-def all_pages(reader: Reader) -> dict[str, dict[str, bytes]]:
-    return {shelf: pages_of(reader, shelf) for shelf in USERS.values()}
 
 
 def named(content: bytes, user: str) -> bytes:
@@ -242,17 +237,6 @@ def take_words(reader: Reader) -> list[str]:
     return lines
 
 
-def left(reader: Reader) -> list[str]:
-    """Returns what stands beside the store, and copies and keys of it among the pages."""
-    beside, among = (sorted(os.listdir(f"{reader.machine.folder}/{at}")) for at in ("var/lib/goshelf", AT))
-    return [*beside, *(name for name in among if name.startswith((".goshelf-", ".goshelf.")))]
-
-
-def key_list(machine: Machine) -> str:
-    """Returns a line for each key that goshelf has."""
-    return machine.does("goshelf key-list --control /run/goshelf/control")
-
-
 def find_processes(text: str) -> list[bytes]:
     """Returns the words of the processes that show a text to `ps`."""
     found = []
@@ -269,7 +253,7 @@ def publish(reader: Reader, letter: str, path: str) -> None:
 def test_run_asks_by_keys_of_its_own(reader: Reader, unmade: Machine) -> None:
     keys, shown = [*KEYS.values(), *reader.passwords.values()], []
     take_words(reader)
-    before = key_list(unmade)
+    before = list_keys(unmade)
 
     def look(order: list[str], _: int) -> None:
         shown.extend(find_processes(order[-1]) if order[0] == "catalog" else [])
@@ -285,7 +269,7 @@ def test_run_asks_by_keys_of_its_own(reader: Reader, unmade: Machine) -> None:
     assert spans == verbs, "each shelf has a key for its lines, and one for its zips"
     assert sorted(order[1] for order in orders if order[0] == "reader-add") == sorted([*USERS.values()] * 2)
     assert len({*own}) == len(own) and not {*own} & {*keys}, "no two of them are the same"
-    assert key_list(unmade) == before, "the keys are revoked again"
+    assert list_keys(unmade) == before, "the keys are revoked again"
     assert shown == [], "`ps` shows no key"
     assert [words for words in take_words(reader) if any(key in words for key in (*keys, *own))] == []
     assert own and not [page for page in all_files(unmade) if any(key.encode() in page for key in (*keys, *own))]
@@ -315,7 +299,7 @@ def test_version_more_has_a_page(reader: Reader) -> None:
     assert {reader.read(path, user)[0] for user in ("bea", "gus")} == {404}, "nobody else sees it"
     after = all_pages(reader)
     assert {**after, "alpha": {}} == {**before, "alpha": {}}, "other pages are as they were"
-    assert left(reader) == ["shelves.db", "shelves.db-reserve", "shelves.db-wal"]
+    assert list_left(reader) == ["shelves.db", "shelves.db-reserve", "shelves.db-wal"]
 
 
 def test_run_by_cron_prints_nothing(unmade: Machine) -> None:
@@ -370,10 +354,10 @@ class TestBackups:
         assert reader.read(target)[0] == 200, "the store has it"
 
     def test_shelf_that_fails_stops_no_other(self, reader: Reader, backed_up: Machine) -> None:
-        before = left(reader)
+        before = list_left(reader)
         own_goshelf(backed_up, f"#!/bin/sh\n{FAILS_AT_BETA}{GOSHELF}")
         made = backed_up.sh("goshelf-catalog last")
         own_goshelf(backed_up, GOSHELF)
         assert made[0] == 1 and "beta: goshelf does not" in made[2], made
         assert made[1] == re.sub("beta.*\n", "", UNCHANGED)
-        assert left(reader) == before
+        assert list_left(reader) == before

@@ -8,10 +8,10 @@ from typing import NamedTuple
 
 import pytest
 
-from lib.catalog_front import USERS, Does, Reader, between, set_up
+from lib.catalog_front import AT, USERS, Does, Reader, all_pages, between, list_left, set_up
+from lib.front import list_keys
 from lib.machine import Machine
 from lib.scratch import opened, read
-from test_catalog_front import AT, all_pages, key_list, left
 
 pytestmark = [pytest.mark.root, pytest.mark.needs("flock", "nginx", "nginx-js", "nginx-stream", "openssl", "sqlite3")]
 
@@ -67,7 +67,7 @@ class State(NamedTuple):
 
 
 def state_of(reader: Reader) -> State:
-    return State(all_pages(reader), left(reader), key_list(reader.machine))
+    return State(all_pages(reader), list_left(reader), list_keys(reader.machine))
 
 
 @pytest.fixture
@@ -170,13 +170,13 @@ UNREVOKED = (
 def test_key_that_is_not_revoked_is_kept_for_the_next_run(
     machine: Machine, name: str, verb: str, does: Callable[[int], bytes | None], error: str
 ) -> None:
-    path, keys = f"{machine.folder}/{AT}/.goshelf.key", key_list(machine)
+    path, keys = f"{machine.folder}/{AT}/.goshelf.key", list_keys(machine)
     with between(machine, at_beta(verb, does)):
         made = machine.sh("goshelf-catalog")
     assert made[0] != 0 and error in made[2], made
     key = read(path).decode()
     assert os.stat(path).st_mode & 0o777 == 0o600
-    assert len(key_list(machine)) > len(keys)
+    assert len(list_keys(machine)) > len(keys)
     with between(machine) as asked:
         made = machine.sh("goshelf-catalog")
     assert (made[0], made[2], asked[0]) == (0, "", f"key-revoke {key}"), "the next run revokes the key first"

@@ -128,7 +128,7 @@ class TestWords:
         assert f"usage: {name}" in errors
 
     @pytest.mark.parametrize(
-        "bench", [name for name in sorted(glob.glob("bench/*.py", root_dir=ROOT)) if "ArgumentParser(" in read(name)]
+        "bench", [name for name in sorted(glob.glob("bench/*.py", root_dir=ROOT)) if "__main__" in read(name)]
     )
     def test_bench_refuses_an_unknown_word_before_it_measures(self, bench: str) -> None:
         status, output, errors = run(sys.executable, bench, "--nosuch")
@@ -168,6 +168,11 @@ class TestPython:
     def test_mypy(self) -> None:
         status, output, errors = run("mypy", *TYPED)
         assert (status, errors) == (0, ""), output
+
+
+def test_each_wrong_body_applies() -> None:
+    status, output, errors = run("tools/planted", "--check")
+    assert (status, errors) == (0, ""), output
 
 
 class TestShell:

@@ -89,7 +89,8 @@ class OldFront(Client):
         self.listed = self.get_by_password("ann")
 
     def get_by_password(self, user: str) -> Reply:
-        """Returns what a login by a password of before gets, once nginx does not answer that strangers ask too often."""
+        """Returns what a login by a password of before gets, once nginx does not answer that strangers ask too
+        often."""
         replies: list[Reply] = []
 
         def is_answered() -> bool:

@@ -114,7 +114,8 @@ def x509(name: str, *words: str) -> str:
 
 
 def folder_faults(text: str) -> Iterator[str]:
-    """Yields which caches have no room, and which logs others may read. (nginx itself makes a cache that is not there.)"""
+    """Yields which caches have no room, and which logs others may read. (nginx itself makes a cache that is not
+    there.)"""
     for name, count, unit in re.findall(r"^proxy_cache_path\s+(\S+)\s.*min_free=(\d+)([mg])", text, re.M):
         room = int(count) << {"m": 20, "g": 30}[unit]
         if os.path.isdir(name) and shutil.disk_usage(name).free < room:
@@ -167,8 +168,8 @@ def clock_faults(settings: Mapping[str, Any]) -> list[str]:
 
 
 def page_faults() -> Iterator[str]:
-    """Yields which locations of goshelf-keys let a caller name a person: one needs auth_request, which alone says who it is,
-    or else to take nobody but the company's proxy."""
+    """Yields which locations of goshelf-keys let a caller name a person: one needs auth_request, which alone says who
+    it is, or else to take nobody but the company's proxy."""
     for name in sorted(glob.glob(f"{FOLDER}/login*.conf")):
         with open(name, encoding="utf-8", errors="replace") as file:
             found = doctor_nginx.Directive([], doctor_nginx.parsed(file.read()))

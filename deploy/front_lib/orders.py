@@ -42,8 +42,8 @@ def listed(command: str) -> Iterator[tuple[str, list[str]]]:
 
 
 def keys(named: Mapping[str, str]) -> Known:
-    """Returns the keys of goshelf: shelf, right, and the SHA-256 where goshelf prints it, by fingerprint. `named` has the
-    SHA-256 of names, or 16 digits of it, by fingerprint too: another key with such a fingerprint is left out."""
+    """Returns the keys of goshelf: shelf, right, and the SHA-256 where goshelf prints it, by fingerprint. `named` has
+    the SHA-256 of names, or 16 digits of it, by fingerprint too: another key with such a fingerprint is left out."""
     found: dict[str, tuple[str, str, str] | None] = {}
     for _, (shelf, right, fingerprint, *digest) in listed("key-list"):
         key = shelf, right, "".join(digest[:1])

@@ -13,7 +13,8 @@ COLUMNS = ("time", "name", "fingerprint", "shelf", "path", "version", "status")
 
 
 def note(order: str, by: str = "", **words: str) -> None:
-    """Appends an order of goshelf-front. A log that cannot be written stops no order: a line on standard error says so."""
+    """Appends an order of goshelf-front. A log that cannot be written stops no order: a line on standard error says
+    so."""
     by = by or os.environ.get("SUDO_USER") or "root"
     line = json.dumps({"time": files.now().isoformat(timespec="seconds"), "order": order, "by": by, **words})
     try:

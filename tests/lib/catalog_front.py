@@ -16,9 +16,11 @@ from lib.machine import Machine
 from lib.pages import block
 from lib.peers import asked_by
 from lib.program import PROGRAM, ROOT
-from lib.scratch import closed_on_failure
+from lib.scratch import closed_on_failure, read
 
 # each user, and the user's shelf
+# the folder of the pages
+AT = "var/lib/goshelf-catalog"
 USERS = {"ann": "alpha", "bea": "beta", "gus": "gamma", "dee": "delta", "pam": "platform", "cam": "common"}
 PATHS = {"gopkg.in": ["beta"], "example.com": [*USERS.values()]}
 # goshelf, which notes its words
@@ -181,3 +183,30 @@ class Visitors:
     def close(self) -> None:
         self.browser.close()
         self.reader.close()
+
+
+def files_below(folder: str) -> dict[str, bytes]:
+    """Returns the files of the pages in a folder, by their targets. The foot of all pages has the time of the run."""
+    found, top = {}, os.path.realpath(folder)
+    for at, _, names in os.walk(top):
+        for name in names:
+            if name not in (".made", "made.css"):
+                path = os.path.join(at, name)
+                found[("/" + os.path.relpath(path, top)).removesuffix("index.html") or "/"] = read(path)
+    return found
+
+
+def pages_of(reader: Reader, shelf: str) -> dict[str, bytes]:
+    """Returns the files of the pages of a shelf, by the targets that read them."""
+    return files_below(f"{reader.machine.folder}/{AT}/{shelf}")
+
+
+def all_pages(reader: Reader) -> dict[str, dict[str, bytes]]:
+    """Returns the files of the pages of each shelf."""
+    return {shelf: pages_of(reader, shelf) for shelf in USERS.values()}
+
+
+def list_left(reader: Reader) -> list[str]:
+    """Returns what stands beside the store, and copies and keys of it among the pages."""
+    beside, among = (sorted(os.listdir(f"{reader.machine.folder}/{at}")) for at in ("var/lib/goshelf", AT))
+    return [*beside, *(name for name in among if name.startswith((".goshelf-", ".goshelf.")))]

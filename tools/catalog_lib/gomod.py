@@ -21,7 +21,7 @@ class GoMod:
     """`deprecated` is None without such a comment. A retraction is its lowest and highest version and its reason; a
     replacement the path and version that are replaced, the latter perhaps empty, and those in their place."""
 
-    deprecated: str = None
+    deprecated: str | None = None
     retractions: list = field(default_factory=list)
     replacements: list = field(default_factory=list)
 

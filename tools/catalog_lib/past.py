@@ -23,8 +23,8 @@ def boot():
 
 
 class Past:
-    """What the last run left: its modules by their paths, what their pages were made of and how many files they are, and
-    what differs from the shelves above. Empty if another form of this tool ran, or before the machine started."""
+    """What the last run left: its modules by their paths, what their pages were made of and how many files they are,
+    and what differs from the shelves above. Empty if another form of this tool ran, or before the machine started."""
 
     def __init__(self, folder=None, form=None):
         self.modules, self.pages, self.differing, self.others, self.is_there = {}, {}, {}, [], False

@@ -1,6 +1,6 @@
 """What the pages say of a shelf: its modules, who requires whom, and what needs attention."""
 import json
-from dataclasses import dataclass, field
+from dataclasses import dataclass, field, fields
 from datetime import timedelta
 
 from catalog_lib.lines import Refused, chosen, kind, line_of, lines_in, parts, precedence, rank
@@ -13,20 +13,20 @@ RECENT, WEEK = timedelta(days=30), timedelta(days=7)
 class Module:
     """A module of the shelf.
 
-    `sum` is that of its lines, which stand at `place`. `versions` has each version, the lowest first, with whether it is
-    retracted. `needs` has for each path that it requires a text: `REQUIRED VERSION OTHERS` for each required version,
-    the highest version that requires it and how many others do. `times` has the shelf and the own time of each version,
-    and `newest` the latest such time. `zips` are the versions that are read, each with whether it is read whole and what
-    tells its content from any other. `about` has what was read of them, and `line` is `text` if the
-    last run had the same lines."""
+    `sum` is that of its lines, which stand at `place`. `versions` has each version, the lowest first, with whether it
+    is retracted. `needs` has for each path that it requires a text: `REQUIRED VERSION OTHERS` for each required
+    version, the highest version that requires it and how many others do. `times` has the shelf and the own time of each
+    version, and `newest` the latest such time. `zips` are the versions that are read, each with whether it is read
+    whole and what tells its content from any other. `about` has what was read of them, and `line` is `text` if the last
+    run had the same lines."""
 
     path: str
     sum: str
     length: int
     versions: dict
-    latest: str = None
-    time: str = None
-    shelf: str = None
+    latest: str | None = None
+    time: str | None = None
+    shelf: str | None = None
     requires: list = field(default_factory=list)
     needs: dict = field(default_factory=dict)
     times: list = field(default_factory=list)
@@ -60,7 +60,7 @@ class Module:
 
 
 # the fields of a Module that stand in its lines
-IN_LINES = Module.__slots__[:-3]
+IN_LINES = [each.name for each in fields(Module)][:-3]
 
 
 def module_of(part, lines, source):

@@ -138,11 +138,11 @@ class TestFaults:
 
     @pytest.mark.parametrize(**number_runs(ONE_VERSION_RUNS))
     def test_run_that_makes_the_whole(self, one_version: Story, number: int) -> None:
-        assert one_version.ending(number) == ONE_VERSION_RUNS[number].wanted
+        one_version.check(number)
 
     @pytest.mark.parametrize(**number_runs(FAULT_RUNS))
     def test_run_in_the_order_of_faults(self, faults: Story, number: int) -> None:
-        assert faults.ending(number) == FAULT_RUNS[number].wanted
+        faults.check(number)
 
     @pytest.mark.parametrize("name", UNCHANGED)
     def test_file_keeps_its_bytes(
@@ -153,7 +153,7 @@ class TestFaults:
 
     @pytest.mark.parametrize(**number_runs(INTO_EMPTY_RUNS))
     def test_run_into_an_empty_file(self, into_empty: Story, number: int) -> None:
-        assert into_empty.ending(number) == INTO_EMPTY_RUNS[number].wanted
+        into_empty.check(number)
 
 
 class TestNamesOfSQLite:
@@ -194,15 +194,15 @@ class TestNamesOfSQLite:
 
     @pytest.mark.parametrize(**number_runs(ONE_VERSION_RUNS))
     def test_run_that_makes_the_whole(self, one_version: Story, number: int) -> None:
-        assert one_version.ending(number) == ONE_VERSION_RUNS[number].wanted
+        one_version.check(number)
 
     @pytest.mark.parametrize(**number_runs(TAKEN_RUNS))
     def test_run_with_a_name_of_sqlite(self, taken: Story, number: int) -> None:
-        assert taken.ending(number) == TAKEN_RUNS[number].wanted
+        taken.check(number)
 
     def test_nothing_is_touched(self, before: dict[str, bytes], after: dict[str, bytes]) -> None:
         assert after == before
 
     @pytest.mark.parametrize(**number_runs(NOT_TAKEN_RUNS))
     def test_run_with_another_name(self, not_taken: Story, number: int) -> None:
-        assert not_taken.ending(number) == NOT_TAKEN_RUNS[number].wanted
+        not_taken.check(number)

@@ -171,7 +171,7 @@ class TestPartOfATeam:
 
     @pytest.mark.parametrize(**number_runs(PART_RUNS))
     def test_run(self, story: Story, number: int) -> None:
-        assert story.ending(number) == PART_RUNS[number].wanted
+        story.check(number)
 
     @pytest.mark.parametrize("letter", "ARC")
     def test_part_answers_its_team_as_the_whole(self, seen: Seen, letter: str) -> None:
@@ -198,7 +198,7 @@ class TestAnotherTeam:
 
     @pytest.mark.parametrize(**number_runs(OTHER_RUNS))
     def test_run(self, story: Story, number: int) -> None:
-        assert story.ending(number) == OTHER_RUNS[number].wanted
+        story.check(number)
 
     @pytest.mark.parametrize("letter", "ARC")
     def test_others_are_answered_alike(self, seen: Seen, letter: str) -> None:
@@ -263,11 +263,11 @@ class TestPartWithAGroup:
 
     @pytest.mark.parametrize(**number_runs(GROUP_RUNS))
     def test_run_that_fills_the_whole(self, whole: Story, number: int) -> None:
-        assert whole.ending(number) == GROUP_RUNS[number].wanted
+        whole.check(number)
 
     @pytest.mark.parametrize(**number_runs(GROUP_PART_RUNS))
     def test_run(self, parts: Story, number: int) -> None:
-        assert parts.ending(number) == GROUP_PART_RUNS[number].wanted
+        parts.check(number)
 
     def test_whole_keeps_its_bytes(self, before: dict[str, bytes], after: dict[str, bytes]) -> None:
         assert before == after
@@ -298,7 +298,7 @@ class TestPartWithAGroup:
 
     @pytest.mark.parametrize(**number_runs(IN_PART_RUNS))
     def test_run_in_a_part(self, in_part: Story, number: int) -> None:
-        assert in_part.ending(number) == IN_PART_RUNS[number].wanted
+        in_part.check(number)
 
     @pytest.mark.parametrize("file", PART_SHELVES)
     def test_shelves_of_a_part(self, in_part: Story, file: str) -> None:
@@ -325,7 +325,7 @@ class TestAnotherTeamOfTheGroup:
 
     @pytest.mark.parametrize(**number_runs(GROUP_OTHER_RUNS))
     def test_run(self, story: Story, number: int) -> None:
-        assert story.ending(number) == GROUP_OTHER_RUNS[number].wanted
+        story.check(number)
 
     @pytest.mark.parametrize("letter", "MPCARB")
     def test_others_are_answered_alike(self, seen: Seen, letter: str) -> None:

@@ -307,7 +307,7 @@ class TestFaults:
 
     @pytest.mark.parametrize(**number_runs(FAULTS))
     def test_run(self, story: Story, before: dict[str, bytes], number: int) -> None:
-        assert story.ending(number) == FAULTS[number].wanted
+        story.check(number)
 
     @pytest.mark.parametrize("name", UNCHANGED)
     def test_file_keeps_its_bytes(self, before: dict[str, bytes], name: str) -> None:

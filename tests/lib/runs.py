@@ -2,6 +2,7 @@
 
 import contextlib
 import os
+import shlex
 from collections.abc import Iterator, Mapping
 from dataclasses import dataclass
 
@@ -23,7 +24,8 @@ class Run:
     wanted: Ending
 
     def __str__(self) -> str:
-        return self.line
+        """Returns what stands before `|`: a row keeps its name where what it wants changes."""
+        return self.line.partition(" | ")[0]
 
 
 def read_runs(table: str) -> list[Run]:
@@ -68,6 +70,13 @@ class Story:
             self.endings.append(run(list(made.words), made.requests, cwd=os.path.abspath(self.folder)))
         return self.endings[number]
 
+    def check(self, number: int) -> None:
+        """Asserts that a run of the table ends as it is to."""
+        __tracebackhide__ = True
+        made, found = self.runs[number], self.ending(number)
+        what = f"ran:    goshelf {shlex.join(made.words)}\ncame:   {found}\nwanted: {made.wanted}"
+        assert found == made.wanted, what
+
 
 @contextlib.contextmanager
 def begun(runs: list[Run], files: Mapping[str, str | bytes] | None = None) -> Iterator[Story]:
@@ -77,16 +86,22 @@ def begun(runs: list[Run], files: Mapping[str, str | bytes] | None = None) -> It
         yield Story(runs, folder)
 
 
+def name_rows(names: list[str]) -> list[str]:
+    """Returns a name for each row: of rows with one name, the second and those behind it get a number."""
+    named = []
+    for at, name in enumerate(names):
+        count = names[: at + 1].count(name)
+        named.append(f"{name} ({count})" if count > 1 else name)
+    return named
+
+
 def number_runs(runs: list[Run]) -> dict:
-    """Returns the words of `parametrize` for tests of a story: a number for each run, named by its line."""
-    return {"argnames": "number", "argvalues": range(len(runs)), "ids": [str(made) for made in runs]}
+    """Returns the words of `parametrize` for tests of a story: a number for each run, named by its words."""
+    return {"argnames": "number", "argvalues": range(len(runs)), "ids": name_rows([str(made) for made in runs])}
 
 
 def number_stories(stories: Mapping[str, list[Run]]) -> dict:
     """Returns the words of `parametrize` for tests of several stories: the name of one, and the number of a run."""
     rows = [(name, number) for name, runs in stories.items() for number in range(len(runs))]
-    return {
-        "argnames": ("story", "number"),
-        "argvalues": rows,
-        "ids": [f"{name}: {stories[name][number]}" for name, number in rows],
-    }
+    names = name_rows([f"{name}: {stories[name][number]}" for name, number in rows])
+    return {"argnames": ("story", "number"), "argvalues": rows, "ids": names}

@@ -28,9 +28,12 @@ COMMANDS = [body.strip() for kind, body in BLOCKS if kind == "try"]
 # what a stand-in prints as its last line, and with which status it ends
 Ending = tuple[str, int]
 GATE: Ending = ("72 passed, 0 failed", 0)
-TESTS: Ending = ("5788 passed, 0 failed, 2 skipped", 0)
+TESTS: Ending = ("== 5788 passed, 2 skipped in 360.12s (0:06:00) ==", 0)
+# what the tests print where those that failed run once more
+AGAIN = "== 8 failed, 5780 deselected in 1.21s =="
 STAND_IN = (
-    "#!/bin/sh\necho \"$(basename \"$0\") $*\" >> '{calls}'\necho 'a line before'\necho '{last}'\nexit {status}\n"
+    "#!/bin/sh\necho \"$(basename \"$0\") $*\" >> '{calls}'\necho 'a line before'\n"
+    "case \"$*\" in *--last-failed*) echo '{again}' && exit 1 ;; esac\necho '{last}'\nexit {status}\n"
 )
 # a network of its own, for root
 ALONE = ["unshare", "--net", "sh", "-euc", 'ip link set lo up; exec "$@"', "-"]
@@ -89,8 +92,8 @@ ENDINGS: dict[str, tuple[Ending, Ending, int, str]] = {
     "a gate that failed": (("71 passed, 1 failed", 1), TESTS, 1, "5859 passed, 1 failed, 2 skipped"),
     "a gate without a closing line": (("Killed", 1), TESTS, 1, "5788 passed, 1 failed, 2 skipped"),
     "a gate that says passed and fails": (("72 passed, 0 failed", 1), TESTS, 1, "5860 passed, 1 failed, 2 skipped"),
-    "tests that failed": (GATE, ("5780 passed, 8 failed", 1), 1, "5852 passed, 8 failed"),
-    "tests without a closing line": (GATE, ("Traceback", 1), 1, "72 passed, 1 failed"),
+    "tests that failed": (GATE, ("== 8 failed, 5780 passed in 9.99s ==", 1), 1, "5852 passed, 8 failed"),
+    "tests without a closing line": (GATE, ("Traceback", 2), 1, "72 passed, 1 failed"),
 }
 
 
@@ -101,11 +104,15 @@ class TestCommandOfTheTests:
     def test_it_sums_the_closing_lines(self, name: str, clone: str, folder: str) -> None:
         gate, tests, status, last = ENDINGS[name]
         for command, (line, ends) in (("rt", gate), ("python3", tests)):
-            write_script(f"{folder}/{command}", STAND_IN.format(calls=f"{folder}/calls", last=line, status=ends))
+            text = STAND_IN.format(calls=f"{folder}/calls", last=line, status=ends, again=AGAIN)
+            write_script(f"{folder}/{command}", text)
         found, output = run_line(COMMANDS[1], clone, folder)
         assert (found, output.splitlines()[-1]) == (status, last)
         install = " --install" if os.geteuid() == 0 else ""
-        assert read(f"{folder}/calls").decode().splitlines() == ["rt ci", f"python3 tests/all{install}"]
+        calls = ["rt ci", f"python3 tests/all{install}"]
+        if tests[1] == 1:
+            calls.append("python3 tests/all -n 0 -v --last-failed --last-failed-no-failures none")
+        assert read(f"{folder}/calls").decode().splitlines() == calls
 
 
 # replaces tools/unproved: notes that it was called, and builds what prints its words, or fails

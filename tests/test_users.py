@@ -229,7 +229,7 @@ def test_key_ends_by_what_goshelf_prints_of_it(front: Front, script: str, digits
     keys = front.keys()
     with front.machine.instead(script.replace("@/", f"{front.machine.folder}/")):
         key = front.give(f"add old{digits} alpha read")
-        front.order("remove old{digits}")
+        front.order(f"remove old{digits}")
         assert front.status_of(key) == 401
         with refused_files(front.machine):
             assert front.machine.sh(f"goshelf-front add new{digits} alpha read")[0] == 1

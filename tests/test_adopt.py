@@ -297,6 +297,11 @@ class Proxy(http.server.ThreadingHTTPServer):
         self.asked: list[tuple[str, str | None]] = []
         threading.Thread(target=self.serve_forever, args=(0.02,), daemon=True).start()
 
+    def server_close(self) -> None:
+        # (a server whose socket is closed while it serves asks for connections without an end)
+        self.shutdown()
+        super().server_close()
+
 
 class Handler(Quiet):
     """A connection to a proxy."""

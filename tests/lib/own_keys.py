@@ -38,6 +38,11 @@ class Sessions(http.server.ThreadingHTTPServer):
         self.heads: list[dict[str, str]] = []
         threading.Thread(target=self.serve_forever, kwargs={"poll_interval": 0.05}, daemon=True).start()
 
+    def server_close(self) -> None:
+        # (a server whose socket is closed while it serves asks for connections without an end)
+        self.shutdown()
+        super().server_close()
+
     def sign_in(self, name: str | bytes) -> str:
         """Returns the cookie of somebody who signs in."""
         word = os.urandom(16).hex()

@@ -81,6 +81,11 @@ class NoModules(http.server.ThreadingHTTPServer):
         self.url = f"http://127.0.0.1:{self.server_port}"
         threading.Thread(target=self.serve_forever, daemon=True).start()
 
+    def server_close(self) -> None:
+        # (a server whose socket is closed while it serves asks for connections without an end)
+        self.shutdown()
+        super().server_close()
+
 
 class Quiet(http.server.BaseHTTPRequestHandler):
     """A connection to a server that logs no request."""

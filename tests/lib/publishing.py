@@ -78,6 +78,11 @@ class Answering(http.server.ThreadingHTTPServer):
         self.commands: list[str] = []
         threading.Thread(target=self.serve_forever, args=(0.02,), daemon=True).start()
 
+    def server_close(self) -> None:
+        # (a server whose socket is closed while it serves asks for connections without an end)
+        self.shutdown()
+        super().server_close()
+
     def shown_keys(self) -> list[str]:
         """Returns the command lines that have a key."""
         return [command for command in self.commands if any(key in command for key in KEYS.values())]

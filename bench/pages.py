@@ -16,7 +16,7 @@ import tempfile
 import time
 import zlib
 
-from shared import PROGRAM, ROOT, need, scale_of
+from shared import PROGRAM, ROOT, add_quick, need, parser_of
 from store import KEY, made, put_version
 
 from lib.catalog_zips import raw
@@ -99,8 +99,11 @@ def sizes():
 
 
 def main():
+    parser = parser_of(__doc__)
+    add_quick(parser)
+    words = parser.parse_args()
     need()
-    modules = MODULES // scale_of(sys.argv)
+    modules = MODULES // words.scale
     with tempfile.TemporaryDirectory(dir=os.environ.get("STORES")) as folder:
         os.chdir(folder)
         readmes = texts(40)

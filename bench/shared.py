@@ -53,11 +53,6 @@ def add_quick(parser: argparse.ArgumentParser) -> None:
     parser.add_argument("--quick", dest="scale", action="store_const", const=10, default=1, help="a tenth of it all")
 
 
-def scale_of(words: list[str]) -> int:
-    """Returns how many times smaller the bench is by its words: 10 with --quick, otherwise 1."""
-    return 10 if "--quick" in words else 1
-
-
 def add_sizes(parser: argparse.ArgumentParser, *sizes: tuple[str, int, str]) -> None:
     """Adds options that take a whole number, each by its name, its default, and what it counts."""
     for name, default, text in sizes:

@@ -2,9 +2,9 @@
 """Processor time of nginx for a request, by the files of several fronts in turn, such as those of two commits.
 
 Each folder that is named is a deploy/nginx: of the front whose passwords are keys, or of the one before it, which had
-users.map. One worker of nginx for each, without TLS and limits, is asked by one connection that is kept, so many times
-a round. Prints the least and the median of the rounds, and the median of how many times the first folder's a round
-took. Other work on the machine adds to all alike.
+users.map. One worker of nginx for each, without TLS and limits, is asked by one connection, so many times a round.
+Prints the least and the median of the rounds, and the median of how many times the first folder's a round took. Other
+work on the machine adds to all alike.
 
     git worktree add /tmp/old ee9d2b1e && python3 bench/front.py /tmp/old/deploy/nginx deploy/nginx
 """
@@ -90,7 +90,6 @@ class Front:
                 file.write(text)
         self.child = subprocess.Popen(["nginx", "-c", f"{self.folder}/nginx.conf", "-e", f"{self.folder}/start"])
         wait_for(self.listens)
-        self.held = socket.create_connection(("127.0.0.1", self.listens))
 
     def placed(self, text, behind):
         """A file with its places below the folder, without TLS and limits."""
@@ -108,16 +107,18 @@ class Front:
     def ask(self, target, count):
         """Microseconds of the worker for each of so many requests."""
         head = f"GET {target} HTTP/1.1\r\nHost: localhost\r\nAuthorization: Basic {logged_in('ann')}\r\n\r\n".encode()
-        self.held.sendall(head)
-        first = self.held.recv(65_536)
-        [worker] = workers_of(self.child)
-        before = spent(worker)
-        for _ in range(count):
-            self.held.sendall(head)
-            told = self.held.recv(65_536)
-            if told[:12] != first[:12]:
-                sys.exit(f"{target}: {told[:200]}")
-        return first.split(b" ")[1].decode(), (spent(worker) - before) / count / 1000
+        # (nginx ends a connection on which nothing is asked for ten seconds)
+        with socket.create_connection(("127.0.0.1", self.listens)) as held:
+            held.sendall(head)
+            first = held.recv(65_536)
+            [worker] = workers_of(self.child)
+            before = spent(worker)
+            for _ in range(count):
+                held.sendall(head)
+                told = held.recv(65_536)
+                if told[:12] != first[:12]:
+                    sys.exit(f"{target}: {told[:200]}")
+            return first.split(b" ")[1].decode(), (spent(worker) - before) / count / 1000
 
     def stop(self):
         self.child.terminate()

@@ -235,6 +235,15 @@ def test_fault_of_nginx(front: Front, pair: Pair, said: str) -> None:
         assert_named(front, said)
 
 
+def test_site_that_answers_for_each_other_name(front: Front) -> None:
+    name = f"{front.machine.folder}/etc/nginx/sites-enabled/default"
+    os.makedirs(os.path.dirname(name))
+    front.machine.write("etc/nginx/sites-enabled/default", "server {\n\tlisten 80 default_server;\n}\n")
+    assert_named(front, f"{name} logs keys that come by another name of this host")
+    os.unlink(name)
+    assert front.check() == []
+
+
 def test_way_out_where_nobody_listens(front: Front) -> None:
     way = f"127.0.0.1:{front.machine.way}"
     with edited(front, STREAM, (f"listen {way};", f"listen 127.0.0.1:{free_port()};")):

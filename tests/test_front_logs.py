@@ -187,12 +187,6 @@ def test_key_is_in_a_path_while_goshelf_is_away(company: Developers, ask: Ask, k
         assert company.ask(f"/healthz?key={key}", None)[0] == 502
 
 
-def test_long_words_that_are_no_key_are_logged(company: Developers, ask: Ask) -> None:
-    begun, path = len(company.log()), "/example.com/alpha/containernetworking0/@v/list"
-    assert ask(path)[0] == 404
-    assert read_targets(company, begun) == [path]
-
-
 def test_key_is_in_a_query(company: Developers, key: str) -> None:
     paths = (f"{CORE}/v1.0.0.info", "/pub.example/lib/@v/list", "/", "/m/none")
     begun = len(company.log())

@@ -302,6 +302,12 @@ def test_key_for_each_machine(company: Company, ann: str) -> None:
     company.revoke(ann, desk)
 
 
+def test_key_is_no_name_of_a_machine(company: Company, ann: str) -> None:
+    before = company.keys()
+    status, text = company.send_make(ann, f"was {company.client.passwords['ann']}", "alpha")
+    assert (status, company.keys()) == (400, before) and "A key is in the name of the machine" in text, text
+
+
 @pytest.mark.parametrize("whose", ["another's", "a machine's", "unknown", "all", "no fingerprint"])
 def test_key_of_another_is_not_revoked(company: Company, ann: str, pat: str, whose: str) -> None:
     own, cookie = company.client.passwords["ann"], pat if whose == "another's" else ann

@@ -212,12 +212,12 @@ class TestSizes:
     def test_a_body_that_nginx_does_not_take_is_refused(self, company: Company, large: Repository) -> None:
         words, conf = ["--repository", large.folder, LARGE, "v1.0.0"], "etc/nginx/goshelf/locations.conf"
         large.git("checkout", "-q", "v1.0.0")
-        company.machine.edit(conf, ("client_max_body_size 19m;", "client_max_body_size 1m;"))
+        company.machine.edit(conf, ("client_max_body_size 18900000;", "client_max_body_size 1m;"))
         company.machine.does("systemctl restart nginx")
         try:
             company.check_refusal(f"{company.url} takes no body of 2", *words)
         finally:
-            company.machine.edit(conf, ("client_max_body_size 1m;", "client_max_body_size 19m;"))
+            company.machine.edit(conf, ("client_max_body_size 1m;", "client_max_body_size 18900000;"))
             company.machine.does("systemctl restart nginx")
         company.check_acceptance(large, LARGE, "v1.0.0")
         assert company.publish(*words)[0] == 0

@@ -86,7 +86,10 @@ def make(name: str, shelf: str, machine: str) -> tuple[str, str]:
             raise Forged(409, f"You have {MOST} keys, the most that one person may have. Revoke one first.")
         with or_away("No key was made: goshelf or nginx does not answer. Try again in a minute."):
             files.owners()
-            key, fingerprint = give(Keys(), name, shelf, *own[shelf], label=machine)
+            held = Keys()
+            if held.has_key(machine):
+                raise Forged(400, "A key is in the name of the machine, and others read that. Nothing was done.")
+            key, fingerprint = give(held, name, shelf, *own[shelf], label=machine)
         publishes.note("add", by=BY, name=name, fingerprint=fingerprint, shelf=shelf)
         return netrc(name, key), fingerprint
 

@@ -55,12 +55,20 @@ class Keys:
         machine: str | None = None,
         label: str | None = None,
     ) -> tuple[str, Name]:
-        """Makes a key of goshelf. Returns it and its line, which is one of the lines from now on."""
+        """Makes a key of goshelf. Returns it and its line, which is one of the lines from now on. Refuses a name that
+        has a key in it."""
+        if self.has_key(f"{name} {label}"):
+            raise Refused("a key is in the name, and logs have names")
         key = orders.new_key(shelf, right)
         line = Name(hashlib.sha256(key.encode()).hexdigest(), name, until, machine, label)
         self.lines.append(line)
         self.known[line.fingerprint] = shelf, right, line.digest if self.has_sums else ""
         return key, line
+
+    def has_key(self, text: str) -> bool:
+        """Whether a text has a key of goshelf as a word."""
+        words = orders.KEY.findall(text)
+        return any(hashlib.sha256(word.encode()).hexdigest()[:16] in self.known for word in words)
 
     def put(self, generation: int | None = None) -> None:
         """Writes names and goshelf.json, and has nginx read it if it is another. A wrong owners.json is refused at the

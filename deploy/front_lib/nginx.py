@@ -183,13 +183,22 @@ def page_faults() -> Iterator[str]:
                 yield f"{name}: anybody may name a person at {location.words[-1]}: docs/NGINX.md has its two forms"
 
 
+def other_faults() -> Iterator[str]:
+    """Yields which files of nginx answer for each name that no other file has, as Debian's own site does."""
+    for name in sorted(glob.glob("/etc/nginx/sites-enabled/*")):
+        with open(name, encoding="utf-8", errors="replace") as file:
+            if re.search(r"^\s*listen\b[^;#]*\bdefault_server\b", file.read(), re.M):
+                yield f"{name} logs keys that come by another name of this host: rm {name} && nginx -s reload"
+
+
 def faults() -> list[str]:
     """Returns what is wrong with nginx's side of the front, apart from names and paths."""
     try:
         text = conf()
     except Refused as why:
         return [str(why)]
-    found = [*certificate_faults(text), *folder_faults(text), *page_faults(), *clock_faults(files.front())]
+    found = [*certificate_faults(text), *folder_faults(text), *page_faults(), *other_faults()]
+    found += clock_faults(files.front())
     found += name_faults(text)
     if said():
         found += port_faults(text)

@@ -116,12 +116,14 @@ function isTakenOut(target, isGet, shelf) {
     return from && (from.length === 0 || has(from, shelf));
 }
 
-// Sets what the log of publishes has of the target of a module.
+// Sets what the log of publishes has of the target of a module, if goshelf has it, and otherwise.
 function note(v, target) {
     const at = target.indexOf('/@v/'), written = (text) => text.replace(/(?:!|%21)([a-z])/g, (_, letter) => letter.toUpperCase());
     if (at > 0) {
         v.goshelf_path = written(target.slice(1, at));
         v.goshelf_version = written(target.slice(at + 4));
+        v.goshelf_path_masked = withoutWords(v.goshelf_path);
+        v.goshelf_version_masked = withoutWords(v.goshelf_version);
     }
 }
 
@@ -190,32 +192,70 @@ function read(r, v, front, target, who) {
     return found;
 }
 
-// The text without the keys in it. They are words of the form of a key whose sum goshelf.json has.
-function withoutKeys(text) {
-    return text.replace(/[a-z0-9]{16,64}/g, (word) => {
-        const sum = crypto.createHash('sha256').update(word).digest('hex');
-        return goshelf_front.users[sum.slice(0, 16)] ? '...' : word;
+// The text with `...` in the place of each word that may be a key, or more than one: 16 letters or digits or more, in any case, also with
+// the marks of capitals.
+function withoutWords(text) {
+    return text.replace(/(?:(?:!|%21)?[A-Za-z0-9]){16,}/g, '...');
+}
+
+// Whether a text has a key that goshelf.json knows, also in capitals or twice.
+function hasKey(text) {
+    const words = text.replace(/!/g, '').toLowerCase().match(/[a-z0-9]{16,}/g) || [];
+    return words.some((word) => {
+        const half = word.slice(0, word.length / 2);
+        return isKey(word) || (half + half === word && isKey(half));
     });
 }
 
-function way(r) {
-    const v = r.variables, front = goshelf_front, header = v.http_authorization, who = known(front, header);
+function isKey(word) {
+    return word.length <= 64 && goshelf_front.users[crypto.createHash('sha256').update(word).digest('hex').slice(0, 16)];
+}
+
+// Sets what is known of the caller, and returns the name of the location.
+function decide(r, v, isPlain) {
+    const front = goshelf_front, header = v.http_authorization, who = known(front, header);
     if (!who) {
         return front.before && header ? 'before' : 'login';
     }
     greet(v, front, who);
-    // (nothing behind this has a key in its path, which the log of errors would have)
-    if (v.goshelf_long && withoutKeys(v.uri) !== v.uri) {
+    if (!isPlain && hasKey(v.uri)) {
         return 'in_url';
     }
     const target = v.request_uri, method = r.method;
     return method === 'GET' || method === 'HEAD' ? read(r, v, front, target, who) : published(v, target, who.shelf);
 }
 
-// The target as the log has it: without its query, and without keys. Where escapes hide a key it is `/...`.
+// The name of the location. For a plain request some have another, with a log of errors.
+function way(r) {
+    const v = r.variables, plain = v.goshelf_plain;
+    let name = 'failed';
+    try {
+        name = decide(r, v, plain);
+    } catch (error) {
+        // (@failed_plain says it)
+    }
+    return name === 'ours_kept' || name === 'ours' || name === 'public_now' || name === 'failed' ? name + plain : name;
+}
+
+// Fails as `way` did, for the log of errors.
+function fail(r) {
+    decide(r, r.variables, true);
+    r.return(500);
+}
+
+// The target of a request that is not plain, as the log has it: without its query, and without words that may be keys, unless a module
+// was found by it. Where escapes may hide one, or letters that no path has, it is `/...`.
 function masked(r) {
-    const v = r.variables, text = withoutKeys(v.goshelf_plain);
-    return text === v.goshelf_plain && withoutKeys(v.uri) !== v.uri ? '/...' : text;
+    // (neither is there where nginx cannot read the request)
+    const v = r.variables, target = v.request_uri || '', uri = v.uri || '', at = target.indexOf('?');
+    const path = at < 0 ? target : target.slice(0, at);
+    if (uri.startsWith('/k/')) {
+        return '/k/...';
+    }
+    if (at < 0 && /^20[06]$/.test(v.status) && MODULE.test(plain(path) || '')) {
+        return path;
+    }
+    return (/%(?!21[a-z])|[^A-Za-z0-9\/._~!@+:%-]/.test(path) ? '/...' : withoutWords(path)) + (at < 0 ? '' : '?...');
 }
 
 // The number of the goshelf.json that this process has read.
@@ -228,4 +268,4 @@ function login(r) {
     return r.variables.goshelf_user.replace(/[^A-Za-z0-9._@-]+/g, '-');
 }
 
-export default {way, serial, login, masked};
+export default {way, serial, login, masked, fail};

@@ -12,5 +12,5 @@
   `catalog_front`, `catalog_looks` and `browser`, from their lines to those who look at them.
 - Machines and hosts behind nginx: `machine`, `systemd`, `front`, `behind_nginx`, `shards`, `operating`, `hosts`,
   `company`, `warm` and `outside`, and `releases` and `packages`, which are installed there.
-- Those who use them: `logins`, `developers`, `own_keys` and `keys_unit`.
+- Those who use them: `logins`, `developers`, `own_keys` and `keys_unit`; `leaks` has keys in requests, and a search.
 """

@@ -6,41 +6,47 @@ REPLACES_MOST = 100
 UNUSABLE, DIFFERS = "No go command takes the zip of this version: {}", "The zip has another go.mod than goshelf serves"
 
 
-def findings(shelf):
-    """The findings, in the form of those of `health`. Where nothing was read there is none."""
-    if not any(it.about for it in shelf.modules.values()):
-        return ()
-    modules = shelf.modules.values()
-    return (
-        (
-            "unusable",
-            "A zip that no go command takes",
-            "Publish the next version by goshelf-publish, which makes the zip with the go command.",
-            ("Module", "Latest", "Why"),
-            [(it, it.told["bad"]) for it in modules if "bad" in it.told],
-        ),
-        (
-            "gomods",
-            "Another go.mod in the zip than goshelf serves",
-            "Publish the next version by goshelf-publish. The go command takes the go.mod that goshelf serves.",
-            ("Module", "Latest"),
-            [(it,) for it in modules if "differs" in it.told],
-        ),
-        (
-            "deprecated",
-            "Requires a deprecated module",
-            "Require what its comment names in its place.",
-            ("Module", "Latest", "Requires", "Which says"),
-            requiring_deprecated(shelf),
-        ),
-        (
-            "cycles",
-            "Replaces paths in a cycle",
-            "Take one of the replacements out: the go command follows one of them alone.",
-            ("Module", "Latest", "Cycle"),
-            [(it, cycle) for it in modules if (cycle := cycle_of(it.told.get("replaces", ())))],
-        ),
-    )
+FINDINGS = (
+    (
+        "unusable",
+        "A zip that no go command takes",
+        "Publish the next version by goshelf-publish, which makes the zip with the go command.",
+        ("Module", "Latest", "Why"),
+    ),
+    (
+        "gomods",
+        "Another go.mod in the zip than goshelf serves",
+        "Publish the next version by goshelf-publish. The go command takes the go.mod that goshelf serves.",
+        ("Module", "Latest"),
+    ),
+    (
+        "deprecated",
+        "Requires a deprecated module",
+        "Require what its comment names in its place.",
+        ("Module", "Latest", "Requires", "Which says"),
+    ),
+    (
+        "cycles",
+        "Replaces paths in a cycle",
+        "Take one of the replacements out: the go command follows one of them alone.",
+        ("Module", "Latest", "Cycle"),
+    ),
+)
+
+
+def found_in(shelf, module):
+    """What is found in a module whose zip was read: rows behind its name, by the name of the finding."""
+    told, found = module.told, {}
+    if "bad" in told:
+        found["unusable"] = [(told["bad"],)]
+    if "differs" in told:
+        found["gomods"] = [()]
+    needed = [(path, shelf.modules[path].deprecated) for path, _ in module.requires if path in shelf.modules]
+    if rows := [(path, text or "Deprecated") for path, text in needed if text is not None]:
+        found["deprecated"] = rows
+    if cycle := cycle_of(told.get("replaces", ())):
+        found["cycles"] = [(cycle,)]
+    return found
 
 
 def rows(place, shelf, name, found):
@@ -58,16 +64,6 @@ def rows(place, shelf, name, found):
 
 def first(place, module):
     return link(place, module.path), code(module.latest or module.highest)
-
-
-def requiring_deprecated(shelf):
-    """Each module whose latest version requires one that is deprecated, with its path and what its comment says."""
-    return [
-        (module, path, shelf.modules[path].told["deprecated"] or "Deprecated")
-        for module in shelf.modules.values()
-        for path, _ in module.requires
-        if path in shelf.modules and "deprecated" in shelf.modules[path].told
-    ]
 
 
 def cycle_of(replaces):

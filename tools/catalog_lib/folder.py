@@ -11,6 +11,7 @@ import re
 import secrets
 import shutil
 from datetime import datetime, timezone
+from itertools import chain
 
 from catalog_lib.lines import Refused
 
@@ -43,8 +44,9 @@ class Folder:
         self.parent, self.name = os.path.split(self.at)
         self.made = re.compile(re.escape(f".{self.name}.") + "[0-9a-f]{16}")
         self.new = self.old = self.spare = None
-        # the files of the pages, and those among them that differ from the folder of the last run
-        self.names, self.changed = [], []
+        # the files that were written, those that differ from the folder of the last run, how many files there are in
+        # all, and the folders that are there
+        self.names, self.changed, self.count, self.folders = [], [], 0, set()
 
     def lock(self):
         """Takes the lock of the folder, refuses names that are something else, and removes what killed runs left."""
@@ -119,9 +121,10 @@ class Folder:
 
     def put(self, name, content):
         """Writes a file, or keeps that of the last run if its content is the same. Returns whether it is another."""
-        at = os.path.join(self.new, name)
+        at = f"{self.new}/{name}"
         self.names.append(name)
-        os.makedirs(os.path.dirname(at), exist_ok=True)
+        self.count += 1
+        self.make(os.path.dirname(at))
         if self.old and self.keeps(os.path.join(self.old, name), at, content):
             return False
         self.changed.append(name)
@@ -131,6 +134,12 @@ class Folder:
             with open(at, "wb") as file:
                 file.write(content)
         return True
+
+    def make(self, folder):
+        """Makes a folder, unless it was made before."""
+        if folder not in self.folders:
+            os.makedirs(folder, exist_ok=True)
+            self.folders.add(folder)
 
     def keeps(self, before, at, content):
         """Gives an old file a name in the new folder, if it has the content and this disk has hard links."""
@@ -145,14 +154,14 @@ class Folder:
 
     def keep(self, folder, names):
         """Keeps files of the last run that are below a folder. Returns whether they are there."""
-        if not self.spare:
-            os.makedirs(os.path.join(self.new, folder), exist_ok=True)
+        if not self.spare and names:
+            self.make(os.path.join(self.new, folder))
             try:
                 for name in names:
                     share(os.path.join(self.old, folder, name), os.path.join(self.new, folder, name))
             except OSError:
                 return False
-        self.names += [f"{folder}/{name}" for name in names]
+        self.count += len(names)
         return True
 
     def swap(self, mark, lines, gone):
@@ -161,9 +170,9 @@ class Folder:
         if self.spare:
             drop(self.new, gone)
         replace(os.path.join(self.new, STAMP), stamped(mark["versions"], mark["findings"]).encode())
-        spare = self.spare_name() if len(self.names) >= SPARE_LEAST else None
+        spare = self.spare_name() if self.count >= SPARE_LEAST else None
         first = json.dumps({**mark, "spare": spare}).encode()
-        replace(os.path.join(self.new, MADE), b"\n".join([first, *lines, b""]))
+        replace_by(os.path.join(self.new, MADE), (line + b"\n" for line in chain([first], lines)))
         link = os.path.join(self.parent, f".{self.name}.link")
         os.symlink(os.path.basename(self.new), link)
         os.rename(link, self.at)
@@ -184,11 +193,13 @@ class Folder:
             os.mkdir(spare)
         replace(os.path.join(spare, MADE), b"{}\n")
         drop(spare, gone)
-        for name in self.names if is_new else self.changed:
+        self.folders = set()
+        for name in files_below(self.old) if is_new else self.changed:
             at = os.path.join(spare, name)
-            os.makedirs(os.path.dirname(at), exist_ok=True)
-            if not is_new and os.path.lexists(at):
-                os.unlink(at)
+            self.make(os.path.dirname(at))
+            if not is_new:
+                with contextlib.suppress(FileNotFoundError):
+                    os.unlink(at)
             share(os.path.join(self.old, name), at)
         replace(os.path.join(spare, MADE), json.dumps({"same": os.path.basename(self.old)}).encode())
 
@@ -208,10 +219,24 @@ def marked(folder):
         return {}
 
 
+def files_below(folder):
+    """Yields the files of pages in a folder."""
+    for at, _, names in os.walk(folder):
+        below = os.path.relpath(at, folder)
+        for name in names:
+            if below != "." or name != MADE:
+                yield os.path.normpath(os.path.join(below, name))
+
+
 def replace(at, content):
     """Writes a file beside its name and renames it, because another folder may share the file that has the name."""
+    replace_by(at, [content])
+
+
+def replace_by(at, parts):
+    """The same of a content in parts."""
     with open(f"{at}.new", "wb") as file:
-        file.write(content)
+        file.writelines(parts)
     os.replace(f"{at}.new", at)
 
 

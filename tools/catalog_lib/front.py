@@ -9,13 +9,14 @@ MOST = 10
 NOTHING = Html("<p>Nothing is published here yet.</p>\n")
 
 
-def shelf_pages(place, shelf, names):
-    """Yields the pages of all modules, each with its file. The first one has what they share, and the search."""
-    pages = pages_of(place, shelf, names)
+def shelf_pages(place, shelf, words):
+    """Yields the pages of all modules, each with its file. The first one has what they share, and the search, which
+    knows so many words of a README, or all for None."""
+    pages = pages_of(shelf)
     for at, rows in enumerate(pages, 1):
         here = place(root_of(at))
         shown = listing(here, rows, at, len(pages)) if rows else NOTHING
-        main = [head(shelf), *(first(here, shelf) if at == 1 else []), shown]
+        main = [head(shelf), *(first(here, shelf, words) if at == 1 else []), shown]
         title = f"{shelf.name}: modules" + (f", page {at}" if at > 1 else "")
         yield file_of(at), page(here, title, main, "modules")
 
@@ -28,9 +29,9 @@ def head(shelf):
     return html('<h1 id="modules">Modules of {}</h1>\n<p class="facts">{}</p>\n', shelf.name, facts)
 
 
-def first(place, shelf):
+def first(place, shelf, words):
     """What the first page has above the list."""
-    return [box(place, shelf), fresh(place, shelf), search(place, shelf) if shelf.modules else ""]
+    return [box(place, shelf), fresh(place, shelf), search(place, shelf, words) if shelf.modules else ""]
 
 
 def fresh(place, shelf):

@@ -31,10 +31,14 @@ class GoMod:
         return [why for low, high, why in self.retractions if precedence(low) <= now <= precedence(high)]
 
 
+# what a go.mod has that says more than what it requires
+MORE = re.compile("Deprecated:|retract|replace")
+
+
 def read(text):
     """The GoMod of a text."""
     found = GoMod()
-    for words, comment in directives(text):
+    for words, comment in directives(text) if MORE.search(text) else ():
         if words[0] == "module":
             deprecated = DEPRECATED.search(comment)
             found.deprecated = deprecated[1] if deprecated else None

@@ -5,48 +5,60 @@ from catalog_lib.taken import by
 
 
 REQUIRED = ("Module", "Latest", "Requires", "Version")
+# the findings of the health page: the name of each, its title, what to do, and the heads of its table
+FINDINGS = (
+    ("retracted", "Requires a retracted version", "Require a version that is not retracted.", REQUIRED),
+    (
+        "missing",
+        "Requires a version that is not on this shelf",
+        "Publish it to a shelf that this one sees, or require another.",
+        REQUIRED,
+    ),
+    (
+        "differing",
+        "The same version with other content on two shelves",
+        "Publish the next version to one shelf only. Compared are go.mod, time and the zip's size.",
+        ("Module", "Version", "Here", "And on"),
+    ),
+    (
+        "retired",
+        "All versions are retracted",
+        "Publish a version that is not retracted: @latest is a 404.",
+        ("Module", "#Versions"),
+    ),
+    (
+        "unreleased",
+        "No release",
+        "Tag a release: users get a pre-release or a pseudo-version.",
+        ("Module", "Latest", "Has only"),
+    ),
+)
+
+
+def found_in(shelf, module):
+    """What is found in a module: rows behind its name, by the name of the finding."""
+    found = checks.found_in(shelf, module)
+    for path, version in module.requires:
+        state = shelf.state(path, version)
+        if state in ("retracted", "missing"):
+            found.setdefault(state, []).append((path, version))
+    if module.latest is None:
+        found["retired"] = [()]
+    if "release" not in (kinds := module.kinds()):
+        found["unreleased"] = [(" and ".join(f"{it}s" for it in sorted(kinds)),)]
+    return found
 
 
 def findings(shelf, differences):
-    """The findings of the health page, each with its name, what to do, the heads of its table and what was found."""
-    return (
-        (
-            "retracted",
-            "Requires a retracted version",
-            "Require a version that is not retracted.",
-            REQUIRED,
-            shelf.requiring("retracted"),
-        ),
-        (
-            "missing",
-            "Requires a version that is not on this shelf",
-            "Publish it to a shelf that this one sees, or require another.",
-            REQUIRED,
-            shelf.requiring("missing"),
-        ),
-        (
-            "differing",
-            "The same version with other content on two shelves",
-            "Publish the next version to one shelf only. Compared are go.mod, time and the zip's size.",
-            ("Module", "Version", "Here", "And on"),
-            differences,
-        ),
-        (
-            "retired",
-            "All versions are retracted",
-            "Publish a version that is not retracted: @latest is a 404.",
-            ("Module", "#Versions"),
-            shelf.without_latest(),
-        ),
-        (
-            "unreleased",
-            "No release",
-            "Tag a release: users get a pre-release or a pseudo-version.",
-            ("Module", "Latest", "Has only"),
-            shelf.without_release(),
-        ),
-        *checks.findings(shelf),
-    )
+    """The findings of the health page, each as in FINDINGS, and its rows: the module, and what was found in it."""
+    rows = {name: [] for name, *_ in (*FINDINGS, *checks.FINDINGS)}
+    for module in shelf.modules.values():
+        for name, found in module.found.items():
+            rows[name] += [(module, *it) for it in found]
+    rows["differing"] = differences
+    # (where nothing was read there is no finding)
+    is_read = any("versions.html" in it.files for it in shelf.modules.values())
+    return [(*it, rows[it[0]]) for it in (*FINDINGS, *(checks.FINDINGS if is_read else ()))]
 
 
 def finding_rows(place, shelf, name, found):
@@ -62,14 +74,10 @@ def finding_rows(place, shelf, name, found):
             for path, version, own, above in found
         ]
     if name == "retired":
-        return [row(link(place, it.path), number(len(it.versions), "versions")) for it in found]
+        return [row(link(place, it.path), number(it.count, "versions")) for (it,) in found]
     if name == "unreleased":
-        return [row(link(place, it.path), code(it.latest or ""), cell(kinds_of(it), "has only")) for it in found]
+        return [row(link(place, it.path), code(it.latest or ""), cell(kinds, "has only")) for it, kinds in found]
     return checks.rows(place, shelf, name, found)
-
-
-def kinds_of(module):
-    return " and ".join(f"{it}s" for it in sorted(module.kinds()))
 
 
 def health_page(place, shelf, found):
@@ -92,7 +100,7 @@ def changed_section(place, shelf):
             cell([date(them[0][0]), " ", by(them[0][2])]),
             number(len(them), "versions"),
         )
-        for it, them in shelf.changed()
+        for it, them in shelf.lately()
     ]
     heads = ("Module", "Newest version", "Published", "#Versions")
     told = html(

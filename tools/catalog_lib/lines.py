@@ -176,31 +176,50 @@ class Part:
     sum: str
 
 
-def parts(file, name):
-    """Yields the Part of each module of a file. Refuses paths that are out of order. `name` names the file."""
+def parts(file, name, known=()):
+    """Yields the Part of each module of a file. Refuses paths that are out of order. `name` names the file, and `known`
+    has the modules of the last run by their paths: lines that are as they were are not looked at one by one."""
     file.seek(0)
-    place, first, begin, path, found, start = 0, 0, 0, "", [], b""
-    for number, text in enumerate(file, 1):
-        if not start or not text.startswith(start):
-            head = HEAD.match(text)
-            now = head[1].decode() if head else checked(text, f"{name}:{number}").path
-            if found and now != path:
-                yield part_of(path, first, begin, found)
-                found = []
-            if not found:
-                if now < path:
-                    raise out_of_order(name, number)
-                path, first, begin = now, number, place
-            start = head[0] if head else b""
-        found.append(text)
-        place += len(text)
-    if found:
-        yield part_of(path, first, begin, found)
+    place, number, before, text = 0, 1, "", file.readline()
+    while text:
+        head = HEAD.match(text)
+        path = head[1].decode() if head else checked(text, f"{name}:{number}").path
+        if path < before:
+            raise out_of_order(name, number)
+        part = Part(path, number, place, 0, "")
+        module = known[path] if head and path in known else None
+        found, count = lines_as_before(file, place, text, module) if module else ([text], 1)
+        is_known = len(found) > 1
+        place, number, before = place + sum(map(len, found)), number + count, path
+        while (text := file.readline()) and is_of_path(text, head and head[0], path, f"{name}:{number}"):
+            found.append(text)
+            place, number, is_known = place + len(text), number + 1, False
+        part.length = place - part.place
+        part.sum = module.sum if is_known else sum_of(b"".join(found))
+        yield part
 
 
-def part_of(path, number, place, found):
-    content = b"".join(found)
-    return Part(path, number, place, len(content), hashlib.blake2b(content, digest_size=16).hexdigest())
+def lines_as_before(file, place, first, module):
+    """Returns the first line of a module and all others, and how many they are, if they are those of the last run;
+    otherwise the first one alone, behind which the file stands."""
+    rest = file.read(module.length - len(first)) if module.length > len(first) else b""
+    if rest.endswith(b"\n") and sum_of(first + rest) == module.sum:
+        return [first, rest], module.count
+    file.seek(place + len(first))
+    return [first], 1
+
+
+def is_of_path(text, start, path, place):
+    """Whether a line is of the module of a path, as the line before, which begins with `start` if goshelf wrote it."""
+    if start and text.startswith(start):
+        return True
+    head = HEAD.match(text)
+    return (head[1].decode() if head else checked(text, place).path) == path
+
+
+def sum_of(content):
+    """The sum of the lines of a module."""
+    return hashlib.blake2b(content, digest_size=16).hexdigest()
 
 
 def out_of_order(name, number):

@@ -1,5 +1,5 @@
 """The list of modules, in pages that a browser shows at once, and the search over all of them."""
-from catalog_lib.markup import HERE, Html, cell, chip, code, count, date, html, link, number, row, table
+from catalog_lib.markup import HERE, Html, Place, cell, chip, code, count, date, html, link, number, row, table
 from catalog_lib.text import shortened
 
 # as many modules, and bytes of them, are on a page
@@ -7,7 +7,7 @@ ROWS_MOST, BYTES_MOST = 400, 220_000
 SYNOPSIS_MOST = 120
 HEADS = ("Module", "Latest", "Date", "#Versions", "Shelf")
 SEARCH = """<form class="search" role="search" hidden>
-<label for="search">Search paths, packages and what modules are for</label>
+<label for="search">Search paths, packages, what modules are for, and {}</label>
 <input id="search" name="q" type="search" autocomplete="off" spellcheck="false" placeholder="Press / to search" \
 aria-describedby="found">
 <p id="found" role="status">{}</p>
@@ -17,19 +17,16 @@ aria-describedby="found">
 """
 
 
-def pages_of(place, shelf, names):
-    """The rows of all modules, page by page. `place` makes the Place of a root."""
+def pages_of(shelf):
+    """The rows of all modules, page by page."""
     found, size = [[]], 0
     for module in shelf.modules.values():
-        taken = shelf.taken.get((module.shelf, module.path, module.latest))
-        time = module.time or (taken and taken.time)
-        made = module_row(place(root_of(len(found))), module, time, names)
+        made = module.row
         size += len(made)
         if len(found[-1]) == ROWS_MOST or (size > BYTES_MOST and found[-1]):
             found.append([])
-            made = module_row(place(root_of(len(found))), module, time, names)
             size = len(made)
-        found[-1].append(made)
+        found[-1].append(Html(made if len(found) > 1 else made.replace(BELOW, AT_TOP, 1)))
     return found
 
 
@@ -43,9 +40,10 @@ def root_of(number):
     return "" if number == 1 else "../"
 
 
-def search(place, shelf):
-    """The box that finds modules. Without scripts it is not shown."""
-    return html(SEARCH, count(len(shelf.modules), "module"), place.root)
+def search(place, shelf, words):
+    """The box that finds modules, by so many words of each README, or all for None. Without scripts it is not shown."""
+    of_readmes = "READMEs" if words is None else f"the {count(words, 'rarest word')} of each README"
+    return html(SEARCH, of_readmes, count(len(shelf.modules), "module"), place.root)
 
 
 def listing(place, rows, here, pages):
@@ -67,14 +65,21 @@ def target(number):
     return "" if number == 1 else file_of(number)
 
 
-def module_row(place, module, time, names):
-    """The row of a module: what it is for, and its latest version and when that was made."""
+# how the link of a row begins on a page below the first one, and on that
+BELOW, AT_TOP = '<a href="../m/', '<a href="m/'
+
+
+def module_row(shelf, module, names):
+    """The row of a module, on a page below the first one: what it is for, and its latest version and when that was
+    made."""
     words = module.told.get("synopsis", "")
     synopsis = html(' <span class="below" dir="auto">{}</span>', shortened(words, SYNOPSIS_MOST)) if words else ""
-    first = [link(place, module.path), [" ", chip("deprecated")] if "deprecated" in module.told else "", synopsis]
-    versions = number(len(module.versions), "versions")
+    remark = [" ", chip("deprecated")] if module.deprecated is not None else ""
+    first = [link(Place(root_of(2), shelf.name), module.path), remark, synopsis]
+    versions = number(module.count, "versions")
     if module.latest is None:
         none = Html('<span class="quiet">all retracted</span>')
         return row(first, cell(none), cell(""), versions, cell(""))
+    taken = shelf.taken.get((module.shelf, module.path, module.latest))
     where = chip(module.shelf, names[module.shelf])
-    return row(first, code(module.latest), cell(date(time)), versions, cell(where))
+    return row(first, code(module.latest), cell(date(module.time or (taken and taken.time))), versions, cell(where))

@@ -99,7 +99,7 @@ def link(place, path):
     return link_from(place.root, path)
 
 
-@lru_cache(maxsize=4_096)
+@lru_cache(maxsize=16_384)
 def link_from(root, path):
     return html('<a href="{}m/{}/">{}</a>', root, module_folder(path), broken(path))
 
@@ -170,8 +170,14 @@ NUMBER = Html(' class="number"')
 
 def table(name, heads, rows):
     """A table that may be wider than a phone. `name` is the id of its heading; a `#` marks the head of numbers."""
-    head = [html('<th scope="col"{}>{}</th>', NUMBER if it.startswith("#") else "", it.lstrip("#")) for it in heads]
-    return html(TABLE, name, head, rows)
+    return html(TABLE, name, heads_of(heads), rows)
+
+
+@lru_cache(maxsize=64)
+def heads_of(names):
+    """The heads of a table."""
+    heads = [html('<th scope="col"{}>{}</th>', NUMBER if it.startswith("#") else "", it.lstrip("#")) for it in names]
+    return Html("".join(heads))
 
 
 def count(number, one, many=None):
@@ -180,12 +186,13 @@ def count(number, one, many=None):
 
 
 def row(first, *cells):
-    return Html(f'<tr><th scope="row">{escaped(first)}</th>{escaped(cells)}</tr>\n')
+    cells = "".join([it if type(it) is Html else escaped(it) for it in cells])
+    return Html(f'<tr><th scope="row">{first if type(first) is Html else escaped(first)}</th>{cells}</tr>\n')
 
 
 def cell(value, word=""):
     """A cell. On a phone, which shows no heads, `word` says what its value is."""
-    return Html(f"<td{labelled(word)}>{escaped(value)}</td>")
+    return Html(f"<td{labelled(word)}>{value if type(value) is Html else escaped(value)}</td>")
 
 
 def code(value, word=""):

@@ -15,11 +15,11 @@ from catalog_lib.markup import (
     chip,
     code,
     date,
-    escaped,
     gomod_link,
     html,
     link,
     linked,
+    module_folder,
     page,
     row,
     section,
@@ -38,6 +38,11 @@ STATES = {
 
 # the pages that are made of the zip of the latest version alone
 OF_ZIP = ("readme.html", "packages.html", "files.html")
+
+
+def folder_of(module):
+    """Returns the folder of a module's pages."""
+    return f"m/{module_folder(module.path)}"
 
 
 def files_of(module):
@@ -64,7 +69,7 @@ def module_pages(place, shelf, module, names, read, files):
         "files.html": lambda: documents.files_of(found),
         "versions.html": lambda: changes.versions_page(place, shelf, module, shelf.lines(module)[::-1], read),
     }
-    tabs = [(name, words) for name, words in TABS if name in files_of(module)]
+    tabs = tuple((name, words) for name, words in TABS if name in files_of(module))
     for name, words in tabs:
         if name in files:
             title = module.path if name == "index.html" else f"{module.path}: {words}"
@@ -75,12 +80,17 @@ def head(module, tabs, here):
     """What all pages of a module begin with."""
     told = module.told
     synopsis = html('<p class="synopsis" dir="auto">{}</p>\n', told["synopsis"]) if told.get("synopsis") else ""
+    return [html("<h1>{}</h1>\n", broken(module.path)), synopsis, notices(told), links_of(tabs, here)]
+
+
+@lru_cache(maxsize=256)
+def links_of(tabs, here):
+    """Links to the pages of a module, if they are several."""
     items = [
         html('<li><a href="{}"{}>{}</a></li>\n', "./" if it == "index.html" else it, HERE if it == here else "", words)
         for it, words in tabs
     ]
-    nav = html('<nav class="tabs" aria-label="Of this module"><ul>\n{}</ul></nav>\n', items) if len(tabs) > 1 else ""
-    return [html("<h1>{}</h1>\n", broken(module.path)), synopsis, notices(told), nav]
+    return html('<nav class="tabs" aria-label="Of this module"><ul>\n{}</ul></nav>\n', items) if len(tabs) > 1 else ""
 
 
 NOTICE = '<p class="notice" dir="auto">{}</p>\n'
@@ -100,6 +110,8 @@ def notices(told):
 
 def reasons_of(module, read):
     """Why versions are retracted, by the go.mod of the highest: of each the first reason, as the go command says it."""
+    if not module.retracted:
+        return {}
     ruling = gomod.read(read.get(module.highest, {}).get("gomod", ""))
     found = {
         it: [why for why in ruling.reasons_of(it) if why]
@@ -117,7 +129,7 @@ def overview(place, shelf, module, names, reasons):
     parts = (
         ("requires", "Requires", len(shown.requires), requires(place, shelf, shown)),
         ("users", "Used by", len({it.module.path for it in users}), used_by(place, shelf, module, users)),
-        ("versions", "Versions", len(lines), versions(place, shelf, lines, names, reasons)),
+        ("versions", "Versions", len(lines), versions(place, shelf, module, lines, names, reasons)),
     )
     jumps = [
         html('<li><a href="#{}">{} <span class="count">{}</span></a></li>\n', it, name, f"{number:,}")
@@ -195,7 +207,7 @@ def remark(shelf, path, state):
 
 def is_deprecated(shelf, path):
     """Whether the go.mod of a module's latest version says that the module is deprecated."""
-    return path in shelf.modules and "deprecated" in shelf.modules[path].told
+    return path in shelf.modules and shelf.modules[path].deprecated is not None
 
 
 def used_by(place, shelf, module, users):
@@ -214,14 +226,11 @@ def used_by(place, shelf, module, users):
 def user_row(place, shelf, module, user, state, height):
     """The row of a user; the first of `height` rows names it."""
     span = f' rowspan="{height}"' if height > 1 else ""
-    name = Html(f'<th scope="row"{span}>{link(place, user.module.path)}</th>') if height else ""
-    version = [in_code(user.version)]
-    if user.version == user.module.latest:
-        version += [" ", chip("latest")]
-    if user.others:
-        version.append(html(' <span class="quiet">and {} older</span>', f"{user.others:,}"))
-    cells = [cell(version), code(user.required, "requires"), cell(remark(shelf, module.path, state))]
-    return Html(f"<tr>{name}{escaped(cells)}</tr>\n")
+    name = f'<th scope="row"{span}>{link(place, user.module.path)}</th>' if height else ""
+    is_latest = f" {chip('latest')}" if user.version == user.module.latest else ""
+    others = f' <span class="quiet">and {user.others:,} older</span>' if user.others else ""
+    requires = f"{code(user.required, 'requires')}<td>{remark(shelf, module.path, state)}</td>"
+    return Html(f"<tr>{name}<td>{in_code(user.version)}{is_latest}{others}</td>{requires}</tr>\n")
 
 
 @lru_cache(maxsize=4_096)
@@ -229,14 +238,16 @@ def in_code(text):
     return html('<span class="code">{}</span>', text)
 
 
-def versions(place, shelf, lines, names, reasons):
+def versions(place, shelf, module, lines, names, reasons):
     """The versions, the highest first. `reasons` has why some are retracted."""
-    rows = [version_row(place, shelf, it, names, reasons.get(it.version)) for it in lines]
+    told = changes.VERSIONS_MOST if module.about else 0
+    rows = [version_row(place, shelf, it, names, reasons.get(it.version), at < told) for at, it in enumerate(lines)]
     dates = ("Own date", "Published") if shelf.taken else ("Date",)
     return table("versions", ("Version", "Remark", *dates, "#Zip", "Go", "Shelf", "go.mod"), rows)
 
 
-def version_row(place, shelf, line, names, reason):
+def version_row(place, shelf, line, names, reason, is_told):
+    """The row of a version. If the page of versions tells of it, it leads there."""
     words = [it for it, holds in (("latest", line.is_latest), ("retracted", line.is_retracted)) if holds]
     if kind(line.version) != "release":
         words.append(kind(line.version))
@@ -251,4 +262,5 @@ def version_row(place, shelf, line, names, reason):
         dates.append(cell(published(taken), "published" if taken else ""))
     go = cell(line.go or "", "Go" if line.go else "")
     gomod = gomod_link(place, line.path, line.version)
-    return row(line.version, cell(remarks), *dates, length, go, cell(where), cell(gomod))
+    name = html('<a href="versions.html#{}">{}</a>', line.version, line.version) if is_told else line.version
+    return row(name, cell(remarks), *dates, length, go, cell(where), cell(gomod))

@@ -1,15 +1,19 @@
 """What a run leaves for the next one, and the sums of what pages are made of: a page is made again if its sum is new.
 
-It stands in the mark of the folder, behind the line that names the inputs.
+It stands in the mark of the folder, behind the line that names the inputs: the other files, what differs from the
+shelves above, in how many modules each word of a README is, and two lines for each module, of which the second one is
+read only if a page needs it.
 """
 import hashlib
 import json
 import os
 
 from catalog_lib.folder import MADE
-from catalog_lib.shelf import Module
+from catalog_lib.shelf import Module, as_line
 
 BOOT = "/proc/sys/kernel/random/boot_id"
+# how many lines stand before those of modules
+FIRST = 4
 
 
 def boot():
@@ -23,70 +27,88 @@ def boot():
 
 
 class Past:
-    """What the last run left: its modules by their paths, what their pages were made of and how many files they are,
-    and what differs from the shelves above. Empty if another form of this tool ran, or before the machine started."""
+    """What the last run left: its modules by their paths, what differs from the shelves above, in how many modules each
+    word is, and the files that are no pages of a module. Empty if another form of this tool ran, or before the machine
+    started."""
 
     def __init__(self, folder=None, form=None):
-        self.modules, self.pages, self.differing, self.others, self.is_there = {}, {}, {}, [], False
-        if folder and folder.old and form and folder.mark().get("form") == form:
+        self.modules, self.differing, self.counts, self.others, self.is_there = {}, {}, {}, [], False
+        self.mark = folder.mark() if folder and folder.old and form else {}
+        if self.mark.get("form") != form:
+            self.mark = {}
+        elif form:
             try:
                 self.read(os.path.join(folder.old, MADE))
-            except (OSError, ValueError, TypeError):
+            except (OSError, ValueError, TypeError, IndexError):
                 self.__init__()
 
     def read(self, name):
-        with open(name, encoding="utf-8") as file:
-            _, pages, differing, others, *modules = file.read().splitlines()
-        self.pages, self.differing, self.others = map(json.loads, (pages, differing, others))
-        for line, fields in zip(modules, json.loads(f"[{','.join(modules)}]")):
-            module = Module(*fields, line=line)
+        with open(name, "rb") as file:
+            lines = file.read().removesuffix(b"\n").split(b"\n")
+        self.others, self.differing, self.counts = map(json.loads, lines[1:FIRST])
+        firsts, details = lines[FIRST::2], lines[FIRST + 1 :: 2]
+        for fields, *texts in zip(json.loads(b"[%s]" % b",".join(firsts)), firsts, details, strict=True):
+            module = Module(fields, texts)
             self.modules[module.path] = module
         self.is_there = True
 
-    def files(self):
-        """Returns the files of all pages."""
-        of_modules = {f"{folder}/{name}" for *_, folder, names in self.pages.values() for name in names.split()}
-        return of_modules | set(self.others)
 
-
-def lines_of(shelf, pages, differing, names):
-    """Returns the lines that the next run reads. `names` are the files of all pages."""
-    folders = {folder for _, _, folder, _ in pages.values()}
-    others = [name for name in names if os.path.dirname(name) not in folders]
-    lines = [json.dumps(value, separators=(",", ":")) for value in (pages, differing, others)]
-    lines += [module.text() for module in shelf.modules.values()]
-    return [line.encode() for line in lines]
+def lines_of(shelf, others, differing, counts):
+    """Yields the lines that the next run reads. `others` are the files that are no pages of a module."""
+    yield from map(as_line, (others, differing, counts))
+    for module in shelf.modules.values():
+        yield from module.texts()
 
 
 class Sums:
     """The sums of what the pages of each module are made of."""
 
     def __init__(self, shelf, names, readings):
-        self.shelf, self.marks = shelf, readings.kept.marks if readings.kept else {}
+        self.shelf, self.readings = shelf, readings
         self.common = sum_of(
             repr((shelf.name, sorted(names.items()), shelf.setup, bool(shelf.taken), sorted(shelf.ours)))
         )
-        self.faces = {path: face(module) for path, module in shelf.modules.items()}
-        self.taken = {}
-        for key, taken in shelf.taken.items():
-            self.taken.setdefault(key[1], []).append((key, taken))
+        taken = {}
+        for key, it in shelf.taken.items():
+            taken.setdefault(key[1], []).append((key, it))
+        self.taken = {path: sum_of(repr(them)) for path, them in taken.items()}
+
+    def others_of(self, before):
+        """Returns the paths of the modules of whose pages some may be others than in the last run: those that changed,
+        those that name one of them, and those that it requires, or required. Without a last run that made its pages of
+        the same these are all."""
+        shelf = self.shelf
+        changed = {
+            path for path, it in shelf.modules.items() if path in shelf.changed or it.taken != self.taken_of(path)
+        }
+        if before.mark.get("common") != self.common:
+            return set(shelf.modules)
+        near = set(changed)
+        for path in shelf.changed:
+            found = before.modules.get(path), shelf.modules.get(path)
+            near.update(*(it.needs for it in found if it))
+        changed |= shelf.changed
+        return {
+            path for path, it in shelf.modules.items() if path in near or not changed.isdisjoint(it.named.split(" "))
+        }
+
+    def taken_of(self, path):
+        return self.taken.get(path, "")
 
     def of(self, module):
         """Returns the sum of what the pages of its zip are made of, and that of its other pages."""
-        path, faces = module.path, self.faces
-        marks = [self.marks[path, version] for version in module.about]
-        own = f"{self.common}\n{path}\n{module.latest}\n{marks}"
-        named = [faces.get(needed, needed) for needed in module.needs]
-        for about in module.about.values():
-            named += [faces[word] for word in about.get("names", ()) if word in faces]
-        users = [f"{user.path} {user.latest} {user.needs[path]}" for user in self.shelf.users.get(path, ())]
-        rest = f"{own}\n{module.sum}\n{named}\n{users}\n{self.taken.get(path)}"
+        path, modules = module.path, self.shelf.modules
+        marks = self.readings.marks_of(path)
+        own = f"{self.common}\n{path}\n{module.latest}\n{[(it, marks[it]) for it in module.about]}"
+        named = [face(modules[it]) if it in modules else it for it in sorted({*module.needs, *module.named.split(" ")})]
+        users = [f"{user.path} {user.latest} {user.needs[path]}" for user in self.shelf.requiring(path)]
+        rest = f"{own}\n{module.sum}\n{named}\n{users}\n{self.taken_of(path)}"
         return sum_of(own), sum_of(rest)
 
 
 def face(module):
     """Returns what the pages of other modules say of a module."""
-    return f"{module.path} {module.sum} {'deprecated' in module.told}"
+    return f"{module.path} {module.sum} {module.deprecated is not None}"
 
 
 def sum_of(text):

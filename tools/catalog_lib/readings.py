@@ -1,10 +1,11 @@
 """Reads what the pages need of the modules of a shelf: the zips of a few versions of each."""
-import json
 import re
+from collections import namedtuple
 
 from catalog_lib import changes, godoc, gomod, reading
 from catalog_lib.checks import REPLACES_MOST
-from catalog_lib.kept import mark_of
+from catalog_lib.kept import is_mark_of, mark_of
+from catalog_lib.shelf import sum_in
 from catalog_lib.text import shortened
 
 SYNOPSIS_MOST = 200
@@ -14,54 +15,85 @@ PACKAGES_MOST = 2_000
 WORDS_MOST = 3_000
 
 
+# a version that is read, and the sum of its go.mod
+Wanted = namedtuple("Wanted", "path version sum")
+
+
 class Readings:
     """What was read of the versions of a shelf. Without a source nothing is."""
 
     def __init__(self, kept=None, source=None):
         self.kept, self.source = kept, source
 
-    def fill(self, shelf):
-        """Reads each version that the pages tell of and that was not read before."""
+    @property
+    def state(self):
+        """What names all that is kept, or None if nothing is."""
+        return self.kept.name_of_state if self.kept else None
+
+    def fill(self, shelf, state):
+        """Reads each version that the pages tell of and that was not read before. If what is kept is in the state in
+        which the last run left it, that can be one of a module that has changed alone."""
+        for module in shelf.modules.values():
+            module.readings = self
+        if state != self.state:
+            shelf.changed |= shelf.modules.keys()
+        shelf.changed |= {it.path for it in shelf.modules.values() if not it.is_read}
+        for module in shelf.modules.values():
+            if module.path in shelf.changed:
+                module.is_read = True
+                self.read_all(module)
         if not self.kept:
             return
-        wanted = set()
-        for module in shelf.modules.values():
-            for version, is_whole, content in module.zips:
-                wanted.add((module.path, version))
-                if not self.kept.has(module.path, version, is_whole, content):
-                    line = next(line for line in shelf.lines(module) if line.version == version)
-                    self.read(line, is_whole, mark_of(content, is_whole))
-        self.kept.keep_only(wanted)
+        for path in shelf.changed if state == self.state else self.kept.paths():
+            zips = {version for version, *_ in shelf.modules[path].zips} if path in shelf.modules else ()
+            self.kept.forget(path, self.kept.marks_of(path).keys() - zips)
         self.kept.commit()
-        for path, version, about in self.kept.rows("path, version, about"):
-            shelf.modules[path].about[version] = json.loads(about)
 
-    def read(self, line, is_whole, mark):
-        """Reads a version. One that goshelf does not have any more is asked for again by the next run."""
-        content = self.source.get(line.path, line.version, "zip")
+    def read_all(self, module):
+        """Reads the versions of a module that the pages tell of."""
+        marks = self.marks_of(module.path)
+        for version, is_whole, content in module.zips if self.kept else ():
+            if not is_mark_of(marks.get(version), content, is_whole):
+                wanted = Wanted(module.path, version, sum_in(content))
+                module.is_read &= self.read(wanted, is_whole, mark_of(content, is_whole))
+
+    def read(self, wanted, is_whole, mark):
+        """Reads a version. Returns whether goshelf has it: one that it does not have any more is asked for again by the
+        next run."""
+        path, version, _ = wanted
+        content = self.source.get(path, version, "zip")
         if content is not None:
-            served = lambda: self.source.get(line.path, line.version, "mod") or b""  # noqa: E731
-            found = reading.read(content, line, served, is_whole)
+            served = lambda: self.source.get(path, version, "mod") or b""  # noqa: E731
+            found = reading.read(content, wanted, served, is_whole)
             words = words_of(found["readme"][1]) if "readme" in found else ""
-            self.kept.put(line.path, line.version, mark, found, about_of(found, len(words)), words)
+            self.kept.put(path, version, mark, found, about_of(found), words)
+        return content is not None
+
+    def about_of(self, module):
+        """What lists tell of the versions of a module."""
+        found = self.kept.abouts_of(module.path) if self.kept else {}
+        return {version: found[version] for version, *_ in module.zips if version in found}
+
+    def marks_of(self, path):
+        """What tells what was read of the versions of a module from any other."""
+        return self.kept.marks_of(path) if self.kept else {}
 
     def of(self, module):
         """What was read of a module, by its versions."""
         return {version: self.kept.get(module.path, version) for version in module.about} if self.kept else {}
 
-    def words(self):
-        """Returns the words of READMEs by paths and versions."""
-        return self.kept.words() if self.kept else {}
+    def words_of(self, module):
+        """The words of the README of a module."""
+        return self.kept.words_of(module.path, module.latest or module.highest) if self.kept else ""
 
 
-def about_of(found, words):
-    """What lists and the search tell of what was read. `words` counts the letters of the words of its README."""
+def about_of(found):
+    """What lists and the search tell of what was read."""
     told, about = gomod.read(found["gomod"]), {}
     packages = found.get("packages", [])
     names = [folder or name for folder, name, _ in packages]
     about["synopsis"] = shortened(synopsis_of(found), SYNOPSIS_MOST)
     about["packages"] = " ".join(names)[:PACKAGES_MOST]
-    about["words"] = words
     about["has_readme"], about["has_files"] = "readme" in found, bool(found.get("files"))
     about["names"] = sorted(set(changes.WORD.findall(found["gomod"])))
     about["licence"] = found.get("licence")
@@ -75,10 +107,35 @@ def about_of(found, words):
     return about
 
 
+# words that say little, since most READMEs have them
+COMMON = frozenset(
+    """a about above add after all also always an and another any are as at back be because been before being below
+    between both but by call can cannot case com could current default different do does done don each either else
+    even every example examples file files first following for from get github go golang had has have here how http
+    https if import in install into is it its just last like line lines list ll made make makes many may might module
+    more most must name need needed needs new next no not now of off on once one only or org other our out over
+    package packages part please possible read readme same see set should simple since so some source such sure take
+    than that the their them then there these they this those three through time to too two type under until up us
+    use used useful user uses using value values version very via want was way we well were what when where whether
+    which while who why will with within without work works would www you your""".split()
+)
+# what is none of a README's words: the targets of links, addresses and tags
+NO_WORDS = re.compile(r"\]\([^()]{0,1000}\)|https?://[^\s)>\"']{1,1000}|<[^<>]{1,1000}>")
+WORD = re.compile(r"[^\W_]{3,30}")
+
+
 def words_of(readme):
-    """The words of a README, each once, as long as they fit."""
-    words = dict.fromkeys(re.findall(r"[^\W_]{3,30}", MARKS.sub(r"\1", readme).lower()))
-    return " ".join(words)[:WORDS_MOST]
+    """The words of a README that say something, each once, as long as they fit."""
+    has_others = "](" in readme or "<" in readme or "://" in readme
+    plain = (NO_WORDS.sub(" ", readme) if has_others else readme).lower()
+    found, length = [], 0
+    for word in dict.fromkeys(WORD.findall(plain)):
+        if word not in COMMON and not word.isdigit():
+            length += len(word) + 1
+            if length > WORDS_MOST:
+                break
+            found.append(word)
+    return " ".join(found)
 
 
 def synopsis_of(found):

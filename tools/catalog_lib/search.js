@@ -19,18 +19,51 @@ const README_BEGINS = 8;
 const TYPO = 5;
 // a shorter word has no typo: too many others are like it
 const TYPO_LEAST = 4;
+// the digits of numbers, and their values by their codes
+const DIGITS = Array.from({ length: 94 }, (_, at) => String.fromCharCode(at + 33)).filter((it) => !/["\\]/.test(it));
+const VALUES = new Uint8Array(128);
+DIGITS.forEach((it, at) => (VALUES[it.charCodeAt(0)] = at));
+const BASE = DIGITS.length / 2;
 
-// The modules of the lines, each with its path, its latest version, what it is for, the names of its packages, and words
-// of its README.
+// The modules of the lines, each with its path, its latest version, the names of its packages and what it is for.
 function modulesOf(text) {
   const found = [];
   let before = "";
   for (const line of text === "" ? [] : text.split("\n")) {
-    const [first, latest = "", synopsis = "", packages = "", readme = ""] = line.split("\t");
+    const [first, latest = "", packages = "", ...synopsis] = line.split("|");
     before = before.slice(0, parseInt(first[0], 36)) + first.slice(1);
-    found.push({ path: before, lower: before.toLowerCase(), latest, synopsis, packages, readme });
+    found.push({ path: before, lower: before.toLowerCase(), latest, packages, synopsis: synopsis.join("|") });
   }
   return found;
+}
+
+// The words of READMEs, each with a text that has the numbers of its modules.
+function readmesOf(text) {
+  const found = [];
+  let before = "";
+  const parts = text === "" ? [] : text.split(" ");
+  for (let at = 0; at < parts.length; at += 2) {
+    before = before.slice(0, parseInt(parts[at][0], 36)) + parts[at].slice(1);
+    found.push({ word: before, numbers: parts[at + 1] });
+  }
+  return found;
+}
+
+// Calls a function with each number in a text. A digit below BASE is the last one of a number, which says how much it is
+// above the one before.
+function forNumbers(text, does) {
+  let number = -1;
+  let more = 0;
+  for (let at = 0; at < text.length; at += 1) {
+    const digit = VALUES[text.charCodeAt(at)];
+    if (digit < BASE) {
+      number += more * BASE + digit + 1;
+      more = 0;
+      does(number);
+    } else {
+      more = more * BASE + digit - BASE;
+    }
+  }
 }
 
 const wordsOf = (text) => text.toLowerCase().match(/[\p{L}\p{N}]+/gu) ?? [];
@@ -45,7 +78,7 @@ function indexOf(modules) {
     }
     index.get(word).push(number, whole, begins);
   }
-  modules.forEach(({ lower, synopsis, packages, readme }, number) => {
+  modules.forEach(({ lower, synopsis, packages }, number) => {
     const elements = lower.split("/");
     const last = elements.findLastIndex((it, at) => at === 0 || !/^v[0-9]+$/.test(it));
     elements.forEach((it, at) => add(it, number, ...(at === last ? [LAST, LAST_BEGINS] : [ELEMENT, WORD_BEGINS])));
@@ -54,38 +87,50 @@ function indexOf(modules) {
       add(it, number, PACKAGE, PACKAGE_BEGINS),
     );
     new Set(wordsOf(synopsis)).forEach((it) => add(it, number, SAID, SAID_BEGINS));
-    readme.split(" ").forEach((it) => it && add(it, number, README, README_BEGINS));
   });
   return index;
 }
 
+// All that the search knows, of the text of the script.
+function knownOf(text) {
+  const [lines, words = ""] = text.split("\n\n");
+  const modules = modulesOf(lines);
+  return { modules, index: indexOf(modules), readmes: readmesOf(words) };
+}
+
 // Whether one letter more, less, another or two that changed places make one word of the other.
 function isNear(one, other) {
-  if (Math.abs(one.length - other.length) > 1) {
+  const [short, long] = one.length <= other.length ? [one, other] : [other, one];
+  if (long.length - short.length > 1) {
     return false;
   }
-  let at = 0;
-  while (at < one.length && one[at] === other[at]) {
-    at += 1;
+  let first = 0;
+  while (first < short.length && short[first] === long[first]) {
+    first += 1;
   }
-  const [a, b] = [one.slice(at), other.slice(at)];
-  return (
-    a.slice(1) === b.slice(1) ||
-    a.slice(1) === b ||
-    a === b.slice(1) ||
-    (a.length > 1 && a[0] === b[1] && a[1] === b[0] && a.slice(2) === b.slice(2))
-  );
+  let left = short.length - first;
+  while (left > 0 && short[first + left - 1] === long[long.length - short.length + first + left - 1]) {
+    left -= 1;
+  }
+  const isSwapped = left === 2 && short[first] === long[first + 1] && short[first + 1] === long[first];
+  return long.length > short.length ? left === 0 : left <= 1 || isSwapped;
 }
 
 // The modules that a word finds, each with how well. Only a word that finds none finds those that are like it.
-function foundBy(word, modules, index) {
+function foundBy(word, { modules, index, readmes }) {
   const scores = new Map();
   const add = (number, score) => score > (scores.get(number) ?? 0) && scores.set(number, score);
+  const addAll = (numbers, score) => forNumbers(numbers, (number) => add(number, score));
   for (const [token, entries] of index) {
     if (token.startsWith(word)) {
       for (let at = 0; at < entries.length; at += 3) {
         add(entries[at], entries[at + (token === word ? 1 : 2)]);
       }
+    }
+  }
+  for (const it of readmes) {
+    if (it.word.startsWith(word)) {
+      addAll(it.numbers, it.word === word ? README : README_BEGINS);
     }
   }
   modules.forEach(({ lower }, number) => {
@@ -103,6 +148,11 @@ function foundBy(word, modules, index) {
       for (let at = 0; at < entries.length; at += 3) {
         add(entries[at], TYPO + entries[at + 1] / 100);
       }
+    }
+  }
+  for (const it of readmes) {
+    if (isNear(word, it.word)) {
+      addAll(it.numbers, TYPO + README / 100);
     }
   }
   return { scores, isNear: scores.size > 0 };
@@ -132,7 +182,8 @@ function moduleOf(path, modules) {
 }
 
 // The modules that a text finds, best first, and what is to be said of them.
-function search(text, modules, index) {
+function search(text, known) {
+  const { modules } = known;
   const { path, version } = asked(text);
   const owner = path.includes("/") ? moduleOf(path, modules) : null;
   if (owner) {
@@ -141,7 +192,7 @@ function search(text, modules, index) {
     return { found: [owner, ...others], owner, below, version, near: [] };
   }
   const words = path.split(/\s+/).filter(Boolean);
-  const parts = words.map((word) => foundBy(word, modules, index));
+  const parts = words.map((word) => foundBy(word, known));
   const [first, ...rest] = parts.map((it) => it.scores);
   const numbers = [...(first?.keys() ?? [])].filter((number) => rest.every((it) => it.has(number)));
   const score = (number) => parts.reduce((sum, it) => sum + it.scores.get(number), 0);
@@ -209,32 +260,28 @@ function searching(form) {
   const input = form.querySelector("input");
   const status = form.querySelector("[role=status]");
   const [results, list] = ["results", "list"].map((it) => document.getElementById(it));
-  // (what is new stands above the search, and would fill a phone)
-  const fresh = document.querySelector("section[aria-labelledby=fresh]");
+  // (the box and what is new stand above the search, and would fill a window)
+  const above = document.querySelectorAll("details.setup, section[aria-labelledby=fresh]");
   const whole = status.textContent;
-  let modules = null;
-  let index = null;
+  let known = null;
 
   async function load() {
     const { MODULES } = await import("./modules.js");
-    modules ??= modulesOf(MODULES);
-    index ??= indexOf(modules);
+    known ??= knownOf(MODULES);
   }
 
   function show() {
     const text = input.value;
     const isAsked = text.trim() !== "";
-    const answer = isAsked ? search(text, modules, index) : { found: [] };
+    const answer = isAsked ? search(text, known) : { found: [] };
     const target = (it) => (it === answer.owner && answer.version ? `versions.html#${answer.version}` : "");
     const rows = answer.found.slice(0, MOST).map((it) => rowOf(it, target(it)));
     results.replaceChildren(...(rows.length > 0 ? [table(rows)] : []));
     results.hidden = rows.length === 0;
     list.hidden = isAsked;
-    if (fresh) {
-      fresh.hidden = isAsked;
-    }
+    above.forEach((it) => (it.hidden = isAsked));
     history.replaceState(null, "", isAsked ? `?q=${encodeURIComponent(text)}` : location.pathname);
-    status.textContent = isAsked ? told(answer, text, modules.length) : whole;
+    status.textContent = isAsked ? told(answer, text, known.modules.length) : whole;
   }
 
   async function changed() {

@@ -1,61 +1,161 @@
-"""What the search of the first page reads: a script that holds a line for each module, and does nothing.
+"""What the search of the first page reads: a script that holds a line for each module, and the words of READMEs.
 
 It is a module of JavaScript, so a page of another site that names it as a script gets an error, and none of its words.
 """
 import json
-import os.path
+from itertools import zip_longest
 
 from catalog_lib.text import shortened
 
-# The whole file has at most as many bytes, if the paths leave room: the words of modules are cut to fit.
-BYTES_MOST = 650_000
-# letters of a synopsis, of the names of packages and of the words of a README: the first row that fits is taken
-CUTS = (
-    *((120, 300, it) for it in (3_000, 1_500, 700, 300, 100)),
-    *((90, 150, 0), (60, 80, 0), (40, 40, 0), (20, 0, 0), (0, 0, 0)),
-)
+# The whole file has at most as many bytes, if the paths leave room, and the lines of modules at most as many of them
+BYTES_MOST, LINES_MOST = 1_000_000, 650_000
+# letters of a synopsis and of the names of packages: the first row that fits is taken
+CUTS = (120, 300), (90, 150), (60, 80), (40, 40), (20, 0), (0, 0)
+SYNOPSIS_MOST, PACKAGES_MOST = CUTS[0]
+# letters of the words of a README: as many as all modules may have together, so that those of many are ranked soon
+README_CUTS, READMES_MOST = (3_000, 2_000, 1_500, 1_000, 750, 500, 350, 250, 150, 100, 50), 3_500_000
+# how the numbers of modules are written: the digits that are a last one, and those behind which others follow
+DIGITS = "".join(chr(it) for it in range(33, 127) if chr(it) not in '"\\')
+BASE = len(DIGITS) // 2
+LAST, MORE = DIGITS[:BASE], DIGITS[BASE:]
 
 
-def script(shelf, readings):
-    """Returns the bytes of the script."""
-    modules = list(shelf.modules.values())
-    words = None
+def words_most(count):
+    """How many letters of the words of a README are ranked, of so many modules."""
+    return next((it for it in README_CUTS if it * count <= READMES_MOST), README_CUTS[-1])
+
+
+class Counts:
+    """In how many modules each word is. A module has its rare words first, by classes each of which is twice as large
+    as the one before, so that few modules change as words do."""
+
+    def __init__(self, counts):
+        self.counts, self.before = counts, {}
+
+    def add(self, words, step):
+        """Counts the words of a module that is new, or of one that is gone."""
+        for word in words.split():
+            count = self.counts.get(word, 0)
+            self.before.setdefault(word, count)
+            self.counts[word] = count + step
+
+    def moved(self):
+        """Returns the words that are in another class than before."""
+        moved = {it for it, count in self.before.items() if count.bit_length() != self.counts[it].bit_length()}
+        for word in [it for it in self.before if not self.counts[it]]:
+            del self.counts[word]
+        return moved
+
+    def ranked(self, words):
+        """The words of a module, those first that few others have."""
+        return " ".join(sorted(words.split(), key=lambda it: self.counts[it].bit_length()))
+
+
+def script(modules, counts):
+    """Returns the bytes of the script, and how many words of a README it has at most, or None if it has all."""
+    lines = lines_of(modules)
+    ranked = [it.words.split() for it in modules]
+    rounds = rounds_that_fit(ranked, counts, BYTES_MOST - len(literal(lines)) - 2)
+    longest = max(map(len, ranked), default=0)
+    while len(made := literal(f"{lines}\n\n{words_of(ranked, rounds)}")) > BYTES_MOST and rounds:
+        rounds -= 1
+    return made, rounds if rounds < longest else None
+
+
+def literal(text):
+    return f"export const MODULES = {json.dumps(text, ensure_ascii=False)};\n".encode()
+
+
+def lines_of(modules):
+    """The lines of the modules, with as much of what they are for, and of the names of packages, as fits."""
     for cut in CUTS:
-        if least_length(modules, *cut) > BYTES_MOST:
-            continue
-        if cut[2] and words is None:
-            words = readings.words()
-        made = encoded(modules, words or {}, *cut)
-        if len(made) <= BYTES_MOST:
-            break
+        if cut == CUTS[-1] or least_length(modules, *cut) <= LINES_MOST:
+            made = joined(modules, *cut)
+            if len(literal(made)) <= LINES_MOST:
+                break
     return made
 
 
-def least_length(modules, synopsis, packages, readme):
-    """Returns a number of bytes that the script exceeds with these cuts. Only the last cut is taken at any length."""
-    cuts, length = (synopsis, packages, readme), 0
-    for module in modules:
-        told = module.told
-        lengths = len(told.get("synopsis", "")), len(told.get("packages", "")), told.get("words", 0)
-        length += sum(min(count, cut) - 1 for count, cut in zip(lengths, cuts) if count and cut)
-    return length if any(cuts) else 0
+def least_length(modules, synopsis, packages):
+    """Returns a number of bytes that the lines exceed with these cuts."""
+    return sum(min(len(it.synopsis), synopsis) + min(len(it.packages), packages) for it in modules)
 
 
-def encoded(modules, all_words, synopsis, packages, readme):
-    """The script, with synopses, names of packages and words of READMEs of at most these letters."""
+def joined(modules, synopsis, packages):
+    """The lines, with synopses and names of packages of at most these letters. A synopsis, which may have any letter,
+    stands last."""
     lines, before = [], ""
     for module in modules:
-        shared = min(len(os.path.commonprefix((before, module.path))), 35)
-        told = module.told
-        words = shortened(told.get("synopsis", ""), synopsis) if synopsis else ""
-        names = told.get("packages", "")[:packages]
-        of_readme = all_words.get((module.path, module.latest or module.highest), "")[:readme] if readme else ""
-        fields = base36(shared) + module.path[shared:], module.latest or "", words, names, of_readme
-        lines.append("\t".join(fields).rstrip("\t"))
+        shared = shared_by(before, module.path)
+        words = shortened(module.synopsis, synopsis) if synopsis else ""
+        fields = base36(shared) + module.path[shared:], module.latest or "", module.packages[:packages], words
+        lines.append("|".join(fields) if words else "|".join(fields).rstrip("|"))
         before = module.path
-    text = json.dumps("\n".join(lines), ensure_ascii=False)
-    return f"export const MODULES = {text};\n".encode()
+    return "\n".join(lines)
+
+
+def shared_by(one, other):
+    """Returns how many letters two texts begin with alike, as far as one digit says it."""
+    least, most = 0, min(len(one), len(other), 35)
+    while least < most:
+        half = (least + most + 1) // 2
+        if one[:half] == other[:half]:
+            least = half
+        else:
+            most = half - 1
+    # (JavaScript counts a letter beyond U+FFFF as two)
+    return least if one.isascii() else next((at for at, it in enumerate(one[:least]) if it > "\uffff"), least)
 
 
 def base36(number):
     return "0123456789abcdefghijklmnopqrstuvwxyz"[number]
+
+
+def rounds_that_fit(ranked, counts, left):
+    """Returns how many words of each README fit into these bytes, as far as that is known before they are written."""
+    lengths = {it: length_of(len(ranked), count) for it, count in counts.items()}
+    if sum(len(it) + 1 + count * lengths[it] for it, count in counts.items()) <= left:
+        return max(map(len, ranked), default=0)
+    known, rounds = {""}, 0
+    for found in zip_longest(*ranked, fillvalue=""):
+        fresh = set(found) - known
+        known |= fresh
+        # (a word shares some letters with the one before)
+        left -= sum(map(len, fresh)) + len(fresh) + sum(map(lengths.get, filter(None, found)))
+        if left < 0:
+            break
+        rounds += 1
+    return rounds
+
+
+def length_of(modules, count):
+    """Returns how many digits the numbers of the modules that have a word mostly have."""
+    return 1 if count * BASE > 2 * modules else 2 if count * BASE * BASE > 2 * modules else 3
+
+
+def words_of(ranked, rounds):
+    """The words, each with the numbers of the modules that have it among their first ones."""
+    places = {}
+    for number, words in enumerate(ranked):
+        for word in words[:rounds]:
+            if word in places:
+                places[word].append(number)
+            else:
+                places[word] = [number]
+    texts = [digits(number) for number in range(len(ranked))]
+    found, before = [], ""
+    for word in sorted(places):
+        shared = shared_by(before, word)
+        # (each number as how much it is above the one before)
+        numbers = [texts[it - above - 1] for above, it in zip([-1, *places[word]], places[word])]
+        found.append(f"{base36(shared)}{word[shared:]} {''.join(numbers)}")
+        before = word
+    return " ".join(found)
+
+
+def digits(number):
+    """A number, its lowest digit last."""
+    text, number = LAST[number % BASE], number // BASE
+    while number:
+        text, number = MORE[number % BASE] + text, number // BASE
+    return text

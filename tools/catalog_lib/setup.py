@@ -85,8 +85,14 @@ def publisher_of(shelf):
 
 def copied(name, text):
     """Lines to copy, by the name of their element."""
+    text = text if isinstance(text, Html) else [unbroken(it) for it in re.split("([ \n]+)", text)]
     button = html('<button type="button" class="copy" data-from="{}" hidden>Copy</button>', name)
     return html('<div class="get"><pre id="{}" tabindex="0"><code>{}</code></pre>\n{}</div>\n', name, text, button)
+
+
+def unbroken(word):
+    """A word that a phone does not break behind a hyphen, where it would look like two."""
+    return html('<span class="word">{}</span>', word) if "-" in word else word
 
 
 def box(place, shelf, module=None):
@@ -127,19 +133,25 @@ def fetching(it):
             "Put no key into <code>GOPROXY</code>, which the go command prints.</p>\n"
         ),
         copied("setup-netrc", netrc),
-        copied("setup-go", settings),
+        copied("setup-go", "".join(settings)),
     )
+
+
+INSTALL = (
+    "<p>Once, with git and go. The command is then in the folder <code>bin</code> of <code>go env GOPATH</code>, which "
+    "has to be on the path:</p>\n"
+)
 
 
 def publishing(it, path="MODULE"):
     """How a version of a module is published."""
     if it.publisher:
-        get = [Html("<p>Once, with git and go:</p>\n"), copied("setup-get", f"go install {it.publisher}@latest")]
+        get = [Html(INSTALL), copied("setup-get", f"go install {it.publisher}@latest")]
     else:
         get = Html("<p>An operator has <code>goshelf-publish</code>, which needs git and go.</p>\n")
     run = f"goshelf-publish --to https://{it.host} --netrc --repository . {path} TAG"
     tag = (
-        "<p>In a clone, with a key that publishes. <code>TAG</code> is a tag of a version, such as "
+        "<p>In a clone that has the tag, with a key that publishes. <code>TAG</code> is that of a version, such as "
         "<code>v1.2.3</code>, or <code>log/v1.2.3</code> for a module in the folder <code>log</code>. "
         "With <code>--check</code> it tries all and publishes nothing.</p>\n"
     )

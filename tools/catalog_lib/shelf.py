@@ -1,6 +1,6 @@
 """What the pages say of a shelf: its modules, who requires whom, and what needs attention."""
 import json
-from dataclasses import dataclass, field, fields
+from dataclasses import dataclass
 from datetime import timedelta
 
 from catalog_lib.lines import Refused, chosen, kind, line_of, lines_in, parts, precedence, rank
@@ -9,32 +9,50 @@ from catalog_lib.lines import Refused, chosen, kind, line_of, lines_in, parts, p
 RECENT, WEEK = timedelta(days=30), timedelta(days=7)
 
 
-@dataclass(slots=True)
+# what the next run takes of a module as it is, and what it reads only if it makes a page of it
+KEPT = (
+    *("path", "sum", "length", "count", "retracted", "latest", "newest", "named", "deprecated", "is_read", "taken"),
+    *("of_zip", "of_rest", "files", "row", "found", "synopsis", "packages", "words"),
+)
+DETAILS = ("versions", "time", "shelf", "requires", "needs", "times", "zips")
+
+
 class Module:
-    """A module of the shelf.
+    """A module of the shelf. What the last run left is taken from its lines, and details only once they are asked for.
 
-    `sum` is that of its lines, which stand at `place`. `versions` has each version, the lowest first, with whether it
-    is retracted. `needs` has for each path that it requires a text: `REQUIRED VERSION OTHERS` for each required
-    version, the highest version that requires it and how many others do. `times` has the shelf and the own time of each
-    version, and `newest` the latest such time. `zips` are the versions that are read, each with whether it is read
-    whole and what tells its content from any other. `about` has what was read of them, and `line` is `text` if the last
-    run had the same lines."""
+    `sum` is that of its lines, which stand at `place` and have `length` bytes. It has `count` versions, of which some
+    are `retracted`, and `newest` is the latest time of one. `named` has the paths that its go.mods name. `is_read` says
+    whether each zip was there, and `deprecated` is what its go.mod says of that, or None. `taken` is the sum of what
+    the log says of it, `of_zip` and `of_rest` are those of what its pages are made of, and `files` are the pages. The
+    last five are what the pages of all modules show.
 
-    path: str
-    sum: str
-    length: int
-    versions: dict
-    latest: str | None = None
-    time: str | None = None
-    shelf: str | None = None
-    requires: list = field(default_factory=list)
-    needs: dict = field(default_factory=dict)
-    times: list = field(default_factory=list)
-    newest: str = ""
-    zips: list = field(default_factory=list)
-    place: int = 0
-    about: dict = field(default_factory=dict)
-    line: str = ""
+    `versions` has each version, the lowest first, with whether it is retracted. `needs` has for each path that it
+    requires a text: `REQUIRED VERSION OTHERS` for each required version, the highest version that requires it and how
+    many others do. `times` has the shelf and the own time of each version. `zips` are the versions that are read, each
+    with whether it is read whole and what tells its content from any other. `about` has what was read of them."""
+
+    __slots__ = (*KEPT, *DETAILS, "place", "about", "readings", "lines")
+
+    def __init__(self, fields=(), lines=(None, None)):
+        for name, value in zip(KEPT, fields):
+            setattr(self, name, value)
+        # (what it is for the next run, unless it has changed)
+        self.lines, self.readings = lines, None
+
+    def __getattr__(self, name):
+        """Reads what was not asked for before."""
+        if name in DETAILS:
+            for detail, value in zip(DETAILS, json.loads(self.lines[1])):
+                setattr(self, detail, value)
+        elif name == "about":
+            self.about = self.readings.about_of(self) if self.readings else {}
+        else:
+            raise AttributeError(name)
+        return getattr(self, name)
+
+    def forget(self):
+        """Forgets what was read of its zips, which all modules have too much of. It is there again once asked for."""
+        del self.about
 
     @property
     def told(self):
@@ -53,29 +71,30 @@ class Module:
     def kinds(self):
         return {kind(version) for version in self.versions}
 
-    def text(self):
-        """Returns what stands in the lines of the module, as a line of JSON for the next run."""
-        self.line = self.line or json.dumps([getattr(self, name) for name in IN_LINES], separators=(",", ":"))
-        return self.line
+    def texts(self):
+        """Returns what the next run takes, and the details, as lines of JSON."""
+        first, details = self.lines
+        values = [getattr(self, name) for name in KEPT] if first is None else None
+        first = as_line(values) if first is None else first
+        return first, details or as_line([getattr(self, name) for name in DETAILS])
 
 
-# the fields of a Module that stand in its lines
-IN_LINES = [each.name for each in fields(Module)][:-3]
+def as_line(values):
+    return json.dumps(values, separators=(",", ":")).encode()
 
 
 def module_of(part, lines, source):
     """Returns the Module of a part and its lines."""
-    module = Module(part.path, part.sum, part.length, {line.version: line.is_retracted for line in lines})
+    module = Module((part.path, part.sum, part.length, len(lines), sum(line.is_retracted for line in lines), None))
+    module.is_read = True
+    module.versions = {line.version: line.is_retracted for line in lines}
+    module.time, module.shelf, module.requires = None, None, []
     for line in lines:
         if line.is_latest and (module.latest or line.is_retracted):
             raise Refused(f"{source}: {line.path} {line.version} cannot be the latest version")
         if line.is_latest:
-            module.latest, module.time, module.shelf, module.requires = (
-                line.version,
-                line.time,
-                line.shelf,
-                line.requires,
-            )
+            module.latest, module.time, module.shelf = line.version, line.time, line.shelf
+            module.requires = line.requires
     module.needs = needs_of(lines)
     module.times = [(line.shelf, line.time) for line in lines]
     module.newest = max((line.time or "" for line in lines), default="")
@@ -106,6 +125,11 @@ def content_of(line):
     return f"{line.shelf} {line.sum} {line.size} {line.time}"
 
 
+def sum_in(content):
+    """Returns the sum of the go.mod in what `content_of` returned."""
+    return content.split(" ")[1]
+
+
 @dataclass(slots=True)
 class User:
     """A module that requires a version of another. `version` is its highest that does, and `others` counts the rest."""
@@ -122,6 +146,8 @@ class Shelf:
     def __init__(self, file, name, today, ours):
         self.file, self.name, self.today, self.ours = file, name, today, ours
         self.modules, self.recent, self.users = {}, {}, {}
+        # the paths whose lines are not those of the last run, also of modules that are gone
+        self.changed = set()
         self.held = None, []
         # how to set a machine up for the shelf, and which versions were taken when and by whom, as far as that is known
         self.setup, self.taken = None, {}
@@ -130,37 +156,51 @@ class Shelf:
     def fill(self, source, known):
         """Reads the lines. `source` names them in a refusal, and `known` has the modules of the last run by their
         paths: one whose lines have the same sum is taken from there."""
-        for part in list(parts(self.file, source)):
+        found = []
+        for part in list(parts(self.file, source, known)):
             module = known.get(part.path)
             if not module or module.sum != part.sum:
                 module = module_of(part, lines_in(self.file, part, source), source)
+                self.changed.add(part.path)
             module.place = part.place
-            self.modules[part.path] = module
-            self.version_count += len(module.versions)
-            self.retracted_count += sum(module.versions.values())
-        self.index()
+            found.append(module)
+            self.version_count += module.count
+            self.retracted_count += module.retracted
+        # (as people read them)
+        self.modules = {it.path: it for it in sorted(found, key=lambda it: as_read(it.path))}
+        self.changed |= known.keys() - self.modules.keys()
+        self.note_recent()
 
-    def index(self):
-        """Sorts the modules as people read them, and notes who requires whom and what is new."""
-        self.modules = dict(sorted(self.modules.items(), key=lambda row: as_read(row[0])))
-        taken = {path for _, path, _ in self.taken}
-        first = (self.today - RECENT).isoformat()
+    def note_users(self, paths):
+        """Notes who requires the modules of some paths."""
+        self.users |= {path: [] for path in paths}
+        is_all = len(paths) == len(self.modules)
+        for module in self.modules.values():
+            for needed in module.needs if is_all else paths.intersection(module.named.split(" ")):
+                if needed in paths and needed in module.needs:
+                    self.users[needed].append(module)
+
+    def requiring(self, path):
+        """The modules that require a module."""
+        if path not in self.users:
+            self.note_users({path})
+        return self.users[path]
+
+    def note_recent(self):
+        """Notes the versions of the last days."""
+        first, last = (self.today - RECENT).isoformat(), self.today.isoformat()
+        taken = {path for (_, path, _), it in self.taken.items() if it.time >= first}
         for path, module in self.modules.items():
-            for needed in module.needs:
-                self.users.setdefault(needed, []).append(module)
             if module.newest >= first or path in taken:
-                self.note_recent(module, first)
+                rows = [it for it in self.versions_of(module) if it[0] and first <= it[0][:10] <= last]
+                if rows:
+                    self.recent[path] = rows
 
-    def note_recent(self, module, first):
-        """Notes the versions of a module since a day."""
-        rows = []
+    def versions_of(self, module):
+        """Yields each version of a module: when it was made or taken, its name, and by whom."""
         for version, (shelf, own) in zip(module.versions, module.times):
             taken = self.taken.get((shelf, module.path, version))
-            time = taken.time if taken else own
-            if time and first <= time[:10] <= self.today.isoformat():
-                rows.append((time, version, taken.name if taken else ""))
-        if rows:
-            self.recent[module.path] = rows
+            yield (taken.time, version, taken.name) if taken else (own, version, "")
 
     def taken_at(self, line):
         """When goshelf took a version and from whom, or None."""
@@ -177,7 +217,7 @@ class Shelf:
         """The users of a module by their paths, and of each the highest version first."""
         return [
             User(module, version, required, int(others))
-            for module in self.users.get(path, ())
+            for module in self.requiring(path)
             for required, version, others in (row.split(" ") for row in module.needs[path].split(";"))
         ]
 
@@ -195,24 +235,7 @@ class Shelf:
             return "retracted"
         return "behind" if module.is_behind(version) else ""
 
-    def requiring(self, state):
-        """Each module whose latest version requires one of a state, with what it requires."""
-        return [
-            (module, path, version)
-            for module in self.modules.values()
-            for path, version in module.requires
-            if self.state(path, version) == state
-        ]
-
-    def without_release(self):
-        """The modules that have no release."""
-        return [it for it in self.modules.values() if "release" not in it.kinds()]
-
-    def without_latest(self):
-        """The modules all of whose versions are retracted."""
-        return [it for it in self.modules.values() if it.latest is None]
-
-    def changed(self):
+    def lately(self):
         """The modules with a version of the last days, the latest first, each with those versions, the latest first."""
         return self.latest_of(self.recent)
 

@@ -59,9 +59,12 @@ class Served(Source):
         self.port = port
 
     def asked(self, request):
-        with socket.create_connection(("127.0.0.1", self.port), PATIENCE) as held, held.makefile("rb") as reads:
+        with socket.socket() as held:
+            held.settimeout(PATIENCE)
+            held.connect(("127.0.0.1", self.port))
             held.sendall(request)
-            return reply(reads)
+            with held.makefile("rb") as reads:
+                return reply(reads)
 
 
 class Stored(Source):

@@ -123,6 +123,34 @@ requires --db store.db --key R --module example.com//y --version v1.9.0 | 1 not-
 requires --db store.db --key R --module example.com/y --version 1.9.0 | 1 not-found
 """
 )
+# a command that finds what another left was run on the file that the other closed
+CLOSED_FILES = {"bytes.db": "bytes\n"}
+CLOSED = read_runs(
+    """
+init --db nosuch/other.db | 1 device
+init --db bytes.db | 1 not-empty
+init --db shelves.db | 0
+team-add --db nosuch/other.db --team alpha | 1 device
+team-add --db shelves.db --team alpha | 0
+team-add --db shelves.db --team alpha | 1 taken
+key-add --db shelves.db --shelf beta --key B | 1 no-team
+key-add --db shelves.db --shelf alpha --key A | 0
+key-add --db shelves.db --shelf alpha --key A | 1 taken
+inventory --db shelves.db --key B | 1 no-key
+inventory --db shelves.db --key A | 0
+    path,version,shelf,class,time,mod_bytes,zip_bytes
+extract --db shelves.db --team alpha --to bytes.db | 1 not-empty
+migrate --from shelves.db --to bytes.db | 1 not-empty
+team-add --control shelves.db --team alpha | 1 device
+copy --control shelves.db --to new.db | 1 device
+ping --control shelves.db | 1 device
+key-list --control shelves.db | 1 device
+catalog --control shelves.db --key A | 1 device
+stop --control shelves.db | 1 device
+inventory --db shelves.db --key A | 0
+    path,version,shelf,class,time,mod_bytes,zip_bytes
+"""
+)
 
 
 @pytest.fixture(scope="module")
@@ -145,6 +173,17 @@ def seen() -> Iterator[Story]:
 @pytest.mark.parametrize(**number_runs(SEEN))
 def test_run_of_what_a_shelf_sees(seen: Story, number: int) -> None:
     seen.check(number)
+
+
+@pytest.fixture(scope="module")
+def closed() -> Iterator[Story]:
+    with begun(CLOSED, CLOSED_FILES) as story:
+        yield story
+
+
+@pytest.mark.parametrize(**number_runs(CLOSED))
+def test_run_on_the_store_that_the_last_one_closed(closed: Story, number: int) -> None:
+    closed.check(number)
 
 
 @pytest.fixture(scope="module")

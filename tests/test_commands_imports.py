@@ -18,6 +18,7 @@ FILES = {
         "module example.com/y\nrequire (\nexample.com/z v0.2.0\nexample.com/x v1.0.0\n)\nrequire mymod v0.0.0\n"
     ),
     "modul.mod": "modul example.com/i\n",
+    "more.mod": "module example.com/i\nrequire example.com/x v1.0.0\n",
     "bad.mod": "module example.com/i\n\nrequire (\nexample.com/x 1.0.0\n)\n",
     "empty": "",
     "one": "X",
@@ -45,7 +46,9 @@ LISTS = {
     + "example.com/i,v1.3.0,,bad.mod,empty\n"
     + "example.com/i,v1.3.0,,empty,empty\n"
     + "example.com/i,v1.3.0,,x.mod,empty\n"
-    + "example.com/i,v1.0.0,,i.mod,one\n",
+    + "example.com/i,v1.0.0,,i.mod,one\n"
+    + "example.com/i,v0.0.0-20240101000000-aaaaaaaaaaaa,2024-01-01T00:00:01Z,i.mod,empty\n"
+    + "example.com/i,v2.1.0+incompatible,,more.mod,empty\n",
     "modul": HEADER + "example.com/i,v1.3.0,,modul.mod,empty\n",
     "no-text": HEADER.encode() + b"\xff,v1.0.0,,m,z\n",
     "header": HEADER,
@@ -133,6 +136,8 @@ import --db store.db --key A --list checks | 1
     5 422 bad-gomod 0
     6 422 module-path
     7 409 conflict
+    8 422 time-mismatch
+    9 422 incompatible-gomod
 import --db store.db --key A --list header | 0
 import --db store.db --key A --list none | 1 bad-row
     0 bad row

@@ -18,7 +18,7 @@ from lib.kills import fetch, publish
 from lib.messages import get, put
 from lib.peers import GOMOD, LIST, Load, by_false_server
 from lib.ports import wait_until
-from lib.program import answered, refusal, run
+from lib.program import answered, done, refusal, run
 from lib.runs import Ending
 from lib.scratch import read, small_disk, write
 from lib.servers import CONTROL, Server
@@ -175,6 +175,18 @@ def test_copy_is_served_and_published_to_and_copied(folder: str, serve: Callable
     assert copy("four.db") == DONE
     server.kill()
     assert zips_in("four.db", [1, 200]) == zips_in("one.db", [1, 200])
+
+
+def test_copy_of_common_alone_is_a_store(folder: str, serve: Callable[..., Server]) -> None:
+    done("init", "--db", "served.db")
+    serve("served.db", CONTROL)
+    assert copy("one.db") == DONE
+    done("group-add", "--db", "one.db", "--group", "platform")
+    done("team-add", "--db", "one.db", "--team", "gamma", "--group", "platform")
+    done("key-add", "--db", "one.db", "--shelf", "gamma", "--key", KEYS["M"])
+    publish_one = put("example.com/lib", "v1.0.0", GOMOD, b"zip", KEYS["M"])
+    assert answered(["--db", "one.db"], [publish_one]) == [(201, b"published\n")]
+    assert copy("one.db") == refusal("not-empty")
 
 
 class Publishes:

@@ -18,14 +18,15 @@ from typing import NamedTuple
 import pytest
 
 from lib.keys import KEY, KEYS
-from lib.messages import get, put
+from lib.messages import get, put, reply
 from lib.peers import GOMOD, LIST, rest
 from lib.ports import wait_until
 from lib.program import PROGRAM, answered, refusal, run
 from lib.runs import Ending
+from lib.scratch import read
 from lib.servers import CONTROL, Server
 from lib.stores import new_store
-from lib.tables import connected, empty_log, put_versions, rows_of, settled
+from lib.tables import LEAST, MOST, connected, empty_log, put_versions, rows_of, settled
 
 # the zips of a store, the most of them, and the bytes of each
 ZIPS, MOST_ZIPS, LENGTH = 48, 128, 1_048_576
@@ -34,9 +35,8 @@ ZIP = bytes(range(256)) * (LENGTH // 256)
 AT_ONCE = 16
 LARGE = "example.com/large"
 DONE: Ending = (0, b"", "")
+NOT_FOUND = reply(404, b"not found\n")
 COMMON_ALONE: Ending = (0, b"common common\n", "")
-# the row numbers that sqlite takes
-LEAST, MOST = -(2**63), 2**63 - 1
 FREE = range(1, ZIPS + 1)
 
 
@@ -187,8 +187,70 @@ def server(folder: str, large: str) -> Iterator[Server]:
         yield server
 
 
+# what a ping says of the requests of TestHealth, before what it says of copies
+HEALTH = (
+    rb"connections=3 2xx=2 4xx=1 5xx=0 unanswered=0 store-failures=0 since=\d{4}-\d\d-\d\dT\d\d:\d\d:\d\dZ "
+    rb"versions=%d bytes=\d+ log=\d+" % (ZIPS + 1)
+)
+OF_ALPHA = rb" shelves=1\nshelf alpha publishes=1 fetches=1\n"
+
+
+class TestHealth:
+    """What a ping says of requests during a copy, and of the copy."""
+
+    def test_counts_by_shelf(self, server: Server) -> None:
+        fetch = get("example.com/lib/@v/v1.0.0.zip")
+        assert server.status(fetch) == 404
+        underway = Underway(server, "one.db")
+        assert (publish(server, "v1.0.0"), server.status(fetch)) == (201, 200)
+        during, was_on = server.order(b"ping\n"), underway.is_on()
+        assert (was_on, underway.wait()) == (True, b"done\n")
+        progress = re.fullmatch(HEALTH + rb" copying=(\d+)/(\d+)" + OF_ALPHA, during)
+        assert progress, during
+        assert int(progress[1]) < int(progress[2]) == ZIPS
+        after = server.order(b"ping\n")
+        assert re.fullmatch(HEALTH + rb" copied=\d{4}-\d\d-\d\dT\d\d:\d\d:\d\dZ" + OF_ALPHA, after), after
+
+
 class TestEnd:
     """What ends a copy: the end of the server, or of its operator."""
+
+    @pytest.fixture
+    def noted(self, folder: str, large: str) -> Iterator[Server]:
+        """A server whose notices are in `errors`."""
+        shutil.copy(large, "served.db")
+        with open("errors", "wb") as errors, Server(
+            "served.db", CONTROL, "--connections", "4", errors=errors
+        ) as server:
+            yield server
+
+    def test_stop_behind_others_who_are_served(self, noted: Server) -> None:
+        assert noted.order(f"key-add alpha {KEYS['R']}\n".encode()) == b"done\n"
+        assert publish(noted, "v1.0.0", b"") == 201
+        underway = Underway(noted, "one.db")
+        assert noted.exchange(get("example.com/lib/@v/v1.0.0.mod", KEYS["R"])) == reply(200, GOMOD)
+        assert noted.order(b"copy two.db\n") == b"busy\n"
+        noted.child.send_signal(signal.SIGSTOP)
+        with noted.connected() as peer, noted.operator() as operator:
+            peer.sendall(get(LIST))
+            operator.sendall(b"stop\n")
+            noted.child.send_signal(signal.SIGCONT)
+            assert (rest(operator), underway.wait()) == (b"stopping\n", b"ended\n")
+            assert rest(peer) == b"", "the last peer is not taken"
+        assert noted.wait_for_end() == 0
+        assert read("errors").decode().splitlines() == [
+            f"opened: served.db: {ZIPS} versions",
+            "order: key-add alpha c2fcda156efd8585: done",
+            "order: copy two.db: busy",
+            "order: stopping",
+            "order: copy one.db: ended",
+            "ended: served.db",
+        ]
+
+    def test_operator_who_has_left_is_noted(self, noted: Server) -> None:
+        Underway(noted, "one.db").held.close()
+        assert [noted.exchange(get(LIST)) for _ in range(2)] == [NOT_FOUND] * 2
+        wait_until(lambda: read("errors").decode().endswith("\norder: copy one.db: ended\n"), 30)
 
     def test_order_to_stop(self, server: Server) -> None:
         words = [PROGRAM, "copy", "--control", CONTROL, "--to", "one.db"]

@@ -21,7 +21,7 @@ from lib.messages import get, put
 from lib.older import SCHEMA_2
 from lib.program import answered, done, refusal, run
 from lib.refusals import doctor
-from lib.scratch import read, write
+from lib.scratch import read, turn_in_file, write
 from lib.servers import CONTROL, Server
 from lib.stores import new_store
 from lib.sums import PAGE, has_sums, wrong_sums
@@ -220,15 +220,6 @@ class TestBetweenRuns:
     def test_file_without_damage_has_the_bytes(self, whole: Whole) -> None:
         write({"bad.db": whole.content})
         assert answered(["--db", "bad.db"], map(get, TARGETS)) == WHOLE
-
-
-def turn_in_file(file: str, at: int) -> None:
-    """Turns a bit of a file that goshelf may have open."""
-    with open(file, "r+b") as held:
-        held.seek(at)
-        byte = held.read(1)[0]
-        held.seek(at)
-        held.write(bytes([byte ^ 1]))
 
 
 # what is asked first, and whether goshelf has to read it from the disk

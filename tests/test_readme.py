@@ -1,13 +1,17 @@
 """README's blocks, each run as printed in a clean clone.
 
 What answers, serves, publishes and gets a module is pasted into one shell, of a user who has nothing yet and of root,
-each in a network with nobody else in it. The gate and the tests run with stand-ins for rt and python3.
+each in a network with nobody else in it. The program that the first paste builds is kept in `out/newcomer`, with the
+seconds that this took: a later run over the same sources and the same kit begins with it. The gate and the tests run
+with stand-ins for rt and python3.
 """
 
 import contextlib
+import hashlib
 import os
 import re
 import resource
+import shutil
 import signal
 import subprocess
 from collections.abc import Iterator
@@ -39,6 +43,9 @@ STAND_IN = (
 ALONE = ["unshare", "--net", "sh", "-euc", 'ip link set lo up; exec "$@"', "-"]
 # seconds of processor time in which a newcomer has a module from a clone
 MOST = 600
+# what the program is built from, beside the kit
+SOURCES = ["HANDLES", "crates", ":!crates/test_*", "crates.txt", "goshelf", "tools/common.py", "tools/unproved"]
+KEPT = os.path.join(ROOT, "out", "newcomer")
 
 
 def git(*words: str, folder: str = ROOT, stdin: bytes | None = None) -> bytes:
@@ -172,9 +179,37 @@ class TestUnproved:
         assert self.run(self.LINE, unbuilt) == (3, "", 2)
 
 
+class Kept:
+    """The program that a first paste built, of these sources and this kit, and the seconds that the paste took."""
+
+    def __init__(self, clone: str) -> None:
+        made_of = b"".join(
+            git(*words, *SOURCES, folder=clone) for words in (["ls-files", "-s"], ["diff", "HEAD", "--"])
+        )
+        kit = subprocess.run(["rt", "version"], capture_output=True, check=True).stdout
+        self.file = os.path.join(KEPT, hashlib.sha256(made_of + kit).hexdigest())
+        self.program = f"{clone}/out/unproved/goshelf"
+
+    def lay(self) -> float:
+        """Gives the clone the program, if there is one. Returns the seconds that its paste took."""
+        if not os.path.exists(f"{self.file}.seconds"):
+            return 0
+        os.makedirs(os.path.dirname(self.program))
+        shutil.copy(self.file, self.program)
+        return float(read(f"{self.file}.seconds"))
+
+    def take(self, seconds: float) -> None:
+        """Keeps the program of the clone alone. Its seconds are written last, since they say that it is whole."""
+        shutil.rmtree(KEPT, ignore_errors=True)
+        os.makedirs(KEPT)
+        shutil.copy(self.program, self.file)
+        write({f"{self.file}.seconds": str(seconds)})
+
+
 class Paste(NamedTuple):
-    """What came of the blocks in one paste: how the shell ended, the seconds of processor time, the folder of the user,
-    and of the clone whether it had a program and which files had changed, before and after."""
+    """What came of the blocks in one paste: how the shell ended, the seconds of processor time with those of the paste
+    that built the program, the folder of the user, and of the clone whether it had a program and which files had
+    changed, before and after."""
 
     status: int
     output: str
@@ -232,12 +267,16 @@ class TestNewcomers:
                 pytest.skip("no process can become nobody here")
             owner, before = 65534, [*ALONE, *NOBODY]
         (end,) = re.findall(r"`(goshelf stop [^`]*)` ends it", PAGE)
+        kept = Kept(clone)
+        before_it = 0.0 if os.path.exists(f"{clone}/out") else kept.lay()
         home, had_program = f"{os.path.dirname(clone)}/{request.param}", os.path.exists(f"{clone}/out")
         give_to(owner, clone, home, f"{home}/home", f"{home}/tmp")
         changed, begun = git("status", "--porcelain", folder=clone), count_seconds()
         ran = paste(f"{script}pwd\n{end}\n", clone, home, before)
         seconds, after = count_seconds() - begun, git("status", "--porcelain", folder=clone)
-        return Paste(*ran, seconds, home, had_program, changed, after)
+        if ran[0] == 0 and not had_program:
+            kept.take(seconds)
+        return Paste(*ran, before_it + seconds, home, had_program, changed, after)
 
     @pytest.fixture
     def replies(self) -> str:

@@ -9,8 +9,8 @@ from typing import NamedTuple
 
 import pytest
 
-from lib.keys import MEMORY, SHELVES
-from lib.messages import Dialogue, Exchange, raw_replies
+from lib.keys import KEY, KEYS, MEMORY, PLATFORM, SHELVES
+from lib.messages import Dialogue, Exchange, put, raw_replies
 from lib.peers import exchanged
 from lib.program import answered, refusal, run
 from lib.scratch import entered_folder
@@ -18,7 +18,7 @@ from lib.servers import Server
 from lib.shelves import answer
 from lib.stores import add_platform, new_store
 from lib.worked import copy_store
-from lib.worked_rows import CHAIN_REQUESTS, GROUP_REQUESTS, MEMBER_REQUESTS, REQUESTS, STREAMS, SUMS, read_rows
+from lib.worked_rows import CHAIN_REQUESTS, GROUP_REQUESTS, MEMBER_REQUESTS, REQUESTS, STREAMS, SUMS, SWEPT, read_rows
 
 
 @dataclass(frozen=True, eq=False)
@@ -46,12 +46,25 @@ def make_grouped(file: str) -> None:
     add_platform(file)
 
 
+def make_swept(file: str) -> None:
+    """Makes the store of SWEPT."""
+    new_store(file, ("alpha", KEY, "", "platform"), ("beta", KEYS["B"]), ("common", KEYS["C"]), groups=[PLATFORM])
+    of_alpha = put("example.com/lib", "v1.0.0", b"module example.com/lib\n", b"Z")
+    of_common = put("example.com/x", "v1.0.0", b"module example.com/x\n", b"X", KEYS["C"])
+    assert answered(["--db", file], [of_alpha, of_common]) == [(201, b"published\n")] * 2
+
+
 STORES: dict[str, Callable[[str], None]] = {
     "new": lambda file: new_store(file, *SHELVES),
     "requested": make_requested,
     "grouped": make_grouped,
+    "swept": make_swept,
 }
-FILES = [Session("requests", "new", read_rows(REQUESTS)), Session("sums", "new", read_rows(SUMS))]
+FILES = [
+    Session("requests", "new", read_rows(REQUESTS)),
+    Session("sums", "new", read_rows(SUMS)),
+    Session("swept", "swept", read_rows(SWEPT)),
+]
 STREAMED = Session("streams", "new", read_rows(STREAMS))
 GROUPS = [
     Session("groups", "requested", read_rows(GROUP_REQUESTS)),

@@ -93,6 +93,15 @@ def files_of(folder: str = ".") -> dict[str, bytes]:
     }
 
 
+def turn_in_file(name: str, at: int) -> None:
+    """Turns a bit of a file that a program may have open."""
+    with open(name, "r+b") as held:
+        held.seek(at)
+        byte = held.read(1)[0]
+        held.seek(at)
+        held.write(bytes([byte ^ 1]))
+
+
 def fill(name: str) -> None:
     """Writes a file until its disk is full."""
     with open(name, "wb", buffering=0) as file, contextlib.suppress(OSError):

@@ -3,6 +3,7 @@
 from __future__ import annotations
 
 import http.client
+import os
 import socket
 import subprocess
 from collections.abc import Mapping
@@ -18,6 +19,17 @@ CONTROL = "control"
 TIME = "2024-01-31T12:00:00Z"
 # what `serve` prints about a file that is missing or empty
 NEW_STORE = "new store: the file of --db is missing or empty; without a key, each request gets a 404\n"
+
+
+def write_failing(first: int) -> str:
+    """Writes a program whose calls of `accept4` fail from this one on, and notes them in `calls`. Returns its name.
+
+    It is goshelf under strace."""
+    fails = f"-e trace=accept4 -e inject=accept4:error=ECONNABORTED:when={first}+"
+    with open("failing", "w", encoding="utf-8") as file:
+        file.write(f'#!/bin/sh\nexec strace -f -qq -o calls {fails} {PROGRAM} "$@"\n')
+    os.chmod("failing", 0o755)
+    return "./failing"
 
 
 class Server:

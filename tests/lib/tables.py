@@ -8,6 +8,8 @@ from lib.sums import seal
 
 # bytes of a piece of a zip but for its last
 PIECE = 65_536
+# the row numbers that sqlite takes
+LEAST, MOST = -(2**63), 2**63 - 1
 # the tables, of which those of schema 2 were the same but for `shelf`
 META = "CREATE TABLE meta (name TEXT PRIMARY KEY, value INTEGER NOT NULL) STRICT"
 SHELF = "CREATE TABLE shelf (name TEXT PRIMARY KEY, parent TEXT REFERENCES shelf (name)) STRICT"

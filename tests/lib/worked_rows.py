@@ -281,6 +281,18 @@ GET D example.com/h/@v/v1.0.0.zip | 200 h
 GET P example.com/h/@v/v1.0.0.zip | 200 h
 GET A example.com/h/@v/v1.0.0.zip | 404 not found;
 """
+# on a store of alpha in the group platform, of beta and of common, which has a version of alpha and one of its own
+SWEPT = """
+# while a file fails, each of these gets this reply or a 503
+PUT A example.com/lib/@v/v1.1.0 | 201 published; | | zip
+GET A example.com/lib/@v/v1.1.0.zip | 200 zip
+GET B example.com/lib/@v/v1.1.0.zip | 404 not found;
+PUT C example.com/new/@v/v1.0.0 | 201 published; | | zip
+PUT A example.com/lib/@v/v1.1.0 | 200 already published; | | zip
+PUT B example.com/lib/@v/v1.0.0 | 201 published; | | other
+GET A example.com/new/@v/list | 200 v1.0.0;
+GET A -/modules | 200 example.com/lib;example.com/new;example.com/x;
+"""
 # each is asked with in a run of its own
 STREAMS = """
 # 64 headers

@@ -1,3 +1,2 @@
-pub mod Afresh
 mod Needed
 mod Shown

@@ -9,8 +9,8 @@ use Rattle.commands.specs.declared.action.Action.{Action}
 use Rattle.commands.specs.declared.action.Action.TheVariants as action
 use Rattle.commands.specs.declared.serve.Entrance.{Entrance}
 use Rattle.commands.specs.declared.serve.Entrance.TheVariants.{Input, Port}
-use Rattle.control.specs.declared.listing.Listing.TheVariants.{Keys, Shelves}
-use Rattle.control.specs.declared.registry_command.RegistryCommand.{RegistryCommand}
+use Rattle.orders.specs.declared.listing.Listing.TheVariants.{Keys, Shelves}
+use Rattle.orders.specs.declared.command.RegistryCommand.{RegistryCommand}
 use Rattle.runner.specs.declared.Command.{Command}
 use Rattle.runner.specs.declared.Command.TheVariants as command
 use Rattle.cli.specs.Asks.{AsksAction, AsksCommand, AsksConnections, AsksEntrance, AsksOtherCommand}

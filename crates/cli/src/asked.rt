@@ -1,7 +1,7 @@
 //! The command that the words of the command line ask for.
 ghost use Rattle.std.specs.Prelude.{◌≡◌, ℕ, List, codes, if◌then◌else◌, option_map, map};
 ghost use Rattle.clap.specs.Words.{all_of, found_of, first_of, rows_of, subcommand_rows_of};
-ghost use Rattle.control.specs.declared.registry_command.RegistryCommand.{RegistryCommand};
+ghost use Rattle.orders.specs.declared.command.RegistryCommand.{RegistryCommand};
 ghost use Rattle.cli.specs.Asks.{AsksAction, AsksCommand, AsksConnections, AsksEntrance, AsksOtherCommand};
 ghost use Rattle.cli.specs.Asks.{AsksRegistryCommand};
 ghost use Rattle.cli.specs.Asks.{Finds, Lacks};
@@ -13,7 +13,7 @@ use commands::action::Action;
 use commands::publish::{Files, Words};
 use commands::report::Named;
 use commands::serve::Entrance;
-use control::{Listing, RegistryCommand};
+use orders::{Listing, RegistryCommand};
 use runner::Command;
 use world::entry::Right;
 

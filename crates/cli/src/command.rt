@@ -19,7 +19,6 @@ use histories::{Hear, Tell};
 use runner::Command;
 use std::alloc::Global;
 use std::io::{self, Write};
-use std::rt::HostRuntime;
 use words::{matches_of, no_form};
 
 /// Runs the program by the words after its name and returns the exit status: 0 done, 1 refused or not accepted, 2 bad
@@ -30,20 +29,20 @@ use words::{matches_of, no_form};
 /// line there, and so do commands that write to the store if that is a terminal. If a new store is refused because a
 /// log stands at its name, a line says so before the refusal. The texts of the parser are tested and
 /// not proved.
+///
+/// What was done to files of stores, and nothing else, is in the histories of `stores`, which `main` makes.
 pub fn command<'a, I: Hear, O: Tell, E: Tell>(
-    rt: &'a HostRuntime,
+    stores: &mut SystemStores<'a>,
     words: &[String],
     input: &mut I,
     output: &mut O,
     errors: &mut E,
 ) -> u8
-    ensures { (stores stores_new : SystemStores)
-        × Exits ⟦<SystemStores<'a> as Runner>⟧.ran (texts words.now) stores stores_new
+    ensures { Exits ⟦<SystemStores<'a> as Runner>⟧.ran (texts words.now) stores.old stores.new
         (I.account input.old) (I.account input.new) (O.contents output.old) (O.contents output.new)
         (E.contents errors.old) (E.contents errors.new) result }
 {
-    let mut stores = SystemStores { rt };
-    command_by(rt.alloc(), &mut stores, words, input, output, errors)
+    command_by(stores.rt.alloc(), stores, words, input, output, errors)
 }
 
 /// Runs the program with anything that runs commands, and returns the exit status. It runs one command, or none

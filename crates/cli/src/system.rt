@@ -1,13 +1,18 @@
 //! What runs a command: the files of the system, or any other `Runner`.
+ghost use Rattle.std.specs.Prelude.{◌≡◌, []};
+
 use commands::refusal::CommandRefusal;
 use file_action::host::ActionHost;
-use histories::{Hear, Tell};
+use histories::{Hear, Hearing, Tell, Telling};
+use network::servers::Servers;
+use network::system::SystemServers;
 use runner::file_checks::FileChecks;
 use runner::found::{ClosedFile, OpenedStore};
 use runner::host::{Host, SystemHost};
 use runner::system::{SystemOlderFiles, SystemStoreFiles};
 use runner::{Command, run};
-use std::io::IsTerminal;
+use std::io::{IsTerminal, Write};
+use std::os::unix::net::UnixStream;
 use std::rt::HostRuntime;
 use store::files::{PageRoom, is_new_store};
 use store_files::files::StoreFiles;
@@ -40,23 +45,70 @@ pub trait Runner {
             (O.contents output.old) (O.contents output.new) result command.now };
 }
 
-/// The system with its files.
-#[derive(Clone, Copy, Drop)]
+/// The system with its files and servers, and with all that was done to the files of stores and over connections.
+#[derive(Drop)]
 pub struct SystemStores<'a> {
     pub rt: &'a HostRuntime,
+    /// The store of a command.
+    pub files: SystemStoreFiles<'a>,
+    /// The new store of an `extract` or a `migrate`.
+    pub targets: SystemStoreFiles<'a>,
+    /// The older store of a `migrate`.
+    pub older: SystemOlderFiles<'a>,
+    /// The `serve` that gets an order.
+    pub servers: SystemServers<'a>,
+}
+
+impl<'a> SystemStores<'a> {
+    /// Returns the system with its files, to which nothing was done, and servers, to which nothing has connected.
+    pub fn new(rt: &'a HostRuntime) -> SystemStores<'a>
+        ensures files { ⟦<SystemStoreFiles<'a> as StoreFiles<OpenedStore, ClosedFile>>⟧.history result.files ≡ [] }
+        ensures targets { ⟦<SystemStoreFiles<'a> as StoreFiles<OpenedStore, ClosedFile>>⟧.history result.targets ≡ [] }
+        ensures older { ⟦<SystemOlderFiles<'a> as StoreFiles<ClosedFile, ClosedFile>>⟧.history result.older ≡ [] }
+        ensures servers { ⟦<SystemServers<'a> as Servers<Hearing<UnixStream>, Telling<UnixStream>>>⟧.history
+            result.servers ≡ [] }
+    {
+        SystemStores {
+            rt,
+            files: SystemStoreFiles::new(rt, PageRoom::Zip),
+            targets: SystemStoreFiles::new(rt, PageRoom::Zip),
+            older: SystemOlderFiles::new(rt),
+            servers: SystemServers::new(rt),
+        }
+    }
 }
 
 impl<'a> Runner for SystemStores<'a> {
-    ghost use Rattle.cli.specs.Afresh.{RunsAfresh};
+    ghost use Rattle.commands.specs.Connection.{IsAll};
+    ghost use Rattle.runner.specs.Command.{Runs};
 
-    ghost ran = { λ _ _.
-        RunsAfresh ⟦<SystemHost<'a> as ActionHost<OpenedStore>>⟧.acts
+    /// The command did what `Runs` says, and between these histories of files and servers nothing else was done.
+    ghost ran = { λ old new. Runs ⟦<SystemHost<'a> as ActionHost<OpenedStore>>⟧.acts
         ⟦<SystemHost<'a> as Host<OpenedStore, ClosedFile>>⟧.state_of
         ⟦<SystemHost<'a> as Host<OpenedStore, ClosedFile>>⟧.shown
-        ⟦<SystemStoreFiles<'a> as StoreFiles<OpenedStore, ClosedFile>>⟧.begins
-        ⟦<SystemStoreFiles<'a> as StoreFiles<OpenedStore, ClosedFile>>⟧.left
-        ⟦<SystemOlderFiles<'a> as StoreFiles<ClosedFile, ClosedFile>>⟧.begins
-        ⟦<SystemOlderFiles<'a> as StoreFiles<ClosedFile, ClosedFile>>⟧.left };
+        (record {
+          begins = ⟦<SystemStoreFiles<'a> as StoreFiles<OpenedStore, ClosedFile>>⟧.begins;
+          left = ⟦<SystemStoreFiles<'a> as StoreFiles<OpenedStore, ClosedFile>>⟧.left;
+          before = ⟦<SystemStoreFiles<'a> as StoreFiles<OpenedStore, ClosedFile>>⟧.history old.files;
+          after = ⟦<SystemStoreFiles<'a> as StoreFiles<OpenedStore, ClosedFile>>⟧.history new.files;
+        })
+        (record {
+          begins = ⟦<SystemStoreFiles<'a> as StoreFiles<OpenedStore, ClosedFile>>⟧.begins;
+          left = ⟦<SystemStoreFiles<'a> as StoreFiles<OpenedStore, ClosedFile>>⟧.left;
+          before = ⟦<SystemStoreFiles<'a> as StoreFiles<OpenedStore, ClosedFile>>⟧.history old.targets;
+          after = ⟦<SystemStoreFiles<'a> as StoreFiles<OpenedStore, ClosedFile>>⟧.history new.targets;
+        })
+        (record {
+          begins = ⟦<SystemOlderFiles<'a> as StoreFiles<ClosedFile, ClosedFile>>⟧.begins;
+          left = ⟦<SystemOlderFiles<'a> as StoreFiles<ClosedFile, ClosedFile>>⟧.left;
+          before = ⟦<SystemOlderFiles<'a> as StoreFiles<ClosedFile, ClosedFile>>⟧.history old.older;
+          after = ⟦<SystemOlderFiles<'a> as StoreFiles<ClosedFile, ClosedFile>>⟧.history new.older;
+        })
+        (λ link passed. IsAll (⟦<Hearing<UnixStream> as Hear>⟧.account link.reader)
+        (⟦<Telling<UnixStream> as Write>⟧.contents link.writer)
+        (⟦<Telling<UnixStream> as Tell>⟧.writes link.writer).failed passed)
+        (⟦<SystemServers<'a> as Servers<Hearing<UnixStream>, Telling<UnixStream>>>⟧.history old.servers)
+        (⟦<SystemServers<'a> as Servers<Hearing<UnixStream>, Telling<UnixStream>>>⟧.history new.servers) };
 
     fn is_new(&self, db: &str) -> bool {
         is_new_store(self.rt, db)
@@ -76,15 +128,12 @@ impl<'a> Runner for SystemStores<'a> {
         input: &mut I,
         output: &mut O,
     ) -> Result<bool, CommandRefusal> {
-        let mut host = SystemHost { rt: self.rt };
-        let mut files = SystemStoreFiles::new(self.rt, PageRoom::Zip);
-        let mut targets = SystemStoreFiles::new(self.rt, PageRoom::Zip);
-        let mut older = SystemOlderFiles::new(self.rt);
         run(
-            &mut host,
-            &mut files,
-            &mut targets,
-            &mut older,
+            &mut SystemHost { rt: self.rt },
+            &mut self.files,
+            &mut self.targets,
+            &mut self.older,
+            &mut self.servers,
             command,
             input,
             output,

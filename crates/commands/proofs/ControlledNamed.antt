@@ -1,25 +1,23 @@
 -- `key-revoke --fingerprint` with `--control`, and the `serve` that gets its line.
 use Rattle.std.proofs.Common.{◌≡◌, ℕ, List, [], Some, Result, Ok, Err, refl, ◌∙◌, sym, ap, subst, inl, inr}
-use Rattle.std.proofs.Common.{true≢false}
-use Rattle.std.specs.Prelude.{bytes_eq, codes}
+use Rattle.std.proofs.Common.{Bool, true, false, true≢false}
 use Rattle.keyring.specs.Revoke.{after_revoke, revoked}
 use Rattle.world.specs.Store.{Shown}
 use Rattle.world.specs.World.{World}
 use Rattle.world.specs.declared.registry.RegistryReply.{RegistryReply}
 use Rattle.world.specs.declared.registry.StoreFault.{StoreFault}
-use Rattle.control.specs.Asking.{AsksToRevoke}
+use Rattle.control.specs.Asking.{Asks}
 use Rattle.control.specs.Copying.{Making, OfKey, ToPath, GoesThroughSteps}
 use Rattle.control.specs.Hearing.{Heard, Carried, Made, Listed, Pinged, Named, Stop, NoOrder, NoMemory}
 use Rattle.control.specs.Hearing.{GoesAs, IsHeardIn, ListsBy, told_heard}
-use Rattle.control.specs.Line.{IsNaming, catalog_words, copy_words, named_words}
 use Rattle.control.specs.Naming.{Finds, Naming, NamesOne, NamesNone, Unread, named_result, named_steps}
-use Rattle.control.specs.RegistryCommand.{said_in}
 use Rattle.control.specs.Outcome.{outcome_of}
-use Rattle.control.specs.Words.{Said}
+use Rattle.orders.specs.Order as orders
+use Rattle.orders.specs.Order.{Ordered, IsLineOf, commanded}
+use Rattle.orders.proofs.OrderLemmas.{one_order}
 use Rattle.control.specs.declared.health.Health.{Health}
-use Rattle.control.specs.declared.listing.Listing.TheVariants.{Keys, Shelves}
-use Rattle.control.specs.declared.registry_command.RegistryCommand.TheVariants.{KeyRevoke}
-use Rattle.control.specs.declared.outcome.Outcome.{Outcome}
+use Rattle.orders.specs.declared.command.RegistryCommand.TheVariants.{KeyRevoke}
+use Rattle.orders.specs.declared.outcome.Outcome.{Outcome}
 use Rattle.control.specs.declared.told.Told.TheVariants as spoken
 use Rattle.commands.specs.Controlled.{RevokesAt, RevokesAsOnTheStore}
 use Rattle.commands.specs.Ending.{ending}
@@ -27,15 +25,20 @@ use Rattle.commands.specs.SentOrder.{order_ending}
 use Rattle.commands.specs.declared.refusal.CommandRefusal.{CommandRefusal}
 use Rattle.commands.specs.declared.refusal.CommandRefusal.TheVariants.{NoKey}
 use Rattle.commands.specs.declared.sent_order.SentOrder.TheVariants as which
-use Rattle.commands.proofs.Controlled.{no_named_words, no_word, outcome_in_told, registered_in, replied, same_said}
+use Rattle.commands.proofs.Controlled.{outcome_in_told, registered_in, replied}
 
--- ---- a line that names a key is no other line
+-- ---- a line that names a key orders nothing else
 
-no_copy_words : (f path : List ℕ) → ¬ (named_words f ≡ copy_words path)
-no_copy_words f path e = true≢false (ap (λ (s : Said). bytes_eq s.verb (codes "copy")) (sym e))
+abbrev is_named : Ordered → Bool
+is_named (orders.RevokeNamed f) = true
+is_named other = false
 
-no_catalog_words : (f key : List ℕ) → ¬ (named_words f ≡ catalog_words key)
-no_catalog_words f key e = true≢false (ap (λ (s : Said). bytes_eq s.verb (codes "catalog")) (sym e))
+abbrev named_in : Ordered → List ℕ
+named_in (orders.RevokeNamed f) = f
+named_in other = []
+
+alone : (sent f : List ℕ) (o : Ordered) → IsLineOf sent (orders.RevokeNamed f) → IsLineOf sent o → true ≡ is_named o
+alone sent f o is is_too = ap is_named (one_order sent (orders.RevokeNamed f) o is is_too)
 
 -- ---- how the command ends
 
@@ -66,38 +69,40 @@ module _ (idle : Type 0) (meanwhile : Making → Type 0) (old new : Shown) (f : 
       )
   named honest stands (Unread fault) finds through ends = inr (fault, ends, (through.runs.at honest w stands).ends)
 
-  heard_so : (sent : List ℕ) → new.is_honest → old.stands w → IsNaming sent f → (heard : Heard) → IsHeardIn sent heard
-      → (outcome : Outcome) → spoken.Outcome outcome ≡ told_heard heard → result ≡ order_ending which.Registry NoKey (Ok outcome)
+  heard_so : (sent : List ℕ) → new.is_honest → old.stands w → IsLineOf sent (orders.RevokeNamed f)
+      → (heard : Heard) → IsHeardIn sent heard
+      → (outcome : Outcome) → spoken.Outcome outcome ≡ told_heard heard
+      → result ≡ order_ending which.Registry NoKey (Ok outcome)
       → GoesAs idle meanwhile old new heard → ListsBy old new heard → RevokesAt new w f result
   heard_so sent honest stands asks (Named g naming) from outcome tells ends through finds =
-      let same = ap (λ (s : Said). s.first) (same_said sent (named_words g) (named_words f) from asks) in
+      let same = ap named_in (one_order sent (orders.RevokeNamed g) (orders.RevokeNamed f) from asks) in
       let both = subst (λ (x : List ℕ). Finds old new x naming × GoesThroughSteps old new (named_steps x naming)) same
       (finds, through.1) in
       named honest stands naming both.0 both.1
       (ends ∙ ap (λ o. order_ending which.Registry NoKey (Ok o)) (ap outcome_in_told tells) ∙ ends_so (named_result naming))
   heard_so sent honest stands asks (Carried order told) from outcome tells ends through lists =
-      absurd (no_named_words f order (same_said sent (named_words f) (said_in order) asks from))
+      absurd (true≢false (alone sent f (orders.Registry (commanded order)) asks from))
   heard_so sent honest stands asks (Made (ToPath path told)) from outcome tells ends through lists =
-      absurd (no_copy_words f path (same_said sent (named_words f) (copy_words path) asks from))
+      absurd (true≢false (alone sent f (orders.Copy path) asks from))
   heard_so sent honest stands asks (Made (OfKey key printed told)) from outcome tells ends through lists =
-      absurd (no_catalog_words f key (same_said sent (named_words f) (catalog_words key) asks from))
+      absurd (true≢false (alone sent f (orders.Catalog key) asks from))
   heard_so sent honest stands asks (Pinged told) from outcome tells ends through lists =
-      absurd (no_word (codes "ping") refl (named_words f) (subst (λ got. IsNaming got f) from asks))
-  heard_so sent honest stands asks (Listed Keys told) from outcome tells ends through lists =
-      absurd (no_word (codes "key-list") refl (named_words f) (subst (λ got. IsNaming got f) from asks))
-  heard_so sent honest stands asks (Listed Shelves told) from outcome tells ends through lists =
-      absurd (no_word (codes "shelf-list") refl (named_words f) (subst (λ got. IsNaming got f) from asks))
+      absurd (true≢false (alone sent f orders.Ping asks from))
+  heard_so sent honest stands asks (Listed listing told) from outcome tells ends through lists =
+      absurd (true≢false (alone sent f (orders.ListOf listing) asks from))
   heard_so sent honest stands asks Stop from outcome tells ends through lists =
-      absurd (no_word (codes "stop") refl (named_words f) (subst (λ got. IsNaming got f) from asks))
-  heard_so sent honest stands asks NoOrder from outcome tells ends through lists = absurd (from.0.5 f asks)
+      absurd (true≢false (alone sent f orders.Stop asks from))
+  heard_so sent honest stands asks NoOrder from outcome tells ends through lists =
+      absurd (from (orders.RevokeNamed f) asks)
   heard_so sent honest stands asks NoMemory from outcome tells ends through lists = absurd from
 
 pub revokes_as_on_the_store : (made : Making → Type 0)
     (pinged : Result Health StoreFault → Type 0) (idle : Type 0) (meanwhile : Making → Type 0) (old new : Shown)
     → RevokesAsOnTheStore made pinged idle meanwhile old new
 revokes_as_on_the_store made pinged idle meanwhile old new f result w two honest stands =
-    let asks = subst (λ told. AsksToRevoke two.unread two.unread_new (Some []) (Some two.sent) f told) two.heard
-    two.command.asks in
-    let sends : IsNaming two.sent f = subst (λ got. IsNaming got f) (sym asks.2) asks.1 in
+    let asks = subst (λ told. Asks two.unread two.unread_new (Some []) (Some two.sent) (orders.RevokeNamed f) told)
+    two.heard two.command.asks in
+    let sends : IsLineOf two.sent (orders.RevokeNamed f) =
+    subst (λ got. IsLineOf got (orders.RevokeNamed f)) (sym asks.2) asks.1 in
     heard_so idle meanwhile old new f result w two.sent honest stands sends two.server.heard two.server.from two.told
     two.server.tells (two.command.ends ∙ ap (order_ending which.Registry NoKey) two.heard) two.server.through two.server.lists

@@ -1,6 +1,6 @@
 -- How a fingerprint or a SHA-256 that no line can carry ends in each world.
 use Rattle.std.proofs.Common.{◌≡◌, ℕ, List, [], ◌∷◌, Bool, true, false, Option, Result, Ok, Err, refl, ◌∙◌, sym, ap}
-use Rattle.std.proofs.Common.{subst, arith, None, inl}
+use Rattle.std.proofs.Common.{subst, arith}
 use Rattle.std.specs.Prelude.{◌||◌, bytes_eq, codes, cond, filter}
 use Rattle.std.specs.Cmp.Lexicographic.{bytes_decides}
 use Rattle.keyring.specs.KeyList.{fingerprint, hex_digest}
@@ -10,23 +10,25 @@ use Rattle.keyring.proofs.FingerprintLemmas.{fingerprint_ascii, fingerprint_few,
 use Rattle.keyring.proofs.FingerprintLemmas.{hex_digest_ascii, hex_digest_few, hex_digest_word}
 use Rattle.world.specs.Lines.{in_order}
 use Rattle.world.specs.World.{World}
-use Rattle.control.specs.Asking.{AsksToRevoke}
-use Rattle.control.specs.Line.{IsNaming, named_words}
+use Rattle.control.specs.Asking.{Asks}
 use Rattle.control.specs.declared.client.Untold.{Untold}
-use Rattle.control.specs.declared.client.Untold.TheVariants as untold
-use Rattle.control.specs.declared.outcome.Outcome.{Outcome}
+use Rattle.orders.specs.Order as orders
+use Rattle.orders.specs.Order.{HasLine, HasNoLine, IsLineOf}
+use Rattle.orders.specs.declared.outcome.Outcome.{Outcome}
 use Rattle.commands.specs.Ending.{ending}
-use Rattle.commands.specs.Order.{RevokesOver, RevokesThere}
+use Rattle.commands.specs.Order.{RevokesOver}
 use Rattle.commands.specs.SentOrder.{order_ending}
 use Rattle.commands.specs.declared.refusal.CommandRefusal.{CommandRefusal}
 use Rattle.commands.specs.declared.refusal.CommandRefusal.TheVariants.{NoKey}
 use Rattle.commands.specs.declared.sent_order.SentOrder.TheVariants as which
-use Rattle.commands.proofs.Sayable.{Fits, carried, word_fits}
+use Rattle.commands.proofs.Sayable.{Fits, carried, two_carried, word_fits}
 
 -- a word of at most 64 bytes of ASCII has a line
-has_line : (word : List ℕ) → Fits 64 word → (sent : List ℕ) × IsNaming sent word
+has_line : (word : List ℕ) → Fits 64 word → HasLine (orders.RevokeNamed word)
 has_line word fits =
-    carried 18 64 0 (named_words word) (word_fits 18 (codes "revoke-fingerprint") refl refl refl) fits tt (omega arith)
+    carried (orders.RevokeNamed word)
+    (two_carried 18 64 (codes "revoke-fingerprint") word
+    (word_fits 18 (codes "revoke-fingerprint") refl refl refl) fits (omega arith)) refl
 
 -- so have the fingerprint of a key, and its SHA-256
 fingerprint_fits : (k : List ℕ) → Fits 64 (fingerprint k)
@@ -37,7 +39,7 @@ fingerprint_fits k =
 hex_digest_fits : (k : List ℕ) → Fits 64 (hex_digest k)
 hex_digest_fits k = record { says = hex_digest_word k; ascii = hex_digest_ascii k; few = hex_digest_few k }
 
-module _ (f : List ℕ) (unsaid : (sent : List ℕ) → ¬ IsNaming sent f) where
+module _ (f : List ℕ) (unsaid : HasNoLine (orders.RevokeNamed f)) where
   -- a word that has a line is no word that has none
   differs : (word : List ℕ) → Fits 64 word → bytes_eq word f ≡ false
   differs word fits = go (bytes_eq word f) refl
@@ -46,7 +48,7 @@ module _ (f : List ℕ) (unsaid : (sent : List ℕ) → ¬ IsNaming sent f) wher
       go false is = is
       go true is =
           let it = has_line word fits in
-          absurd (unsaid it.0 (subst (IsNaming it.0) ((bytes_decides word f).0 is) it.1))
+          absurd (unsaid it.0 (subst (λ w. IsLineOf it.0 (orders.RevokeNamed w)) ((bytes_decides word f).0 is) it.1))
 
   -- so no key has one that has none
   no_key_has : (k : List ℕ) → has k f ≡ false
@@ -59,30 +61,20 @@ module _ (f : List ℕ) (unsaid : (sent : List ℕ) → ¬ IsNaming sent f) wher
   none_of (k ∷ ks) =
       ap (λ b. cond b (k ∷ filter (λ x. has x f) ks) (filter (λ x. has x f) ks)) (no_key_has k) ∙ none_of ks
 
-  none_revoked : (w : World) → Err NoKey ≡ ending (Ok (revoked_with w f))
+  pub none_revoked : (w : World) → Err NoKey ≡ ending (Ok (revoked_with w f))
   none_revoked w = ap (λ ks. ending (Ok (revoked w (only ks)))) (sym (none_of (in_order (keys_in w))))
 
 -- a command that sends the line of its fingerprint, and ends by the result, does as `RevokesOver` says
 pub revokes_over : (unread unread_new written written_new : Option (List ℕ)) (f : List ℕ) (told : Result Outcome Untold)
     (result : Result (Unit {0}) CommandRefusal)
-    → AsksToRevoke unread unread_new written written_new f told → result ≡ order_ending which.Registry NoKey told
+    → Asks unread unread_new written written_new (orders.RevokeNamed f) told
+    → result ≡ order_ending which.Registry NoKey told
     → RevokesOver unread unread_new written written_new f result
 revokes_over unread unread_new written written_new f told result asks ends = record {
   told = told;
   asks = asks;
   ends = ends;
   unsent = λ is w.
-      let unsaid = (subst (AsksToRevoke unread unread_new written written_new f) is asks).0 in
+      let unsaid = (subst (Asks unread unread_new written written_new (orders.RevokeNamed f)) is asks).0 in
       ends ∙ ap (order_ending which.Registry NoKey) is ∙ none_revoked f unsaid w;
 }
-
--- a fingerprint that no line can carry ends so without a connection
-pub unsent_revokes : (f : List ℕ) → ((sent : List ℕ) → ¬ IsNaming sent f) → RevokesThere f (Err NoKey)
-unsent_revokes f unsaid =
-    inl (
-      None,
-      None,
-      None,
-      None,
-      revokes_over None None None None f (Err untold.Words) (Err NoKey) (unsaid, tt) refl,
-    )

@@ -11,5 +11,6 @@ mod Sayable
 mod Controlled
 mod ControlledNamed
 mod Fingerprints
+mod Connections
 mod NewKeys
 mod Served

@@ -1,5 +1,5 @@
 -- A key that is made, added and printed.
-use Rattle.std.proofs.Common.{◌≡◌, ◌∙◌, ◌⊎◌, ap, sym, inl, inr, ℕ, List, Option, Some, Result, Ok, Err}
+use Rattle.std.proofs.Common.{◌≡◌, ap, inl, inr, ℕ, List, Option, Result, Ok, Err}
 use Rattle.std.specs.Borrow.{Bor}
 use Rattle.histories.specs.Calls.{Writes}
 use Rattle.world.specs.Store.{Shown}
@@ -8,7 +8,7 @@ use Rattle.world.specs.declared.registry.RegistryReply.{RegistryReply}
 use Rattle.world.specs.declared.registry.RegistryReply.TheVariants as registered
 use Rattle.world.specs.declared.registry.StoreFault.{StoreFault}
 use Rattle.world.specs.declared.registry.StoreFault.TheVariants as fault
-use Rattle.control.specs.declared.registry_command.RegistryCommand.{RegistryCommand}
+use Rattle.orders.specs.declared.command.RegistryCommand.{RegistryCommand}
 use Rattle.commands.specs.Ending.{Registers, ending}
 use Rattle.commands.specs.NewKey.{AddsDrawn, AddsKey, AddsMade, EndsWithIo, HasCause, HasNoKeyOr, Shows}
 use Rattle.commands.specs.RandomBytes.{Drawn}

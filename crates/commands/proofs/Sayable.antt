@@ -23,19 +23,20 @@ use Rattle.world.specs.Registry.{is_top, is_group, lacks_group, team_added, afte
 use Rattle.world.specs.World.{World, IsWorld, common, is_team_name, is_key}
 use Rattle.world.proofs.Orders.{text_self}
 use Rattle.machine.specs.Machine.{after}
-use Rattle.control.specs.Asking.{Asks, IsUnsayable}
-use Rattle.control.specs.Line.{IsSaid, longest}
-use Rattle.control.specs.RegistryCommand.{add_word, said_in, event_of, outcome_in}
-use Rattle.control.specs.Words.{Said, space, line_end, is_word, is_word_byte, is_word_if, behind, text_of}
+use Rattle.control.specs.Asking.{Asks}
+use Rattle.control.specs.RegistryCommand.{event_of, outcome_in}
+use Rattle.orders.specs.Order as orders
+use Rattle.orders.specs.Order.{Ordered, HasLine, HasNoLine, add_word, added, commanded, line_for}
+use Rattle.orders.specs.Order.{longest, longest_of, said_in}
+use Rattle.orders.specs.Words.{Said, Two, Three, space, is_word, is_word_byte, are_words, text_of}
 use Rattle.control.specs.declared.client.Untold.{Untold}
-use Rattle.control.specs.declared.client.Untold.TheVariants as untold
-use Rattle.control.specs.declared.registry_command.RegistryCommand.{RegistryCommand}
-use Rattle.control.specs.declared.registry_command.RegistryCommand.TheVariants.{TeamAdd, GroupAdd, KeyAdd}
-use Rattle.control.specs.declared.registry_command.RegistryCommand.TheVariants.{KeyRevoke, KeysRevoke}
-use Rattle.control.specs.declared.outcome.Outcome.{Outcome}
+use Rattle.orders.specs.declared.command.RegistryCommand.{RegistryCommand}
+use Rattle.orders.specs.declared.command.RegistryCommand.TheVariants.{TeamAdd, GroupAdd, KeyAdd}
+use Rattle.orders.specs.declared.command.RegistryCommand.TheVariants.{KeyRevoke, KeysRevoke}
+use Rattle.orders.specs.declared.outcome.Outcome.{Outcome}
 use Rattle.commands.specs.Ending.{ending}
 use Rattle.commands.specs.Order.{no_name, group_sent, IsSentFor, ComeToTheSame, refusal_by, unsayable, OrdersOver}
-use Rattle.commands.specs.Order.{OrdersThere}
+use Rattle.commands.specs.Order.{IsUnsent}
 use Rattle.commands.specs.SentOrder.{order_ending}
 use Rattle.commands.specs.declared.refusal.CommandRefusal.{CommandRefusal}
 use Rattle.commands.specs.declared.refusal.CommandRefusal.TheVariants.{NoTeam}
@@ -106,50 +107,60 @@ add_fits Reads = word_fits 10 (codes "reader-add") refl refl refl
 
 -- ---- a line of such words
 
-abbrev pub FitsIf : ℕ → Option (List ℕ) → Type 0
-FitsIf most None = Unit {0}
-FitsIf most (Some word) = Fits most word
+-- words of ASCII that fit into the line of any order
+pub record AreCarried (s : Said) : Type 0 where
+  pub words : are_words s ≡ true
+  pub ascii : IsAscii (text_of s)
+  pub few : length (text_of s) ≤ longest
 
-if_says : (most : ℕ) (o : Option (List ℕ)) → FitsIf most o → is_word_if o ≡ true
-if_says most None fits = refl
-if_says most (Some word) fits = fits.says
+pub two_carried : (a b : ℕ) (verb first : List ℕ) → Fits a verb → Fits b first → a + b + 1 ≤ longest
+    → AreCarried (Two verb first)
+two_carried a b verb first fits fits_first room =
+    let counted = length-append verb (space ∷ first) in
+    let few = fits.few in
+    let few_first = fits_first.few in
+    record {
+      words = and_from _ _ fits.says fits_first.says;
+      ascii = IsAscii-append verb (space ∷ first) fits.ascii (IsAscii-cons space first (omega arith) fits_first.ascii);
+      few = omega (arith, counted, few, few_first, room);
+    }
 
-behind_ascii : (most : ℕ) (o : Option (List ℕ)) → FitsIf most o → IsAscii (behind o)
-behind_ascii most None fits = IsAscii-nil
-behind_ascii most (Some word) fits = IsAscii-cons space word (omega arith) fits.ascii
+three_carried : (a b c : ℕ) (verb first second : List ℕ) → Fits a verb → Fits b first → Fits c second
+    → a + b + c + 2 ≤ longest → AreCarried (Three verb first second)
+three_carried a b c verb first second fits fits_first fits_second room =
+    let rest : List ℕ = first ++ space ∷ second in
+    let counted = length-append verb (space ∷ rest) in
+    let rest_counted = length-append first (space ∷ second) in
+    let few = fits.few in
+    let few_first = fits_first.few in
+    let few_second = fits_second.few in
+    record {
+      words = and_from _ _ fits.says (and_from _ _ fits_first.says fits_second.says);
+      ascii = IsAscii-append verb (space ∷ rest) fits.ascii
+          (IsAscii-cons space rest (omega arith)
+          (IsAscii-append first (space ∷ second) fits_first.ascii
+          (IsAscii-cons space second (omega arith) fits_second.ascii)));
+      few = omega (arith, counted, rest_counted, few, few_first, few_second, room);
+    }
 
-behind_few : (most : ℕ) (o : Option (List ℕ)) → FitsIf most o → length (behind o) ≤ most + 1
-behind_few most None fits = omega arith
-behind_few most (Some word) fits = let few = fits.few in omega (arith, few)
+-- an order of such words has a line
+pub carried : (o : Ordered) → AreCarried (said_in o) → longest_of o ≡ longest → HasLine o
+carried o are most = (
+  line_for o,
+  record {
+    line = record { is = refl; utf8 = IsUtf8-from_ascii (text_of (said_in o)) are.ascii };
+    words = are.words;
+    few = subst (λ n. length (text_of (said_in o)) ≤ n) (sym most) are.few;
+  },
+)
 
--- words that fit into 127 bytes have a line
-pub carried : (a b c : ℕ) (s : Said) → Fits a s.verb → Fits b s.first → FitsIf c s.second → a + b + c + 2 ≤ 127
-    → (sent : List ℕ) × IsSaid longest sent s
-carried a b c s verb first second room =
-    let rest : List ℕ = s.first ++ behind s.second in
-    let counted = length-append s.verb (space ∷ rest) in
-    let rest_counted = length-append s.first (behind s.second) in
-    let few_verb = verb.few in
-    let few_first = first.few in
-    let few_second = behind_few c s.second second in
-    let ascii = IsAscii-append s.verb (space ∷ rest) verb.ascii
-    (IsAscii-cons space rest (omega arith)
-    (IsAscii-append s.first (behind s.second) first.ascii (behind_ascii c s.second second))) in (
-      text_of s ++ line_end ∷ [],
-      record {
-        line = text_of s;
-        ends = record {
-          is = refl;
-          few = omega (arith, counted, rest_counted, few_verb, few_first, few_second, room);
-          text = IsUtf8-from_ascii (text_of s) ascii;
-        };
-        says = record {
-          is = refl;
-          words =
-              and_from _ _ verb.says (and_from _ _ first.says (if_says c s.second second));
-        };
-      },
-    )
+-- no line can carry the registry command
+abbrev pub IsUnsayable : RegistryCommand → Type 0
+IsUnsayable command = HasNoLine (orders.Registry (commanded command))
+
+command_carried : (command : RegistryCommand) → AreCarried (said_in (orders.Registry (commanded command)))
+    → ¬ IsUnsayable command
+command_carried command are unsaid = let it = carried (orders.Registry (commanded command)) are refl in unsaid it.0 it.1
 
 -- ---- groups that are sent for others
 
@@ -166,10 +177,23 @@ sent_sayable (Some g) = go (is_team_name g) refl
     go true named = inr named
     go false unnamed = inl refl
 
+abbrev FitsIf : ℕ → Option (List ℕ) → Type 0
+FitsIf most None = Unit {0}
+FitsIf most (Some word) = Fits most word
+
 group_fits : (group : Option (List ℕ)) → IsGroupSayable group → FitsIf 32 group
 group_fits None sayable = tt
 group_fits (Some g) (inl same) = subst (Fits 32) (sym same) (word_fits 32 no_name refl refl refl)
 group_fits (Some g) (inr named) = team_fits g named
+
+-- so do the words that add a team to it
+team_carried : (name : List ℕ) (group : Option (List ℕ)) → Fits 32 name → FitsIf 32 group
+    → AreCarried (added name group)
+team_carried name None fits fits_group =
+    two_carried 8 32 (codes "team-add") name (word_fits 8 (codes "team-add") refl refl refl) fits (omega arith)
+team_carried name (Some group) fits fits_group =
+    three_carried 8 32 32 (codes "team-add") name group (word_fits 8 (codes "team-add") refl refl refl) fits fits_group
+    (omega arith)
 
 common_no_group : (w : World) → is_group w common ≡ false
 common_no_group w = and_right (is_top (map.get w.shelves common)) (not (bytes_eq common common))
@@ -248,9 +272,9 @@ team_unsaid name group sayable unsaid w = go (is_team_name name.now) refl
         ending (Ok (if not b then registered.Name else if map.contains_key w.shelves name.now then registered.Taken
         else if lacks_group w (option_copied group) then registered.NoGroup else registered.Done))) unnamed
     go true named =
-        let it = carried 8 32 32 (said_in (TeamAdd name group)) (word_fits 8 (codes "team-add") refl refl refl)
-        (team_fits name.now named)
-        (group_fits (option_copied group) sayable) (omega arith) in absurd (unsaid it.0 it.1)
+        absurd (command_carried (TeamAdd name group)
+        (team_carried name.now (option_copied group) (team_fits name.now named)
+        (group_fits (option_copied group) sayable)) unsaid)
 
 group_unsaid : (name : Bor (List ℕ)) → IsUnsayable (GroupAdd name) → (w : World)
     → ending (Ok (outcome_in w (GroupAdd name))) ≡ Err (unsayable (GroupAdd name))
@@ -262,9 +286,9 @@ group_unsaid name unsaid w = go (is_team_name name.now) refl
         ending (Ok (if not b then registered.Name else if map.contains_key w.shelves name.now then registered.Taken
         else registered.Done))) unnamed
     go true named =
-        let it = carried 9 32 0 (said_in (GroupAdd name)) (word_fits 9 (codes "group-add") refl refl refl)
-        (team_fits name.now named) tt (omega arith) in
-        absurd (unsaid it.0 it.1)
+        absurd (command_carried (GroupAdd name)
+        (two_carried 9 32 (codes "group-add") name.now (word_fits 9 (codes "group-add") refl refl refl)
+        (team_fits name.now named) (omega arith)) unsaid)
 
 abbrev key_told : Bool → Bool → Bool → RegistryReply
 key_told named there taken =
@@ -290,9 +314,9 @@ key_unsaid shelf key right unsaid w is = go (is_key key.now) (map.contains_key w
         named
         ∙ ap (λ b. ending (Ok (key_told true b (map.contains_key w.keys key.now)))) at ∙ sym (ap key_word named)
     go true true named at =
-        let it = carried 10 32 64 (said_in (KeyAdd shelf key right)) (add_fits right)
-        (shelf_fits shelf.now (is.team_names shelf.now at)) (key_fits key.now named) (omega arith) in
-        absurd (unsaid it.0 it.1)
+        absurd (command_carried (KeyAdd shelf key right)
+        (three_carried 10 32 64 (add_word right) shelf.now key.now (add_fits right)
+        (shelf_fits shelf.now (is.team_names shelf.now at)) (key_fits key.now named) (omega arith)) unsaid)
 
 revoke_unsaid : (key : Bor (List ℕ)) → IsUnsayable (KeyRevoke key) → (w : World) → IsWorld w
     → ending (Ok (outcome_in w (KeyRevoke key))) ≡ Err (unsayable (KeyRevoke key))
@@ -302,9 +326,9 @@ revoke_unsaid key unsaid w is = go (map.get w.keys key.now) refl
         → ending (Ok (outcome_in w (KeyRevoke key))) ≡ Err (unsayable (KeyRevoke key))
     go None at = ap (λ o. ending (Ok (if is_some o then registered.Done else registered.NoKey))) at
     go (Some h) at =
-        let it = carried 10 64 0 (said_in (KeyRevoke key)) (word_fits 10 (codes "key-revoke") refl refl refl)
-        (key_fits key.now (is.key_names key.now h at)) tt (omega arith) in
-        absurd (unsaid it.0 it.1)
+        absurd (command_carried (KeyRevoke key)
+        (two_carried 10 64 (codes "key-revoke") key.now (word_fits 10 (codes "key-revoke") refl refl refl)
+        (key_fits key.now (is.key_names key.now h at)) (omega arith)) unsaid)
 
 revoke_all_unsaid : (shelf : Bor (List ℕ)) → IsUnsayable (KeysRevoke shelf) → (w : World) → IsWorld w
     → ending (Ok (outcome_in w (KeysRevoke shelf))) ≡ Err (unsayable (KeysRevoke shelf))
@@ -314,9 +338,9 @@ revoke_all_unsaid shelf unsaid w is = go (map.contains_key w.shelves shelf.now) 
         → ending (Ok (outcome_in w (KeysRevoke shelf))) ≡ Err (unsayable (KeysRevoke shelf))
     go false at = ap (λ b. ending (Ok (if b then registered.Done else registered.NoTeam))) at
     go true at =
-        let it = carried 11 32 0 (said_in (KeysRevoke shelf)) (word_fits 11 (codes "keys-revoke") refl refl refl)
-        (shelf_fits shelf.now (is.team_names shelf.now at)) tt (omega arith) in
-        absurd (unsaid it.0 it.1)
+        absurd (command_carried (KeysRevoke shelf)
+        (two_carried 11 32 (codes "keys-revoke") shelf.now (word_fits 11 (codes "keys-revoke") refl refl refl)
+        (shelf_fits shelf.now (is.team_names shelf.now at)) (omega arith)) unsaid)
 
 -- an order that no line carries ends in each world as the command says, also if another is sent for it
 pub unsent_ends : (order sent : RegistryCommand) → IsSentFor order sent → IsUnsayable sent → (w : World) → IsWorld w
@@ -342,7 +366,7 @@ unsent_ends (KeysRevoke shelf) sent is unsaid w world = ap (λ o. Err (unsayable
 -- a command that sends the order for its own, and ends by the result, does as `OrdersOver` says
 pub orders_over : (unread unread_new written written_new : Option (List ℕ)) (order asked : RegistryCommand)
     (told : Result Outcome Untold) (result : Result (Unit {0}) CommandRefusal)
-    → IsSentFor order asked → Asks unread unread_new written written_new asked told
+    → IsSentFor order asked → Asks unread unread_new written written_new (orders.Registry (commanded asked)) told
     → result ≡ order_ending which.Registry (unsayable asked) told
     → OrdersOver unread unread_new written written_new order result
 orders_over unread unread_new written written_new order asked told result sends asks ends = record {
@@ -352,18 +376,12 @@ orders_over unread unread_new written written_new order asked told result sends 
   asks = asks;
   ends = ends;
   unsent = λ is w world.
-      let unsaid = (subst (Asks unread unread_new written written_new asked) is asks).0 in
+      let unsaid = (subst (Asks unread unread_new written written_new (orders.Registry (commanded asked))) is asks).0 in
       ends ∙ ap (order_ending which.Registry (unsayable asked)) is ∙ unsent_ends order asked sends unsaid w world;
 }
 
 -- one whose order no line can carry ends so without a connection
-pub unsent_over : (order asked : RegistryCommand) → IsSentFor order asked → IsUnsayable asked
-    → OrdersThere order (Err (unsayable asked))
-unsent_over order asked sends unsaid =
-    inl (
-      None,
-      None,
-      None,
-      None,
-      orders_over None None None None order asked (Err untold.Words) (Err (unsayable asked)) sends (unsaid, tt) refl,
-    )
+pub unsent_ending : (order asked : RegistryCommand) → IsSentFor order asked → IsUnsayable asked
+    → IsUnsent order (unsayable asked)
+unsent_ending order asked sends unsaid =
+    (asked, sends, unsaid, refl, λ world rules. unsent_ends order asked sends unsaid world rules)

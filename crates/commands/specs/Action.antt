@@ -4,7 +4,7 @@ use Rattle.std.specs.Prelude.{ℕ, List, [], ◌≡◌, true, Bool, Option, opti
 use Rattle.histories.specs.Account.{Account}
 use Rattle.world.specs.Store.{Shown}
 use Rattle.world.specs.declared.entry.Right.{Right}
-use Rattle.control.specs.declared.registry_command.RegistryCommand.{RegistryCommand}
+use Rattle.orders.specs.declared.command.RegistryCommand.{RegistryCommand}
 use Rattle.commands.specs.Ending.{Registers, RevokesNamed}
 use Rattle.commands.specs.ImportFile.{ImportsFile}
 use Rattle.commands.specs.NewKey.{AddsNew}

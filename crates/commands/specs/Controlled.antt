@@ -9,8 +9,8 @@ use Rattle.control.specs.Copying.{Making}
 use Rattle.control.specs.Hearing.{Heeds}
 use Rattle.control.specs.RegistryCommand.{event_of, outcome_in}
 use Rattle.control.specs.declared.health.Health.{Health}
-use Rattle.control.specs.declared.registry_command.RegistryCommand.{RegistryCommand}
-use Rattle.control.specs.declared.outcome.Outcome.{Outcome}
+use Rattle.orders.specs.declared.command.RegistryCommand.{RegistryCommand}
+use Rattle.orders.specs.declared.outcome.Outcome.{Outcome}
 use Rattle.control.specs.declared.told.Told.TheVariants as spoken
 use Rattle.commands.specs.Ending.{ending}
 use Rattle.commands.specs.Order.{OrdersOver, RevokesOver}

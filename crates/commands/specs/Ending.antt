@@ -9,7 +9,7 @@ use Rattle.world.specs.declared.registry.StoreFault.{StoreFault}
 use Rattle.world.specs.declared.registry.StoreFault.TheVariants as fault
 use Rattle.machine.specs.Machine.{after}
 use Rattle.control.specs.RegistryCommand.{event_of, outcome_in}
-use Rattle.control.specs.declared.registry_command.RegistryCommand.{RegistryCommand}
+use Rattle.orders.specs.declared.command.RegistryCommand.{RegistryCommand}
 use Rattle.keyring.specs.Revoke.{revoked_with, after_revoke_with}
 use Rattle.commands.specs.declared.refusal.CommandRefusal.{CommandRefusal}
 use Rattle.commands.specs.declared.refusal.CommandRefusal.TheVariants as refusal

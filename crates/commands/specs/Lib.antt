@@ -25,3 +25,4 @@ pub mod Serve
 pub mod ServedCatalog
 pub mod Sources
 pub mod Action
+pub mod Connection

@@ -2,8 +2,8 @@
 use Rattle.std.specs.Prelude.{ℕ, ◌≡◌, ◌⊎◌, Bool, List, Option, Result, Ok, Err}
 use Rattle.control.specs.Asking.{AsksForList}
 use Rattle.control.specs.declared.client.Untold.{Untold}
-use Rattle.control.specs.declared.listing.Listing.{Listing}
-use Rattle.control.specs.declared.outcome.Outcome.{Outcome}
+use Rattle.orders.specs.declared.listing.Listing.{Listing}
+use Rattle.orders.specs.declared.outcome.Outcome.{Outcome}
 use Rattle.commands.specs.Ping.{refusal_of}
 use Rattle.commands.specs.Report.{Prints}
 use Rattle.commands.specs.declared.refusal.CommandRefusal.{CommandRefusal}

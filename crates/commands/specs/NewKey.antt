@@ -6,8 +6,8 @@ use Rattle.histories.specs.Calls.{Writes}
 use Rattle.keyring.specs.Made.{key_of}
 use Rattle.world.specs.Store.{Shown}
 use Rattle.world.specs.declared.entry.Right.{Right}
-use Rattle.control.specs.declared.registry_command.RegistryCommand.{RegistryCommand}
-use Rattle.control.specs.declared.registry_command.RegistryCommand.TheVariants.{KeyAdd, KeyRevoke}
+use Rattle.orders.specs.declared.command.RegistryCommand.{RegistryCommand}
+use Rattle.orders.specs.declared.command.RegistryCommand.TheVariants.{KeyAdd, KeyRevoke}
 use Rattle.commands.specs.Ending.{Registers}
 use Rattle.commands.specs.Order.{OrdersThere}
 use Rattle.commands.specs.Printed.{HasFailed, PrintsFront}

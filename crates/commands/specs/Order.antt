@@ -5,15 +5,19 @@ use Rattle.std.specs.Borrow.{Bor}
 use Rattle.world.specs.World.{World, IsWorld, is_team_name, is_key}
 use Rattle.machine.specs.Machine.{after}
 use Rattle.keyring.specs.Revoke.{revoked_with}
-use Rattle.control.specs.Asking.{Asks, AsksToCopy, AsksToRevoke, AsksToStop, HasLine, IsSayable}
-use Rattle.control.specs.Line.{copy_words, longest, longest_copy, named_words}
+use Rattle.histories.specs.Account.{Account}
+use Rattle.network.specs.History.{Done, IsIdle}
+use Rattle.control.specs.Asking.{Asks, AsksHeard, AsksToStop, SendsHeard}
 use Rattle.control.specs.declared.client.Untold.{Untold}
 use Rattle.control.specs.declared.client.Untold.TheVariants as untold
-use Rattle.control.specs.declared.registry_command.RegistryCommand.{RegistryCommand}
-use Rattle.control.specs.declared.registry_command.RegistryCommand.TheVariants.{TeamAdd, GroupAdd, KeyAdd}
-use Rattle.control.specs.declared.registry_command.RegistryCommand.TheVariants.{KeyRevoke, KeysRevoke}
+use Rattle.orders.specs.declared.command.RegistryCommand.{RegistryCommand}
+use Rattle.orders.specs.declared.command.RegistryCommand.TheVariants.{TeamAdd, GroupAdd, KeyAdd}
+use Rattle.orders.specs.declared.command.RegistryCommand.TheVariants.{KeyRevoke, KeysRevoke}
 use Rattle.control.specs.RegistryCommand.{event_of, outcome_in}
-use Rattle.control.specs.declared.outcome.Outcome.{Outcome}
+use Rattle.orders.specs.Order as orders
+use Rattle.orders.specs.Order.{HasLine, HasNoLine, commanded, line_for}
+use Rattle.orders.specs.declared.outcome.Outcome.{Outcome}
+use Rattle.commands.specs.Connection.{AsksServer, Exchanges, Passed}
 use Rattle.commands.specs.Ending.{ending}
 use Rattle.commands.specs.SentOrder.{order_ending}
 use Rattle.commands.specs.declared.refusal.CommandRefusal.{CommandRefusal}
@@ -69,13 +73,13 @@ pub record OrdersOver
   pub asked : RegistryCommand
   pub same : ComeToTheSame asked order
   pub told : Result Outcome Untold
-  pub asks : Asks unread unread_new written written_new asked told
+  pub asks : Asks unread unread_new written written_new (orders.Registry (commanded asked)) told
   pub ends : result ≡ order_ending Registry (unsayable asked) told
   pub unsent : told ≡ Err untold.Words → EndsInEach order result
 
 -- a line can carry the order that is sent for this one
 abbrev pub CanBeSent : RegistryCommand → Type 0
-CanBeSent order = (asked : RegistryCommand) × IsSentFor order asked × HasLine asked
+CanBeSent order = (asked : RegistryCommand) × IsSentFor order asked × HasLine (orders.Registry (commanded asked))
 
 -- so it was over a connection, or there was none for an order that can be sent
 abbrev pub OrdersThere : RegistryCommand → Result (Unit {0}) CommandRefusal → Type 0
@@ -88,28 +92,21 @@ OrdersThere order result =
 abbrev pub EndsNamedInEach : List ℕ → Result (Unit {0}) CommandRefusal → Type 0
 EndsNamedInEach f result = (w : World) → result ≡ ending (Ok (revoked_with w f))
 
--- The line that orders to revoke the key with this fingerprint was sent as `AsksToRevoke` says, and the command ends by
+-- The line that orders to revoke the key with this fingerprint was sent as `Asks` says, and the command ends by
 -- the result. If there is no such line, the command ends as the revocation does in each world.
 pub record RevokesOver (unread unread_new written written_new : Option (List ℕ)) (f : List ℕ)
     (result : Result (Unit {0}) CommandRefusal) : Type 0 where
   pub told : Result Outcome Untold
-  pub asks : AsksToRevoke unread unread_new written written_new f told
+  pub asks : Asks unread unread_new written written_new (orders.RevokeNamed f) told
   pub ends : result ≡ order_ending Registry NoKey told
   pub unsent : told ≡ Err untold.Words → EndsNamedInEach f result
 
--- so it was over a connection, or there was none for the line
-abbrev pub RevokesThere : List ℕ → Result (Unit {0}) CommandRefusal → Type 0
-RevokesThere f result =
-    ((unread unread_new written written_new : Option (List ℕ))
-    × RevokesOver unread unread_new written written_new f result)
-    ⊎ ((result ≡ Err Device) × IsSayable longest (named_words f))
-
--- The line that orders a copy to the path was sent as `AsksToCopy` says, and the command ends by the result. A path that
+-- The line that orders a copy to the path was sent as `Asks` says, and the command ends by the result. A path that
 -- no line can carry counts as a name that breaks its rule.
 pub record CopiesOver (unread unread_new written written_new : Option (List ℕ)) (path : List ℕ)
     (result : Result (Unit {0}) CommandRefusal) : Type 0 where
   pub told : Result Outcome Untold
-  pub asks : AsksToCopy unread unread_new written written_new path told
+  pub asks : Asks unread unread_new written written_new (orders.Copy path) told
   pub ends : result ≡ order_ending Copy Name told
 
 -- so it was over a connection, or there was none for the line
@@ -117,7 +114,7 @@ abbrev pub CopiesThere : List ℕ → Result (Unit {0}) CommandRefusal → Type 
 CopiesThere path result =
     ((unread unread_new written written_new : Option (List ℕ))
     × CopiesOver unread unread_new written written_new path result)
-    ⊎ ((result ≡ Err Device) × IsSayable longest_copy (copy_words path))
+    ⊎ ((result ≡ Err Device) × HasLine (orders.Copy path))
 
 -- the line that ends a server was sent as `AsksToStop` says, and the command ends by the result
 pub record StopsOver (unread unread_new written written_new : Option (List ℕ))
@@ -126,8 +123,76 @@ pub record StopsOver (unread unread_new written written_new : Option (List ℕ))
   pub asks : AsksToStop unread unread_new written written_new told
   pub ends : result ≡ order_ending Stop Io told
 
--- so it was over a connection, or there was none
-abbrev pub StopsThere : Result (Unit {0}) CommandRefusal → Type 0
-StopsThere result =
-    ((unread unread_new written written_new : Option (List ℕ)) × StopsOver unread unread_new written written_new result)
-    ⊎ (result ≡ Err Device)
+-- ---- what passes over a connection
+
+module _ (came came_new : Account) (written written_new : Option (List ℕ)) (failed failed_new : ℕ) where
+  -- so it is by what came over the connection, which need not be known before
+  pub record OrdersHeard (order : RegistryCommand) (result : Result (Unit {0}) CommandRefusal) : Type 0 where
+    pub asked : RegistryCommand
+    pub same : ComeToTheSame asked order
+    pub told : Result Outcome Untold
+    pub asks : AsksHeard came came_new written written_new failed failed_new (orders.Registry (commanded asked)) told
+    pub ends : result ≡ order_ending Registry (unsayable asked) told
+    pub unsent : told ≡ Err untold.Words → EndsInEach order result
+
+  pub record RevokesHeard (f : List ℕ) (result : Result (Unit {0}) CommandRefusal) : Type 0 where
+    pub told : Result Outcome Untold
+    pub asks : AsksHeard came came_new written written_new failed failed_new (orders.RevokeNamed f) told
+    pub ends : result ≡ order_ending Registry NoKey told
+    pub unsent : told ≡ Err untold.Words → EndsNamedInEach f result
+
+  pub record StopsHeard (result : Result (Unit {0}) CommandRefusal) : Type 0 where
+    pub told : Result Outcome Untold
+    pub asks : SendsHeard came came_new written written_new failed failed_new (line_for orders.Stop) told
+    pub ends : result ≡ order_ending Stop Io told
+
+-- The line of an order with the same effect was sent, and what came decides how the command ends. If that order has no
+-- line, the command ends as the order does in each world.
+pub record OrdersBy (order : RegistryCommand) (result : Result (Unit {0}) CommandRefusal) (passed : Passed) : Type 0
+  where
+    pub asked : RegistryCommand
+    pub same : ComeToTheSame asked order
+    pub told : Result Outcome Untold
+    pub exchanges : Exchanges (orders.Registry (commanded asked)) passed told
+    pub ends : result ≡ order_ending Registry (unsayable asked) told
+    pub unsent : told ≡ Err untold.Words → EndsInEach order result
+
+-- The line that orders to revoke the key with this fingerprint was sent, and what came decides how the command ends. If
+-- there is no such line, the command ends as the revocation does in each world.
+pub record RevokesBy (f : List ℕ) (result : Result (Unit {0}) CommandRefusal) (passed : Passed) : Type 0 where
+  pub told : Result Outcome Untold
+  pub exchanges : Exchanges (orders.RevokeNamed f) passed told
+  pub ends : result ≡ order_ending Registry NoKey told
+  pub unsent : told ≡ Err untold.Words → EndsNamedInEach f result
+
+-- the line that ends a server was sent, and what came decides how the command ends
+pub record StopsBy (result : Result (Unit {0}) CommandRefusal) (passed : Passed) : Type 0 where
+  pub told : Result Outcome Untold
+  pub exchanges : Exchanges orders.Stop passed told
+  pub ends : result ≡ order_ending Stop Io told
+
+-- ---- what is connected to
+
+-- no line can carry the order that is sent for this one, and the command ends so in each world
+abbrev pub IsUnsent : RegistryCommand → CommandRefusal → Type 0
+IsUnsent order refusal =
+    (asked : RegistryCommand) × IsSentFor order asked × HasNoLine (orders.Registry (commanded asked))
+    × (refusal ≡ unsayable asked) × EndsInEach order (Err refusal)
+
+module _ {L : Type 0} (all : L → Passed → Type 0) (before after : List (Done L)) (path : List ℕ) where
+  -- The order was sent to the server of this path, and to no other. Or no line can carry it, and nothing was connected
+  -- to.
+  abbrev pub OrdersTo : RegistryCommand → Result (Unit {0}) CommandRefusal → Type 0
+  OrdersTo order result =
+      (CanBeSent order × AsksServer all before after path (OrdersBy order result) result)
+      ⊎ (IsIdle before after × ((refusal : CommandRefusal) × (result ≡ Err refusal) × IsUnsent order refusal))
+
+  -- so it was with the order to revoke the key with this fingerprint
+  abbrev pub RevokesTo : List ℕ → Result (Unit {0}) CommandRefusal → Type 0
+  RevokesTo f result =
+      (HasLine (orders.RevokeNamed f) × AsksServer all before after path (RevokesBy f result) result)
+      ⊎ (IsIdle before after × HasNoLine (orders.RevokeNamed f) × (result ≡ Err NoKey) × EndsNamedInEach f result)
+
+  -- the server of this path was told to end, and no other
+  abbrev pub StopsTo : Result (Unit {0}) CommandRefusal → Type 0
+  StopsTo result = AsksServer all before after path (StopsBy result) result

@@ -4,8 +4,8 @@ use Rattle.histories.specs.Calls.{Writes}
 use Rattle.world.specs.declared.registry.StoreFault.TheVariants as fault
 use Rattle.control.specs.Asking.{AsksForHealth}
 use Rattle.control.specs.declared.client.Untold.{Untold}
-use Rattle.control.specs.declared.outcome.Outcome.{Outcome}
-use Rattle.control.specs.declared.outcome.Outcome.TheVariants as outcome
+use Rattle.orders.specs.declared.outcome.Outcome.{Outcome}
+use Rattle.orders.specs.declared.outcome.Outcome.TheVariants as outcome
 use Rattle.control.specs.declared.told.Told.{Told}
 use Rattle.control.specs.declared.told.Told.TheVariants as spoken
 use Rattle.commands.specs.Printed.{HasCause}

@@ -3,8 +3,8 @@ use Rattle.std.specs.Prelude.{Bool, true, false, if◌then◌else◌, Result, Ok
 use Rattle.world.specs.declared.registry.RegistryReply.TheVariants as registered
 use Rattle.control.specs.declared.client.Untold.{Untold}
 use Rattle.control.specs.declared.client.Untold.TheVariants as untold
-use Rattle.control.specs.declared.outcome.Outcome.{Outcome}
-use Rattle.control.specs.declared.outcome.Outcome.TheVariants as outcome
+use Rattle.orders.specs.declared.outcome.Outcome.{Outcome}
+use Rattle.orders.specs.declared.outcome.Outcome.TheVariants as outcome
 use Rattle.commands.specs.Ending.{ending}
 use Rattle.commands.specs.declared.refusal.CommandRefusal.{CommandRefusal}
 use Rattle.commands.specs.declared.refusal.CommandRefusal.TheVariants as refusal

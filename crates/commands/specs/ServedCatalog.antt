@@ -2,13 +2,14 @@
 use Rattle.std.specs.Prelude.{ℕ, ◌≡◌, ◌⊎◌, ◌++◌, Bool, List, Option, Result, Ok, Err}
 use Rattle.std.specs.Io.KnownBytes.{Consumes}
 use Rattle.world.specs.declared.registry.RegistryReply.TheVariants.{Done}
-use Rattle.control.specs.Asking.{AsksForCatalog, IsSayable}
-use Rattle.control.specs.Line.{catalog_words, longest}
+use Rattle.control.specs.Asking.{AsksForCatalog}
 use Rattle.control.specs.Listing.{AreLines}
-use Rattle.control.specs.Outcome.{line_of}
+use Rattle.orders.specs.Order as orders
+use Rattle.orders.specs.Order.{HasLine}
+use Rattle.orders.specs.Outcome.{line_of}
 use Rattle.control.specs.declared.client.Untold.{Untold}
-use Rattle.control.specs.declared.outcome.Outcome.{Outcome}
-use Rattle.control.specs.declared.outcome.Outcome.TheVariants.{RegistryReply}
+use Rattle.orders.specs.declared.outcome.Outcome.{Outcome}
+use Rattle.orders.specs.declared.outcome.Outcome.TheVariants.{RegistryReply}
 use Rattle.commands.specs.Report.{Prints}
 use Rattle.commands.specs.SentOrder.{order_ending, untold_ending}
 use Rattle.commands.specs.declared.refusal.CommandRefusal.{CommandRefusal}
@@ -54,4 +55,4 @@ abbrev pub CatalogsThere : List ℕ → Option (List ℕ) → Option (List ℕ) 
 CatalogsThere key printed printed_new result =
     ((unread unread_new written written_new : Option (List ℕ))
     × CatalogsOver unread unread_new written written_new key printed printed_new result)
-    ⊎ ((result ≡ Err Device) × (printed_new ≡ printed) × IsSayable longest (catalog_words key))
+    ⊎ ((result ≡ Err Device) × (printed_new ≡ printed) × HasLine (orders.Catalog key))

@@ -14,9 +14,10 @@ use crate::report::{
     Named, print_catalog, print_inventory, print_keys, print_requirements, print_shelves,
 };
 use crate::serve::{Entrance, serve};
-use control::{Copies, RegistryCommand};
+use control::Copies;
 use histories::{Hear, Tell, Telling};
 use keyring::Keyring;
+use orders::RegistryCommand;
 use outline::outlines::Outlines;
 use std::rt::HostRuntime;
 use world::entry::Right;

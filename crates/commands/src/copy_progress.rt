@@ -1,8 +1,9 @@
 //! How far a copy is, shown while its outcome is awaited.
 
 use crate::progress::{Progress, StderrLine, scaled};
-use control::{Told, ask_for_health, server_at};
+use control::{Told, ask_for_health};
 use histories::{Hearing, Telling};
+use network::system::server_at;
 use std::io::{self, ErrorKind, Read};
 use std::os::unix::net::UnixStream;
 use std::rt::HostRuntime;

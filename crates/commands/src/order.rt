@@ -1,16 +1,16 @@
 //! The commands of the registry that are sent to a running `serve`, a copy of its store, and its end.
 ghost use Rattle.std.specs.Prelude.{◌≡◌, Err, MatchOption, option_copied};
+ghost use Rattle.commands.specs.Connection.{IsAll};
 ghost use Rattle.commands.specs.Order as spec;
 
 use crate::copy_progress::{AwaitedCopy, patient_server_at};
 use crate::progress::StderrLine;
 use crate::refusal::CommandRefusal;
 use crate::sent_order::{SentOrder, order_ending};
-use control::{
-    RegistryCommand, ask, ask_to_copy, ask_to_revoke, ask_to_stop, has_copy_line, has_line,
-    has_naming_line, server_at,
-};
+use control::{ask, ask_to_stop};
 use histories::{Hear, Hearing, Tell, Telling};
+use network::servers::Servers;
+use orders::{Order, RegistryCommand};
 use std::alloc::Global;
 use std::io::Write;
 use std::rt::HostRuntime;
@@ -19,34 +19,40 @@ use world::names::{is_key, is_team_name};
 /// What is sent for a group whose name breaks the rule: no group has this name either.
 const NO_NAME: &str = "?";
 
-/// Sends an order to the `serve` that listens at a socket, and ends as the same command does on the store of a file. An
+/// Sends an order to the `serve` that listens at a path, and ends as the same command does on the store of a file. An
 /// order that no line can carry ends as it would in any world, whether somebody listens or not. Fails with the refusals
 /// of that command; with `Device` also if nobody listens there or the system refuses the connection; with `Memory` also
 /// if memory runs out for the line, and then nothing is sent; and with `Io` if no outcome of a registry command came.
 /// Then the order may have been carried out.
-pub fn order_at(rt: &HostRuntime, path: &str, order: &RegistryCommand) -> Result<(), CommandRefusal>
-    ensures { spec.OrdersThere order.now result }
+pub fn order_at<R: Hear, W: Tell, V: Servers<R, W>>(
+    alloc: Global,
+    servers: &mut V,
+    path: &str,
+    order: &RegistryCommand,
+) -> Result<(), CommandRefusal>
+    ensures { spec.OrdersTo
+        (λ link passed. IsAll (R.account link.reader) (W.contents link.writer) (W.writes link.writer).failed passed)
+        (V.history servers.old) (V.history servers.new) path.now order.now result }
 {
     if let Some(refusal) = unsent_refusal(order) {
         return Err(refusal);
     }
-    match server_at(rt, path) {
-        Ok(server) => order_over(
-            rt.alloc(),
-            &mut Hearing::new(&server),
-            &mut Telling::new(&server),
-            order,
-        ),
+    match servers.connect(path) {
+        Ok(mut link) => {
+            let ended = order_over(alloc, &mut link.reader, &mut link.writer, order);
+            servers.end(link);
+            ended
+        }
         Err(_) => Err(CommandRefusal::Device),
     }
 }
 
 /// Returns how a command ends whose order no line can carry, or None if one can.
-pub fn unsent_refusal(order: &RegistryCommand) -> Option<CommandRefusal>
-    ensures { MatchOption result (spec.CanBeSent order.now) (λ refusal. spec.OrdersThere order.now (Err refusal)) }
+fn unsent_refusal(order: &RegistryCommand) -> Option<CommandRefusal>
+    ensures { MatchOption result (spec.CanBeSent order.now) (λ refusal. spec.IsUnsent order.now refusal) }
 {
     let asked = with_sendable_group(order);
-    if has_line(&asked) {
+    if Order::Registry(asked).has_line() {
         None
     } else {
         Some(unsayable(&asked))
@@ -62,11 +68,14 @@ pub fn order_over<R: Hear, W: Tell>(
     writer: &mut W,
     order: &RegistryCommand,
 ) -> Result<(), CommandRefusal>
-    ensures { spec.OrdersOver (R.remaining reader.old) (R.remaining reader.new)
+    ensures orders { spec.OrdersOver (R.remaining reader.old) (R.remaining reader.new)
         (W.contents writer.old) (W.contents writer.new) order.now result }
+    // So it is by what came, which need not be known before.
+    ensures heard { spec.OrdersHeard (R.account reader.old) (R.account reader.new) (W.contents writer.old)
+        (W.contents writer.new) (W.writes writer.old).failed (W.writes writer.new).failed order.now result }
 {
     let asked = with_sendable_group(order);
-    let told = ask(alloc, reader, writer, &asked);
+    let told = ask(alloc, reader, writer, &Order::Registry(asked));
     order_ending(SentOrder::Registry, unsayable(&asked), told)
 }
 
@@ -115,22 +124,28 @@ fn refusal_by(keeps: bool, refusal: CommandRefusal) -> CommandRefusal
     if keeps { refusal } else { CommandRefusal::Name }
 }
 
-/// Has the `serve` that listens at a socket revoke the key that has a fingerprint or a SHA-256, and ends as the same
+/// Has the `serve` that listens at a path revoke the key that has a fingerprint or a SHA-256, and ends as the same
 /// command does on the store of a file. `NoKey` if no key has it or several have, or no line can carry it. Fails as
 /// `order_at` does otherwise.
-pub fn revoke_at(rt: &HostRuntime, path: &str, fingerprint: &str) -> Result<(), CommandRefusal>
-    ensures { spec.RevokesThere fingerprint.now result }
+pub fn revoke_at<R: Hear, W: Tell, V: Servers<R, W>>(
+    alloc: Global,
+    servers: &mut V,
+    path: &str,
+    fingerprint: &str,
+) -> Result<(), CommandRefusal>
+    ensures { spec.RevokesTo
+        (λ link passed. IsAll (R.account link.reader) (W.contents link.writer) (W.writes link.writer).failed passed)
+        (V.history servers.old) (V.history servers.new) path.now fingerprint.now result }
 {
-    if !has_naming_line(fingerprint) {
+    if !Order::RevokeNamed(fingerprint).has_line() {
         return Err(CommandRefusal::NoKey);
     }
-    match server_at(rt, path) {
-        Ok(server) => revoke_over(
-            rt.alloc(),
-            &mut Hearing::new(&server),
-            &mut Telling::new(&server),
-            fingerprint,
-        ),
+    match servers.connect(path) {
+        Ok(mut link) => {
+            let ended = revoke_over(alloc, &mut link.reader, &mut link.writer, fingerprint);
+            servers.end(link);
+            ended
+        }
         Err(_) => Err(CommandRefusal::Device),
     }
 }
@@ -144,10 +159,13 @@ pub fn revoke_over<R: Hear, W: Tell>(
     writer: &mut W,
     fingerprint: &str,
 ) -> Result<(), CommandRefusal>
-    ensures { spec.RevokesOver (R.remaining reader.old) (R.remaining reader.new)
+    ensures revokes { spec.RevokesOver (R.remaining reader.old) (R.remaining reader.new)
         (W.contents writer.old) (W.contents writer.new) fingerprint.now result }
+    // So it is by what came, which need not be known before.
+    ensures heard { spec.RevokesHeard (R.account reader.old) (R.account reader.new) (W.contents writer.old)
+        (W.contents writer.new) (W.writes writer.old).failed (W.writes writer.new).failed fingerprint.now result }
 {
-    let told = ask_to_revoke(alloc, reader, writer, fingerprint);
+    let told = ask(alloc, reader, writer, &Order::RevokeNamed(fingerprint));
     order_ending(SentOrder::Registry, CommandRefusal::NoKey, told)
 }
 
@@ -160,7 +178,7 @@ pub fn revoke_over<R: Hear, W: Tell>(
 pub fn copy_at(rt: &HostRuntime, control: &str, path: &str) -> Result<(), CommandRefusal>
     ensures { spec.CopiesThere path.now result }
 {
-    if !has_copy_line(path) {
+    if !Order::Copy(path).has_line() {
         return Err(CommandRefusal::Name);
     }
     let line = StderrLine::on_stderr(rt, "copy");
@@ -185,21 +203,27 @@ pub fn copy_over<R: Hear, W: Tell>(
     ensures { spec.CopiesOver (R.remaining reader.old) (R.remaining reader.new)
         (W.contents writer.old) (W.contents writer.new) path.now result }
 {
-    let told = ask_to_copy(alloc, reader, writer, path);
+    let told = ask(alloc, reader, writer, &Order::Copy(path));
     order_ending(SentOrder::Copy, CommandRefusal::Name, told)
 }
 
-/// Ends the `serve` that listens at a socket, after the current request. `Device` if nobody listens there or the system
+/// Ends the `serve` that listens at a path, after the current request. `Device` if nobody listens there or the system
 /// refuses the connection; otherwise it ends as `stop_over` does.
-pub fn stop_at(rt: &HostRuntime, path: &str) -> Result<(), CommandRefusal>
-    ensures { spec.StopsThere result }
+pub fn stop_at<R: Hear, W: Tell, V: Servers<R, W>>(
+    alloc: Global,
+    servers: &mut V,
+    path: &str,
+) -> Result<(), CommandRefusal>
+    ensures { spec.StopsTo
+        (λ link passed. IsAll (R.account link.reader) (W.contents link.writer) (W.writes link.writer).failed passed)
+        (V.history servers.old) (V.history servers.new) path.now result }
 {
-    match server_at(rt, path) {
-        Ok(server) => stop_over(
-            rt.alloc(),
-            &mut Hearing::new(&server),
-            &mut Telling::new(&server),
-        ),
+    match servers.connect(path) {
+        Ok(mut link) => {
+            let ended = stop_over(alloc, &mut link.reader, &mut link.writer);
+            servers.end(link);
+            ended
+        }
         Err(_) => Err(CommandRefusal::Device),
     }
 }
@@ -211,8 +235,11 @@ pub fn stop_over<R: Hear, W: Tell>(
     reader: &mut R,
     writer: &mut W,
 ) -> Result<(), CommandRefusal>
-    ensures { spec.StopsOver (R.remaining reader.old) (R.remaining reader.new)
+    ensures stops { spec.StopsOver (R.remaining reader.old) (R.remaining reader.new)
         (W.contents writer.old) (W.contents writer.new) result }
+    // So it is by what came, which need not be known before.
+    ensures heard { spec.StopsHeard (R.account reader.old) (R.account reader.new) (W.contents writer.old)
+        (W.contents writer.new) (W.writes writer.old).failed (W.writes writer.new).failed result }
 {
     let told = ask_to_stop(alloc, reader, writer);
     order_ending(SentOrder::Stop, CommandRefusal::Io, told)

@@ -6,8 +6,10 @@ ghost use Rattle.commands.specs.Report.{Prints};
 
 use crate::refusal::CommandRefusal;
 use crate::report::print_text;
-use control::{Outcome, Told, Untold, ask_for_health, server_at};
+use control::{Told, Untold, ask_for_health};
 use histories::{Hear, Hearing, Tell, Telling};
+use network::system::server_at;
+use orders::Outcome;
 use std::alloc::Global;
 use std::rt::HostRuntime;
 use text::Text;

@@ -12,7 +12,7 @@ use world::registry::{RegistryReply, StoreFault};
 #[derive(Clone, Copy, Debug, Drop, PartialEq, Eq)]
 pub enum CommandRefusal {
     /// The name of a team or a group, or a key, breaks its rule; for `copy`, no line can carry the path
-    /// (`control::ask_to_copy`).
+    /// (`orders::Order::has_line`).
     Name,
     /// A shelf of that name, or the key, exists already.
     Taken,

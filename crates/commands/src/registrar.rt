@@ -5,7 +5,8 @@ ghost use Rattle.commands.specs.Order.{OrdersThere};
 use crate::order::order_at;
 use crate::refusal::CommandRefusal;
 use crate::registry::register;
-use control::RegistryCommand;
+use network::system::SystemServers;
+use orders::RegistryCommand;
 use std::rt::HostRuntime;
 use world::shelves::Shelves;
 
@@ -13,7 +14,7 @@ use world::shelves::Shelves;
 pub(crate) trait Registrar {
     ghost use Rattle.std.specs.Prelude.{Result};
     ghost use Rattle.commands.specs.declared.refusal.CommandRefusal.{CommandRefusal};
-    ghost use Rattle.control.specs.declared.registry_command.RegistryCommand.{RegistryCommand};
+    ghost use Rattle.orders.specs.declared.command.RegistryCommand.{RegistryCommand};
 
     /// What happens when it carries one out: relates it before and after that, and how the command ends.
     ghost registers: { Self → Self → RegistryCommand → Result (Unit {0}) CommandRefusal → Type 0 };
@@ -49,6 +50,7 @@ impl<'a> Registrar for Served<'a> {
     ghost registers = { λ old new command result. OrdersThere command result };
 
     fn carry(&mut self, command: &RegistryCommand) -> Result<(), CommandRefusal> {
-        order_at(self.rt, self.path, command)
+        let mut servers = SystemServers::new(self.rt);
+        order_at(self.rt.alloc(), &mut servers, self.path, command)
     }
 }

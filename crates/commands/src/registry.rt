@@ -2,9 +2,10 @@
 ghost use Rattle.commands.specs.Ending.{Registers, RevokesNamed};
 
 use crate::refusal::{CommandRefusal, ending};
-use control::{RegistryCommand, carry_out};
+use control::carry_out;
 use keyring::Keyring;
 use keyring::revoke::revoke_with;
+use orders::RegistryCommand;
 use std::alloc::Global;
 use world::shelves::Shelves;
 

@@ -3,7 +3,8 @@ ghost use Rattle.std.specs.Prelude.{◌≡◌};
 ghost use Rattle.commands.specs.SentOrder as spec;
 
 use crate::refusal::{CommandRefusal, ending};
-use control::{Outcome, Untold};
+use control::Untold;
+use orders::Outcome;
 use world::registry::RegistryReply;
 
 /// What a command sends, by what may come of it.

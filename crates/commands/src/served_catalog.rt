@@ -7,8 +7,10 @@ ghost use Rattle.commands.specs.ServedCatalog as spec;
 use crate::refusal::CommandRefusal;
 use crate::report::print;
 use crate::sent_order::{SentOrder, order_ending, untold_ending};
-use control::{Unread, Untold, ask_for_catalog, has_catalog_line, outcome_in, read_all, server_at};
+use control::{Unread, Untold, ask_for_catalog, read_all};
 use histories::{Hear, Hearing, Tell, Telling};
+use network::system::server_at;
+use orders::{Order, read_outcome};
 use std::alloc::Global;
 use std::io;
 use std::os::unix::net::UnixStream;
@@ -31,7 +33,7 @@ pub fn catalog_at<O: Tell>(
 ) -> Result<bool, CommandRefusal>
     ensures { spec.CatalogsThere key.now (O.contents output.old) (O.contents output.new) result }
 {
-    if !has_catalog_line(key) {
+    if !Order::Catalog(key).has_line() {
         return Err(CommandRefusal::NoKey);
     }
     match waiting_server_at(rt, path) {
@@ -101,7 +103,7 @@ fn hear_catalog<R: Hear>(alloc: Global, reader: &mut R) -> Result<Bytes, Command
         Err(Unread::Io) => return Err(CommandRefusal::Io),
     };
     let at = last_line_at(&got);
-    let Some(told) = outcome_in(&got[at..]) else {
+    let Some(told) = read_outcome(&got[at..]) else {
         return Err(CommandRefusal::Io);
     };
     order_ending(SentOrder::Catalog, CommandRefusal::NoKey, Ok(told))?;

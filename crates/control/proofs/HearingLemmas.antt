@@ -10,13 +10,15 @@ use Rattle.engine.specs.declared.fault.Io.{Io}
 use Rattle.engine.specs.declared.fault.Io.TheVariants as io
 use Rattle.control.specs.Copying.{Making, OfKey, GoesThroughSteps}
 use Rattle.control.specs.Hearing.{Heard, Made, NoMemory, IsHeard, IsHeardIn, Heeds, Hears, Obeys, WritesSome, told_heard}
-use Rattle.control.specs.Line.{IsCatalogOf, ReadsLine}
-use Rattle.control.specs.Outcome.{line_of, outcome_of_catalog, word_of}
+use Rattle.orders.specs.Order.{IsLineOf, Catalog}
+use Rattle.control.specs.Line.{ReadsLine}
+use Rattle.control.specs.Outcome.{outcome_of_catalog}
+use Rattle.orders.specs.Outcome.{line_of, word_of}
 use Rattle.control.specs.Told.{bytes_told}
-use Rattle.control.specs.Words.{line_end}
+use Rattle.orders.specs.Words.{line_end}
 use Rattle.control.specs.declared.copies.CatalogRefusal.{CatalogRefusal}
 use Rattle.control.specs.declared.health.Health.{Health}
-use Rattle.control.specs.declared.outcome.Outcome.{Outcome}
+use Rattle.orders.specs.declared.outcome.Outcome.{Outcome}
 use Rattle.control.specs.declared.told.Told.{Told}
 use Rattle.control.specs.declared.told.Told.TheVariants as spoken
 
@@ -47,7 +49,7 @@ module _ (made : Making → Type 0) (pinged : Result Health StoreFault → Type 
 
   -- the catalog that it asks for
   pub hears_catalog : (got key printed : List ℕ) (told : Result (Unit {0}) CatalogRefusal) (outcome : Outcome)
-      → outcome ≡ outcome_of_catalog told → ReadsLine u u' got → IsCatalogOf got key
+      → outcome ≡ outcome_of_catalog told → ReadsLine u u' got → IsLineOf got (Catalog key)
       → meanwhile (OfKey key printed told)
       → made (OfKey key printed told)
       → Hears made pinged idle meanwhile old new u u' printed (spoken.Outcome outcome)

@@ -14,7 +14,8 @@ use Rattle.engine.specs.Reply.{bytes_of}
 use Rattle.engine.proofs.HeadlineLemmas.{alike_by}
 use Rattle.engine.proofs.FaultlessLemmas.{text_to}
 use Rattle.control.specs.Isolated.{origin_at, text_at, if_faultless, faultless, TasksAreAnsweredAlike}
-use Rattle.control.specs.Outcome.{outcome_of, line_of}
+use Rattle.control.specs.Outcome.{outcome_of}
+use Rattle.orders.specs.Outcome.{line_of}
 use Rattle.control.specs.Tasks.{Task, Asked, Ordered, answered_of, task_event, task_answer, world_at}
 
 -- ---- what is written, by the machine's answer

@@ -1,10 +1,5 @@
-pub mod WordLemmas
-pub mod SayingLemmas
-pub mod RegistryCommandLemmas
 pub mod LineLemmas
-pub mod CopyLemmas
-pub mod OrderLemmas
-pub mod OutcomeLemmas
+pub mod SendingLemmas
 pub mod CrashLemmas
 pub mod TaskLemmas
 pub mod HearingLemmas

@@ -7,8 +7,8 @@ use Rattle.world.specs.declared.registry.StoreFault.{StoreFault}
 use Rattle.world.specs.declared.registry.StoreFault.TheVariants.{Memory}
 use Rattle.control.specs.Copying.{IsOnlyRead}
 use Rattle.control.specs.Listing.{IsList, IsReplyFor, Lists, ReadsList}
-use Rattle.control.specs.declared.listing.Listing.{Listing}
-use Rattle.control.specs.declared.listing.Listing.TheVariants.{Keys, Shelves}
+use Rattle.orders.specs.declared.listing.Listing.{Listing}
+use Rattle.orders.specs.declared.listing.Listing.TheVariants.{Keys, Shelves}
 use Rattle.control.specs.declared.told.Told.{Told}
 
 -- a read changes nothing

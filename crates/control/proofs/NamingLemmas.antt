@@ -12,8 +12,8 @@ use Rattle.control.specs.Naming.{NamesOne, NamesNone, Unread, RevokesNamed}
 use Rattle.control.specs.RegistryCommand.{event_of, outcome_in}
 use Rattle.control.specs.Outcome.{outcome_of}
 use Rattle.control.specs.Tasks.{Ordered}
-use Rattle.control.specs.declared.registry_command.RegistryCommand.TheVariants.{KeyRevoke}
-use Rattle.control.specs.declared.outcome.Outcome.{Outcome}
+use Rattle.orders.specs.declared.command.RegistryCommand.TheVariants.{KeyRevoke}
+use Rattle.orders.specs.declared.outcome.Outcome.{Outcome}
 use Rattle.control.proofs.ListingLemmas.{only_read}
 use Rattle.control.proofs.TaskLemmas.{tasks_more, tasks_ordered, tasks_read}
 

@@ -17,15 +17,16 @@ use Rattle.modver.specs.SemanticVersion.{version_text}
 use Rattle.control.specs.Notices.{Answer, Occasion, Opened, Uncounted, Ordered, Copied, Catalogued, Answered, Reserved, Met}
 use Rattle.control.specs.Notices.{Ended, EndsLine, IsNotice, IsPiece, NoneIsRefusal, WritesNotices, behind_team, errand_words}
 use Rattle.control.specs.Notices.{has_group, has_shelf, joined, line_of, name_if, plain, right_words, shown_words}
-use Rattle.control.specs.Outcome as outcome
-use Rattle.control.specs.Words.{line_end}
+use Rattle.control.specs.Outcome.{outcome_of, outcome_of_catalog, outcome_of_copy}
+use Rattle.orders.specs.Outcome as outcome
+use Rattle.orders.specs.Words.{line_end}
 use Rattle.control.specs.declared.errand.Errand.{Errand}
 use Rattle.control.specs.declared.errand.Errand.TheVariants as errand
-use Rattle.control.specs.declared.outcome.Outcome.{Outcome}
-use Rattle.control.specs.declared.outcome.Outcome.TheVariants as case
-use Rattle.control.specs.declared.registry_command.RegistryCommand.{RegistryCommand}
-use Rattle.control.specs.declared.registry_command.RegistryCommand.TheVariants.{TeamAdd, GroupAdd, KeyAdd}
-use Rattle.control.specs.declared.registry_command.RegistryCommand.TheVariants.{KeyRevoke, KeysRevoke}
+use Rattle.orders.specs.declared.outcome.Outcome.{Outcome}
+use Rattle.orders.specs.declared.outcome.Outcome.TheVariants as case
+use Rattle.orders.specs.declared.command.RegistryCommand.{RegistryCommand}
+use Rattle.orders.specs.declared.command.RegistryCommand.TheVariants.{TeamAdd, GroupAdd, KeyAdd}
+use Rattle.orders.specs.declared.command.RegistryCommand.TheVariants.{KeyRevoke, KeysRevoke}
 use Rattle.control.proofs.PlainLemmas.{decimal_no_end, fingerprint_no_end, is_no_end, no_end_both, plain_text}
 use Rattle.world.specs.declared.entry.Right.{Right}
 use Rattle.world.specs.declared.entry.Right.TheVariants.{Reads, Publishes}
@@ -223,17 +224,17 @@ calm_about (Uncounted file met) =
     calm_line 111 (codes "pened: ") _ refl refl refl (calm_told (plain file) (case.Failed met) (plain_text file))
 calm_about (Ordered command told) =
     calm_line 111 (codes "rder: ") _ refl refl refl
-    (calm_told (shown_words command told) (outcome.outcome_of told) (no_end_shown command told))
+    (calm_told (shown_words command told) (outcome_of told) (no_end_shown command told))
 calm_about (Copied path told) =
     let words = codes "copy " ++ plain path in
-    calm_line 111 (codes "rder: ") (words ++ (codes ": " ++ outcome.line_of (outcome.outcome_of_copy told)))
+    calm_line 111 (codes "rder: ") (words ++ (codes ": " ++ outcome.line_of (outcome_of_copy told)))
     refl refl refl
-    (calm_told words (outcome.outcome_of_copy told) (no_end_both (codes "copy ") (plain path) refl (plain_text path)))
+    (calm_told words (outcome_of_copy told) (no_end_both (codes "copy ") (plain path) refl (plain_text path)))
 calm_about (Catalogued key told) =
     let words = codes "catalog " ++ fingerprint key in
-    calm_line 111 (codes "rder: ") (words ++ (codes ": " ++ outcome.line_of (outcome.outcome_of_catalog told)))
+    calm_line 111 (codes "rder: ") (words ++ (codes ": " ++ outcome.line_of (outcome_of_catalog told)))
     refl refl refl
-    (calm_told words (outcome.outcome_of_catalog told)
+    (calm_told words (outcome_of_catalog told)
     (no_end_both (codes "catalog ") (fingerprint key) refl (fingerprint_no_end key)))
 calm_about (Answered told) = calm_line 111 (codes "rder: ") _ refl refl refl (calm_outcome told)
 calm_about (Reserved told) = calm_line 114 (codes "eserve: ") _ refl refl refl (calm_outcome told)

@@ -11,7 +11,7 @@ use Rattle.control.specs.Pinging.{IsLineFor, Pings, TellsPing}
 use Rattle.control.specs.Told.{IsOutcome}
 use Rattle.control.specs.declared.health.Figures.{Figures}
 use Rattle.control.specs.declared.health.Health.{Health}
-use Rattle.control.specs.declared.outcome.Outcome.{Outcome}
+use Rattle.orders.specs.declared.outcome.Outcome.{Outcome}
 use Rattle.control.specs.declared.tally.Tally.{Tally}
 use Rattle.control.specs.declared.told.Told.{Told}
 use Rattle.control.specs.declared.told.Told.TheVariants as spoken

@@ -14,7 +14,7 @@ use Rattle.ucd_category.specs.GeneralCategory.{general_category}
 use Rattle.keyring.specs.KeyList.{fingerprint}
 use Rattle.keyring.proofs.FingerprintLemmas.{fingerprint_word}
 use Rattle.control.specs.Notices.{is_hidden, is_plain, plain}
-use Rattle.control.specs.Words.{line_end}
+use Rattle.orders.specs.Words.{line_end}
 
 abbrev pub is_no_end : ℕ → Bool
 is_no_end b = not (nat_eq b line_end)

@@ -29,7 +29,7 @@ use Rattle.control.specs.declared.callers.Caller.{Caller}
 use Rattle.control.specs.declared.health.Health.{Health}
 use Rattle.control.specs.declared.told.Told.{Told}
 use Rattle.control.specs.declared.told.Told.TheVariants as spoken
-use Rattle.control.specs.declared.outcome.Outcome.TheVariants.{Stopping}
+use Rattle.orders.specs.declared.outcome.Outcome.TheVariants.{Stopping}
 use Rattle.control.proofs.StepLemmas.{messages_both}
 use Rattle.control.proofs.TallyLemmas.{since_told}
 use Rattle.control.proofs.TaskLemmas.{tasks_asked}

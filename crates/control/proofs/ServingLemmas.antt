@@ -33,7 +33,7 @@ use Rattle.control.specs.declared.callers.Caller.TheVariants.{Peer, Operator}
 use Rattle.control.specs.declared.copies.CatalogRefusal.TheVariants as unprinted
 use Rattle.control.specs.declared.copies.CopyRefusal.TheVariants as refusal
 use Rattle.control.specs.declared.health.Health.{Health}
-use Rattle.control.specs.declared.outcome.Outcome.TheVariants.{Stopping}
+use Rattle.orders.specs.declared.outcome.Outcome.TheVariants.{Stopping}
 use Rattle.control.specs.declared.progress.Progress.{Progress}
 use Rattle.control.specs.declared.tally.Tally.{Tally}
 use Rattle.control.specs.declared.told.Told.{Told}

@@ -21,9 +21,9 @@ use Rattle.control.specs.Notices.{ShowsNoneAfterFault, ShowsOnlyShelves, has_she
 use Rattle.control.specs.Notices.{outcome_line, shown_words}
 use Rattle.control.specs.Outcome.{outcome_of}
 use Rattle.control.specs.RegistryCommand.{event_of, outcome_in}
-use Rattle.control.specs.declared.registry_command.RegistryCommand.{RegistryCommand}
-use Rattle.control.specs.declared.registry_command.RegistryCommand.TheVariants.{TeamAdd, GroupAdd, KeyAdd}
-use Rattle.control.specs.declared.registry_command.RegistryCommand.TheVariants.{KeyRevoke, KeysRevoke}
+use Rattle.orders.specs.declared.command.RegistryCommand.{RegistryCommand}
+use Rattle.orders.specs.declared.command.RegistryCommand.TheVariants.{TeamAdd, GroupAdd, KeyAdd}
+use Rattle.orders.specs.declared.command.RegistryCommand.TheVariants.{KeyRevoke, KeysRevoke}
 
 -- ---- a name that is shown is not none
 

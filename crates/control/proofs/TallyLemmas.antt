@@ -14,7 +14,7 @@ use Rattle.control.specs.Visits.{Call, OfPeer, OfOperator, Untaken, AllTallied, 
 use Rattle.control.specs.Naming.{NamesOne, NamesNone, Unread}
 use Rattle.control.specs.Tasks.{Asked, Ordered}
 use Rattle.control.specs.Visits.{answered_with, peers, steps_if, steps_with}
-use Rattle.control.specs.declared.registry_command.RegistryCommand.TheVariants.{KeyRevoke}
+use Rattle.orders.specs.declared.command.RegistryCommand.TheVariants.{KeyRevoke}
 use Rattle.control.specs.declared.tally.Tally.{Tally}
 
 -- ---- one connection more

@@ -19,9 +19,9 @@ use Rattle.control.specs.Copying.{IsOnlyRead}
 use Rattle.control.specs.RegistryCommand.{event_of, outcome_in}
 use Rattle.control.specs.Tasks.{Task, Asked, Ordered, task_event, task_answer, messages, AllCalm, LeavesTwo, StandsIf}
 use Rattle.control.specs.Tasks.{world_at, GoesThroughTasks}
-use Rattle.control.specs.declared.registry_command.RegistryCommand.{RegistryCommand}
-use Rattle.control.specs.declared.registry_command.RegistryCommand.TheVariants.{TeamAdd, GroupAdd, KeyAdd}
-use Rattle.control.specs.declared.registry_command.RegistryCommand.TheVariants.{KeyRevoke, KeysRevoke}
+use Rattle.orders.specs.declared.command.RegistryCommand.{RegistryCommand}
+use Rattle.orders.specs.declared.command.RegistryCommand.TheVariants.{TeamAdd, GroupAdd, KeyAdd}
+use Rattle.orders.specs.declared.command.RegistryCommand.TheVariants.{KeyRevoke, KeysRevoke}
 use Rattle.control.proofs.CrashLemmas.{leaves_still, leaves_more, world_step}
 
 -- ---- none

@@ -1,49 +1,39 @@
 -- What an operator sends, and what it gets.
-use Rattle.std.specs.Prelude.{ℕ, ◌≡◌, ◌⊎◌, List, Option, Result, Ok, Err}
+use Rattle.std.specs.Prelude.{ℕ, ◌≡◌, ◌<◌, ◌⊎◌, List, Option, Result, Ok, Err}
 use Rattle.std.specs.Io.KnownBytes.{Consumes, Appends, Keeps}
+use Rattle.histories.specs.Account.{Account, Gives}
 use Rattle.engine.specs.Written.{WritesBeginning}
+use Rattle.orders.specs.Order.{HasNoLine, IsLineOf, Ordered, Catalog, ListOf, Ping, Stop, line_for}
+use Rattle.orders.specs.Outcome.{line_of}
+use Rattle.orders.specs.declared.listing.Listing.{Listing}
+use Rattle.orders.specs.declared.outcome.Outcome.{Outcome}
+use Rattle.orders.specs.declared.write.Unwritten.{Unwritten}
+use Rattle.orders.specs.declared.write.Unwritten.TheVariants as unwritten
 use Rattle.control.specs.Health.{IsHealthLine}
-use Rattle.control.specs.Listing.{IsReplyOf, line_for}
-use Rattle.control.specs.Line.{IsCatalogOf, IsNaming, IsSaid, IsSent, IsCopyTo, longest, ping_line, stop_line}
-use Rattle.control.specs.RegistryCommand.{said_in}
-use Rattle.control.specs.Outcome.{line_of}
+use Rattle.control.specs.Listing.{IsReplyOf}
 use Rattle.control.specs.Told.{bytes_told}
-use Rattle.control.specs.Words.{Said}
 use Rattle.control.specs.declared.client.Untold.{Untold}
-use Rattle.control.specs.declared.listing.Listing.{Listing}
 use Rattle.control.specs.declared.client.Untold.TheVariants.{Words, Memory, Io}
-use Rattle.control.specs.declared.registry_command.RegistryCommand.{RegistryCommand}
-use Rattle.control.specs.declared.outcome.Outcome.{Outcome}
 use Rattle.control.specs.declared.told.Told.{Told}
 use Rattle.control.specs.declared.told.Told.TheVariants as spoken
 
--- some bytes are a line of these words, of so many bytes at most
-abbrev pub IsSayable : ℕ → Said → Type 0
-IsSayable most s = (sent : List ℕ) × IsSaid most sent s
+-- why an order with no line is not sent
+abbrev pub untold_for : Unwritten → Untold
+untold_for unwritten.Words = Words
+untold_for unwritten.Memory = Memory
 
--- no bytes are
-abbrev pub IsUnsaid : ℕ → Said → Type 0
-IsUnsaid most s = (sent : List ℕ) → ¬ IsSaid most sent s
-
--- some bytes are a line of this registry command, or none are
-abbrev pub HasLine : RegistryCommand → Type 0
-HasLine command = IsSayable longest (said_in command)
-
-abbrev pub IsUnsayable : RegistryCommand → Type 0
-IsUnsayable command = IsUnsaid longest (said_in command)
-
--- why there is no line of the words
-abbrev pub IsUnwritten : ℕ → Said → Untold → Type 0
-IsUnwritten most s Words = IsUnsaid most s
-IsUnwritten most s Memory = Unit {0}
-IsUnwritten most s Io = ⊥
+-- why there is no line of the order
+abbrev pub IsUnwritten : Ordered → Untold → Type 0
+IsUnwritten o Words = HasNoLine o
+IsUnwritten o Memory = Unit {0}
+IsUnwritten o Io = ⊥
 
 -- the line of the outcome was read, or `Io` was returned
 abbrev pub TellsOutcome : Option (List ℕ) → Option (List ℕ) → Result Outcome Untold → Type 0
 TellsOutcome unread unread_new (Ok told) = Consumes unread unread_new (line_of told)
 TellsOutcome unread unread_new (Err e) = e ≡ Io
 
--- This line was sent, and the line of the outcome came. Or it was sent, or a beginning of it, and no outcome came.
+-- This line was sent, and the line of the outcome came. Or it was sent, or a beginning of it, whatever came.
 abbrev pub Sends :
     Option (List ℕ) → Option (List ℕ) → Option (List ℕ) → Option (List ℕ) → List ℕ → Result Outcome Untold → Type 0
 Sends unread unread_new written written_new line (Ok told) =
@@ -51,42 +41,22 @@ Sends unread unread_new written written_new line (Ok told) =
 Sends unread unread_new written written_new line (Err why) =
     (why ≡ Io) × (WritesBeginning written written_new line ⊎ Appends written written_new line)
 
--- Such a line was sent, and the line of the outcome came. Or nothing was sent, because no bytes are such a line or
--- memory ran out. Or the line was sent, or a beginning of it, and no outcome came.
-abbrev pub AsksBy :
-    (List ℕ → Type 0) → Option (List ℕ) → Option (List ℕ) → Option (List ℕ) → Option (List ℕ) → Result Outcome Untold
-    → Type 0
-AsksBy is_line unread unread_new written written_new (Ok told) =
-    (sent : List ℕ) × is_line sent × Appends written written_new sent × Consumes unread unread_new (line_of told)
-AsksBy is_line unread unread_new written written_new (Err Words) = ((sent : List ℕ) → ¬ is_line sent)
-    × Keeps written written_new
-AsksBy is_line unread unread_new written written_new (Err Memory) = Keeps written written_new
-AsksBy is_line unread unread_new written written_new (Err Io) =
-    (sent : List ℕ) × is_line sent × (WritesBeginning written written_new sent ⊎ Appends written written_new sent)
-
--- so it was with the line of the registry command
+-- The line of the order was sent, and the line of the outcome came. Or nothing was sent, because no bytes are such a
+-- line or memory ran out. Or the line was sent, or a beginning of it, whatever came.
 abbrev pub Asks :
-    Option (List ℕ) → Option (List ℕ) → Option (List ℕ) → Option (List ℕ) → RegistryCommand → Result Outcome Untold
-    → Type 0
-Asks unread unread_new written written_new command told =
-    AsksBy (λ sent. IsSent sent command) unread unread_new written written_new told
-
--- so it was with the line that orders a copy to the path
-abbrev pub AsksToCopy :
-    Option (List ℕ) → Option (List ℕ) → Option (List ℕ) → Option (List ℕ) → List ℕ → Result Outcome Untold → Type 0
-AsksToCopy unread unread_new written written_new path told =
-    AsksBy (λ sent. IsCopyTo sent path) unread unread_new written written_new told
-
--- so it was with the line that orders to revoke the key with the fingerprint
-abbrev pub AsksToRevoke :
-    Option (List ℕ) → Option (List ℕ) → Option (List ℕ) → Option (List ℕ) → List ℕ → Result Outcome Untold → Type 0
-AsksToRevoke unread unread_new written written_new f told =
-    AsksBy (λ sent. IsNaming sent f) unread unread_new written written_new told
+    Option (List ℕ) → Option (List ℕ) → Option (List ℕ) → Option (List ℕ) → Ordered → Result Outcome Untold → Type 0
+Asks unread unread_new written written_new o (Ok told) =
+    (sent : List ℕ) × IsLineOf sent o × Appends written written_new sent × Consumes unread unread_new (line_of told)
+Asks unread unread_new written written_new o (Err Words) = HasNoLine o × Keeps written written_new
+Asks unread unread_new written written_new o (Err Memory) = Keeps written written_new
+Asks unread unread_new written written_new o (Err Io) =
+    (sent : List ℕ) × IsLineOf sent o × (WritesBeginning written written_new sent ⊎ Appends written written_new sent)
 
 -- the line that ends the server was sent as `Sends` says
 abbrev pub AsksToStop :
     Option (List ℕ) → Option (List ℕ) → Option (List ℕ) → Option (List ℕ) → Result Outcome Untold → Type 0
-AsksToStop unread unread_new written written_new told = Sends unread unread_new written written_new stop_line told
+AsksToStop unread unread_new written written_new told =
+    Sends unread unread_new written written_new (line_for Stop) told
 
 -- an outcome, or the line of a health and nothing else
 abbrev pub IsTold : Told → Type 0
@@ -104,9 +74,9 @@ TellsHealth unread unread_new (Err e) = e ≡ Io
 abbrev pub AsksForHealth :
     Option (List ℕ) → Option (List ℕ) → Option (List ℕ) → Option (List ℕ) → Result Told Untold → Type 0
 AsksForHealth unread unread_new written written_new (Ok told) =
-    IsTold told × Appends written written_new ping_line × Consumes unread unread_new (bytes_told told)
+    IsTold told × Appends written written_new (line_for Ping) × Consumes unread unread_new (bytes_told told)
 AsksForHealth unread unread_new written written_new (Err why) =
-    (why ≡ Io) × (WritesBeginning written written_new ping_line ⊎ Appends written written_new ping_line)
+    (why ≡ Io) × (WritesBeginning written written_new (line_for Ping) ⊎ Appends written written_new (line_for Ping))
 
 -- the bytes are a list with its last line, or the line of an outcome
 abbrev pub TellsBytes : Result (List ℕ) Outcome → List ℕ → Type 0
@@ -123,18 +93,45 @@ TellsList unread unread_new (Err e) = e ≡ Io
 abbrev pub AsksForList : Option (List ℕ) → Option (List ℕ) → Option (List ℕ) → Option (List ℕ) → Listing
     → Result (Result (List ℕ) Outcome) Untold → Type 0
 AsksForList unread unread_new written written_new listing (Ok told) =
-    TellsList unread unread_new (Ok told) × Appends written written_new (line_for listing)
+    TellsList unread unread_new (Ok told) × Appends written written_new (line_for (ListOf listing))
 AsksForList unread unread_new written written_new listing (Err why) =
     (why ≡ Io)
-    × (WritesBeginning written written_new (line_for listing) ⊎ Appends written written_new (line_for listing))
+    × (WritesBeginning written written_new (line_for (ListOf listing)) ⊎ Appends written written_new (line_for (ListOf listing)))
 
 -- The line that asks for the catalog of this key was sent. Or nothing was sent, because no bytes are such a line or
 -- memory ran out. Or a beginning of the line was sent.
 abbrev pub AsksForCatalog : Option (List ℕ) → Option (List ℕ) → List ℕ → Result (Unit {0}) Untold → Type 0
 AsksForCatalog written written_new key (Ok u) =
-    (sent : List ℕ) × IsCatalogOf sent key × Appends written written_new sent
+    (sent : List ℕ) × IsLineOf sent (Catalog key) × Appends written written_new sent
 AsksForCatalog written written_new key (Err Words) =
-    ((sent : List ℕ) → ¬ IsCatalogOf sent key) × Keeps written written_new
+    HasNoLine (Catalog key) × Keeps written written_new
 AsksForCatalog written written_new key (Err Memory) = Keeps written written_new
 AsksForCatalog written written_new key (Err Io) =
-    (sent : List ℕ) × IsCatalogOf sent key × WritesBeginning written written_new sent
+    (sent : List ℕ) × IsLineOf sent (Catalog key) × WritesBeginning written written_new sent
+
+-- ---- by what came, which need not be known before
+
+-- This line was sent, and the line of the outcome came and nothing else. Or a beginning of it was sent, a write failed,
+-- and nothing was read. Or it was sent, whatever came.
+abbrev pub SendsHeard : Account → Account → Option (List ℕ) → Option (List ℕ) → ℕ → ℕ → List ℕ → Result Outcome Untold
+    → Type 0
+SendsHeard came came_new written written_new failed failed_new line (Ok told) =
+    Appends written written_new line × Gives came came_new (line_of told)
+SendsHeard came came_new written written_new failed failed_new line (Err why) =
+    (why ≡ Io) × ((WritesBeginning written written_new line × (failed < failed_new) × (came_new ≡ came))
+    ⊎ Appends written written_new line)
+
+-- The line of the order was sent, and the line of the outcome came and nothing else. Or nothing was sent or read,
+-- because no bytes are such a line or memory ran out. Or a beginning of the line was sent, a write failed, and nothing
+-- was read. Or it was sent, whatever came.
+abbrev pub AsksHeard : Account → Account → Option (List ℕ) → Option (List ℕ) → ℕ → ℕ → Ordered → Result Outcome Untold
+    → Type 0
+AsksHeard came came_new written written_new failed failed_new o (Ok told) =
+    (sent : List ℕ) × IsLineOf sent o × Appends written written_new sent × Gives came came_new (line_of told)
+AsksHeard came came_new written written_new failed failed_new o (Err Words) =
+    HasNoLine o × (written_new ≡ written) × (came_new ≡ came)
+AsksHeard came came_new written written_new failed failed_new o (Err Memory) =
+    (written_new ≡ written) × (came_new ≡ came)
+AsksHeard came came_new written written_new failed failed_new o (Err Io) =
+    (sent : List ℕ) × IsLineOf sent o × ((WritesBeginning written written_new sent × (failed < failed_new)
+    × (came_new ≡ came)) ⊎ Appends written written_new sent)

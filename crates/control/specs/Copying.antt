@@ -12,7 +12,7 @@ use Rattle.control.specs.declared.copies.CatalogRefusal.TheVariants as catalog
 use Rattle.control.specs.declared.copies.CopyRefusal.{CopyRefusal}
 use Rattle.control.specs.declared.copies.CopyRefusal.TheVariants as copy
 use Rattle.control.specs.declared.health.Health.{Health}
-use Rattle.control.specs.declared.listing.Listing.{Listing}
+use Rattle.orders.specs.declared.listing.Listing.{Listing}
 
 -- A store was only read: it stands for the worlds that it stood for, and a crash leaves nothing that it did not leave
 -- before.

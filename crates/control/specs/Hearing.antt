@@ -1,5 +1,5 @@
 -- What an operator's line orders, and the outcome that the operator gets.
-use Rattle.std.specs.Prelude.{ℕ, ◌≡◌, ◌⊎◌, ◌++◌, List, [], ◌∷◌, Option, Result, Ok, Err}
+use Rattle.std.specs.Prelude.{ℕ, ◌≡◌, ◌⊎◌, ◌++◌, List, [], ◌∷◌, MatchOption, Option, Some, Result, Ok, Err}
 use Rattle.std.specs.Io.KnownBytes.{Appends, Keeps}
 use Rattle.histories.specs.Account.{Account}
 use Rattle.world.specs.Store.{Shown}
@@ -12,17 +12,20 @@ use Rattle.engine.specs.declared.fault.Io.TheVariants as io
 use Rattle.control.specs.Copying.{Making, OfKey, ToPath, Step, OfTask, Counted, GoesThroughSteps}
 use Rattle.control.specs.Copying as copying
 use Rattle.control.specs.Health.{IsPinged, line_of}
-use Rattle.control.specs.Line.{ReadsLine, IsCatalogOf, IsNoCatalog, IsNaming, IsSent, IsCopyTo, ping_line, stop_line}
-use Rattle.control.specs.Listing.{ReadsList, line_for, told_of_list}
+use Rattle.control.specs.Line.{ReadsLine}
+use Rattle.control.specs.Listing.{ReadsList, told_of_list}
+use Rattle.orders.specs.Order as orders
+use Rattle.orders.specs.Order.{IsLineOf, IsNoOrder, commanded, ordered}
+use Rattle.orders.specs.declared.order.Order.{Order}
+use Rattle.orders.specs.declared.order.Order.TheVariants as order
 use Rattle.control.specs.Naming.{Finds, Naming, named_result, named_steps}
-use Rattle.control.specs.Order.{AreNoOrder}
 use Rattle.control.specs.Outcome.{outcome_of, outcome_of_catalog, outcome_of_copy}
 use Rattle.control.specs.Told.{bytes_told}
 use Rattle.control.specs.Tasks.{Ordered}
 use Rattle.control.specs.declared.health.Health.{Health}
-use Rattle.control.specs.declared.listing.Listing.{Listing}
-use Rattle.control.specs.declared.registry_command.RegistryCommand.{RegistryCommand}
-use Rattle.control.specs.declared.outcome.Outcome.TheVariants.{Failed, Stopping, Bad}
+use Rattle.orders.specs.declared.listing.Listing.{Listing}
+use Rattle.orders.specs.declared.command.RegistryCommand.{RegistryCommand}
+use Rattle.orders.specs.declared.outcome.Outcome.TheVariants.{Failed, Stopping, Bad}
 use Rattle.control.specs.declared.tally.Tally.{Tally}
 use Rattle.control.specs.declared.told.Told.{Told}
 use Rattle.control.specs.declared.told.Told.TheVariants as spoken
@@ -97,20 +100,29 @@ steps_heard Stop = []
 steps_heard NoOrder = []
 steps_heard NoMemory = []
 
+-- these bytes are the line of this order, or of none
+abbrev pub IsOrderIn : List ℕ → Option Order → Type 0
+IsOrderIn got o = MatchOption o (IsNoOrder got) (λ read. IsLineOf got (ordered read))
+
+-- the order is not one for a catalog, whose lines are written as they are printed
+abbrev pub IsAnsweredAtOnce : Option Order → Type 0
+IsAnsweredAtOnce (Some (order.Catalog key)) = ⊥
+IsAnsweredAtOnce other = Unit {0}
+
 -- these bytes ordered this to be made
 abbrev pub IsMakingIn : List ℕ → Making → Type 0
-IsMakingIn got (ToPath path told) = IsCopyTo got path
-IsMakingIn got (OfKey key printed told) = IsCatalogOf got key
+IsMakingIn got (ToPath path told) = IsLineOf got (orders.Copy path)
+IsMakingIn got (OfKey key printed told) = IsLineOf got (orders.Catalog key)
 
 -- these bytes ordered it
 abbrev pub IsHeardIn : List ℕ → Heard → Type 0
-IsHeardIn got (Carried command told) = IsSent got command
+IsHeardIn got (Carried command told) = IsLineOf got (orders.Registry (commanded command))
 IsHeardIn got (Made making) = IsMakingIn got making
-IsHeardIn got (Pinged told) = got ≡ ping_line
-IsHeardIn got (Listed listing told) = got ≡ line_for listing
-IsHeardIn got (Named f naming) = IsNaming got f
-IsHeardIn got Stop = got ≡ stop_line
-IsHeardIn got NoOrder = AreNoOrder got × IsNoCatalog got
+IsHeardIn got (Pinged told) = IsLineOf got orders.Ping
+IsHeardIn got (Listed listing told) = IsLineOf got (orders.ListOf listing)
+IsHeardIn got (Named f naming) = IsLineOf got (orders.RevokeNamed f)
+IsHeardIn got Stop = IsLineOf got orders.Stop
+IsHeardIn got NoOrder = IsNoOrder got
 IsHeardIn got NoMemory = ⊥
 
 -- the bytes that ordered it were read, unless memory ran out before

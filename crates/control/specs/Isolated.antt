@@ -7,7 +7,8 @@ use Rattle.machine.specs.declared.reply.Answer.TheVariants.{Replied, Failed}
 use Rattle.machine.specs.Isolation.{remaining, marked, Agree}
 use Rattle.engine.specs.AnsweredEvent.{EventOrigin, origin_of}
 use Rattle.engine.specs.Reply.{text_of}
-use Rattle.control.specs.Outcome.{outcome_of, line_of}
+use Rattle.control.specs.Outcome.{outcome_of}
+use Rattle.orders.specs.Outcome.{line_of}
 use Rattle.control.specs.Tasks.{Task, Asked, Ordered, answered_of, task_event, task_answer, world_at, GoesThroughTasks}
 
 -- what came: a message, or the event of a registry command

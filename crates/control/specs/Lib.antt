@@ -5,10 +5,8 @@ pub mod Figures
 pub mod Health
 pub mod Hearing
 pub mod Isolated
-pub mod Laws
 pub mod Line
 pub mod Listing
-pub mod Order
 pub mod Naming
 pub mod Notices
 pub mod Noted
@@ -23,4 +21,3 @@ pub mod Told
 pub mod Traffic
 pub mod Tasks
 pub mod Visits
-pub mod Words

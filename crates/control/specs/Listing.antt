@@ -1,26 +1,17 @@
 -- The lists that an operator gets: of keys, and of shelves.
-use Rattle.std.specs.Prelude.{ℕ, ◌≡◌, ◌≢◌, ◌⊎◌, ◌++◌, List, [], ◌∷◌, codes, Result, Ok, Err}
+use Rattle.std.specs.Prelude.{ℕ, ◌≡◌, ◌⊎◌, ◌++◌, List, [], ◌∷◌, codes, Result, Ok, Err}
 use Rattle.keyring.specs.KeyList.{IsInOrder, ListsKeys, key_lines}
 use Rattle.keyring.specs.ShelfList.{shelf_text}
 use Rattle.world.specs.Store.{Shown, Reads}
 use Rattle.world.specs.World.{World}
 use Rattle.world.specs.declared.registry.StoreFault.{StoreFault}
 use Rattle.world.specs.declared.registry.StoreFault.TheVariants.{Memory}
-use Rattle.control.specs.Words.{line_end}
-use Rattle.control.specs.declared.listing.Listing.{Listing}
-use Rattle.control.specs.declared.listing.Listing.TheVariants.{Keys, Shelves}
-use Rattle.control.specs.declared.outcome.Outcome.TheVariants.{Failed}
+use Rattle.orders.specs.Words.{line_end}
+use Rattle.orders.specs.declared.listing.Listing.{Listing}
+use Rattle.orders.specs.declared.listing.Listing.TheVariants.{Keys, Shelves}
+use Rattle.orders.specs.declared.outcome.Outcome.TheVariants.{Failed}
 use Rattle.control.specs.declared.told.Told.{Told}
 use Rattle.control.specs.declared.told.Told.TheVariants as spoken
-
--- the line that asks for a list
-abbrev pub line_for : Listing → List ℕ
-line_for Keys = codes "key-list" ++ line_end ∷ []
-line_for Shelves = codes "shelf-list" ++ line_end ∷ []
-
--- the bytes ask for no list
-abbrev pub AsksForNone : List ℕ → Type 0
-AsksForNone got = (listing : Listing) → got ≢ line_for listing
 
 -- a list, and the line that ends it
 abbrev pub whole : List ℕ → List ℕ

@@ -11,8 +11,8 @@ use Rattle.world.specs.declared.registry.StoreFault.{StoreFault}
 use Rattle.control.specs.Copying.{Step, LookedUp, OfTask, GoesThroughSteps}
 use Rattle.control.specs.Outcome.{outcome_of}
 use Rattle.control.specs.Tasks.{Ordered}
-use Rattle.control.specs.declared.registry_command.RegistryCommand.TheVariants.{KeyRevoke}
-use Rattle.control.specs.declared.outcome.Outcome.{Outcome}
+use Rattle.orders.specs.declared.command.RegistryCommand.TheVariants.{KeyRevoke}
+use Rattle.orders.specs.declared.outcome.Outcome.{Outcome}
 
 -- what came of a fingerprint
 pub data Naming : Type 0 where

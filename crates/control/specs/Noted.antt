@@ -5,7 +5,7 @@ use Rattle.world.specs.declared.registry.StoreFault.{StoreFault}
 use Rattle.control.specs.Notices.{Answer, Answered, Met, Occasion, Ordered, line_of}
 use Rattle.control.specs.declared.errand.Errand.{Errand}
 use Rattle.control.specs.declared.notice.Notice.{Notice}
-use Rattle.control.specs.declared.registry_command.RegistryCommand.{RegistryCommand}
+use Rattle.orders.specs.declared.command.RegistryCommand.{RegistryCommand}
 use Rattle.control.specs.declared.told.Told.{Told}
 use Rattle.control.specs.declared.told.Told.TheVariants as told
 

@@ -1,16 +1,15 @@
--- The outcome of an order, and its line.
-use Rattle.std.specs.Prelude.{ℕ, ◌≢◌, List, [], ◌∷◌, ◌++◌, codes, Result, Ok, Err}
+-- The outcomes of what is done for an order.
+use Rattle.std.specs.Prelude.{Result, Ok, Err}
 use Rattle.world.specs.declared.registry.RegistryReply.{RegistryReply}
 use Rattle.world.specs.declared.registry.RegistryReply.TheVariants as registered
 use Rattle.world.specs.declared.registry.StoreFault.{StoreFault}
 use Rattle.world.specs.declared.registry.StoreFault.TheVariants as fault
-use Rattle.control.specs.Words.{line_end}
 use Rattle.control.specs.declared.copies.CatalogRefusal.{CatalogRefusal}
 use Rattle.control.specs.declared.copies.CatalogRefusal.TheVariants as catalog
 use Rattle.control.specs.declared.copies.CopyRefusal.{CopyRefusal}
 use Rattle.control.specs.declared.copies.CopyRefusal.TheVariants as copy
-use Rattle.control.specs.declared.outcome.Outcome.{Outcome}
-use Rattle.control.specs.declared.outcome.Outcome.TheVariants as outcome
+use Rattle.orders.specs.declared.outcome.Outcome.{Outcome}
+use Rattle.orders.specs.declared.outcome.Outcome.TheVariants as outcome
 
 -- the outcome of a registry command that was carried out with this result
 abbrev pub outcome_of : Result RegistryReply StoreFault → Outcome
@@ -35,26 +34,3 @@ outcome_of_catalog (Err catalog.Memory) = outcome.Failed fault.Memory
 outcome_of_catalog (Err catalog.Busy) = outcome.Busy
 outcome_of_catalog (Err catalog.Ended) = outcome.Ended
 outcome_of_catalog (Err catalog.Output) = outcome.Ended
-
-abbrev pub word_of : Outcome → List ℕ
-word_of (outcome.RegistryReply registered.Done) = codes "done"
-word_of (outcome.RegistryReply registered.Name) = codes "name"
-word_of (outcome.RegistryReply registered.Taken) = codes "taken"
-word_of (outcome.RegistryReply registered.NoTeam) = codes "no-team"
-word_of (outcome.RegistryReply registered.NoGroup) = codes "no-group"
-word_of (outcome.RegistryReply registered.NoKey) = codes "no-key"
-word_of (outcome.Failed fault.Device) = codes "device"
-word_of (outcome.Failed fault.Memory) = codes "memory"
-word_of outcome.NotEmpty = codes "not-empty"
-word_of outcome.Busy = codes "busy"
-word_of outcome.Ended = codes "ended"
-word_of outcome.Stopping = codes "stopping"
-word_of outcome.Bad = codes "bad"
-
--- the word, and the end of the line
-abbrev pub line_of : Outcome → List ℕ
-line_of told = word_of told ++ line_end ∷ []
-
--- the word is no outcome's
-abbrev pub TellsNothing : List ℕ → Type 0
-TellsNothing word = (told : Outcome) → word ≢ word_of told

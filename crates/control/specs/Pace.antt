@@ -4,7 +4,8 @@ use Rattle.std.proofs.Common.{arith}
 use Rattle.histories.specs.Account.{Account}
 use Rattle.histories.specs.Timing.{KeepsEach, KeepsTime}
 use Rattle.histories.specs.declared.call.Call.{Call}
-use Rattle.control.specs.Line.{IsCatalogOf, ReadsLine}
+use Rattle.orders.specs.Order.{IsLineOf, Catalog}
+use Rattle.control.specs.Line.{ReadsLine}
 
 -- the nanoseconds for the reads of a line, or for the writes of its outcome, which bytes do not buy
 abbrev pub time_for_order : ℕ → ℕ
@@ -19,5 +20,5 @@ order_grows few many h = omega arith
 abbrev pub WritesInTime : Account → Account → List Call → List Call → Type 0
 WritesInTime came came_new calls calls_new =
     KeepsTime time_for_order calls calls_new
-    ⊎ ((got : List ℕ) × (key : List ℕ) × ReadsLine came came_new got × IsCatalogOf got key
+    ⊎ ((got : List ℕ) × (key : List ℕ) × ReadsLine came came_new got × IsLineOf got (Catalog key)
     × KeepsEach time_for_order calls calls_new)

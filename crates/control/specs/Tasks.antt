@@ -13,7 +13,7 @@ use Rattle.world.specs.declared.registry.StoreFault.{StoreFault}
 use Rattle.engine.specs.Exchange.{Exchange, IsUnmet, answer_of as answer_to_message}
 use Rattle.engine.specs.AnsweredEvent.{AnsweredEvent, Message, Command, event_at, answer_at}
 use Rattle.control.specs.RegistryCommand.{event_of}
-use Rattle.control.specs.declared.registry_command.RegistryCommand.{RegistryCommand}
+use Rattle.orders.specs.declared.command.RegistryCommand.{RegistryCommand}
 
 -- a message that was answered, or a registry command that was carried out
 pub data Task : Type 0 where

@@ -1,6 +1,6 @@
 -- What is written to an operator.
 use Rattle.std.specs.Prelude.{ℕ, List}
-use Rattle.control.specs.Outcome.{line_of}
+use Rattle.orders.specs.Outcome.{line_of}
 use Rattle.control.specs.declared.told.Told.{Told}
 use Rattle.control.specs.declared.told.Told.TheVariants as told
 

@@ -6,7 +6,8 @@ ghost use Rattle.histories.specs.Account.{Account};
 ghost use Rattle.histories.specs.Timing.{KeepsEach, KeepsTime};
 ghost use Rattle.control.specs.Health.{IsPinged};
 ghost use Rattle.control.specs.Hearing.{ObeysBy, WritesSome};
-ghost use Rattle.control.specs.Line.{IsCatalogOf, ReadsLine, most_tries};
+ghost use Rattle.orders.specs.Order.{IsLineOf, Catalog};
+ghost use Rattle.control.specs.Line.{ReadsLine, most_tries};
 ghost use Rattle.control.specs.Pace.{WritesInTime, time_for_order};
 ghost use Rattle.control.specs.Pinging.{TellsPing};
 ghost use Rattle.control.specs.Told.{bytes_told};
@@ -15,8 +16,6 @@ ghost use Rattle.control.specs.Visits.{IsUnheard};
 use crate::copies::CopyOrders;
 use crate::line::{Unread, read_line};
 use crate::obeying::{answer, print_for, tell};
-use crate::order::catalog_in;
-use crate::outcome::Outcome;
 use crate::patience::ForOrder;
 use crate::tally::Tally;
 use crate::told::Told;
@@ -28,6 +27,7 @@ use histories::{
 use keyring::Keyring;
 use mio::unix::SourceFd;
 use mio::{Events, Interest, Poll, Token};
+use orders::{Order, Outcome, read_order};
 use socket::Peer;
 use std::alloc::Global;
 use std::io::{self, ErrorKind, Write};
@@ -232,10 +232,11 @@ fn answer_since<C: Clock, J: Start, W: BoundWrite + Drop, S: Keyring, K: CopyOrd
         (⟦<Telling<W> as Tell>⟧.writes result.0).failed result.1 }
     ensures flushed { IfOk result.1 (λ _. (⟦<Telling<W> as Tell>⟧.writes result.0).unflushed ≡ []) }
     ensures in_time { KeepsTime time_for_order J.calls (⟦<Telling<W> as HasCalls>⟧.calls result.0)
-        ⊎ ((key : List ℕ) × IsCatalogOf got.now key
+        ⊎ ((key : List ℕ) × IsLineOf got.now (Catalog key)
         × KeepsEach time_for_order J.calls (⟦<Telling<W> as HasCalls>⟧.calls result.0)) }
 {
-    if let Some(key) = catalog_in(got) {
+    let order = read_order(got);
+    if let Some(Order::Catalog(key)) = order {
         let mut output: TellingInStretches<'_, C, ForOrder, J, W> = TellingInStretches::new(
             writer, clock,
         );
@@ -243,7 +244,7 @@ fn answer_since<C: Clock, J: Start, W: BoundWrite + Drop, S: Keyring, K: CopyOrd
         return (output.into_inner(), told);
     }
     let mut outcome: TellingInTime<'_, C, ForOrder, J, W> = TellingInTime::new(writer, clock);
-    let told = answer(alloc, got, &mut outcome, tally, shelves, copies);
+    let told = answer(alloc, order, &mut outcome, tally, shelves, copies);
     (outcome.into_inner(), told)
 }
 

@@ -4,8 +4,8 @@ ghost use Rattle.world.specs.Store.{Does};
 ghost use Rattle.control.specs.RegistryCommand.{event_of, outcome_in};
 ghost use Rattle.control.specs.Reserve.{UsesRoom};
 
-use crate::registry_command::RegistryCommand;
 use crate::reserve::Reserve;
+use orders::RegistryCommand;
 use world::registry::{RegistryReply, StoreFault};
 use world::shelves::Shelves;
 

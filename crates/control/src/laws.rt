@@ -1,19 +1,8 @@
-//! What lines mean, and what the callers of one run learn about each other.
+//! What notices show, and what the callers of one run learn about each other.
 ghost use Rattle.control.specs.Isolated.{TasksAreAnsweredAlike};
-ghost use Rattle.control.specs.Laws.{OneEventALine, OneOutcomeALine};
 ghost use Rattle.control.specs.Notices.{NoneIsRefusal, ShowsNoneAfterFault, ShowsOnlyShelves};
 
 use world::shelves::Shelves;
-
-/// A line orders one thing: two registry commands with the same line are the same event of the machine.
-pub fn line_orders_one_thing()
-    ensures { OneEventALine }
-{}
-
-/// Each outcome has a line of its own.
-pub fn outcome_has_a_line_of_its_own()
-    ensures { OneOutcomeALine }
-{}
 
 /// What `serve` writes on standard error while it serves has no line that begins with `goshelf:`, as a refusal's does.
 pub fn no_notice_is_a_refusal()

@@ -1,24 +1,13 @@
 //! Reading lines.
-ghost use Rattle.std.specs.Prelude.{◌≡◌, ◌<◌, ◌↔◌, MatchOption, IfOk, IfErr, IsTrue};
+ghost use Rattle.std.specs.Prelude.{◌≡◌, ◌<◌, ◌↔◌, IfOk, IfErr, IsTrue};
 ghost use Rattle.histories.specs.Account.{Gives};
 ghost use Rattle.engine.specs.Causes.{IsUnreadable};
 ghost use Rattle.control.specs.Line as spec;
 
 use histories::Hear;
+use orders::LONGEST_LINE;
 use std::alloc::{AllocError, Global};
 use std::io::ErrorKind;
-
-/// The most bytes of a line without its end.
-pub(crate) const LONGEST: usize = 127;
-
-/// The most bytes of the line that orders a copy, without its end: it names a file.
-pub(crate) const LONGEST_COPY: usize = 4_095;
-
-/// The line that ends the server.
-pub(crate) const STOP_LINE: &[u8] = b"stop\n";
-
-/// The line that asks for the health of the server.
-pub(crate) const PING_LINE: &[u8] = b"ping\n";
 
 /// The most reads of one line, interrupted ones included.
 const TRIES: u32 = 1_000;
@@ -42,7 +31,7 @@ impl From<AllocError> for Unread {
     }
 }
 
-/// Reads a line of at most `LONGEST_COPY` bytes, with what comes after its end in the same read, and returns the bytes.
+/// Reads a line of at most `LONGEST_LINE` bytes, with what comes after its end in the same read, and returns the bytes.
 /// They may have no end of a line if the stream ends, or if the line is longer. Fails with `Io` if a read fails or
 /// `TRIES` reads do not end the line, and with `Memory` if memory runs out.
 pub(crate) fn read_line<R: Hear>(alloc: Global, reader: &mut R) -> Result<Vec<u8>, Unread>
@@ -50,7 +39,7 @@ pub(crate) fn read_line<R: Hear>(alloc: Global, reader: &mut R) -> Result<Vec<u8
     ensures cause { IfErr result (λ why. why ≡ Unread.Io
         → IsUnreadable spec.most_tries (R.reads reader.old) (R.reads reader.new)) }
 {
-    read_to(alloc, reader, LONGEST_COPY)
+    read_to(alloc, reader, LONGEST_LINE)
 }
 
 /// Reads until a line ends, more than `most` bytes came or the stream ends, and returns the bytes. Fails with `Io` if a
@@ -82,7 +71,7 @@ fn read_on<R: Hear>(reader: &mut R, got: &mut Vec<u8>, most: usize) -> Result<bo
     ensures tried { IfOk result (λ _. spec.HasTried 1 (R.reads reader.old) (R.reads reader.new)) }
     ensures fails { IfErr result (λ why. why ≡ Unread.Io → (R.reads reader.old).failed < (R.reads reader.new).failed) }
 {
-    let mut chunk = [0; LONGEST_COPY + 1];
+    let mut chunk = [0; LONGEST_LINE + 1];
     match reader.hear(&mut chunk) {
         Ok(0) => Ok(true),
         Ok(n) => {
@@ -113,7 +102,7 @@ fn read_more<R: Hear>(reader: &mut R, got: &mut Vec<u8>) -> Result<bool, Unread>
     ensures { IfOk result (λ _.
         spec.ReadsMore (R.account reader.old) (R.account reader.new) got.old.items got.new.items) }
 {
-    let mut chunk = [0; LONGEST_COPY + 1];
+    let mut chunk = [0; LONGEST_LINE + 1];
     match reader.hear(&mut chunk) {
         Ok(0) => Ok(true),
         Ok(n) => {
@@ -130,18 +119,4 @@ fn is_enough(bytes: &[u8], most: usize) -> bool
     ensures { IsTrue result ↔ spec.HasEnough most bytes.now }
 {
     bytes.len() > most || bytes.contains(&b'\n')
-}
-
-/// Returns the line that the bytes are, without its end, or None if they have no end, are too many, or are not UTF-8.
-pub(crate) fn line_in(got: &[u8], most: usize) -> Option<&str>
-    ensures { MatchOption result (spec.HoldsNoLine most got.now) (λ line. spec.IsLine most got.now line.now) }
-{
-    let line = got.strip_suffix(b"\n")?;
-    if line.len() > most {
-        return None;
-    }
-    match str::from_utf8(line) {
-        Ok(line) => Some(line),
-        Err(_) => None,
-    }
 }

@@ -1,45 +1,18 @@
 //! The lists that an operator gets: of keys, and of shelves.
-ghost use Rattle.std.specs.Prelude.{◌≡◌, MatchOption, IfOk, IfSome, IsTrue};
+ghost use Rattle.std.specs.Prelude.{◌≡◌, IfOk, IfSome, IsTrue};
 ghost use Rattle.control.specs.Listing as spec;
 
-use crate::outcome::Outcome;
 use crate::told::Told;
 use keyring::Keyring;
 use keyring::key_list::list_keys;
 use keyring::shelf_list::list_shelves;
+use orders::{Listing, Outcome};
 use std::alloc::{AllocError, Global};
 use world::bytes::Bytes;
 use world::registry::StoreFault;
 
 /// The line that ends a list. Each line of a list has a space, so none is this one.
 pub(crate) const LAST_LINE: &[u8] = b"done\n";
-
-/// The line that asks for the list of keys.
-const KEYS_LINE: &[u8] = b"key-list\n";
-
-/// The line that asks for the list of shelves.
-const SHELVES_LINE: &[u8] = b"shelf-list\n";
-
-/// Which list an operator asks for.
-#[derive(Clone, Copy, Debug, Drop, PartialEq, Eq)]
-pub enum Listing {
-    /// `key-list`: a line for each key, which does not show the key.
-    Keys,
-    /// `shelf-list`: a line for each shelf.
-    Shelves,
-}
-
-impl Listing {
-    /// The line that asks for the list, with its end.
-    pub(crate) fn line(self) -> &'static [u8]
-        ensures { result.now ≡ spec.line_for self }
-    {
-        match self {
-            Listing::Keys => KEYS_LINE,
-            Listing::Shelves => SHELVES_LINE,
-        }
-    }
-}
 
 /// Reads a list of the store, and returns what the operator gets: the list and its last line. Returns `Outcome::Failed`
 /// if the store meets a fault or memory runs out.

@@ -2,11 +2,11 @@
 ghost use Rattle.control.specs.Naming.{RevokesNamed};
 
 use crate::carry::carry_out_in;
-use crate::outcome::{Outcome, outcome_of};
-use crate::registry_command::RegistryCommand;
+use crate::outcome::outcome_of;
 use crate::reserve::Reserve;
 use keyring::Keyring;
 use keyring::revoke::key_with;
+use orders::{Outcome, RegistryCommand};
 use std::alloc::Global;
 use world::registry::RegistryReply;
 

@@ -6,10 +6,10 @@ ghost use Rattle.keyring.specs.KeyList as keys;
 
 use crate::copies::{CatalogRefusal, CopyRefusal};
 use crate::errand::{Errand, two};
-use crate::outcome::{Outcome, outcome_of, outcome_of_catalog, outcome_of_copy};
+use crate::outcome::{outcome_of, outcome_of_catalog, outcome_of_copy};
 use crate::plain::{UNTOLD, plain};
-use crate::registry_command::RegistryCommand;
 use keyring::key_list::fingerprint;
+use orders::{Outcome, RegistryCommand};
 use std::alloc::{AllocError, Global};
 use text::Text;
 use world::entry::Right;

@@ -1,11 +1,12 @@
-//! What is done with the line of an operator.
+//! What is done for an order of an operator.
 ghost use Rattle.std.specs.Prelude.{ℕ, ◌≡◌, List, [], IfOk, IfErr, MatchResult, OnOk};
 ghost use Rattle.std.specs.Io.KnownBytes.{Appends};
 ghost use Rattle.histories.specs.Account.{Account};
 ghost use Rattle.engine.specs.Causes.{FailsWith};
+ghost use Rattle.orders.specs.Order.{IsLineOf, Catalog};
 ghost use Rattle.control.specs.Health.{IsPinged};
-ghost use Rattle.control.specs.Hearing.{HeedsBy, ObeysBy, TellsLine, WritesSome};
-ghost use Rattle.control.specs.Line.{IsCatalogOf, IsNoCatalog, ReadsLine};
+ghost use Rattle.control.specs.Hearing.{HeedsBy, IsAnsweredAtOnce, IsOrderIn, ObeysBy, TellsLine, WritesSome};
+ghost use Rattle.control.specs.Line.{ReadsLine};
 ghost use Rattle.control.specs.Pinging.{TellsPing};
 ghost use Rattle.control.specs.Told.{IsOutcome, bytes_told};
 
@@ -13,8 +14,7 @@ use crate::carry::carry_out_in;
 use crate::copies::{CatalogRefusal, CopyOrders};
 use crate::listing::list;
 use crate::naming::revoke_named;
-use crate::order::{Order, order_of_bytes};
-use crate::outcome::{Outcome, outcome_of, outcome_of_catalog, outcome_of_copy};
+use crate::outcome::{outcome_of, outcome_of_catalog, outcome_of_copy};
 use crate::pinging::ping;
 use crate::reserve::KnownReserve;
 use crate::tally::Tally;
@@ -23,6 +23,7 @@ use engine::Io;
 use engine::write::write_bytes;
 use histories::{Restart, Tell};
 use keyring::Keyring;
+use orders::{Order, Outcome};
 use std::alloc::Global;
 use world::shelves::Shelves;
 
@@ -35,7 +36,7 @@ pub(crate) fn print_for<W: Restart, S: Shelves, K: CopyOrders<S>>(
     copies: &mut K,
 ) -> Result<Told, Io>
     ensures obeys { (tally : Tally) (got : List ℕ) (came came_new : Account)
-        → ReadsLine came came_new got → IsCatalogOf got key.now
+        → ReadsLine came came_new got → IsLineOf got (Catalog key.now)
         → ObeysBy S.shown K.made K.counted K.meanwhile tally copies.old copies.new
         shelves.old shelves.new came came_new (W.contents writer.old) (W.contents writer.new) result }
     ensures outcome { IfOk result IsOutcome }
@@ -52,16 +53,18 @@ pub(crate) fn print_for<W: Restart, S: Shelves, K: CopyOrders<S>>(
     tell(writer, Told::Outcome(outcome_of_catalog(told)))
 }
 
-/// Does what a line orders that asks for no catalog, writes what came of it, flushes that, and returns it.
+/// Does what an order asks for, or nothing if the line is no order, writes what came of it, flushes that, and returns
+/// it. A catalog is not answered here but by [`print_for`].
 pub(crate) fn answer<W: Tell, S: Keyring, K: CopyOrders<S>>(
     alloc: Global,
-    got: &[u8],
+    order: Option<Order>,
     writer: &mut W,
     tally: &Tally,
     shelves: &mut S,
     copies: &mut K,
 ) -> Result<Told, Io>
-    ensures obeys { IsNoCatalog got.now → (came came_new : Account) → ReadsLine came came_new got.now
+    requires { IsAnsweredAtOnce order }
+    ensures obeys { (got : List ℕ) (came came_new : Account) → IsOrderIn got order.entry → ReadsLine came came_new got
         → ObeysBy S.shown K.made K.counted K.meanwhile tally.now copies.old copies.new
         shelves.old shelves.new came came_new (W.contents writer.old) (W.contents writer.new) result }
     ensures figures { IfOk result (TellsPing (K.figured copies.old shelves.new) (IsPinged tally.now
@@ -71,7 +74,7 @@ pub(crate) fn answer<W: Tell, S: Keyring, K: CopyOrders<S>>(
     ensures fails { FailsWith (W.writes writer.old).failed (W.writes writer.new).failed result }
     ensures flushed { IfOk result (λ _. (W.writes writer.new).unflushed ≡ []) }
 {
-    let told = heed(alloc, got, tally, shelves, copies);
+    let told = heed(alloc, order, tally, shelves, copies);
     tell(writer, told)
 }
 
@@ -102,20 +105,22 @@ fn tell_line<W: Tell>(writer: &mut W, line: &[u8]) -> Result<(), Io>
     }
 }
 
-/// Does what a line orders, and returns what the operator gets: `Outcome::Bad` if the line is no order.
+/// Does what an order asks for, and returns what the operator gets: `Outcome::Bad` if the line is no order.
 fn heed<S: Keyring, K: CopyOrders<S>>(
     alloc: Global,
-    got: &[u8],
+    order: Option<Order>,
     tally: &Tally,
     shelves: &mut S,
     copies: &mut K,
 ) -> Told
-    ensures heeds { IsNoCatalog got.now → HeedsBy S.shown K.made K.counted K.meanwhile tally.now copies.old copies.new
-        shelves.old shelves.new got.now [] result }
+    requires { IsAnsweredAtOnce order }
+    ensures heeds { (got : List ℕ) → IsOrderIn got order.entry
+        → HeedsBy S.shown K.made K.counted K.meanwhile tally.now copies.old copies.new
+        shelves.old shelves.new got [] result }
     ensures figures { TellsPing (K.figured copies.old shelves.new) (IsPinged tally.now (S.shown shelves.old).failures
         (S.shown shelves.new).failures (K.counted shelves.old shelves.new)) result }
 {
-    match order_of_bytes(got) {
+    match order {
         Some(Order::Stop) => Told::Outcome(Outcome::Stopping),
         Some(Order::Ping) => ping(alloc, tally, shelves, copies),
         Some(Order::Copy(path)) => Told::Outcome(outcome_of_copy(copies.copy_to(shelves, path))),
@@ -130,6 +135,7 @@ fn heed<S: Keyring, K: CopyOrders<S>>(
             let told = carry_out_in(shelves, &mut KnownReserve::new(copies), &command);
             Told::Outcome(outcome_of(told))
         }
+        Some(Order::Catalog(_)) => unreachable!(),
         None => Told::Outcome(Outcome::Bad),
     }
 }

@@ -5,9 +5,9 @@ ghost use Rattle.control.specs.Pinging.{Pings, IsLineFor, TellsPing};
 
 use crate::copies::CopyOrders;
 use crate::health::Health;
-use crate::outcome::Outcome;
 use crate::tally::Tally;
 use crate::told::Told;
+use orders::Outcome;
 use std::alloc::Global;
 use world::registry::StoreFault;
 use world::shelves::Shelves;

@@ -4,10 +4,6 @@ use std::io::{self, ErrorKind};
 use std::os::unix::fs::{FileTypeExt, PermissionsExt};
 use std::os::unix::net::{UnixListener, UnixStream};
 use std::rt::HostRuntime;
-use std::time::Duration;
-
-/// The seconds that an operator waits for an outcome. One connection of a peer holds the server at most half as long.
-const LONGEST_WAIT: u64 = 60;
 
 /// Makes a socket with this file name, which only its owner may connect to, and returns its listener. It first removes
 /// a socket that nobody listens at any more. Fails if somebody listens there, if the name is that of another file or
@@ -49,12 +45,4 @@ pub fn remove_socket(rt: &HostRuntime, path: &str) {
         }
         _ => {}
     }
-}
-
-/// Connects to the server that listens at this socket, and returns the connection, over which `ask` sends an order.
-/// Each read from it waits at most a minute. Fails if nobody listens there, or if the system refuses the connection.
-pub fn server_at(rt: &HostRuntime, path: &str) -> io::Result<UnixStream> {
-    let server = UnixStream::connect(rt, path)?;
-    server.set_read_timeout(Some(Duration::from_secs(LONGEST_WAIT)))?;
-    Ok(server)
 }

@@ -2,7 +2,7 @@
 ghost use Rattle.std.specs.Prelude.{◌≡◌};
 ghost use Rattle.control.specs.Told.{bytes_told};
 
-use crate::outcome::Outcome;
+use orders::Outcome;
 use text::Text;
 use world::bytes::Bytes;
 

@@ -1,12 +1,15 @@
 -- What an action on the store of a file does.
 use Rattle.std.specs.Prelude.{ℕ, List, ◌≡◌, ◌⊎◌, Bool, Option, Result, Ok, Err}
 use Rattle.store_files.specs.History.{Span, IsIdle, Refuses, Opens}
+use Rattle.store_files.specs.declared.files.Use.{Use}
+use Rattle.store_files.specs.declared.files.Use.TheVariants.{Reading, Writing}
 use Rattle.histories.specs.Account.{Account}
 use Rattle.store_files.specs.declared.refusal.StoreRefusal.{StoreRefusal}
 use Rattle.commands.specs.Action.{Moment}
 use Rattle.commands.specs.declared.refusal.CommandRefusal.{CommandRefusal}
 use Rattle.commands.specs.declared.refusal.CommandRefusal.TheVariants.{NotEmpty}
 use Rattle.commands.specs.declared.action.Action.{Action}
+use Rattle.commands.specs.declared.action.Action.TheVariants as action
 use Rattle.commands.specs.declared.action.Action.TheVariants.{Open}
 use Rattle.commands.specs.Ending.{unopened}
 use Rattle.file_action.specs.Refusal.{new_store_refusal}
@@ -23,13 +26,24 @@ module _ (came came_new : Account) (written written_new : Option (List ℕ)) (re
     pub input : came_new ≡ came
     pub output : written_new ≡ written
 
--- what an action does, by the store and the streams before it and after it, the result, and the action
+-- What an action opens its store for. Those that only read leave a store that has no key as it is, and so do requests.
+abbrev pub use_of : Action → Use
+use_of (action.Inventory key) = Reading
+use_of (action.Catalog key) = Reading
+use_of (action.Requires version) = Reading
+use_of action.KeyList = Reading
+use_of action.ShelfList = Reading
+use_of action.Answer = Reading
+use_of other = Writing
+
+-- what an action does, by the name of its file, the store and the streams before it and after it, the result, and the
+-- action
 abbrev pub Deeds : Type 0 → Type 1
-Deeds S = Moment S → Moment S → Result Bool CommandRefusal → Action → Type 0
+Deeds S = List ℕ → Moment S → Moment S → Result Bool CommandRefusal → Action → Type 0
 
 -- what an action does that is done on a part of a store
 abbrev pub within : {S T : Type 0} → (S → T) → Deeds T → Deeds S
-within part acts before after result action = acts
+within part acts name before after result action = acts name
     (record { store = part before.store; came = before.came; written = before.written })
     (record { store = part after.store; came = after.came; written = after.written }) result action
 
@@ -41,10 +55,10 @@ module _ {S C : Type 0} (acts : Deeds S) (files : Span S C) (name : List ℕ)
     pub tells : TellsAlone came came_new written written_new result (Err (unopened why))
     pub done : Refuses files name
 
-  -- the store of this file was opened and the action was done on it, or it was not opened
+  -- the store of this file was opened for the action, which was done on it, or it was not opened
   abbrev pub ActsOnFile : Action → Result Bool CommandRefusal → Type 0
   ActsOnFile action result =
-      Opens files name (λ begun ended. acts
+      Opens files name (use_of action) (λ begun ended. acts name
       (record { store = begun; came = came; written = written })
       (record { store = ended; came = came_new; written = written_new }) result action)
       ⊎ ActsOnNone result

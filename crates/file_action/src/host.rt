@@ -23,7 +23,7 @@ pub trait ActionHost<S> {
         input: &mut I,
         output: &mut O,
     ) -> Result<bool, CommandRefusal>
-        ensures { acts
+        ensures { acts name.now
             (record { store = shelves.old; came = I.account input.old; written = O.contents output.old })
             (record { store = shelves.new; came = I.account input.new; written = O.contents output.new })
             result action.now };

@@ -4,6 +4,8 @@
 //! the history of the files has all that it did to them.
 #![tactic(auto)]
 
+ghost use Rattle.std.specs.Prelude.{◌≡◌};
+ghost use Rattle.file_action.specs.OnFile as spec;
 ghost use Rattle.file_action.specs.OnFile.{Inits, ActsOnFile};
 
 pub mod host;
@@ -44,8 +46,10 @@ where
     }
 }
 
-/// What an action opens its store for. Those that only read leave a store that has no key as it is.
-fn use_of(action: &Action) -> Use {
+/// Returns what an action opens its store for. `Use::Reading` if it leaves a store that has no key as it is.
+fn use_of(action: &Action) -> Use
+    ensures { result ≡ spec.use_of action.now }
+{
     match action {
         Action::Inventory { .. }
         | Action::Catalog { .. }

@@ -1,10 +1,11 @@
 //! `goshelf`: a private Go module proxy with team shelves.
 //!
-//! One run of the program is the call [`command::command`] of `cli`; `main` hands it the words, the streams and the
-//! runtime of the system.
+//! One run of the program is the call [`command::command`] of `cli`; `main` hands it the files of stores, to which
+//! nothing was done yet, the words and the streams of the system.
 #![tactic(auto)]
 
 use cli::command::{command, words_refused};
+use cli::system::SystemStores;
 use histories::{Hearing, Telling};
 use std::env;
 use std::process::ExitCode;
@@ -22,5 +23,11 @@ fn main(rt: HostRuntime) -> ExitCode {
     };
     let mut input = Hearing::new(rt.reader());
     let mut output = Telling::new(rt.stdout());
-    ExitCode::from(command(&rt, words.as_slice(), &mut input, &mut output, &mut errors))
+    ExitCode::from(command(
+        &mut SystemStores::new(&rt),
+        words.as_slice(),
+        &mut input,
+        &mut output,
+        &mut errors,
+    ))
 }

@@ -3,6 +3,7 @@ use Rattle.std.proofs.Common.{ℕ, ◌≡◌, List, [], ◌∷◌, ◌++◌, Res
 use Rattle.std.proofs.lemmas.List.{append_assoc}
 use Rattle.store_files.specs.History.{Done, Span}
 use Rattle.store_files.specs.declared.files.Deed.{Deed}
+use Rattle.store_files.specs.declared.files.Use.TheVariants.{Writing}
 use Rattle.store_files.specs.declared.files.Deed.TheVariants.{Closed, Copied, Made, Opened, Unlinked}
 use Rattle.sqlite.specs.State.{State}
 use Rattle.world.specs.Store.{Shown}
@@ -34,13 +35,13 @@ then before mid after one two first second = second ∙ (ap (λ m. m ++ two) fir
 -- a copy that was opened, lost its names and was closed
 pub copy_migrated : {C : Type 0} (before a b c d : List (Done C)) (path log n₁ n₂ n₃ n₄ : List ℕ) (end : C)
     → n₁ ≡ path → n₂ ≡ path → n₃ ≡ log → n₄ ≡ path
-    → a ≡ before ++ (n₁, Opened) ∷ [] → b ≡ a ++ (n₂, Unlinked) ∷ [] → c ≡ b ++ (n₃, Unlinked) ∷ []
+    → a ≡ before ++ (n₁, Opened Writing) ∷ [] → b ≡ a ++ (n₂, Unlinked) ∷ [] → c ≡ b ++ (n₃, Unlinked) ∷ []
     → d ≡ c ++ (n₄, Closed end) ∷ []
-    → d ≡ before ++ (path, Opened) ∷ (path, Unlinked) ∷ (log, Unlinked) ∷ (path, Closed end) ∷ []
+    → d ≡ before ++ (path, Opened Writing) ∷ (path, Unlinked) ∷ (log, Unlinked) ∷ (path, Closed end) ∷ []
 copy_migrated before a b c d path log n₁ n₂ n₃ n₄ end same₁ same₂ same₃ same₄ opened first second closed =
-    then before c d ((path, Opened) ∷ (path, Unlinked) ∷ (log, Unlinked) ∷ []) ((path, Closed end) ∷ [])
-    (then before b c ((path, Opened) ∷ (path, Unlinked) ∷ []) ((log, Unlinked) ∷ [])
-    (then before a b ((path, Opened) ∷ []) ((path, Unlinked) ∷ []) (named before a path n₁ Opened same₁ opened)
+    then before c d ((path, Opened Writing) ∷ (path, Unlinked) ∷ (log, Unlinked) ∷ []) ((path, Closed end) ∷ [])
+    (then before b c ((path, Opened Writing) ∷ (path, Unlinked) ∷ []) ((log, Unlinked) ∷ [])
+    (then before a b ((path, Opened Writing) ∷ []) ((path, Unlinked) ∷ []) (named before a path n₁ (Opened Writing) same₁ opened)
     (named a b path n₂ Unlinked same₂ first))
     (named b c log n₃ Unlinked same₃ second))
     (named c d path n₄ (Closed end) same₄ closed)

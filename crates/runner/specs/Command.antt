@@ -7,14 +7,16 @@ use Rattle.histories.specs.Account.{Account}
 use Rattle.world.specs.Store.{Shown}
 use Rattle.world.specs.declared.entry.Right.{Right}
 use Rattle.commands.specs.Opening.{AnsweredFor}
-use Rattle.commands.specs.Order.{CopiesThere, OrdersThere, RevokesThere, StopsThere}
+use Rattle.network.specs.History as network
+use Rattle.commands.specs.Connection.{Passed}
+use Rattle.commands.specs.Order.{CopiesThere, OrdersTo, RevokesTo, StopsTo}
 use Rattle.commands.specs.Listing.{ListsThere}
 use Rattle.commands.specs.NewKey.{OrdersNew}
 use Rattle.commands.specs.Ping.{PingsThere}
 use Rattle.commands.specs.ServedCatalog.{CatalogsThere}
 use Rattle.commands.specs.Action.{acceptance}
 use Rattle.commands.specs.declared.refusal.CommandRefusal.{CommandRefusal}
-use Rattle.control.specs.declared.listing.Listing.{Listing}
+use Rattle.orders.specs.declared.listing.Listing.{Listing}
 use Rattle.file_action.specs.OnFile.{Deeds, TellsAlone, ActsOnFile, Inits}
 use Rattle.runner.specs.Extract.{ExtractsFile}
 use Rattle.runner.specs.Migrate.{MigratesFile}
@@ -58,6 +60,7 @@ module _ (came came_new : Account) (written written_new : Option (List ℕ)) (re
 
 module _ {S C : Type 0} (acts : Deeds S) (state_of : C → State) (shown : S → Shown)
     (files targets : Span S C) (older : Span C C)
+    {L : Type 0} (all : L → Passed → Type 0) (connected connected_new : List (network.Done L))
     (came came_new : Account) (written written_new : Option (List ℕ)) (result : Result Bool CommandRefusal) where
   -- the command did this, and read and wrote nothing
   abbrev pub Alone : (Result (Unit {0}) CommandRefusal → Type 0) → Type 0
@@ -71,24 +74,32 @@ module _ {S C : Type 0} (acts : Deeds S) (state_of : C → State) (shown : S →
   abbrev pub IsOnNone : Type 0
   IsOnNone = IsIdle files × IsIdle targets × IsIdle older
 
-  -- What each kind of command does, and to which files of stores: those of the command, the new one, and the older one.
-  -- The last eight open no store: they send a line to a running `serve`, or can't.
+  -- no server was connected to
+  abbrev pub IsUnconnected : Type 0
+  IsUnconnected = network.IsIdle connected connected_new
+
+  -- What each kind of command does, to which files of stores: those of the command, the new one, and the older one; and
+  -- to which servers. The last eight open no store: they send a line to a running `serve`, or can't.
   abbrev pub Runs : Command → Type 0
-  Runs (command.Init db) = Inits acts files db.now came came_new written written_new result × IsOnFiles
+  Runs (command.Init db) = Inits acts files db.now came came_new written written_new result × IsOnFiles × IsUnconnected
   Runs (command.AnswerInMemory team key) =
-      AnswersInMemory came came_new written written_new result team.now key.now × IsOnNone
+      AnswersInMemory came came_new written written_new result team.now key.now × IsOnNone × IsUnconnected
   Runs (command.OnStore db action) =
-      ActsOnFile acts files db.now came came_new written written_new action result × IsOnFiles
+      ActsOnFile acts files db.now came came_new written written_new action result × IsOnFiles × IsUnconnected
   Runs (command.Extract db teams to) =
       Alone (ExtractsFile shown shown files targets db.now (each (λ team. team.now) teams.now) to.now) × IsIdle older
-  Runs (command.Migrate from to) = Alone (MigratesFile state_of shown older targets from.now to.now) × IsIdle files
-  Runs (command.Order control command) = Alone (OrdersThere command) × IsOnNone
+      × IsUnconnected
+  Runs (command.Migrate from to) =
+      Alone (MigratesFile state_of shown older targets from.now to.now) × IsIdle files × IsUnconnected
+  Runs (command.Order control command) =
+      Alone (OrdersTo all connected connected_new control.now command) × IsOnNone
   Runs (command.OrderNew control shelf right) =
       OrdersNewAlone came came_new written written_new result shelf right × IsOnNone
-  Runs (command.OrderNamed control fingerprint) = Alone (RevokesThere fingerprint.now) × IsOnNone
+  Runs (command.OrderNamed control fingerprint) =
+      Alone (RevokesTo all connected connected_new control.now fingerprint.now) × IsOnNone
   Runs (command.Copy control to) = Alone (CopiesThere to.now) × IsOnNone
   Runs (command.Ping control) = PingsAlone came came_new written written_new result × IsOnNone
   Runs (command.List control listing) = ListsAlone came came_new written written_new result listing × IsOnNone
   Runs (command.Catalog control key) =
       CatalogsAlone came came_new written written_new result key.now × IsOnNone
-  Runs (command.Stop control) = Alone StopsThere × IsOnNone
+  Runs (command.Stop control) = Alone (StopsTo all connected connected_new control.now) × IsOnNone

@@ -2,6 +2,7 @@
 -- what a count of its versions tells.
 use Rattle.std.specs.Prelude.{ℕ, List, [], ◌≡◌, ◌≤◌, ◌⊎◌, ⊤, Bool, true, false, Some, Result, Ok, Err}
 use Rattle.store_files.specs.History.{Span, IsIdle, Refuses, Opens}
+use Rattle.store_files.specs.declared.files.Use.TheVariants.{Writing}
 use Rattle.world.specs.Store.{Shown}
 use Rattle.world.specs.World.{World}
 use Rattle.statements.specs.Counted.{versions_in}
@@ -111,5 +112,5 @@ module _ {S F : Type 0} (shown : S → Shown) (shown_too : F → Shown) where
     -- the store of the file `to`, and no other, was opened once and made a copy, or not; or no store was opened
     abbrev pub CopiesTo : Result (Unit {0}) CopyRefusal → Type 0
     CopiesTo result =
-        Opens targets to (λ fresh fresh_new. CopiesInto source source_new fresh fresh_new result)
+        Opens targets to Writing (λ fresh fresh_new. CopiesInto source source_new fresh fresh_new result)
         ⊎ CopiesUnopened result

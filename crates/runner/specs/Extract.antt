@@ -1,6 +1,7 @@
 -- Extracting from the store of one file into that of another.
 use Rattle.std.specs.Prelude.{ℕ, List, ◌≡◌, ◌⊎◌, Result, Err}
 use Rattle.store_files.specs.History.{Span, IsIdle, Refuses, Opens}
+use Rattle.store_files.specs.declared.files.Use.TheVariants.{Writing}
 use Rattle.world.specs.Store.{Shown}
 use Rattle.store.specs.Extracted.{HasCauseInEither}
 use Rattle.store.specs.Parts.{ExtractsTeams}
@@ -26,7 +27,7 @@ module _ {S F D : Type 0} (shown : S → Shown) (shown_too : F → Shown) (targe
   -- as it was
   abbrev pub Fills : S → S → Result (Unit {0}) CommandRefusal → Type 0
   Fills source source_new result =
-      Opens targets to (λ fresh fresh_new. ExtractsPart shown shown_too source source_new fresh fresh_new teams result)
+      Opens targets to Writing (λ fresh fresh_new. ExtractsPart shown shown_too source source_new fresh fresh_new teams result)
       ⊎ LeavesSource targets to source source_new result
 
 module _ {S F C D : Type 0} (shown : S → Shown) (shown_too : F → Shown) (files : Span S C) (targets : Span F D)
@@ -41,5 +42,5 @@ module _ {S F C D : Type 0} (shown : S → Shown) (shown_too : F → Shown) (fil
   -- the store of the first file was opened, and some teams' part of it was put into that of the other, or was not
   abbrev pub ExtractsFile : Result (Unit {0}) CommandRefusal → Type 0
   ExtractsFile result =
-      Opens files db (λ source source_new. Fills shown shown_too targets teams to source source_new result)
+      Opens files db Writing (λ source source_new. Fills shown shown_too targets teams to source source_new result)
       ⊎ ExtractsNone result

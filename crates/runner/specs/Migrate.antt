@@ -1,6 +1,7 @@
 -- Migrating the file of an older store into the store of another file.
 use Rattle.std.specs.Prelude.{ℕ, ◌≡◌, ◌⊎◌, List, [], ◌∷◌, ◌++◌, Result, Err}
 use Rattle.store_files.specs.History.{Span, IsIdle, Refuses, Opens}
+use Rattle.store_files.specs.declared.files.Use.TheVariants.{Writing}
 use Rattle.store_files.specs.declared.files.Deed.TheVariants.{Copied, Made, Opened, Refused, Closed, Unlinked}
 use Rattle.sqlite.specs.Held.{Held, state}
 use Rattle.sqlite.specs.State.{State}
@@ -30,7 +31,7 @@ module _ {C F D : Type 0} (state_of : C → State) (shown : F → Shown) (target
   -- store was left as it was
   abbrev pub MigratesTo : C → C → Result (Unit {0}) CommandRefusal → Type 0
   MigratesTo old old_new result =
-      Opens targets to (λ fresh fresh_new. MigratesInto state_of shown old old_new fresh fresh_new result)
+      Opens targets to Writing (λ fresh fresh_new. MigratesInto state_of shown old old_new fresh fresh_new result)
       ⊎ LeavesSource targets to old old_new result
 
 module _ {F D : Type 0} (shown : F → Shown) (targets : Span F D) (to : List ℕ) where
@@ -64,7 +65,7 @@ module _ {C Q F D : Type 0} (state_of : C → State) (shown : F → Shown) (olde
     pub begins : older.begins old
     pub migrates : MigratesTo state_of shown targets to old old_new result
     pub done : older.after
-        ≡ older.before ++ (path, Opened) ∷ (path, Unlinked) ∷ (log, Unlinked) ∷ (path, Closed (older.left old_new)) ∷ []
+        ≡ older.before ++ (path, Opened Writing) ∷ (path, Unlinked) ∷ (log, Unlinked) ∷ (path, Closed (older.left old_new)) ∷ []
 
   -- the copy at `path` was not opened and lost its names, and the result says why
   pub record MigratesUnopened (result : Result (Unit {0}) CommandRefusal) : Type 0 where

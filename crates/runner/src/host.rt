@@ -15,14 +15,14 @@ use commands::action::{Action, act_on};
 use commands::files::{holds_bytes, is_empty_file, is_missing_or_empty, is_same_file};
 use commands::listing::list_at;
 use commands::new_key::order_new_at;
-use commands::order::{copy_at, order_at, revoke_at, stop_at};
+use commands::order::copy_at;
 use commands::ping::ping_at;
 use commands::progress::StderrLine;
 use commands::refusal::CommandRefusal;
 use commands::served_catalog::catalog_at;
-use control::{Listing, RegistryCommand};
 use file_action::host::ActionHost;
 use histories::{Hear, Tell};
+use orders::Listing;
 use sqlite::{Alter, Start};
 use sqlite_trees::store::Store;
 use std::alloc::Global;
@@ -38,7 +38,7 @@ use world::shelves::Shelves;
 pub trait Host<S, C>: ActionHost<S> + FileChecks {
     ghost use Rattle.std.specs.Prelude.{map as each};
     ghost use Rattle.sqlite.specs.State.{State};
-    ghost use Rattle.commands.specs.Order.{CopiesThere, OrdersThere, RevokesThere, StopsThere};
+    ghost use Rattle.commands.specs.Order.{CopiesThere};
     ghost use Rattle.commands.specs.Listing.{ListsThere};
     ghost use Rattle.commands.specs.NewKey.{OrdersNew};
     ghost use Rattle.commands.specs.Ping.{PingsThere};
@@ -85,10 +85,6 @@ pub trait Host<S, C>: ActionHost<S> + FileChecks {
             (record { begins = G.begins; left = G.left; before = G.history targets.old; after = G.history targets.new })
             from.now to.now result };
 
-    /// Sends an order to a running `serve`. Fails as [`order_at`] does.
-    fn order(&mut self, control: &str, command: &RegistryCommand) -> Result<(), CommandRefusal>
-        ensures { OrdersThere command.now result };
-
     /// Makes a key, sends an order to add it to a running `serve`, and prints it. Fails as [`order_new_at`] does.
     fn order_new<O: Tell>(
         &mut self,
@@ -98,10 +94,6 @@ pub trait Host<S, C>: ActionHost<S> + FileChecks {
         output: &mut O,
     ) -> Result<(), CommandRefusal>
         ensures { OrdersNew shelf.entry right (O.contents output.old) (O.contents output.new) result };
-
-    /// Has a running `serve` revoke the key with a fingerprint or a SHA-256. Fails as [`revoke_at`] does.
-    fn revoke(&mut self, control: &str, fingerprint: &str) -> Result<(), CommandRefusal>
-        ensures { RevokesThere fingerprint.now result };
 
     /// Has a running `serve` copy its store into a file. Fails as [`copy_at`] does.
     fn copy(&mut self, control: &str, to: &str) -> Result<(), CommandRefusal>
@@ -128,10 +120,6 @@ pub trait Host<S, C>: ActionHost<S> + FileChecks {
         output: &mut O,
     ) -> Result<bool, CommandRefusal>
         ensures { CatalogsThere key.now (O.contents output.old) (O.contents output.new) result };
-
-    /// Has a running `serve` end. Fails as [`stop_at`] does.
-    fn stop(&mut self, control: &str) -> Result<(), CommandRefusal>
-        ensures { StopsThere result };
 }
 
 /// The system.
@@ -179,7 +167,7 @@ impl<'a> ActionHost<OpenedStore> for SystemHost<'a> {
     ghost use Rattle.runner.specs.Opened.{HasBegun};
     ghost use Rattle.runner.specs.declared.found.OpenedStore.{OpenedStore};
 
-    ghost acts = { within (λ s. s.shelves) (Acts ⟦<Found as Shelves>⟧.shown
+    ghost acts = { within (λ s. s.shelves) (λ _. Acts ⟦<Found as Shelves>⟧.shown
         (Makes ⟦<Found as Shelves>⟧.shown (λ (s : OpenedStore). ⟦<Found as Shelves>⟧.shown s.shelves)
         (λ s. HasBegun ⟦<Found as Shelves>⟧.shown (image_at ⟦<AsFound as Start>⟧) s.shelves))
         (CountsIn ⟦<Found as Shelves>⟧.shown)) };
@@ -240,10 +228,6 @@ impl<'a> Host<OpenedStore, ClosedFile> for SystemHost<'a> {
         migrate_file(self.rt.alloc(), self, older, targets, from, to)
     }
 
-    fn order(&mut self, control: &str, command: &RegistryCommand) -> Result<(), CommandRefusal> {
-        order_at(self.rt, control, command)
-    }
-
     fn order_new<O: Tell>(
         &mut self,
         control: &str,
@@ -252,10 +236,6 @@ impl<'a> Host<OpenedStore, ClosedFile> for SystemHost<'a> {
         output: &mut O,
     ) -> Result<(), CommandRefusal> {
         order_new_at(self.rt, control, shelf, right, output)
-    }
-
-    fn revoke(&mut self, control: &str, fingerprint: &str) -> Result<(), CommandRefusal> {
-        revoke_at(self.rt, control, fingerprint)
     }
 
     fn copy(&mut self, control: &str, to: &str) -> Result<(), CommandRefusal> {
@@ -282,10 +262,6 @@ impl<'a> Host<OpenedStore, ClosedFile> for SystemHost<'a> {
         output: &mut O,
     ) -> Result<bool, CommandRefusal> {
         catalog_at(self.rt, control, key, output)
-    }
-
-    fn stop(&mut self, control: &str) -> Result<(), CommandRefusal> {
-        stop_at(self.rt, control)
     }
 }
 

@@ -23,6 +23,7 @@
 //! line.
 #![tactic(auto)]
 
+ghost use Rattle.commands.specs.Connection.{IsAll};
 ghost use Rattle.runner.specs.Command.{Runs};
 
 mod beside;
@@ -47,10 +48,12 @@ use crate::host::Host;
 use crate::older_files::OlderFiles;
 use commands::action::{Action, acceptance};
 use commands::memory::answer_in_memory;
+use commands::order::{order_at, revoke_at, stop_at};
 use commands::refusal::CommandRefusal;
-use control::{Listing, RegistryCommand};
 use file_action::{init, on_file};
 use histories::{Hear, Tell};
+use network::servers::Servers;
+use orders::{Listing, RegistryCommand};
 use store_files::files::StoreFiles;
 use world::entry::Right;
 
@@ -133,13 +136,16 @@ pub enum Command<'a> {
 ///
 /// By `files` it opens the store of a command, by `targets` the new store of an `extract` or a `migrate`, and by
 /// `older` a copy of an older store: each file of the command once, and it closes a store in the state that the command
-/// left it in. Neither this function nor `host` does anything else by them. An action is done by `host`, and so are
-/// checks and orders.
-pub fn run<S, C, H, F, G, Q, I, W>(
+/// left it in. Neither this function nor `host` does anything else by them. By `servers` it connects to the `serve` of
+/// a registry command, of a revocation by fingerprint and of `stop`: once, to the socket of the command, and nothing
+/// passes over that connection but the line of the order and that of its outcome. An action is done by `host`, and so
+/// are checks, copies and whatever prints the answer of a `serve`.
+pub fn run<S, C, H, F, G, Q, R, U, V, I, W>(
     host: &mut H,
     files: &mut F,
     targets: &mut G,
     older: &mut Q,
+    servers: &mut V,
     command: &Command,
     input: &mut I,
     output: &mut W,
@@ -149,12 +155,17 @@ where
     F: StoreFiles<S, C>,
     G: StoreFiles<S, C>,
     Q: OlderFiles<C>,
+    R: Hear,
+    U: Tell,
+    V: Servers<R, U>,
     I: Hear,
     W: Tell,
     ensures { Runs H.acts H.state_of H.shown
         (record { begins = F.begins; left = F.left; before = F.history files.old; after = F.history files.new })
         (record { begins = G.begins; left = G.left; before = G.history targets.old; after = G.history targets.new })
         (record { begins = Q.begins; left = Q.left; before = Q.history older.old; after = Q.history older.new })
+        (λ link passed. IsAll (R.account link.reader) (U.contents link.writer) (U.writes link.writer).failed passed)
+        (V.history servers.old) (V.history servers.new)
         (I.account input.old) (I.account input.new) (W.contents output.old) (W.contents output.new)
         result command.now }
 {
@@ -169,7 +180,9 @@ where
             acceptance(host.extract(files, targets, db, teams, to))
         }
         Command::Migrate { from, to } => acceptance(host.migrate(older, targets, from, to)),
-        Command::Order { control, command } => acceptance(host.order(control, command)),
+        Command::Order { control, command } => {
+            acceptance(order_at(host.alloc(), servers, control, command))
+        },
         Command::OrderNew {
             control,
             shelf,
@@ -178,11 +191,11 @@ where
         Command::OrderNamed {
             control,
             fingerprint,
-        } => acceptance(host.revoke(control, fingerprint)),
+        } => acceptance(revoke_at(host.alloc(), servers, control, fingerprint)),
         Command::Copy { control, to } => acceptance(host.copy(control, to)),
         Command::Ping { control } => host.ping(control, output),
         Command::List { control, listing } => host.list(control, *listing, output),
         Command::Catalog { control, key } => host.catalog(control, key, output),
-        Command::Stop { control } => acceptance(host.stop(control)),
+        Command::Stop { control } => acceptance(stop_at(host.alloc(), servers, control)),
     }
 }

@@ -60,7 +60,7 @@ impl<'a> StoreFiles<OpenedStore, ClosedFile> for SystemStoreFiles<'a> {
         line.clear();
         match opened {
             Ok(shelves) => {
-                self.noted.note(name.as_bytes(), &Deed::Opened);
+                self.noted.note(name.as_bytes(), &Deed::Opened(purpose));
                 Ok(OpenFile {
                     store: OpenedStore { shelves },
                     name,
@@ -120,11 +120,11 @@ impl<'a> StoreFiles<ClosedFile, ClosedFile> for SystemOlderFiles<'a> {
     fn open<'n>(
         &mut self,
         name: &'n str,
-        _purpose: Use,
+        purpose: Use,
     ) -> Result<OpenFile<'n, ClosedFile>, StoreRefusal> {
         match open_older(self.rt, name, AsFound) {
             Ok(connection) => {
-                self.noted.note(name.as_bytes(), &Deed::Opened);
+                self.noted.note(name.as_bytes(), &Deed::Opened(purpose));
                 Ok(OpenFile {
                     store: ClosedFile { connection },
                     name,

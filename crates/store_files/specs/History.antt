@@ -2,6 +2,7 @@
 use Rattle.std.specs.Prelude.{ℕ, ◌≡◌, List, [], ◌∷◌, ◌++◌}
 use Rattle.store_files.specs.declared.files.Deed.{Deed}
 use Rattle.store_files.specs.declared.files.Deed.TheVariants.{Opened, Refused, Closed}
+use Rattle.store_files.specs.declared.files.Use.{Use}
 
 -- a deed, with the name of its file
 abbrev pub Done : Type 0 → Type 0
@@ -24,11 +25,11 @@ module _ {S C : Type 0} (files : Span S C) where
   abbrev pub Refuses : List ℕ → Type 0
   Refuses name = files.after ≡ files.before ++ (name, Refused) ∷ []
 
-  -- The store of this file was opened once, this was done with it, and it was closed in the state that it then had.
-  -- Nothing else was done to any file.
-  pub record Opens (name : List ℕ) (Does : S → S → Type 0) : Type 0 where
+  -- The store of this file was opened once, for this purpose, this was done with it, and it was closed in the state that
+  -- it then had. Nothing else was done to any file.
+  pub record Opens (name : List ℕ) (purpose : Use) (Does : S → S → Type 0) : Type 0 where
     pub begun : S
     pub ended : S
     pub begins : files.begins begun
     pub does : Does begun ended
-    pub done : files.after ≡ files.before ++ (name, Opened) ∷ (name, Closed (files.left ended)) ∷ []
+    pub done : files.after ≡ files.before ++ (name, Opened purpose) ∷ (name, Closed (files.left ended)) ∷ []

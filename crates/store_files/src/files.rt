@@ -8,8 +8,8 @@ use crate::refusal::StoreRefusal;
 /// What was done to a file.
 #[derive(Drop)]
 pub enum Deed<C> {
-    /// Its store was opened.
-    Opened,
+    /// Its store was opened for this.
+    Opened(Use),
     /// Its store was to be opened, and was not.
     Refused,
     /// Its store was closed, and this was left of it.
@@ -57,7 +57,7 @@ pub trait StoreFiles<S, C> {
     /// Opens the store of a file. Fails with the refusal of the store.
     fn open<'n>(&mut self, name: &'n str, purpose: Use) -> Result<OpenFile<'n, S>, StoreRefusal>
         ensures begun { IfOk result (λ file. begins file.store × (file.name.now ≡ name.now)) }
-        ensures opened { IfOk result (λ _. history self.new ≡ history self.old ++ (name.now, Opened) ∷ []) }
+        ensures opened { IfOk result (λ _. history self.new ≡ history self.old ++ (name.now, Opened purpose) ∷ []) }
         ensures refused { IfErr result (λ _. history self.new ≡ history self.old ++ (name.now, Refused) ∷ []) };
 
     /// Closes the store of a file, as it is now.

@@ -37,10 +37,10 @@ impl<'a, S: Drop> StoreFiles<S, S> for MemoryStoreFiles<'a, S> {
 
     ghost left = { λ s. s };
 
-    fn open<'n>(&mut self, name: &'n str, _purpose: Use) -> Result<OpenFile<'n, S>, StoreRefusal> {
+    fn open<'n>(&mut self, name: &'n str, purpose: Use) -> Result<OpenFile<'n, S>, StoreRefusal> {
         if name == self.name {
             if let Some(store) = self.held.take() {
-                self.noted.note(name.as_bytes(), &Deed::Opened);
+                self.noted.note(name.as_bytes(), &Deed::Opened(purpose));
                 return Ok(OpenFile { store, name });
             }
         }

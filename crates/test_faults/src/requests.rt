@@ -2,7 +2,6 @@
 use crate::steps::set_up;
 use std::alloc::Global;
 use std::test::Fail;
-use test_support::calls::wrong_row;
 use test_support::requests::replied;
 use world::shelves::Shelves;
 
@@ -10,17 +9,6 @@ use world::shelves::Shelves;
 const UNAVAILABLE: &[u8] =
     b"HTTP/1.1 503 Service Unavailable\r\nContent-Type: text/plain; charset=utf-8\r\nContent-Length: 12\r\n\
       Connection: close\r\n\r\nunavailable\n";
-
-/// Does the steps of `SETUP` on shelves and has them answer the rows. Returns the first row that is answered
-/// otherwise, or the empty text. Then drops the shelves.
-pub fn wrong_reply<'a, M: Shelves + Drop>(
-    alloc: Global,
-    mut maps: M,
-    rows: &'a str,
-) -> Result<&'a str, Fail> {
-    set_up(alloc, &mut maps)?;
-    wrong_row(alloc, &mut maps, rows)
-}
 
 /// How a store answered a request.
 #[derive(Clone, Copy, Drop, PartialEq, Eq)]

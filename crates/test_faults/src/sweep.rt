@@ -2,13 +2,11 @@
 //! took only the requests that the store did not answer with the 503.
 use crate::jobs::{Job, JobKind};
 use crate::open::{Left, NO_STOP, left_by, stop_at};
-use crate::requests::wrong_reply;
 use crate::stops::prepared;
-use memory_store::map_shelves::MapShelves;
 use std::alloc::Global;
 use std::test::Fail;
 
-/// Requests, with the reply that each gets if no call fails.
+/// Requests, with the reply that each gets if no call fails: `tests/test_worked_rows.py` shows these.
 const REQUESTS: &str = "\
 PUT A example.com/lib/@v/v1.1.0 | 201 Created | plain | published; | module example.com/lib; | zip
 GET A example.com/lib/@v/v1.1.0.zip | 200 OK | zip | zip
@@ -57,16 +55,6 @@ fn calls_of(left: &Left, of_log: bool) -> u64 {
     } else {
         left.db.calls.count
     }
-}
-
-#[test]
-fn maps_answer_as_the_rows_tell(rt: HostRuntime) -> Result<(), Fail> {
-    assert_eq!(rt;
-        wrong_reply(rt.alloc(), MapShelves::new(rt.alloc())?, REQUESTS)?,
-        ""
-    );
-    assert_eq!(rt; REQUESTS.lines().count(), usize::from(COUNT));
-    Ok(())
 }
 
 #[test]

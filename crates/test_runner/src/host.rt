@@ -1,13 +1,12 @@
 //! A system whose stores are in memory.
 use commands::action::{Action, acceptance};
-use commands::order::{revoke_over, unsent_refusal};
 use commands::refusal::CommandRefusal;
 use commands::registry::register;
 use commands::report::print_inventory;
-use control::{Listing, RegistryCommand, has_catalog_line, has_copy_line, has_naming_line};
 use file_action::host::ActionHost;
-use histories::{Hear, Hearing, Tell, Telling};
+use histories::{Hear, Tell};
 use memory_store::map_shelves::MapShelves;
+use orders::{Listing, Order};
 use runner::file_checks::FileChecks;
 use runner::host::Host;
 use runner::older_files::OlderFiles;
@@ -18,8 +17,8 @@ use store_files::refusal::StoreRefusal;
 use world::entry::Right;
 use world::shelves::Shelves;
 
-/// A system in which only `bytes.db` is a file with bytes. No `serve` listens. It carries out registry commands, prints
-/// inventories, and neither extracts nor migrates.
+/// A system in which only `bytes.db` is a file with bytes. It carries out registry commands, prints inventories, and
+/// neither extracts nor migrates. No `serve` copies or answers.
 #[derive(Drop)]
 pub struct MemoryHost<'a> {
     pub rt: &'a HostRuntime,
@@ -51,7 +50,7 @@ impl<'a> FileChecks for MemoryHost<'a> {
 
 impl<'a> ActionHost<MapShelves> for MemoryHost<'a> {
     // the tests look at results alone
-    ghost acts = { λ _ _ _ _. Unit {0} };
+    ghost acts = { λ _ _ _ _ _. Unit {0} };
 
     fn holds_bytes(&self, name: &str) -> bool {
         name == "bytes.db"
@@ -113,29 +112,8 @@ impl<'a> Host<MapShelves, MapShelves> for MemoryHost<'a> {
         Err(CommandRefusal::NotEmpty)
     }
 
-    fn order(&mut self, _control: &str, command: &RegistryCommand) -> Result<(), CommandRefusal> {
-        match unsent_refusal(command) {
-            Some(refusal) => Err(refusal),
-            None => Err(CommandRefusal::Device),
-        }
-    }
-
-    fn revoke(&mut self, _control: &str, fingerprint: &str) -> Result<(), CommandRefusal> {
-        if has_naming_line(fingerprint) {
-            Err(CommandRefusal::Device)
-        } else {
-            let mut sent = Vec::<u8>::new(self.rt.alloc());
-            revoke_over(
-                self.rt.alloc(),
-                &mut Hearing::new(&b""[..]),
-                &mut Telling::new(&mut sent),
-                fingerprint,
-            )
-        }
-    }
-
     fn copy(&mut self, _control: &str, to: &str) -> Result<(), CommandRefusal> {
-        if has_copy_line(to) {
+        if Order::Copy(to).has_line() {
             Err(CommandRefusal::Device)
         } else {
             Err(CommandRefusal::Name)
@@ -167,7 +145,7 @@ impl<'a> Host<MapShelves, MapShelves> for MemoryHost<'a> {
         key: &str,
         _output: &mut O,
     ) -> Result<bool, CommandRefusal> {
-        if has_catalog_line(key) {
+        if Order::Catalog(key).has_line() {
             Err(CommandRefusal::Device)
         } else {
             Err(CommandRefusal::NoKey)
@@ -175,10 +153,6 @@ impl<'a> Host<MapShelves, MapShelves> for MemoryHost<'a> {
     }
 
     fn ping<O: Tell>(&mut self, _control: &str, _output: &mut O) -> Result<bool, CommandRefusal> {
-        Err(CommandRefusal::Device)
-    }
-
-    fn stop(&mut self, _control: &str) -> Result<(), CommandRefusal> {
         Err(CommandRefusal::Device)
     }
 }

@@ -3,9 +3,11 @@ use crate::host::MemoryHost;
 use crate::no_older::NoOlderFiles;
 use commands::action::Action;
 use commands::refusal::CommandRefusal;
-use control::{Listing, RegistryCommand};
-use histories::{Hearing, Telling};
+use histories::{Hear, Hearing, Tell, Telling};
 use memory_store::map_shelves::MapShelves;
+use network::memory::MemoryServers;
+use network::servers::Servers;
+use orders::{Listing, RegistryCommand};
 use runner::host::Host;
 use runner::older_files::OlderFiles;
 use runner::{Command, run};
@@ -19,7 +21,8 @@ use store_files::refusal::StoreRefusal;
 use test_support::rows::cell;
 use world::entry::Right;
 
-/// A command, its file, what it adds, a key, and the word that it ends by. There is one file, `shelves.db`. A command
+/// A command, its file or socket, what it adds, a key, and the word that it ends by. There is one file, `shelves.db`,
+/// and one server, which listens at `serve.socket` and says `taken` to everyone. A command
 /// that finds what another left was run on the store that the other closed.
 const RUNS: &str = "\
 init | other.db | | | device
@@ -36,11 +39,13 @@ inventory | shelves.db | | alphakey00000001 | done
 extract | shelves.db | alpha | | not-empty
 migrate | shelves.db | | | not-empty
 order | shelves.db | alpha | | device
+order | serve.socket | alpha | | taken
 copy | shelves.db | | | device
 ping | shelves.db | | | device
 list | shelves.db | | | device
 catalog | shelves.db | | alphakey00000001 | device
 stop | shelves.db | | | device
+stop | serve.socket | | | io
 inventory | shelves.db | | alphakey00000001 | done
 ";
 
@@ -97,18 +102,22 @@ fn word_of(told: Result<bool, CommandRefusal>) -> &'static str {
 }
 
 /// Returns the first row that ends by another word, or the empty text.
-fn wrong_row<S, C, H, F, G, Q>(
+fn wrong_row<S, C, H, F, G, Q, R, U, V>(
     alloc: Global,
     host: &mut H,
     files: &mut F,
     targets: &mut G,
     older: &mut Q,
+    servers: &mut V,
 ) -> &'static str
 where
     H: Host<S, C>,
     F: StoreFiles<S, C>,
     G: StoreFiles<S, C>,
     Q: OlderFiles<C>,
+    R: Hear,
+    U: Tell,
+    V: Servers<R, U>,
 {
     for row in RUNS.lines() {
         let mut printed = Vec::<u8>::new(alloc);
@@ -117,6 +126,7 @@ where
             files,
             targets,
             older,
+            servers,
             &command_of(row, &[cell(row, 2)]),
             &mut Hearing::new(&b""[..]),
             &mut Telling::new(&mut printed),
@@ -142,7 +152,15 @@ fn commands_run_on_the_store_that_the_last_one_closed(rt: HostRuntime) -> Result
     let mut older = NoOlderFiles {
         noted: Record::new(),
     };
-    let wrong = wrong_row(rt.alloc(), &mut host, &mut files, &mut targets, &mut older);
+    let mut servers = MemoryServers::new(rt.alloc(), "serve.socket", b"taken\n");
+    let wrong = wrong_row(
+        rt.alloc(),
+        &mut host,
+        &mut files,
+        &mut targets,
+        &mut older,
+        &mut servers,
+    );
     assert!(rt; wrong == "");
     Ok(())
 }

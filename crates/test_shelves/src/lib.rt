@@ -1,17 +1,16 @@
-//! The worked examples of shelves in memory, and the rows of the streams and connections that they answer.
+//! The worked examples of shelves in memory, and of streams and connections that fail or take time.
 //!
 //! | module | its rows show |
 //! |---|---|
 //! | `maps` | the scripts of `test_support`: calls of shelves |
 //! | `kept_counts`, `version_sets` | what shelves in memory keep |
-//! | `entries`, `decisions` | which entries may stand, decisions on publishes |
-//! | `answers`, `sweeps` | answers to a stream however it is cut, and readers and writers that fail at each call |
-//! | `connections`, `queue` | connections of this process to itself and in memory |
+//! | `answers`, `sweeps` | a first message behind which nothing is read, and readers and writers that fail |
+//! | `connections` | two connections of this process to itself |
 //! | `in_time` | a peer's time |
 //!
-//! Each table is a text whose lines are rows. Each public function of the crates below runs on at least one row, here
-//! or in a suite, but `run` of `machine`, which is a theorem. The scripts are those of `test_support`, which
-//! `test_stores` also runs on tables.
+//! Each table is a text whose lines are rows. The scripts are those of `test_support`, which `test_stores` also runs on
+//! tables. What the running program shows stands in `tests/`: decisions on publishes, streams that are cut, and the
+//! connections of `serve`.
 #![tactic(auto)]
 
 #[cfg(test)]
@@ -19,21 +18,13 @@ mod answers;
 #[cfg(test)]
 mod connections;
 #[cfg(test)]
-mod decisions;
-#[cfg(test)]
-mod entries;
-#[cfg(test)]
 mod in_time;
 #[cfg(test)]
 mod kept_counts;
 #[cfg(test)]
 mod maps;
 #[cfg(test)]
-mod queue;
-#[cfg(test)]
 mod shelves;
-#[cfg(test)]
-mod stream;
 #[cfg(test)]
 mod sweeps;
 #[cfg(test)]

@@ -1,5 +1,5 @@
-//! Readers and writers that fail at each of their calls in turn: what was written, and what the shelves have
-//! afterwards.
+//! Readers and writers that fail at each of their calls in turn, and a flush that fails: what was written, and what the
+//! shelves have afterwards.
 //!
 //! This is shown over shelves in maps only, because none of it depends on where the shelves are kept.
 use crate::shelves::shelves;
@@ -192,5 +192,24 @@ fn a_write_that_fails_leaves_what_the_message_did(rt: HostRuntime) -> Result<(),
     assert!(rt; wrong_write(rt.alloc(), 1)?.is_none());
     assert!(rt; wrong_write(rt.alloc(), 50)?.is_none());
     assert!(rt; wrong_write(rt.alloc(), usize::MAX)?.is_none());
+    Ok(())
+}
+
+#[test]
+fn a_flush_that_fails_leaves_all_written(rt: HostRuntime) -> Result<(), Fail> {
+    let stream = whole(rt.alloc(), 0)?;
+    let mut writer = Sink::new(rt.alloc(), usize::MAX);
+    writer.flushes = false;
+    let mut listed = Sink::new(rt.alloc(), usize::MAX);
+    let reader = Source::new(stream.as_bytes(), 50);
+    let told = answer_and_list(
+        rt.alloc(),
+        shelves(rt.alloc())?,
+        reader,
+        &mut writer,
+        &mut listed,
+    );
+    assert!(rt; told == Err(Io::Write));
+    assert!(rt; writer.taken.as_slice() == whole(rt.alloc(), 1)?.as_bytes());
     Ok(())
 }

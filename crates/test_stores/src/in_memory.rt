@@ -1,10 +1,8 @@
 //! The tests.
-use crate::adopted_tables::{CASES, MOST, wrong_case};
-use crate::extracts::EXTRACTS;
-use crate::stores::wrong_row_of_all;
+use crate::stores::{names_no_team, wrong_row_of_all};
+use crate::unadopted::{TABLES, outcome};
 use std::test::Fail;
 use test_support::calls::CALLS;
-use test_support::requests::REQUESTS;
 
 /// The tables refuse a second row for a version, and the store counts that as a failure.
 const SECOND_ROW: &str = "\
@@ -18,22 +16,25 @@ count|common|example.com/lib = 1
 
 #[test]
 fn tables_in_memory_answer(rt: HostRuntime) -> Result<(), Fail> {
-    for scripts in [CALLS, REQUESTS, SECOND_ROW, EXTRACTS] {
+    for scripts in [CALLS, SECOND_ROW] {
         assert_eq!(rt; wrong_row_of_all(rt.alloc(), scripts)?, "");
     }
     Ok(())
 }
 
 #[test]
-fn tables_are_adopted_or_refused(rt: HostRuntime) -> Result<(), Fail> {
-    let wrong = wrong_case(rt.alloc(), CASES)?;
-    assert!(rt; wrong.is_empty(), "{wrong}");
+fn a_connection_on_which_a_statement_fails_is_not_adopted(rt: HostRuntime) -> Result<(), Fail> {
+    assert_eq!(rt; outcome(rt.alloc(), TABLES, None)?.as_str(), "adopted");
+    assert_eq!(rt; outcome(rt.alloc(), "BEGIN", None)?.as_str(), "Device None");
+    assert_eq!(rt;
+        outcome(rt.alloc(), TABLES, Some(1))?.as_str(),
+        "Device None"
+    );
     Ok(())
 }
 
 #[test]
-fn at_most_4096_versions_of_a_path_are_adopted(rt: HostRuntime) -> Result<(), Fail> {
-    let wrong = wrong_case(rt.alloc(), MOST)?;
-    assert!(rt; wrong.is_empty(), "{wrong}");
+fn no_part_is_made_of_no_team(rt: HostRuntime) -> Result<(), Fail> {
+    assert!(rt; names_no_team(rt.alloc(), &[])?);
     Ok(())
 }

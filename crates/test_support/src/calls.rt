@@ -421,7 +421,7 @@ fn of_version<S: Shelves>(
 }
 
 /// Returns the time in a text, or None if the text is empty. Fails if the text is no time.
-pub fn time_of(text: &str) -> Result<Option<TimeText>, Fail> {
+fn time_of(text: &str) -> Result<Option<TimeText>, Fail> {
     if text.is_empty() {
         return Ok(None);
     }

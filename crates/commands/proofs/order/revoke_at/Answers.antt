@@ -1,16 +1,33 @@
-use Rattle.std.proofs.Common.{inl, subst}
+use Rattle.std.proofs.Common.{ap, inl, inr, refl, subst}
 use Rattle.std.specs.Prelude.{MatchBool}
-use Rattle.control.specs.Asking.{IsSayable, IsUnsaid}
-use Rattle.control.specs.Line.{longest, named_words}
-use Rattle.commands.proofs.Fingerprints.{unsent_revokes}
+use Rattle.histories.specs.Calls.{Writes}
+use Rattle.network.proofs.HistoryLemmas.{called}
+use Rattle.orders.specs.Order.{HasLine, HasNoLine, RevokeNamed}
+use Rattle.commands.proofs.Connections.{revokes_by}
+use Rattle.commands.proofs.Fingerprints.{none_revoked}
 use Rattle.commands.proofs.order.revoke_at.Goals as goal
 
-pub returns-then-not-has_naming_line : goal.returns-then-not-has_naming_line
-returns-then-not-has_naming_line c =
-    let words = named_words c.args.fingerprint.now in
-    unsent_revokes c.args.fingerprint.now
-    (subst (λ b. MatchBool b (IsSayable longest words) (IsUnsaid longest words)) c.if-not-has_naming_line.true
-    c.has_naming_line.ensures)
+pub returns-then-not-has_line : goal.returns-then-not-has_line
+returns-then-not-has_line g c =
+    let order = RevokeNamed c.args.fingerprint.now in
+    let unsaid = subst (λ b. MatchBool b (HasLine order) (HasNoLine order)) c.if-not-has_line.true c.has_line.ensures in
+    inr (refl, unsaid, refl, none_revoked c.args.fingerprint.now unsaid)
 
 pub returns-in-Ok : goal.returns-in-Ok
-returns-in-Ok c = inl (_, _, _, _, c.revoke_over.ensures)
+returns-in-Ok g c =
+    let order = RevokeNamed c.args.fingerprint.now in
+    inl (
+      subst (λ b. MatchBool b (HasLine order) (HasNoLine order)) c.if-not-has_line.false c.has_line.ensures,
+      inl (called _ _ _ _ _ _
+          (revokes_by _ _ _ _ _ _ c.in-Ok.ensures.fresh (ap (λ (w : Writes). w.failed) c.in-Ok.ensures.uncalled.1) _ _
+          c.revoke_over-ended.ensures.heard)
+          c.in-Ok.ensures.connected c.end.ensures),
+    )
+
+pub returns-in-Err : goal.returns-in-Err
+returns-in-Err g c =
+    let order = RevokeNamed c.args.fingerprint.now in
+    inl (
+      subst (λ b. MatchBool b (HasLine order) (HasNoLine order)) c.if-not-has_line.false c.has_line.ensures,
+      inr (c.in-Err.ensures.unconnected, refl),
+    )

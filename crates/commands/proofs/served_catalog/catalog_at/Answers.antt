@@ -1,16 +1,14 @@
 use Rattle.std.proofs.Common.{Err, None, inl, refl, subst}
 use Rattle.std.specs.Prelude.{MatchBool}
-use Rattle.control.specs.Asking.{IsSayable, IsUnsaid}
-use Rattle.control.specs.Line.{catalog_words, longest}
+use Rattle.orders.specs.Order.{Catalog, HasLine, HasNoLine}
 use Rattle.control.specs.declared.client.Untold.TheVariants.{Words}
 use Rattle.commands.specs.declared.refusal.CommandRefusal.TheVariants.{NoKey}
 use Rattle.commands.proofs.served_catalog.catalog_at.Goals as goal
 
-pub returns-then-not-has_catalog_line : goal.returns-then-not-has_catalog_line
-returns-then-not-has_catalog_line g c =
-    let words = catalog_words c.args.key.now in
-    let unsaid = subst (λ b. MatchBool b (IsSayable longest words) (IsUnsaid longest words))
-    c.if-not-has_catalog_line.true c.has_catalog_line.ensures in
+pub returns-then-not-has_line : goal.returns-then-not-has_line
+returns-then-not-has_line g c =
+    let order = Catalog c.args.key.now in
+    let unsaid = subst (λ b. MatchBool b (HasLine order) (HasNoLine order)) c.if-not-has_line.true c.has_line.ensures in
     inl (
       None,
       None,

@@ -1,15 +1,18 @@
-use Rattle.std.proofs.Common.{inl, inr}
+use Rattle.std.proofs.Common.{inl, inr, subst}
+use Rattle.orders.specs.Order.{IsLineOf, ordered}
 use Rattle.control.specs.Health.{IsPinged}
 use Rattle.control.proofs.PingLemmas.{tells_outcome}
 use Rattle.control.proofs.callers.answer_since.Goals as goal
 
-pub returns-in-Some-clause-obeys : goal.returns-in-Some-clause-obeys
-returns-in-Some-clause-obeys g c = λ came came_new reads.
+pub returns-in-Some-Catalog-clause-obeys : goal.returns-in-Some-Catalog-clause-obeys
+returns-in-Some-Catalog-clause-obeys g c = λ came came_new reads.
+    let line = subst (λ o. IsLineOf c.args.got.now (ordered o)) (rw c.in-Some-Catalog.is at c.in-Some-Catalog.field-0-is)
+    (rw c.in-Some-Catalog.is at c.read_order-order.ensures) in
     rw c.into_inner.ensures.same (rw c.new-output.ensures at
-    (c.print_for-told.ensures.obeys c.args.tally.now c.args.got.now came came_new reads c.in-Some.ensures))
+    (c.print_for-told.ensures.obeys c.args.tally.now c.args.got.now came came_new reads line))
 
-pub returns-in-Some-clause-figures : goal.returns-in-Some-clause-figures
-returns-in-Some-clause-figures g c =
+pub returns-in-Some-Catalog-clause-figures : goal.returns-in-Some-Catalog-clause-figures
+returns-in-Some-Catalog-clause-figures g c =
     let s = g.S.Shelves in
     let k = g.K.CopyOrders in
     let new = c.print_for-told.new.shelves in
@@ -17,20 +20,23 @@ returns-in-Some-clause-figures g c =
     (IsPinged c.args.tally.now (s.shown c.args.shelves.now).failures (s.shown new).failures
     (k.counted c.args.shelves.now new)) c.print_for-told.result c.print_for-told.ensures.outcome
 
-pub returns-in-Some-clause-fails : goal.returns-in-Some-clause-fails
-returns-in-Some-clause-fails g c =
+pub returns-in-Some-Catalog-clause-fails : goal.returns-in-Some-Catalog-clause-fails
+returns-in-Some-Catalog-clause-fails g c =
     rw c.into_inner.ensures.same (rw c.new-output.ensures at c.print_for-told.ensures.fails)
 
-pub returns-in-Some-clause-flushed : goal.returns-in-Some-clause-flushed
-returns-in-Some-clause-flushed g c = rw c.into_inner.ensures.same c.print_for-told.ensures.flushed
+pub returns-in-Some-Catalog-clause-flushed : goal.returns-in-Some-Catalog-clause-flushed
+returns-in-Some-Catalog-clause-flushed g c = rw c.into_inner.ensures.same c.print_for-told.ensures.flushed
 
-pub returns-in-Some-clause-in_time : goal.returns-in-Some-clause-in_time
-returns-in-Some-clause-in_time g c = inr (c.in-Some.key.now, c.in-Some.ensures, c.into_inner.ensures.kept)
+pub returns-in-Some-Catalog-clause-in_time : goal.returns-in-Some-Catalog-clause-in_time
+returns-in-Some-Catalog-clause-in_time g c =
+    let line = subst (λ o. IsLineOf c.args.got.now (ordered o)) (rw c.in-Some-Catalog.is at c.in-Some-Catalog.field-0-is)
+    (rw c.in-Some-Catalog.is at c.read_order-order.ensures) in
+    inr (c.in-Some-Catalog.key.now, line, c.into_inner.ensures.kept)
 
 pub returns-clause-obeys : goal.returns-clause-obeys
 returns-clause-obeys g c = λ came came_new reads.
     rw c.into_inner-2.ensures.same (rw c.new-outcome.ensures at
-    (c.answer-told.ensures.obeys c.in_default.ensures came came_new reads))
+    (c.answer-told.ensures.obeys c.args.got.now came came_new c.read_order-order.ensures reads))
 
 pub returns-clause-fails : goal.returns-clause-fails
 returns-clause-fails g c = rw c.into_inner-2.ensures.same (rw c.new-outcome.ensures at c.answer-told.ensures.fails)

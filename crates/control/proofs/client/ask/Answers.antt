@@ -1,5 +1,10 @@
-use Rattle.control.proofs.CopyLemmas.{asks_by}
+use Rattle.control.proofs.SendingLemmas.{asks_by, asks_heard}
 use Rattle.control.proofs.client.ask.Goals as goal
 
-pub returns : goal.returns
-returns g c = asks_by _ _ _ _ _ _ _ c.in_ok-line.ensures.ok (rw c.deref.ensures.value at c.send.ensures)
+pub returns-clause-asks : goal.returns-clause-asks
+returns-clause-asks g c =
+    asks_by _ _ _ _ _ _ _ c.in_ok-line.ensures.ok (rw c.as_bytes.ensures.value at c.send.ensures.sends)
+
+pub returns-clause-heard : goal.returns-clause-heard
+returns-clause-heard g c =
+    asks_heard _ _ _ _ _ _ _ _ _ c.in_ok-line.ensures.ok (rw c.as_bytes.ensures.value at c.send.ensures.heard)

@@ -1,5 +1,5 @@
 use Rattle.std.proofs.Common.{[], ◌∷◌, Some, inr, refl}
-use Rattle.control.proofs.LineLemmas.{end_cut}
+use Rattle.orders.proofs.LineLemmas.{end_cut}
 use Rattle.control.proofs.listing.are_lines.Goals as goal
 
 pub returns-in-Some : goal.returns-in-Some

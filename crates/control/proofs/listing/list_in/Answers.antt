@@ -1,5 +1,5 @@
 use Rattle.std.proofs.Common.{Some, refl}
-use Rattle.control.proofs.LineLemmas.{end_cut}
+use Rattle.orders.proofs.LineLemmas.{end_cut}
 use Rattle.control.proofs.listing.list_in.Goals as goal
 
 pub returns-then-are_lines : goal.returns-then-are_lines

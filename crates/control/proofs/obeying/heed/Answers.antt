@@ -1,4 +1,5 @@
-use Rattle.std.proofs.Common.{refl, ap}
+use Rattle.std.proofs.Common.{refl, ap, subst}
+use Rattle.orders.specs.Order.{IsLineOf, ordered}
 use Rattle.control.specs.Health.{IsPinged}
 use Rattle.control.specs.Copying.{ToPath}
 use Rattle.control.specs.Hearing.{Carried, Made, Listed, Pinged, Named, Stop, NoOrder}
@@ -9,9 +10,9 @@ use Rattle.control.proofs.TaskLemmas.{tasks_none, tasks_read, tasks_ordered}
 use Rattle.control.proofs.obeying.heed.Goals as goal
 
 pub returns-in-Some-Stop-clause-heeds : goal.returns-in-Some-Stop-clause-heeds
-returns-in-Some-Stop-clause-heeds g c = λ none. record {
+returns-in-Some-Stop-clause-heeds g c = λ got is. record {
   heard = Stop;
-  from = rw c.in-Some-Stop.field-0-is at c.in-Some-Stop.ensures;
+  from = subst (λ o. IsLineOf got (ordered o)) (rw c.in-Some-Stop.is at c.in-Some-Stop.field-0-is) (rw c.in-Some-Stop.is at is);
   prints = refl;
   tells = refl;
   through = (refl, tasks_none _);
@@ -20,9 +21,9 @@ returns-in-Some-Stop-clause-heeds g c = λ none. record {
 }
 
 pub returns-in-Some-Ping-clause-heeds : goal.returns-in-Some-Ping-clause-heeds
-returns-in-Some-Ping-clause-heeds g c = λ none. record {
+returns-in-Some-Ping-clause-heeds g c = λ got is. record {
   heard = Pinged c.ping.ensures.pings.heard;
-  from = rw c.in-Some-Ping.field-0-is at c.in-Some-Ping.ensures;
+  from = subst (λ o. IsLineOf got (ordered o)) (rw c.in-Some-Ping.is at c.in-Some-Ping.field-0-is) (rw c.in-Some-Ping.is at is);
   prints = refl;
   tells = c.ping.ensures.pings.tells;
   through = (refl, tasks_read _ _ c.ping.ensures.pings.reads);
@@ -31,9 +32,9 @@ returns-in-Some-Ping-clause-heeds g c = λ none. record {
 }
 
 pub returns-in-Some-Copy-clause-heeds : goal.returns-in-Some-Copy-clause-heeds
-returns-in-Some-Copy-clause-heeds g c = λ none. record {
+returns-in-Some-Copy-clause-heeds g c = λ got is. record {
   heard = Made (ToPath c.in-Some-Copy.path.now c.copy_to.result);
-  from = rw c.in-Some-Copy.field-0-is at c.in-Some-Copy.ensures;
+  from = subst (λ o. IsLineOf got (ordered o)) (rw c.in-Some-Copy.is at c.in-Some-Copy.field-0-is) (rw c.in-Some-Copy.is at is);
   prints = refl;
   tells = ap spoken.Outcome c.outcome_of_copy.ensures;
   through = c.copy_to.ensures.meanwhile;
@@ -42,9 +43,9 @@ returns-in-Some-Copy-clause-heeds g c = λ none. record {
 }
 
 pub returns-in-Some-List-clause-heeds : goal.returns-in-Some-List-clause-heeds
-returns-in-Some-List-clause-heeds g c = λ none. record {
+returns-in-Some-List-clause-heeds g c = λ got is. record {
   heard = Listed c.in-Some-List.listing c.list.ensures.heard;
-  from = rw c.in-Some-List.field-0-is at c.in-Some-List.ensures;
+  from = subst (λ o. IsLineOf got (ordered o)) (rw c.in-Some-List.is at c.in-Some-List.field-0-is) (rw c.in-Some-List.is at is);
   prints = refl;
   tells = c.list.ensures.tells;
   through = (refl, tasks_read _ _ (list_only_reads _ _ _ _ c.list.ensures.reads));
@@ -53,9 +54,9 @@ returns-in-Some-List-clause-heeds g c = λ none. record {
 }
 
 pub returns-in-Some-RevokeNamed-clause-heeds : goal.returns-in-Some-RevokeNamed-clause-heeds
-returns-in-Some-RevokeNamed-clause-heeds g c = λ none. record {
+returns-in-Some-RevokeNamed-clause-heeds g c = λ got is. record {
   heard = Named c.in-Some-RevokeNamed.fingerprint.now c.revoke_named.ensures.naming;
-  from = rw c.in-Some-RevokeNamed.field-0-is at c.in-Some-RevokeNamed.ensures;
+  from = subst (λ o. IsLineOf got (ordered o)) (rw c.in-Some-RevokeNamed.is at c.in-Some-RevokeNamed.field-0-is) (rw c.in-Some-RevokeNamed.is at is);
   prints = refl;
   tells = ap spoken.Outcome c.revoke_named.ensures.tells;
   through = (refl, c.revoke_named.ensures.through);
@@ -64,9 +65,9 @@ returns-in-Some-RevokeNamed-clause-heeds g c = λ none. record {
 }
 
 pub returns-in-Some-Registry-clause-heeds : goal.returns-in-Some-Registry-clause-heeds
-returns-in-Some-Registry-clause-heeds g c = λ none. record {
+returns-in-Some-Registry-clause-heeds g c = λ got is. record {
   heard = Carried c.in-Some-Registry.command c.carry_out_in-told.result;
-  from = rw c.in-Some-Registry.field-0-is at c.in-Some-Registry.ensures;
+  from = subst (λ o. IsLineOf got (ordered o)) (rw c.in-Some-Registry.is at c.in-Some-Registry.field-0-is) (rw c.in-Some-Registry.is at is);
   prints = refl;
   tells = ap spoken.Outcome c.outcome_of.ensures;
   through = (refl, tasks_ordered _ _ _ _ c.carry_out_in-told.ensures.does);
@@ -75,9 +76,9 @@ returns-in-Some-Registry-clause-heeds g c = λ none. record {
 }
 
 pub returns-in-None-clause-heeds : goal.returns-in-None-clause-heeds
-returns-in-None-clause-heeds g c = λ none. record {
+returns-in-None-clause-heeds g c = λ got is. record {
   heard = NoOrder;
-  from = (c.in-None.ensures, none);
+  from = rw c.in-None.is at is;
   prints = refl;
   tells = refl;
   through = (refl, tasks_none _);

@@ -30,5 +30,5 @@ returns-clause-came g c = inl (record {
   ended = c.copy_into-told.new.fresh;
   begins = c.in-Ok.ensures.begun.0;
   does = c.copy_into-told.ensures.came;
-  done = opened_closed _ _ _ _ _ _ c.in-Ok.ensures.begun.1 c.in-Ok.ensures.opened c.close.ensures;
+  done = opened_closed _ _ _ _ _ _ _ c.in-Ok.ensures.begun.1 c.in-Ok.ensures.opened c.close.ensures;
 })

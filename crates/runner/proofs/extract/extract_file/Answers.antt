@@ -8,5 +8,5 @@ returns g c = inl (record {
   ended = c.extract_to-told.new.source;
   begins = c.in_ok-source.ensures.begun.0;
   does = c.extract_to-told.ensures;
-  done = opened_closed _ _ _ _ _ _ c.in_ok-source.ensures.begun.1 c.in_ok-source.ensures.opened c.close.ensures;
+  done = opened_closed _ _ _ _ _ _ _ c.in_ok-source.ensures.begun.1 c.in_ok-source.ensures.opened c.close.ensures;
 })

@@ -8,5 +8,5 @@ returns g c = inl (record {
   ended = c.migrate_into-told.new.fresh;
   begins = c.in-Ok.ensures.begun.0;
   does = c.migrate_into-told.ensures;
-  done = opened_closed _ _ _ _ _ _ c.in-Ok.ensures.begun.1 c.in-Ok.ensures.opened c.close.ensures;
+  done = opened_closed _ _ _ _ _ _ _ c.in-Ok.ensures.begun.1 c.in-Ok.ensures.opened c.close.ensures;
 })

@@ -1,0 +1,26 @@
+-- A line was sent.
+use Rattle.std.proofs.Common.{◌≡◌, ℕ, List, Option, Result, Ok, Err, sym, subst}
+use Rattle.histories.specs.Account.{Account, Gives}
+use Rattle.orders.specs.Order.{IsLineOf, Ordered}
+use Rattle.orders.specs.declared.outcome.Outcome.{Outcome}
+use Rattle.control.specs.Asking.{Asks, AsksHeard, Sends, SendsHeard}
+use Rattle.control.specs.declared.client.Untold.{Untold}
+
+-- what was sent is the line of the order
+pub asks_by : (u u' w w' : Option (List ℕ)) (line : List ℕ) (o : Ordered) (told : Result Outcome Untold)
+    → IsLineOf line o → Sends u u' w w' line told → Asks u u' w w' o told
+asks_by u u' w w' line o (Ok told) is sends = (line, is, sends.0, sends.1)
+asks_by u u' w w' line o (Err why) is (same, sends) =
+    subst (λ x. Asks u u' w w' o (Err x)) (sym same) (line, is, sends)
+
+-- so it is by what came
+pub asks_heard : (a b : Account) (w w' : Option (List ℕ)) (f f' : ℕ) (line : List ℕ) (o : Ordered)
+    (told : Result Outcome Untold)
+    → IsLineOf line o → SendsHeard a b w w' f f' line told → AsksHeard a b w w' f f' o told
+asks_heard a b w w' f f' line o (Ok told) is sends = (line, is, sends.0, sends.1)
+asks_heard a b w w' f f' line o (Err why) is (same, sends) =
+    subst (λ x. AsksHeard a b w w' f f' o (Err x)) (sym same) (line, is, sends)
+
+-- the line that came is that of the outcome
+pub line_heard : (a b : Account) (got line : List ℕ) → got ≡ line → Gives a b got → Gives a b line
+line_heard a b got line is gives = subst (Gives a b) is gives

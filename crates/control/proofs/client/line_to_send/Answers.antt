@@ -1,8 +1,0 @@
-use Rattle.control.proofs.CopyLemmas.{ok_said, err_unwritten}
-use Rattle.control.proofs.client.line_to_send.Goals as goal
-
-pub returns-clause-ok : goal.returns-clause-ok
-returns-clause-ok c = ok_said _ _ _ _ c.words_in-words.ensures _ c.line_saying.ensures.ok
-
-pub returns-clause-err : goal.returns-clause-err
-returns-clause-err c = err_unwritten _ _ _ c.words_in-words.ensures _ c.line_saying.ensures.err

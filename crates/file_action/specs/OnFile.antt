@@ -1,6 +1,7 @@
 -- What an action on the store of a file does.
-use Rattle.std.specs.Prelude.{ℕ, List, ◌≡◌, ◌⊎◌, Bool, Option, Result, Ok, Err}
-use Rattle.store_files.specs.History.{Span, IsIdle, Refuses, Opens}
+use Rattle.std.specs.Prelude.{ℕ, List, [], ◌∷◌, ◌++◌, ◌≡◌, ◌⊎◌, Bool, true, false, Option, Result, Ok, Err}
+use Rattle.store_files.specs.History.{Span, Refuses, Opens}
+use Rattle.store_files.specs.declared.files.Deed.TheVariants.{Looked}
 use Rattle.store_files.specs.declared.files.Use.{Use}
 use Rattle.store_files.specs.declared.files.Use.TheVariants.{Reading, Writing}
 use Rattle.histories.specs.Account.{Account}
@@ -63,12 +64,28 @@ module _ {S C : Type 0} (acts : Deeds S) (files : Span S C) (name : List ℕ)
       (record { store = ended; came = came_new; written = written_new }) result action)
       ⊎ ActsOnNone result
 
-  -- the file has bytes, the result says so, and no store was opened
-  pub record FindsBytes (result : Result Bool CommandRefusal) : Type 0 where
-    pub tells : TellsAlone came came_new written written_new result (Err NotEmpty)
-    pub idle : IsIdle files
+-- the rest of a span that begins with a look at this file, which held no bytes
+abbrev pub behind_look : {S C : Type 0} → Span S C → List ℕ → Span S C
+behind_look files name = record {
+  begins = files.begins;
+  left = files.left;
+  before = files.before ++ (name, Looked false) ∷ [];
+  after = files.after;
+}
 
-  -- the file has bytes; or its store was opened or not, and nothing else was done
-  abbrev pub Inits : Result Bool CommandRefusal → Type 0
-  Inits result =
-      FindsBytes result ⊎ ((opened : Result Bool CommandRefusal) × ActsOnFile Open opened × (result ≡ made opened))
+module _ {S C : Type 0} (acts : Deeds S) (files : Span S C) (name : List ℕ)
+    (came came_new : Account) (written written_new : Option (List ℕ)) (result : Result Bool CommandRefusal) where
+  -- the file was looked at and held bytes, the result says so, and no store was opened
+  pub record FindsBytes : Type 0 where
+    pub tells : TellsAlone came came_new written written_new result (Err NotEmpty)
+    pub done : files.after ≡ files.before ++ (name, Looked true) ∷ []
+
+  -- the file was looked at and held no bytes; then its store was opened or not, and nothing else was done
+  pub record FindsNone : Type 0 where
+    pub opened : Result Bool CommandRefusal
+    pub does : ActsOnFile acts (behind_look files name) name came came_new written written_new Open opened
+    pub tells : result ≡ made opened
+
+  -- the file was looked at once, and its store was opened only behind that, if the file held no bytes
+  abbrev pub Inits : Type 0
+  Inits = FindsBytes ⊎ FindsNone

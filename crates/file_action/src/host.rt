@@ -10,9 +10,6 @@ pub trait ActionHost<S> {
     /// What doing an action does.
     ghost acts: { Deeds S };
 
-    /// Whether there is such a file, it can be read, and it has bytes. It changes no file, so no history has the look.
-    fn holds_bytes(&self, name: &str) -> bool;
-
     /// Does an action on the open store of the file of this name, and returns whether it was accepted. Fails as the
     /// action does.
     fn act<I: Hear, O: Tell>(

@@ -18,8 +18,9 @@ use commands::refusal::CommandRefusal;
 use histories::{Hear, Tell};
 use store_files::files::{StoreFiles, Use};
 
-/// Makes a store with the shelf `common` alone, and returns true. Fails with `NotEmpty` if the file has bytes, and
-/// otherwise as `on_file` does. It reads one byte. If the file can't be read, opening the store says what is wrong.
+/// Makes a store with the shelf `common` alone, and returns true. It first looks whether the file has bytes: if so, it
+/// fails with `NotEmpty` and opens nothing, and otherwise as `on_file` does. If the file can't be read, opening the
+/// store says what is wrong.
 pub fn init<S, C, H, F, I, W>(
     host: &mut H,
     files: &mut F,
@@ -37,7 +38,7 @@ where
         name.now (I.account input.old) (I.account input.new) (W.contents output.old) (W.contents output.new)
         result }
 {
-    if host.holds_bytes(name) {
+    if files.holds_bytes(name) {
         return Err(CommandRefusal::NotEmpty);
     }
     match on_file(host, files, name, &Action::Open, input, output) {

@@ -12,7 +12,7 @@ use crate::found::{AsFound, ClosedFile, Found, FoundTables, OpenedStore};
 use crate::migrate::migrate_file;
 use crate::older_files::OlderFiles;
 use commands::action::{Action, act_on};
-use commands::files::{holds_bytes, is_empty_file, is_missing_or_empty, is_same_file};
+use commands::files::{is_empty_file, is_missing_or_empty, is_same_file};
 use commands::listing::list_at;
 use commands::new_key::order_new_at;
 use commands::order::copy_at;
@@ -171,10 +171,6 @@ impl<'a> ActionHost<OpenedStore> for SystemHost<'a> {
         (Makes ⟦<Found as Shelves>⟧.shown (λ (s : OpenedStore). ⟦<Found as Shelves>⟧.shown s.shelves)
         (λ s. HasBegun ⟦<Found as Shelves>⟧.shown (image_at ⟦<AsFound as Start>⟧) s.shelves))
         (CountsIn ⟦<Found as Shelves>⟧.shown)) };
-
-    fn holds_bytes(&self, name: &str) -> bool {
-        holds_bytes(self.rt, name)
-    }
 
     fn act<I: Hear, O: Tell>(
         &mut self,

@@ -134,12 +134,13 @@ pub enum Command<'a> {
 /// Runs a command and returns whether it was accepted; only a publish and an import can be done and not accepted. Fails
 /// with the refusal of the command.
 ///
-/// By `files` it opens the store of a command, by `targets` the new store of an `extract` or a `migrate`, and by
-/// `older` a copy of an older store: each file of the command once, and it closes a store in the state that the command
-/// left it in. Neither this function nor `host` does anything else by them. By `servers` it connects to the `serve` of
-/// a registry command, of a revocation by fingerprint and of `stop`: once, to the socket of the command, and nothing
-/// passes over that connection but the line of the order and that of its outcome. An action is done by `host`, and so
-/// are checks, copies and whatever prints the answer of a `serve`.
+/// By `files` it looks once whether the file of an `init` has bytes, and opens the store of a command; by `targets` it
+/// opens the new store of an `extract` or a `migrate`, and by `older` a copy of an older store: each file of the
+/// command once, and it closes a store in the state that the command left it in. Neither this function nor `host` does
+/// anything else by them. By `servers` it connects to the `serve` of a registry command, of a revocation by fingerprint
+/// and of `stop`: once, to the socket of the command, and nothing passes over that connection but the line of the order
+/// and that of its outcome. An action is done by `host`, and so are checks, copies and whatever prints the answer of a
+/// `serve`.
 pub fn run<S, C, H, F, G, Q, R, U, V, I, W>(
     host: &mut H,
     files: &mut F,

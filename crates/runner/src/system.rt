@@ -8,6 +8,7 @@ use crate::older_files::OlderFiles;
 use crate::open::open_for;
 use crate::opening::opening_line;
 use crate::temporary_files::TemporaryFiles;
+use commands::files::holds_bytes;
 use sqlite::Start;
 use sqlite_trees::store::Store;
 use std::fs;
@@ -49,6 +50,12 @@ impl<'a> StoreFiles<OpenedStore, ClosedFile> for SystemStoreFiles<'a> {
     ghost begins = { λ s. HasBegun ⟦<Found as Shelves>⟧.shown (image_at ⟦<AsFound as Start>⟧) s.shelves };
 
     ghost left = { λ s. record { connection = s.shelves.conn } };
+
+    fn holds_bytes(&mut self, name: &str) -> bool {
+        let holds = holds_bytes(self.rt, name);
+        self.noted.note(name.as_bytes(), &Deed::Looked(holds));
+        holds
+    }
 
     fn open<'n>(
         &mut self,
@@ -116,6 +123,12 @@ impl<'a> StoreFiles<ClosedFile, ClosedFile> for SystemOlderFiles<'a> {
     ghost begins = { λ c. IsOlder (state ⟦<FoundTables as Store>⟧) (image_at ⟦<AsFound as Start>⟧) c.connection };
 
     ghost left = { λ c. c };
+
+    fn holds_bytes(&mut self, name: &str) -> bool {
+        let holds = holds_bytes(self.rt, name);
+        self.noted.note(name.as_bytes(), &Deed::Looked(holds));
+        holds
+    }
 
     fn open<'n>(
         &mut self,

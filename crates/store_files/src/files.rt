@@ -1,13 +1,15 @@
 //! What is asked of files.
 ghost use Rattle.std.specs.Prelude.{◌≡◌, [], ◌∷◌, ◌++◌, IfOk, IfErr};
 ghost use Rattle.store_files.specs.History.{Done};
-ghost use Rattle.store_files.specs.declared.files.Deed.TheVariants.{Closed, Opened, Refused};
+ghost use Rattle.store_files.specs.declared.files.Deed.TheVariants.{Closed, Looked, Opened, Refused};
 
 use crate::refusal::StoreRefusal;
 
 /// What was done to a file.
 #[derive(Drop)]
 pub enum Deed<C> {
+    /// It was looked at: whether there was such a file, it could be read, and it had bytes.
+    Looked(bool),
     /// Its store was opened for this.
     Opened(Use),
     /// Its store was to be opened, and was not.
@@ -40,7 +42,7 @@ pub struct OpenFile<'n, S> {
 
 /// Files whose stores are `S`. A closed store leaves a `C`.
 ///
-/// Each opening and closing is noted. A look at a file is not, because it changes nothing.
+/// Each opening, each closing and each look for bytes is noted.
 pub trait StoreFiles<S, C> {
     ghost use Rattle.std.specs.Prelude.{List, ◌++◌};
     ghost use Rattle.store_files.specs.History.{Done};
@@ -53,6 +55,10 @@ pub trait StoreFiles<S, C> {
 
     /// What is left of a store that is closed.
     ghost left: { S → C };
+
+    /// Returns whether there is such a file, it can be read, and it has bytes. It changes no file.
+    fn holds_bytes(&mut self, name: &str) -> bool
+        ensures { history self.new ≡ history self.old ++ (name.now, Looked result) ∷ [] };
 
     /// Opens the store of a file. Fails with the refusal of the store.
     fn open<'n>(&mut self, name: &'n str, purpose: Use) -> Result<OpenFile<'n, S>, StoreRefusal>

@@ -1,4 +1,4 @@
-//! One file in memory.
+//! Two files in memory.
 ghost use Rattle.std.specs.Prelude.{◌≡◌, [], ◌∷◌, ◌++◌};
 ghost use Rattle.store_files.specs.declared.files.Deed.TheVariants.{Closed};
 
@@ -6,10 +6,11 @@ use crate::files::{Deed, OpenFile, StoreFiles, Use};
 use crate::record::Record;
 use crate::refusal::StoreRefusal;
 
-/// One file with its store in memory: the store is there, or it is open.
+/// Two files in memory. One has a store, which is there or open. The other has bytes, and is no store.
 #[derive(Drop)]
 pub struct MemoryStoreFiles<'a, S> {
     name: &'a str,
+    other: &'a str,
     /// Why a store is not opened: there is no such file, or it is open.
     refusal: StoreRefusal,
     held: Option<S>,
@@ -17,12 +18,18 @@ pub struct MemoryStoreFiles<'a, S> {
 }
 
 impl<'a, S: Drop> MemoryStoreFiles<'a, S> {
-    /// Returns a file of this name with a store, to which nothing was done.
-    pub fn new(name: &'a str, store: S, refusal: StoreRefusal) -> MemoryStoreFiles<'a, S>
+    /// Returns a file of this name with a store, and another file that has bytes. Nothing was done to either.
+    pub fn new(
+        name: &'a str,
+        other: &'a str,
+        store: S,
+        refusal: StoreRefusal,
+    ) -> MemoryStoreFiles<'a, S>
         ensures { ⟦<MemoryStoreFiles<'a, S> as StoreFiles<S, S>>⟧.history result ≡ [] }
     {
         MemoryStoreFiles {
             name,
+            other,
             refusal,
             held: Some(store),
             noted: Record::new(),
@@ -36,6 +43,12 @@ impl<'a, S: Drop> StoreFiles<S, S> for MemoryStoreFiles<'a, S> {
     ghost begins = { λ _. Unit {0} };
 
     ghost left = { λ s. s };
+
+    fn holds_bytes(&mut self, name: &str) -> bool {
+        let holds = name == self.other;
+        self.noted.note(name.as_bytes(), &Deed::Looked(holds));
+        holds
+    }
 
     fn open<'n>(&mut self, name: &'n str, purpose: Use) -> Result<OpenFile<'n, S>, StoreRefusal> {
         if name == self.name {

@@ -17,8 +17,8 @@ use store_files::refusal::StoreRefusal;
 use world::entry::Right;
 use world::shelves::Shelves;
 
-/// A system in which only `bytes.db` is a file with bytes. It carries out registry commands, prints inventories, and
-/// neither extracts nor migrates. No `serve` copies or answers.
+/// A system that carries out registry commands, prints inventories, and neither extracts nor migrates. No `serve`
+/// copies or answers.
 #[derive(Drop)]
 pub struct MemoryHost<'a> {
     pub rt: &'a HostRuntime,
@@ -51,10 +51,6 @@ impl<'a> FileChecks for MemoryHost<'a> {
 impl<'a> ActionHost<MapShelves> for MemoryHost<'a> {
     // the tests look at results alone
     ghost acts = { λ _ _ _ _ _. Unit {0} };
-
-    fn holds_bytes(&self, name: &str) -> bool {
-        name == "bytes.db"
-    }
 
     fn act<I: Hear, O: Tell>(
         &mut self,

@@ -22,6 +22,11 @@ impl StoreFiles<MapShelves, MapShelves> for NoOlderFiles {
 
     ghost left = { λ s. s };
 
+    fn holds_bytes(&mut self, name: &str) -> bool {
+        self.noted.note(name.as_bytes(), &Deed::Looked(false));
+        false
+    }
+
     fn open<'n>(
         &mut self,
         name: &'n str,

@@ -21,8 +21,8 @@ use store_files::refusal::StoreRefusal;
 use test_support::rows::cell;
 use world::entry::Right;
 
-/// A command, its file or socket, what it adds, a key, and the word that it ends by. There is one file, `shelves.db`,
-/// and one server, which listens at `serve.socket` and says `taken` to everyone. A command
+/// A command, its file or socket, what it adds, a key, and the word that it ends by. There is a store, `shelves.db`, a
+/// file of bytes, `bytes.db`, and one server, which listens at `serve.socket` and says `taken` to everyone. A command
 /// that finds what another left was run on the store that the other closed.
 const RUNS: &str = "\
 init | other.db | | | device
@@ -144,11 +144,11 @@ fn commands_run_on_the_store_that_the_last_one_closed(rt: HostRuntime) -> Result
     let Ok(shelves) = MapShelves::new(rt.alloc()) else {
         return Err(Fail::from("no memory"));
     };
-    let mut files = MemoryStoreFiles::new("shelves.db", shelves, StoreRefusal::Device);
+    let mut files = MemoryStoreFiles::new("shelves.db", "bytes.db", shelves, StoreRefusal::Device);
     let Ok(none) = MapShelves::new(rt.alloc()) else {
         return Err(Fail::from("no memory"));
     };
-    let mut targets = MemoryStoreFiles::new("new.db", none, StoreRefusal::Device);
+    let mut targets = MemoryStoreFiles::new("new.db", "other.db", none, StoreRefusal::Device);
     let mut older = NoOlderFiles {
         noted: Record::new(),
     };

@@ -1,8 +1,8 @@
 -- A served store is only read, by a count, or by a copy beside its turns. What is told of a copy and of a catalog.
-use Rattle.std.proofs.Common.{ℕ, List, [], ◌≡◌, ◌≤◌, Bool, true, false, Option, Some, inl, inr, refl}
+use Rattle.std.proofs.Common.{ℕ, List, [], ◌≡◌, ◌≤◌, Bool, true, false, Option, Some, refl, subst}
 use Rattle.std.proofs.Common.{Result, Ok, Err, IfOk}
 use Rattle.std.specs.Prelude.{IsErrOf}
-use Rattle.store_files.specs.History.{Span}
+use Rattle.store_files.specs.History.{Done}
 use Rattle.world.specs.Store.{Shown, Reads}
 use Rattle.world.specs.World.{World}
 use Rattle.world.specs.declared.registry.StoreFault.{StoreFault}
@@ -14,7 +14,7 @@ use Rattle.catalog.specs.declared.print.Unprinted.TheVariants as why
 use Rattle.control.specs.Copying.{IsOnlyRead}
 use Rattle.control.specs.declared.copies.CatalogRefusal.TheVariants as catalog
 use Rattle.control.specs.declared.copies.CopyRefusal.{CopyRefusal}
-use Rattle.runner.specs.Copies.{CopiesFile, CopiesTo, catalogued}
+use Rattle.runner.specs.Copies.{CopiesTo, catalogued}
 
 -- a store whose count of failures alone grew
 pub recounted : (s : Shown) (n m : ℕ) → n ≤ m → IsOnlyRead (record s { failures = n }) (record s { failures = m })
@@ -39,14 +39,17 @@ pub count_tells : (old new : Shown) (told : Result ℕ StoreFault) → Reads old
 count_tells old new (Ok n) reads = λ h w stands. (reads.at h w stands).answer
 count_tells old new (Err fault) reads = tt
 
--- a copy into the store of a file is one into some store
-pub copies_file : {S F D : Type 0} (shown : S → Shown) (shown_too : F → Shown) (targets : Span F D)
-    (source source_new : S) (to : List ℕ)
-    (result : Result (Unit {0}) CopyRefusal) → CopiesTo shown shown_too targets source source_new to result
-    → CopiesFile shown shown_too targets.begins source source_new to result
-copies_file shown shown_too targets source source_new to result (inl it) =
-    inl (record { begun = it.begun; ended = it.ended; begins = it.begins; does = it.does })
-copies_file shown shown_too targets source source_new to result (inr it) = inr (inl it.none)
+-- a copy by files to which nothing was done before
+pub copies_file : {S F D : Type 0} (shown : S → Shown) (shown_too : F → Shown) (begins : F → Type 0) (left : F → D)
+    (before after : List (Done D)) (source source_new : S) (to : List ℕ) (result : Result (Unit {0}) CopyRefusal)
+    → before ≡ []
+    → CopiesTo shown shown_too (record { begins = begins; left = left; before = before; after = after })
+    source source_new to result
+    → CopiesTo shown shown_too (record { begins = begins; left = left; before = []; after = after })
+    source source_new to result
+copies_file shown shown_too begins left before after source source_new to result none it =
+    subst (λ b. CopiesTo shown shown_too (record { begins = begins; left = left; before = b; after = after })
+    source source_new to result) none it
 
 -- what was printed of a catalog, alone
 pub prints_alone : (old new : Shown) (key : List ℕ) (written written_new : Option (List ℕ))

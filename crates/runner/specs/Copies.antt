@@ -1,7 +1,7 @@
 -- What a copy of the store of a served file into that of another file does, what is printed of a catalog of it, and
 -- what a count of its versions tells.
 use Rattle.std.specs.Prelude.{ℕ, List, [], ◌≡◌, ◌≤◌, ◌⊎◌, ⊤, Bool, true, false, Some, Result, Ok, Err}
-use Rattle.store_files.specs.History.{Span, IsIdle, Refuses, Opens}
+use Rattle.store_files.specs.History.{Done, Span, IsIdle, Refuses, Opens}
 use Rattle.store_files.specs.declared.files.Use.TheVariants.{Writing}
 use Rattle.world.specs.Store.{Shown}
 use Rattle.world.specs.World.{World}
@@ -22,7 +22,6 @@ use Rattle.control.specs.declared.copies.CatalogRefusal.{CatalogRefusal}
 use Rattle.control.specs.declared.copies.CatalogRefusal.TheVariants as catalog
 use Rattle.control.specs.declared.copies.CopyRefusal.{CopyRefusal}
 use Rattle.control.specs.declared.copies.CopyRefusal.TheVariants as copy
-use Rattle.runner.specs.Opened.{OnOpened}
 
 -- why no copy was made, by why the store was not opened or copied; other tables than a store's are bytes too, and
 -- `NoTeam` never comes
@@ -82,14 +81,6 @@ module _ {S F : Type 0} (shown : S → Shown) (shown_too : F → Shown) where
     pub same : source_new ≡ source
     pub tells : result ≡ Err copy.Busy
 
-  -- The store of a file was opened and made a copy, or not; or the served store was left as it was. It may be either,
-  -- whatever the path is: `CopiesTo` says which file was opened.
-  abbrev pub CopiesFile : (F → Type 0) → S → S → List ℕ → Result (Unit {0}) CopyRefusal → Type 0
-  CopiesFile Begins source source_new path result =
-      OnOpened Begins (λ fresh fresh_new. CopiesInto source source_new fresh fresh_new result)
-      ⊎ CopiesNone source source_new result
-      ⊎ IsBusy source source_new result
-
   -- These lines of the catalog of a key were printed, of each world that the served store stood for, and the result
   -- says how that ended. Or nothing was done, since a copy is made or another catalog is printed.
   abbrev pub CatalogsKey : S → S → List ℕ → List ℕ → Result (Unit {0}) CatalogRefusal → Type 0
@@ -97,11 +88,6 @@ module _ {S F : Type 0} (shown : S → Shown) (shown_too : F → Shown) where
       ((end : Result Bool CatalogEnd) × (result ≡ catalogued end)
       × PrintsCatalogOn (shown source) (shown source_new) key (Some []) (Some printed) end)
       ⊎ ((source_new ≡ source) × (printed ≡ []) × (result ≡ Err catalog.Busy))
-
-  -- what was made of the served store
-  abbrev pub Makes : (F → Type 0) → S → S → Making → Type 0
-  Makes Begins source source_new (ToPath path result) = CopiesFile Begins source source_new path result
-  Makes Begins source source_new (OfKey key printed result) = CatalogsKey source source_new key printed result
 
   module _ {D : Type 0} (targets : Span F D) (source source_new : S) (to : List ℕ) where
     -- nothing was done with the served store, and no other was opened
@@ -114,3 +100,17 @@ module _ {S F : Type 0} (shown : S → Shown) (shown_too : F → Shown) where
     CopiesTo result =
         Opens targets to Writing (λ fresh fresh_new. CopiesInto source source_new fresh fresh_new result)
         ⊎ CopiesUnopened result
+
+  module _ {G D : Type 0} (begins : F → Type 0) (left : F → D) (history : G → List (Done D)) where
+    -- By files to which nothing was done before, the store of the file at this path, and no other, was opened once and
+    -- made a copy, or not; or no store was opened. Or nothing was done, since another copy is being made.
+    abbrev pub CopiesFile : S → S → List ℕ → Result (Unit {0}) CopyRefusal → Type 0
+    CopiesFile source source_new path result =
+        ((targets : G) × CopiesTo (record { begins = begins; left = left; before = []; after = history targets })
+        source source_new path result)
+        ⊎ IsBusy source source_new result
+
+    -- what was made of the served store
+    abbrev pub Makes : S → S → Making → Type 0
+    Makes source source_new (ToPath path result) = CopiesFile source source_new path result
+    Makes source source_new (OfKey key printed result) = CatalogsKey source source_new key printed result

@@ -24,13 +24,6 @@ pub record HasBegun {S : Type 0} (shown : S → Shown) (held : Image) (store : S
   pub found : (shown store).is_honest → (w : World) → HoldsStore held w → BeginsAt (shown store) w
   pub none_failed : (shown store).failures ≡ 0
 
--- a store was opened, and this was done with it
-pub record OnOpened {S : Type 0} (Begins : S → Type 0) (Does : S → S → Type 0) : Type 0 where
-  pub begun : S
-  pub ended : S
-  pub begins : Begins begun
-  pub does : Does begun ended
-
 -- Nothing was done with the source, and the result says why: the new store's file is the source's, and was not opened,
 -- or the new store was to be opened, and was not.
 pub record LeavesSource {S F D : Type 0} (targets : Span F D) (to : List ℕ) (source source_new : S)

@@ -1,22 +1,19 @@
 //! Copies of the store of a file while it is served, catalogs of it, counts of its versions, and its size.
 
-ghost use Rattle.std.specs.Prelude.{◌≡◌, ◌≢◌, Err, IfErr, IfOk, IsErrOf};
+ghost use Rattle.std.specs.Prelude.{◌≡◌, ◌≢◌, [], Err, IfErr, IfOk, IsErrOf};
 ghost use Rattle.control.specs.Copying.{IsOnlyRead};
 ghost use Rattle.control.specs.declared.copies.CatalogRefusal.TheVariants as catalog;
 ghost use Rattle.control.specs.declared.copies.CopyRefusal.TheVariants.{Busy};
-ghost use Rattle.sqlite_wal.specs.Files.{image_at};
 ghost use Rattle.runner.specs.Copies as spec;
-ghost use Rattle.runner.specs.Copies.{CopiesFile, CopiesInto, CopiesTo, CountsIn};
-ghost use Rattle.runner.specs.Opened.{HasBegun};
+ghost use Rattle.runner.specs.Copies.{CopiesInto, CopiesTo, CountsIn};
 ghost use Rattle.world.specs.Store.{HasCause};
 
 use crate::beside::real_name;
 use crate::file_checks::{FileChecks, target_refusal};
-use crate::found::{AsFound, ClosedFile, Found, OpenedStore};
+use crate::found::{ClosedFile, Found, OpenedStore};
 use crate::host::SystemHost;
 use crate::reserve::{give_up, keep, make};
 use crate::slice_pace::SlicePace;
-use crate::system::SystemStoreFiles;
 use catalog::Unprinted;
 use catalog::between::{CatalogEnd, print_between};
 use commands::files::size_of_file;
@@ -24,36 +21,35 @@ use control::{CatalogRefusal, Copies, CopyRefusal, Figures, KeepsRoom, Room};
 use histories::Restart;
 use meanwhile::between::Between;
 use slices::pace::Pace;
-use sqlite::{Alter, Start};
+use sqlite::Alter;
 use std::alloc::Global;
-use std::rt::HostRuntime;
 use std::time::Clock;
 use store::between::CopyEnd;
-use store::files::PageRoom;
 use store::store::SqlShelves;
 use store_files::files::{StoreFiles, Use};
 use store_files::refusal::StoreRefusal;
 use world::registry::StoreFault;
 use world::shelves::Shelves;
 
+/// Files by which copies open their stores.
+pub(crate) trait CopyTargets: StoreFiles<OpenedStore, ClosedFile> + Drop {
+    /// Returns such files, to which nothing was done.
+    fn afresh(&self) -> Self
+        ensures { Self.history result ≡ [] };
+}
+
 /// Copies the served store of a file into other files, prints catalogs of it, and looks at the sizes of the file and
 /// its log.
 #[derive(Drop)]
-pub(crate) struct FileCopies<'a> {
+pub(crate) struct FileCopies<'a, G> {
     pub host: SystemHost<'a>,
     /// The file of the served store.
     pub db: &'a str,
+    /// By such files each copy opens its store.
+    pub targets: G,
 }
 
-impl<'a> FileCopies<'a> {
-    /// Returns what copies the store of a file.
-    pub(crate) fn new(rt: &'a HostRuntime, db: &'a str) -> FileCopies<'a> {
-        FileCopies {
-            host: SystemHost { rt },
-            db,
-        }
-    }
-
+impl<'a, G> FileCopies<'a, G> {
     /// Returns how many bytes the log of the served store has, as the system tells it. None if it tells nothing or
     /// memory runs out for the name.
     fn log_size(&self) -> Option<u64> {
@@ -68,23 +64,20 @@ impl<'a> FileCopies<'a> {
     }
 }
 
-impl<'a> KeepsRoom for FileCopies<'a> {
+impl<'a, G> KeepsRoom for FileCopies<'a, G> {
     fn keep_room(&self) -> Room {
         keep(self.host.rt, self.db)
     }
 }
 
-impl<'a, S: Alter> Copies<SqlShelves<S>> for FileCopies<'a> {
+impl<'a, S: Alter, G: CopyTargets> Copies<SqlShelves<S>> for FileCopies<'a, G> {
     ghost use Rattle.std.specs.Prelude.{◌≡◌, None};
     ghost use Rattle.std.proofs.Common.{inr, refl};
-    ghost use Rattle.sqlite_wal.specs.Files.{image_at};
     ghost use Rattle.runner.specs.Copies.{CountsIn, Makes};
-    ghost use Rattle.runner.specs.Opened.{HasBegun};
     ghost use Rattle.runner.specs.declared.found.OpenedStore.{OpenedStore};
 
     ghost made = { Makes ⟦<SqlShelves<S> as Shelves>⟧.shown
-        (λ (s : OpenedStore). ⟦<Found as Shelves>⟧.shown s.shelves)
-        (λ s. HasBegun ⟦<Found as Shelves>⟧.shown (image_at ⟦<AsFound as Start>⟧) s.shelves) };
+        (λ (s : OpenedStore). ⟦<Found as Shelves>⟧.shown s.shelves) G.begins G.left G.history };
 
     ghost counted = { CountsIn ⟦<SqlShelves<S> as Shelves>⟧.shown };
 
@@ -102,10 +95,9 @@ impl<'a, S: Alter> Copies<SqlShelves<S>> for FileCopies<'a> {
         path: &str,
         between: &mut B,
     ) -> Result<(), CopyRefusal> {
-        let rt = self.host.rt;
-        let mut targets = SystemStoreFiles::new(rt, PageRoom::Slice);
+        let mut targets = self.targets.afresh();
         copy_to(
-            rt,
+            self.host.rt,
             &self.host,
             &mut targets,
             self.db,
@@ -148,7 +140,7 @@ impl<'a, S: Alter> Copies<SqlShelves<S>> for FileCopies<'a> {
         give_up(self.host.rt, self.db)
     }
 
-    ghost busy = { λ s path. inr (inr (record { same = refl; tells = refl })) };
+    ghost busy = { λ s path. inr (record { same = refl; tells = refl }) };
 
     ghost no_catalog = { λ s key. inr (refl, refl, refl) };
 }

@@ -1,16 +1,15 @@
 //! What a command asks of the system, beside opening and closing the stores of files.
-ghost use Rattle.sqlite_wal.specs.Files.{image_at};
 ghost use Rattle.commands.specs.Action.{Acts};
 ghost use Rattle.runner.specs.Copies.{CountsIn, Makes};
-ghost use Rattle.runner.specs.Opened.{HasBegun};
 
 use crate::beside::{check_name, has_lone_log, sync_log};
 use crate::copies::FileCopies;
 use crate::extract::extract_file;
 use crate::file_checks::FileChecks;
-use crate::found::{AsFound, ClosedFile, Found, FoundTables, OpenedStore};
+use crate::found::{ClosedFile, Found, FoundTables, OpenedStore};
 use crate::migrate::migrate_file;
 use crate::older_files::OlderFiles;
+use crate::system::SystemStoreFiles;
 use commands::action::{Action, act_on};
 use commands::files::{is_empty_file, is_missing_or_empty, is_same_file};
 use commands::listing::list_at;
@@ -23,10 +22,11 @@ use commands::served_catalog::catalog_at;
 use file_action::host::ActionHost;
 use histories::{Hear, Tell};
 use orders::Listing;
-use sqlite::{Alter, Start};
+use sqlite::Alter;
 use sqlite_trees::store::Store;
 use std::alloc::Global;
 use std::rt::HostRuntime;
+use store::files::PageRoom;
 use store::store::SqlShelves;
 use store_files::files::StoreFiles;
 use store_files::refusal::StoreRefusal;
@@ -160,16 +160,16 @@ impl<'a> FileChecks for SystemHost<'a> {
 }
 
 impl<'a> ActionHost<OpenedStore> for SystemHost<'a> {
-    ghost use Rattle.sqlite_wal.specs.Files.{image_at};
     ghost use Rattle.commands.specs.Action.{Acts};
     ghost use Rattle.file_action.specs.OnFile.{within};
     ghost use Rattle.runner.specs.Copies.{CountsIn, Makes};
-    ghost use Rattle.runner.specs.Opened.{HasBegun};
     ghost use Rattle.runner.specs.declared.found.OpenedStore.{OpenedStore};
 
     ghost acts = { within (λ s. s.shelves) (λ _. Acts ⟦<Found as Shelves>⟧.shown
         (Makes ⟦<Found as Shelves>⟧.shown (λ (s : OpenedStore). ⟦<Found as Shelves>⟧.shown s.shelves)
-        (λ s. HasBegun ⟦<Found as Shelves>⟧.shown (image_at ⟦<AsFound as Start>⟧) s.shelves))
+        ⟦<SystemStoreFiles<'a> as StoreFiles<OpenedStore, ClosedFile>>⟧.begins
+        ⟦<SystemStoreFiles<'a> as StoreFiles<OpenedStore, ClosedFile>>⟧.left
+        ⟦<SystemStoreFiles<'a> as StoreFiles<OpenedStore, ClosedFile>>⟧.history)
         (CountsIn ⟦<Found as Shelves>⟧.shown)) };
 
     fn act<I: Hear, O: Tell>(
@@ -263,8 +263,8 @@ impl<'a> Host<OpenedStore, ClosedFile> for SystemHost<'a> {
 
 /// Does an action on the open store of the file of this name, and returns whether it was accepted. Fails as [`act_on`]
 /// does.
-fn act_in<S: Alter, I: Hear, O: Tell>(
-    rt: &HostRuntime,
+fn act_in<'a, S: Alter, I: Hear, O: Tell>(
+    rt: &'a HostRuntime,
     name: &str,
     shelves: &mut SqlShelves<S>,
     action: &Action,
@@ -273,12 +273,18 @@ fn act_in<S: Alter, I: Hear, O: Tell>(
 ) -> Result<bool, CommandRefusal>
     ensures { Acts ⟦<SqlShelves<S> as Shelves>⟧.shown
         (Makes ⟦<SqlShelves<S> as Shelves>⟧.shown (λ (s : OpenedStore). ⟦<Found as Shelves>⟧.shown s.shelves)
-        (λ s. HasBegun ⟦<Found as Shelves>⟧.shown (image_at ⟦<AsFound as Start>⟧) s.shelves))
+        ⟦<SystemStoreFiles<'a> as StoreFiles<OpenedStore, ClosedFile>>⟧.begins
+        ⟦<SystemStoreFiles<'a> as StoreFiles<OpenedStore, ClosedFile>>⟧.left
+        ⟦<SystemStoreFiles<'a> as StoreFiles<OpenedStore, ClosedFile>>⟧.history)
         (CountsIn ⟦<SqlShelves<S> as Shelves>⟧.shown)
         (record { store = shelves.old; came = I.account input.old; written = O.contents output.old })
         (record { store = shelves.new; came = I.account input.new; written = O.contents output.new })
         result action.now }
 {
-    let copies = FileCopies::new(rt, name);
+    let copies = FileCopies {
+        host: SystemHost { rt },
+        db: name,
+        targets: SystemStoreFiles::new(rt, PageRoom::Slice),
+    };
     act_on(rt, shelves, &copies, action, input, output)
 }

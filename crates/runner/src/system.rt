@@ -2,6 +2,7 @@
 ghost use Rattle.std.specs.Prelude.{◌≡◌, [], ◌∷◌, ◌++◌};
 ghost use Rattle.store_files.specs.declared.files.Deed.TheVariants.{Closed};
 
+use crate::copies::CopyTargets;
 use crate::found::{AsFound, ClosedFile, Found, FoundTables, OpenedStore};
 use crate::old_file::copy_of;
 use crate::older_files::OlderFiles;
@@ -91,6 +92,12 @@ impl<'a> StoreFiles<OpenedStore, ClosedFile> for SystemStoreFiles<'a> {
             file.name.as_bytes(),
             &Deed::Closed(ClosedFile { connection }),
         );
+    }
+}
+
+impl<'a> CopyTargets for SystemStoreFiles<'a> {
+    fn afresh(&self) -> SystemStoreFiles<'a> {
+        SystemStoreFiles::new(self.rt, self.room)
     }
 }
 

@@ -1,6 +1,6 @@
 -- What an action does on a store.
 use Rattle.std.specs.Borrow.{Bor}
-use Rattle.std.specs.Prelude.{ℕ, List, [], ◌≡◌, true, Bool, Option, option_copied, Result, Ok, Err}
+use Rattle.std.specs.Prelude.{ℕ, List, [], ◌≡◌, true, Bool, Option, None, option_copied, Result, Ok, Err}
 use Rattle.histories.specs.Account.{Account}
 use Rattle.world.specs.Store.{Shown}
 use Rattle.world.specs.declared.entry.Right.{Right}
@@ -84,7 +84,8 @@ module _ {S : Type 0} (shown : S → Shown) (made : Made S) (counted : Counted S
   Acts result (action.AddNew shelf right) = AddsNewAlone shelf right result
   Acts result (action.RevokeNamed fingerprint) = RevokesNamedAlone fingerprint.now result
   Acts result (action.Publish words files) =
-      PublishesFiles shown old.store new.store (asked_by words) old.written new.written result × (new.came ≡ old.came)
+      PublishesFiles (λ name. None) files shown old.store new.store (asked_by words) old.written new.written result
+      × (new.came ≡ old.came)
   Acts result (action.Import key list) =
       ImportsFile shown old.store new.store key.now old.written new.written result × (new.came ≡ old.came)
   Acts result (action.Inventory key) =

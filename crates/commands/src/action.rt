@@ -14,6 +14,7 @@ use crate::report::{
     Named, print_catalog, print_inventory, print_keys, print_requirements, print_shelves,
 };
 use crate::serve::{Entrance, serve};
+use crate::sources::SystemFiles;
 use control::Copies;
 use histories::{Hear, Tell, Telling};
 use keyring::Keyring;
@@ -108,7 +109,16 @@ pub fn act_on<S: Outlines + Keyring, K: Copies<S>, I: Hear, O: Tell>(
         Action::RevokeNamed { fingerprint } => {
             acceptance(revoke_named(rt.alloc(), shelves, fingerprint))
         }
-        Action::Publish { words, files } => publish(rt, shelves, words, files, output),
+        Action::Publish { words, files } => {
+            publish(
+                rt.alloc(),
+                shelves,
+                words,
+                &SystemFiles { rt },
+                files,
+                output,
+            )
+        }
         Action::Import { key, list } => import_file(rt, shelves, key, list, output),
         Action::Inventory { key } => print_inventory(rt.alloc(), shelves, key, output),
         Action::Catalog { key } => print_catalog(rt.alloc(), shelves, key, output),

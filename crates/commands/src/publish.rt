@@ -6,9 +6,9 @@ ghost use Rattle.world.specs.Store.{Does};
 ghost use Rattle.commands.specs.Printed.{FailsEarlyOrByOutput, HasFailed, PrintsText};
 ghost use Rattle.commands.specs.Publish as spec;
 
-use crate::files::{FileFault, read_file};
 use crate::printing::print_both;
 use crate::refusal::CommandRefusal;
+use crate::sources::{SourceFault, Sources};
 use engine::Io;
 use engine::page::fixed_of;
 use histories::Tell;
@@ -17,7 +17,6 @@ use machine::request::{Body, GivenTime, Publish, Request};
 use machine::step::step;
 use modver::read_time;
 use std::alloc::{AllocError, Global};
-use std::rt::HostRuntime;
 use text::Text;
 use wire::fixed_line;
 use wire::reply::Fixed;
@@ -42,27 +41,28 @@ pub struct Files<'a> {
     pub zip: &'a str,
 }
 
-/// Reads two files, publishes them and prints the outcome. It returns whether the version now has these files. If
-/// memory runs out while it reads, it does nothing on the store and the outcome is the 503. `Io` if a file can't be
-/// read, and then it does nothing, or if the output fails: then a beginning of the outcome's line is printed, or all of
-/// it.
-pub fn publish<S: Shelves, O: Tell>(
-    rt: &HostRuntime,
+/// Reads two files of a source, publishes them and prints the outcome. It returns whether the version now has these
+/// files. If memory runs out while it reads, it does nothing on the store and the outcome is the 503. `Io` if a file
+/// can't be read, and then it does nothing, or if the output fails: then a beginning of the outcome's line is printed,
+/// or all of it.
+pub fn publish<S: Shelves, F: Sources, O: Tell>(
+    alloc: Global,
     shelves: &mut S,
     words: &Words,
+    sources: &F,
     files: &Files,
     output: &mut O,
 ) -> Result<bool, CommandRefusal>
-    ensures publishes { spec.PublishesFiles S.shown shelves.old shelves.new (spec.asked_by words.now)
-        (O.contents output.old) (O.contents output.new) result }
+    ensures publishes { spec.PublishesFiles (F.known sources.now) files.now S.shown shelves.old shelves.new
+        (spec.asked_by words.now) (O.contents output.old) (O.contents output.new) result }
     // It fails only if a call of the output failed, or before it did anything, because a file can't be read.
     ensures cause { FailsEarlyOrByOutput shelves.old shelves.new (O.contents output.old) (O.contents output.new)
         (O.writes output.old) (O.writes output.new) result }
     // What was printed is flushed.
     ensures flushed { OnOk result ((O.writes output.new).unflushed ≡ []) }
 {
-    let read = read_files(rt, files);
-    publish_read(rt.alloc(), shelves, words, read, output)
+    let read = read_files(sources, files);
+    publish_read(alloc, shelves, words, read, output)
 }
 
 /// Publishes the files that were read, and prints the outcome. If they were not read, it does nothing on the store: it
@@ -71,27 +71,29 @@ fn publish_read<S: Shelves, O: Tell>(
     alloc: Global,
     shelves: &mut S,
     words: &Words,
-    read: Result<Body, FileFault>,
+    read: Result<Body, SourceFault>,
     output: &mut O,
 ) -> Result<bool, CommandRefusal>
     ensures ends { spec.EndsBy S.shown shelves.old shelves.new (spec.asked_by words.now)
         (O.contents output.old) (O.contents output.new) result read }
-    ensures cause { IfErr result (λ _. (read ≡ Err FileFault.Io)
+    ensures cause { IfErr result (λ _. (read ≡ Err SourceFault.NoFile)
         ⊎ HasFailed (O.writes output.old) (O.writes output.new)) }
     ensures flushed { OnOk result ((O.writes output.new).unflushed ≡ []) }
 {
     match read {
         Ok(body) => publish_files(alloc, shelves, words, body, output),
-        Err(FileFault::Memory) => tell(Fixed::Unavailable, output),
-        Err(FileFault::Io) => Err(CommandRefusal::Io),
+        Err(SourceFault::Memory) => tell(Fixed::Unavailable, output),
+        Err(SourceFault::NoFile) => Err(CommandRefusal::Io),
     }
 }
 
 /// Returns the go.mod and the zip, or why one of them can't be read.
 /// It stops at the first failure: if memory runs out for the go.mod, it does not read the zip.
-fn read_files(rt: &HostRuntime, files: &Files) -> Result<Body, FileFault> {
-    let gomod = read_file(rt, files.gomod, MAX_GOMOD as u64)?;
-    let zip = read_file(rt, files.zip, MAX_ZIP as u64)?;
+fn read_files<F: Sources>(sources: &F, files: &Files) -> Result<Body, SourceFault>
+    ensures { spec.AreRead (F.known sources.now) files.now result }
+{
+    let gomod = sources.bytes(files.gomod, MAX_GOMOD as u64)?;
+    let zip = sources.bytes(files.zip, MAX_ZIP as u64)?;
     Ok(Body { gomod, zip })
 }
 

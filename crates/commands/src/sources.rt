@@ -1,4 +1,4 @@
-//! Sources of the files of an import.
+//! Sources of the files of a publish and of an import.
 ghost use Rattle.std.specs.Prelude.{ℕ, ◌≡◌, ◌<◌, ◌^◌, ◌+◌, take, OnOk, OnErr, IfOk, option_copied};
 ghost use Rattle.std.specs.FinMap as map;
 ghost use Rattle.commands.specs.declared.sources.SourceFault.TheVariants.{Memory};
@@ -27,7 +27,7 @@ impl From<AllocError> for SourceFault {
     }
 }
 
-/// A source of files, which are read for the rows of a list.
+/// A source of files, which are read for a publish or for the rows of a list.
 pub trait Sources {
     ghost use Rattle.std.specs.Prelude.{ℕ, List, Option, ◌<◌, ◌^◌};
     ghost use Rattle.commands.specs.Sources.{IsRead};

@@ -20,7 +20,7 @@ use keyring::Keyring;
 use mio::unix::SourceFd;
 use mio::{Events, Interest, Poll, Token};
 use modver::TimeText;
-use socket::serve_on;
+use socket::{PortListener, serve_on};
 use std::alloc::Global;
 use std::io::{self, ErrorKind};
 use std::net::{Ipv4Addr, TcpListener, TcpStream};
@@ -70,7 +70,8 @@ pub fn serve<D: Calendar, S: Keyring, K: Copies<S>, O: Tell, E: Tell>(
             let Ok(listener) = listen(rt, entrance, output) else {
                 return Err(CommandRefusal::Io);
             };
-            serve_on(rt.alloc(), rt, &mut &listener, shelves, connections);
+            let mut port = PortListener::new(listener);
+            serve_on(rt.alloc(), rt, &mut port, shelves, connections);
             Ok(())
         }
         Some(path) => serve_operators(

@@ -4,6 +4,7 @@ use Rattle.std.proofs.Common.{Bool, ℕ, ◌+◌, ◌≡◌, subst, List, Option
 use Rattle.histories.specs.Account.{Account}
 use Rattle.histories.specs.Calls.{Reads, Writes}
 use Rattle.meanwhile.specs.declared.between.HowFar.{HowFar}
+use Rattle.socket.specs.History.{Door, Ends}
 use Rattle.world.specs.Store.{Shown}
 use Rattle.world.specs.declared.registry.StoreFault.{StoreFault}
 use Rattle.engine.specs.declared.fault.Io.{Io}
@@ -13,6 +14,8 @@ use Rattle.control.specs.Health.{IsPinged}
 use Rattle.control.specs.Pinging.{TellsHowFar, TellsPing}
 use Rattle.control.specs.Serving.{ObeysMeanwhile}
 use Rattle.control.specs.Visits.{ObeysOne}
+use Rattle.control.specs.declared.callers.Caller.{Caller}
+use Rattle.control.specs.declared.callers.Caller.TheVariants.{Operator}
 use Rattle.control.specs.declared.health.Figures.{Figures}
 use Rattle.control.specs.declared.health.Health.{Health}
 use Rattle.control.specs.declared.progress.Progress.{Progress}
@@ -33,22 +36,25 @@ tells_how_far far known traffic copied pinged (Err e) tells = tt
 module _ {O : Type 0} (heeded : O → Account × Reads) (told : O → Option (List ℕ) × Writes) {S : Type 0}
     (shown : S → Shown) (made : S → S → Making → Type 0)
     (counted : S → S → ℕ → Type 0) where
-  abbrev Obeyed : Tally → O → Bool → S → S → Type 0
-  Obeyed tally operator stops s t = ObeysOne heeded told (made s t)
+  abbrev Obeyed : Tally → O → O → Bool → S → S → Type 0
+  Obeyed tally operator gone stops s t = ObeysOne heeded told (made s t)
       (IsPinged tally (shown s).failures (shown t).failures (counted s t)) (Unit {0})
-      (λ making. IsOnlyRead (shown s) (shown t) × IsBusy making) operator stops (shown s) (shown t)
+      (λ making. IsOnlyRead (shown s) (shown t) × IsBusy making) operator gone stops (shown s) (shown t)
 
-  -- an operator was obeyed while a copy is made, with a tally that is that of the moment
-  pub obeys_meanwhile : (far : Option HowFar) (tally : Tally) (operator : O) (stops : Bool) (p q : Progress) (s t : S)
-      → (o : Obeyed tally operator stops s t) → IfOk o.audience.told (TellsHowFar far) → tally ≡ p.tally
-      → q.tally ≡ p.tally → q.left ≡ p.left → q.taken ≡ p.taken + 1 → q.stops ≡ (p.stops || stops)
-      → ObeysMeanwhile heeded told shown made counted operator far p q s t
-  obeys_meanwhile far tally operator stops p q s t o tells same tally_q left taken ends =
-      let now : (x : Obeyed p.tally operator stops s t) × IfOk x.audience.told (TellsHowFar far) =
-      subst (λ u. (x : Obeyed u operator stops s t) × IfOk x.audience.told (TellsHowFar far)) same (o, tells) in
+  -- an operator was obeyed while a copy is made, with a tally that is that of the moment, and ended
+  pub obeys_meanwhile : {P : Type 0} (far : Option HowFar) (tally : Tally) (operator gone : O) (stops : Bool)
+      (door end : Door (Caller P O)) (p q : Progress) (s t : S)
+      → (o : Obeyed tally operator gone stops s t) → IfOk o.audience.told (TellsHowFar far) → tally ≡ p.tally
+      → Ends door end (Operator gone) → q.tally ≡ p.tally → q.left ≡ p.left → q.taken ≡ p.taken + 1 → q.stops ≡ (p.stops || stops)
+      → ObeysMeanwhile heeded told shown made counted operator far door end p q s t
+  obeys_meanwhile far tally operator gone stops door end p q s t o tells same ended tally_q left taken ends =
+      let now : (x : Obeyed p.tally operator gone stops s t) × IfOk x.audience.told (TellsHowFar far) =
+      subst (λ u. (x : Obeyed u operator gone stops s t) × IfOk x.audience.told (TellsHowFar far)) same (o, tells) in
       record {
         stops = stops;
+        gone = gone;
         obeys = now.0;
+        ended = ended;
         tally = tally_q;
         left = left;
         taken = taken;

@@ -15,7 +15,9 @@ pub mod NoticeLemmas
 pub mod ShownLemmas
 pub mod ServeLemmas
 pub mod CallsLemmas
+pub mod OrderedLemmas
 pub mod ServingLemmas
 pub mod FarLemmas
 pub mod UnnotedLemmas
 pub mod IsolatedLemmas
+pub mod HappensLemmas

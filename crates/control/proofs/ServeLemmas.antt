@@ -14,6 +14,7 @@ use Rattle.engine.specs.Store.{GoesThrough}
 use Rattle.engine.specs.declared.fault.Io.{Io}
 use Rattle.engine.specs.declared.fault.Io.TheVariants as io
 use Rattle.socket.specs.Connections.{Come, exchanges_of}
+use Rattle.socket.specs.History.{Door}
 use Rattle.control.specs.Copying.{Making, OfTask, tasks_in, has_read, GoesOnRead, GoesThroughSteps}
 use Rattle.control.specs.Health.{Answered}
 use Rattle.control.specs.Hearing.{Heard, Carried, Made, Listed, Pinged, Named, Stop, NoOrder, NoMemory}
@@ -77,10 +78,11 @@ module _ {O : Type 0} (heeded : O → Account × Reads) (told : O → Option (Li
       (told after).0 result
       → IfErr result (IsCausedIn most_tries (heeded operator).1 (heeded after).1 (told operator).1 (told after).1)
       → (IsTrue stops ↔ (result ≡ Ok (spoken.Outcome Stopping)))
-      → ObeysOne heeded told made pinged idle meanwhile operator stops old new
+      → ObeysOne heeded told made pinged idle meanwhile operator after stops old new
   obeyed_one operator after stops (Ok outcome) obeys cause stopped = record {
     audience = record { before = operator; after = after; heard = Some obeys.1.heard; told = Ok outcome };
     begins = refl;
+    leaves = refl;
     there = (
       obeys.1.tells,
       obeys.1.from,
@@ -95,6 +97,7 @@ module _ {O : Type 0} (heeded : O → Account × Reads) (told : O → Option (Li
   obeyed_one operator after stops (Err io.Read) obeys cause stopped = record {
     audience = record { before = operator; after = after; heard = None; told = Err io.Read };
     begins = refl;
+    leaves = refl;
     there = (refl, obeys.2, cause);
     stopped = stopped;
     through = (obeys.0, obeys.1);
@@ -104,6 +107,7 @@ module _ {O : Type 0} (heeded : O → Account × Reads) (told : O → Option (Li
   obeyed_one operator after stops (Err io.Write) obeys cause stopped = record {
     audience = record { before = operator; after = after; heard = Some obeys.2.heard; told = Err io.Write };
     begins = refl;
+    leaves = refl;
     there = (
       refl,
       obeys.2.from,
@@ -134,41 +138,21 @@ pub answered_one : {P : Type 0} (heard : P → Account × Reads) (written : P �
     (peer after : P) (told : Answered)
     → ServesHeard old new (heard peer).0 (heard after).0 (written peer).0 (written after).0 told
     → IfErr told (IsCaused (heard peer).1 (heard after).1 (written peer).1 (written after).1)
-    → AnswersOne heard written peer old new told
+    → AnswersOne heard written peer after old new told
 answered_one heard written old new peer after (Ok status) (first, takes, through, is, ended) cause = record {
-  answers = record {
-    visit = record { before = peer; after = after; first = Some first };
-    begins = refl;
-    there = (takes, inr ended);
-    through = through;
-  };
+  answers = record { first = Some first; there = (takes, inr ended); through = through };
   counts = is;
 }
 answered_one heard written old new peer after (Err io.Read) (got, consumed, unfinished, through, same) cause = record {
-  answers = record {
-    visit = record { before = peer; after = after; first = None };
-    begins = refl;
-    there = (same, cause);
-    through = through;
-  };
+  answers = record { first = None; there = (same, cause); through = through };
   counts = refl;
 }
 answered_one heard written old new peer after (Err io.Write) (first, takes, through, inl begun) cause = record {
-  answers = record {
-    visit = record { before = peer; after = after; first = Some first };
-    begins = refl;
-    there = (takes, inl (begun, cause));
-    through = through;
-  };
+  answers = record { first = Some first; there = (takes, inl (begun, cause)); through = through };
   counts = refl;
 }
 answered_one heard written old new peer after (Err io.Write) (first, takes, through, inr ended) cause = record {
-  answers = record {
-    visit = record { before = peer; after = after; first = Some first };
-    begins = refl;
-    there = (takes, inr ended);
-    through = through;
-  };
+  answers = record { first = Some first; there = (takes, inr ended); through = through };
   counts = refl;
 }
 
@@ -213,10 +197,10 @@ module _ {P O : Type 0} where
       {S : Type 0} (shown : S → Shown) (made : S → S → Making → Type 0)
       (counted : S → S → ℕ → Type 0) where
     -- one run of the machine
-    pub each_goes : (since : List ℕ) (waiting rest : Option (List (Caller P O))) (s t : S) (n : ℕ)
-        → ReadsEach heeded told heard written shown made counted is_new waiting rest s t since n
+    pub each_goes : (since : List ℕ) (door end : Door (Caller P O)) (s t : S) (n : ℕ)
+        → ReadsEach heeded told heard written shown made counted is_new door end s t since n
         → GoesOn (shown s) (shown t) n
-    each_goes since waiting rest s t n all = record {
+    each_goes since door end s t n all = record {
       tasks = tasks_in (steps_with all.each.calls);
       read = has_read (steps_with all.each.calls);
       few = omega (arith, one_each all.each.calls, all.each.few);
@@ -224,10 +208,10 @@ module _ {P O : Type 0} where
     }
 
     -- one run with the copies and the pings that were answered in it
-    pub each_read : (since : List ℕ) (waiting rest : Option (List (Caller P O))) (s t : S) (n : ℕ)
-        → ReadsEach heeded told heard written shown made counted is_new waiting rest s t since n
+    pub each_read : (since : List ℕ) (door end : Door (Caller P O)) (s t : S) (n : ℕ)
+        → ReadsEach heeded told heard written shown made counted is_new door end s t since n
         → GoesOnRead shown made counted s t since n
-    each_read since waiting rest s t n all = record {
+    each_read since door end s t n all = record {
       steps = steps_with all.each.calls;
       few = omega (arith, one_each all.each.calls, all.each.few);
       through = all.each.through;

@@ -1,7 +1,7 @@
 -- Callers who are served from one moment to another, and others after them.
 use Rattle.std.specs.Prelude.{◌||◌}
 use Rattle.std.proofs.Common.{Bool, true, false, ℕ, ◌+◌, ◌≡◌, refl, sym, ap, ◌∙◌, subst, List, [], ◌∷◌, ◌++◌}
-use Rattle.std.proofs.Common.{All, Option, Some, None, Result, Ok, Err, inl, inr, arith}
+use Rattle.std.proofs.Common.{All, Option, Some, Result, Ok, Err, inl, inr, arith}
 use Rattle.std.proofs.Common.{append-nil}
 use Rattle.std.proofs.lemmas.Bool.{false≢true}
 use Rattle.std.proofs.lemmas.List.{length-append}
@@ -10,35 +10,32 @@ use Rattle.histories.specs.Account.{Account}
 use Rattle.histories.specs.Calls.{Reads, Writes}
 use Rattle.world.specs.Store.{Shown}
 use Rattle.world.specs.World.{World}
-use Rattle.world.specs.declared.registry.StoreFault.{StoreFault}
-use Rattle.meanwhile.specs.Meanwhile.{IsAsItWas}
 use Rattle.meanwhile.specs.declared.between.HowFar.{HowFar}
 use Rattle.engine.specs.declared.fault.Io.{Io}
-use Rattle.socket.specs.Connections.{Come, exchanges_of}
-use Rattle.control.specs.Copying.{Making, OfKey, ToPath, tasks_in, has_read, AllRead, GoesThroughSteps, IsBusy, IsOnlyRead}
+use Rattle.socket.specs.Connections.{Come, Visit, exchanges_of}
+use Rattle.socket.specs.History.{Door, Ends, Takes, TakesNone}
+use Rattle.control.specs.Copying.{Making, tasks_in, has_read, AllRead, GoesThroughSteps, IsBusy, IsOnlyRead}
 use Rattle.control.specs.Health.{IsPinged, tally_of}
-use Rattle.control.specs.Hearing.{Heard, Carried, Pinged, Listed, Named, Stop, NoOrder, NoMemory}
-use Rattle.control.specs.Hearing.{told_of_making}
 use Rattle.control.specs.Hearing as hearing
 use Rattle.control.specs.Progress.{IsOver}
 use Rattle.control.specs.Serving.{AllTold, EndsBy, Instant, ObeysMeanwhile}
 use Rattle.control.specs.Serving.{Serves, ServesMeanwhile, ServesPeer, TakesTurn}
 use Rattle.control.specs.Serving.{TakesTurns, TakesTurnsBy, tally_after}
 use Rattle.control.specs.Tasks.{GoesThroughTasks}
-use Rattle.control.specs.Visits.{Call, OfPeer, OfOperator, Untaken, Audience, CameIf, EndsEach, GoesIf}
+use Rattle.control.specs.Visits.{Call, OfPeer, OfOperator, Untaken, Audience, CameIf, EndsEach, Happened}
 use Rattle.control.specs.Visits.{IsCallThere, IsToldThere, ObeysOne, ReadsEach, TellsTally}
 use Rattle.control.specs.Visits.{answered_with, callers_of, connections_of, steps_if, steps_of, steps_with}
 use Rattle.control.specs.declared.callers.Caller.{Caller}
 use Rattle.control.specs.declared.callers.Caller.TheVariants.{Peer, Operator}
-use Rattle.control.specs.declared.copies.CatalogRefusal.TheVariants as unprinted
-use Rattle.control.specs.declared.copies.CopyRefusal.TheVariants as refusal
-use Rattle.control.specs.declared.health.Health.{Health}
 use Rattle.orders.specs.declared.outcome.Outcome.TheVariants.{Stopping}
 use Rattle.control.specs.declared.progress.Progress.{Progress}
 use Rattle.control.specs.declared.tally.Tally.{Tally}
 use Rattle.control.specs.declared.told.Told.{Told}
 use Rattle.control.specs.declared.told.Told.TheVariants as spoken
+use Rattle.control.proofs.HappensLemmas.{happened_around, happened_none, happened_operator, happened_peer}
+use Rattle.control.proofs.HappensLemmas.{happened_then, happened_untaken}
 use Rattle.control.proofs.NoticeLemmas.{notices_more, notices_none}
+use Rattle.control.proofs.OrderedLemmas.{Other, ToMake, no_stopping, ok_in, only_read, or_not, ordered_if, through_told}
 use Rattle.control.proofs.ServeLemmas.{none_come, steps_first, then_come}
 use Rattle.control.proofs.StepLemmas.{no_reads, read_heard, read_then}
 use Rattle.control.proofs.TallyLemmas.{tells_tally}
@@ -46,112 +43,6 @@ use Rattle.control.proofs.TaskLemmas.{tasks_none, tasks_read}
 use Rattle.control.proofs.CallsLemmas.{all_tallied, answered_append, callers_append, connections_append, ends_append}
 use Rattle.control.proofs.CallsLemmas.{goes_on, is_end, may_end, none_ends, none_through, peers_few, read_or}
 use Rattle.control.proofs.CallsLemmas.{steps_append, tally_append, through_append, through_read, told_append}
-
--- ---- what an operator's line ordered
-
--- an order was carried out that has nothing made, or one that has this made
-pub data Ordered (idle : Type 0) (meanwhile : Making → Type 0) (old new : Shown) (heard : Option Heard) : Type 0 where
-  Other : idle → GoesThroughSteps old new (steps_if heard) → Ordered idle meanwhile old new heard
-  ToMake : (making : Making) → heard ≡ Some (hearing.Made making) → meanwhile making
-      → Ordered idle meanwhile old new heard
-
-pub ordered_if : (idle : Type 0) (meanwhile : Making → Type 0) (old new : Shown) (heard : Option Heard)
-    → GoesIf idle meanwhile old new heard → Ordered idle meanwhile old new heard
-ordered_if idle meanwhile old new None goes = Other goes.0 goes.1
-ordered_if idle meanwhile old new (Some (Carried command told)) goes = Other goes.0 goes.1
-ordered_if idle meanwhile old new (Some (hearing.Made making)) goes = ToMake making refl goes
-ordered_if idle meanwhile old new (Some (Pinged told)) goes = Other goes.0 goes.1
-ordered_if idle meanwhile old new (Some (Listed listing told)) goes = Other goes.0 goes.1
-ordered_if idle meanwhile old new (Some (Named f naming)) goes = Other goes.0 goes.1
-ordered_if idle meanwhile old new (Some Stop) goes = Other goes.0 goes.1
-ordered_if idle meanwhile old new (Some NoOrder) goes = Other goes.0 goes.1
-ordered_if idle meanwhile old new (Some NoMemory) goes = Other goes.0 goes.1
-
--- where the store was only read for it, it went through the steps of what was ordered
-through_told : (idle : Type 0) (old new : Shown) (heard : Option Heard)
-    → Ordered idle (λ making. IsOnlyRead old new × IsBusy making) old new heard
-    → GoesThroughSteps old new (steps_if heard)
-through_told idle old new heard (Other still through) = through
-through_told idle old new heard (ToMake making is read) =
-    subst (λ h. GoesThroughSteps old new (steps_if h)) (sym is) (tasks_read old new read.0)
-
--- nothing else was done
-only_read : (old new : Shown) → IsAsItWas old new → IsOnlyRead old new
-only_read old new read = record {
-  honest = read.honest;
-  stays = read.stays;
-  left = read.left;
-  no_fewer = omega (arith, read.failures);
-}
-
--- what is told of what was made is not that the server ends
-no_stopping : (making : Making) → told_of_making making ≡ spoken.Outcome Stopping → ⊥
-no_stopping (ToPath path (Ok done)) e = cc
-no_stopping (ToPath path (Err refusal.NotEmpty)) e = cc
-no_stopping (ToPath path (Err refusal.Device)) e = cc
-no_stopping (ToPath path (Err refusal.Memory)) e = cc
-no_stopping (ToPath path (Err refusal.Busy)) e = cc
-no_stopping (ToPath path (Err refusal.Ended)) e = cc
-no_stopping (OfKey key printed (Ok done)) e = cc
-no_stopping (OfKey key printed (Err unprinted.NoKey)) e = cc
-no_stopping (OfKey key printed (Err unprinted.Device)) e = cc
-no_stopping (OfKey key printed (Err unprinted.Memory)) e = cc
-no_stopping (OfKey key printed (Err unprinted.Busy)) e = cc
-no_stopping (OfKey key printed (Err unprinted.Ended)) e = cc
-no_stopping (OfKey key printed (Err unprinted.Output)) e = cc
-
-abbrev ok_in : Result Told Io → Told → Told
-ok_in (Ok told) other = told
-ok_in (Err e) other = other
-
-or_not : (a b : Bool) → (b ≡ true → ⊥) → (a || b) ≡ a
-or_not true b off = refl
-or_not false true off = absurd (off refl)
-or_not false false off = refl
-
--- either way this holds
-pub either_way : (R idle : Type 0) (meanwhile : Making → Type 0) (old new : Shown) (heard : Option Heard) → (idle → R)
-    → ((making : Making) → meanwhile making → R) → Ordered idle meanwhile old new heard → R
-either_way R idle meanwhile old new heard one two (Other rests through) = one rests
-either_way R idle meanwhile old new heard one two (ToMake making is done) = two making done
-
--- what is unsaid of those who make copies
-goes_unsaid : (idle : Type 0) (meanwhile : Making → Type 0) (old new : Shown) (heard : Option Heard) → GoesIf idle meanwhile old new heard
-    → GoesIf (Unit {0}) meanwhile old new heard
-goes_unsaid idle meanwhile old new None goes = (tt, goes.1)
-goes_unsaid idle meanwhile old new (Some (Carried command told)) goes = (tt, goes.1)
-goes_unsaid idle meanwhile old new (Some (hearing.Made making)) goes = goes
-goes_unsaid idle meanwhile old new (Some (Pinged told)) goes = (tt, goes.1)
-goes_unsaid idle meanwhile old new (Some (Listed listing told)) goes = (tt, goes.1)
-goes_unsaid idle meanwhile old new (Some (Named f naming)) goes = (tt, goes.1)
-goes_unsaid idle meanwhile old new (Some Stop) goes = (tt, goes.1)
-goes_unsaid idle meanwhile old new (Some NoOrder) goes = (tt, goes.1)
-goes_unsaid idle meanwhile old new (Some NoMemory) goes = (tt, goes.1)
-
-pub obeys_unsaid : {O : Type 0} (heeded : O → Account × Reads) (told : O → Option (List ℕ) × Writes)
-    (made : Making → Type 0) (pinged : Result Health StoreFault → Type 0)
-    (idle : Type 0) (meanwhile : Making → Type 0) (old new : Shown) (operator : O) (stops : Bool)
-    → ObeysOne heeded told made pinged idle meanwhile operator stops old new
-    → ObeysOne heeded told made pinged (Unit {0}) meanwhile operator stops old new
-obeys_unsaid heeded told made pinged idle meanwhile old new operator stops next = record {
-  audience = next.audience;
-  begins = next.begins;
-  there = next.there;
-  stopped = next.stopped;
-  through = goes_unsaid idle meanwhile old new next.audience.heard next.through;
-  came = next.came;
-  lists = next.lists;
-}
-
--- that changes nothing of what was told
-pub unsaid_told : {O : Type 0} (heeded : O → Account × Reads) (told : O → Option (List ℕ) × Writes)
-    (made : Making → Type 0) (pinged : Result Health StoreFault → Type 0)
-    (idle : Type 0) (meanwhile : Making → Type 0) (old new : Shown) (operator : O) (stops : Bool)
-    → (next : ObeysOne heeded told made pinged idle meanwhile operator stops old new)
-    → (obeys_unsaid heeded told made pinged idle meanwhile old new operator stops next).audience.told
-    ≡ next.audience.told
-unfolding obeys_unsaid
-unsaid_told heeded told made pinged idle meanwhile old new operator stops next = refl
 
 -- ---- from one moment to another
 
@@ -162,15 +53,16 @@ module _ {P O : Type 0} (heeded : O → Account × Reads) (told : O → Option (
 
   module _ {S : Type 0} (shown : S → Shown) (made : S → S → Making → Type 0)
       (counted : S → S → ℕ → Type 0) where
-    abbrev From : Bool → Option (List (Caller P O)) → Option (List (Caller P O)) → Progress → Progress → S → S → Type 0
+    abbrev From : Bool → Door (Caller P O) → Door (Caller P O) → Progress → Progress → S → S → Type 0
     From = Serves heeded told heard written is_new shown made counted
 
     -- nobody
-    pub serves_none : (read : Bool) (waiting : Option (List (Caller P O))) (p : Progress) (s : S)
-        → From read waiting waiting p p s s
-    serves_none read waiting p s = record {
+    pub serves_none : (read : Bool) (door : Door (Caller P O)) (p : Progress) (s : S)
+        → From read door door p p s s
+    serves_none read door p s = record {
       calls = [];
-      came = none_come waiting;
+      came = none_come door.0;
+      happened = happened_none door.1;
       begun = All-nil is_new;
       there = All-nil (IsCallThere heeded told heard written);
       through = none_through read (shown s);
@@ -183,11 +75,12 @@ module _ {P O : Type 0} (heeded : O → Account × Reads) (told : O → Option (
     }
 
     -- nobody, and the store was read
-    pub serves_read : (waiting : Option (List (Caller P O))) (p : Progress) (s t : S) → IsOnlyRead (shown s) (shown t)
-        → From true waiting waiting p p s t
-    serves_read waiting p s t read = record {
+    pub serves_read : (door : Door (Caller P O)) (p : Progress) (s t : S) → IsOnlyRead (shown s) (shown t)
+        → From true door door p p s t
+    serves_read door p s t read = record {
       calls = [];
-      came = none_come waiting;
+      came = none_come door.0;
+      happened = happened_none door.1;
       begun = All-nil is_new;
       there = All-nil (IsCallThere heeded told heard written);
       through = tasks_read (shown s) (shown t) read;
@@ -200,15 +93,16 @@ module _ {P O : Type 0} (heeded : O → Account × Reads) (told : O → Option (
     }
 
     -- callers, and then others
-    pub serves_more : (read : Bool) (waiting left rest : Option (List (Caller P O))) (p q r : Progress) (s t u : S)
-        → From read waiting left p q s t → From read left rest q r t u → From read waiting rest p r s u
-    serves_more read waiting left rest p q r s t u one two =
+    pub serves_more : (read : Bool) (door mid end : Door (Caller P O)) (p q r : Progress) (s t u : S)
+        → From read door mid p q s t → From read mid end q r t u → From read door end p r s u
+    serves_more read door mid end p q r s t u one two =
         let xs = one.calls in
         let ys = two.calls in
         record {
           calls = xs ++ ys;
-          came = subst (Come waiting rest) (sym (callers_append xs ys))
-              (then_come waiting left rest (callers_of xs) (callers_of ys) one.came two.came);
+          came = subst (Come door.0 end.0) (sym (callers_append xs ys))
+              (then_come door.0 mid.0 end.0 (callers_of xs) (callers_of ys) one.came two.came);
+          happened = happened_then door.1 mid.1 end.1 xs ys one.happened two.happened;
           begun = subst (All is_new) (sym (callers_append xs ys))
               (All-append is_new (callers_of xs) (callers_of ys) one.begun two.begun);
           there = All-append (IsCallThere heeded told heard written) xs ys one.there two.there;
@@ -230,18 +124,19 @@ module _ {P O : Type 0} (heeded : O → Account × Reads) (told : O → Option (
           ends = ends_append p.stops q.stops r.stops xs ys one.ends two.ends;
         }
 
-    module _ (read : Bool) (waiting rest : Option (List (Caller P O))) (p q : Progress) (s t : S) where
+    module _ (read : Bool) (door end : Door (Caller P O)) (p q : Progress) (s t : S) where
       -- one caller
-      serves_one : (call : Call P O) → Come waiting rest (callers_of (call ∷ []))
+      serves_one : (call : Call P O) → Come door.0 end.0 (callers_of (call ∷ [])) → Happened door.1 end.1 (call ∷ [])
           → All is_new (callers_of (call ∷ [])) → IsCallThere heeded told heard written call
           → GoesThroughSteps (shown s) (shown t) (steps_of call)
           → ((shown t).is_honest → (w : World) → (shown s).stands w → AllRead shown made counted w (steps_of call))
           → q.tally ≡ tally_after p.tally (answered_with (call ∷ [])) → AllTold p.tally (call ∷ [])
           → p.left ≡ q.left + connections_of (call ∷ []) → q.taken ≡ p.taken + 1 → EndsBy p.stops q.stops (call ∷ [])
-          → From read waiting rest p q s t
-      serves_one call comes fresh there through reads tally tallies left taken ends = record {
+          → From read door end p q s t
+      serves_one call comes happened fresh there through reads tally tallies left taken ends = record {
         calls = call ∷ [];
         came = comes;
+        happened = happened;
         begun = fresh;
         there = All-cons (IsCallThere heeded told heard written) call [] there
             (All-nil (IsCallThere heeded told heard written));
@@ -261,45 +156,51 @@ module _ {P O : Type 0} (heeded : O → Account × Reads) (told : O → Option (
       one_new caller fresh = All-cons is_new caller [] fresh (All-nil is_new)
 
       -- a peer
-      pub serves_peer : (peer : P) → Come waiting rest (Peer peer ∷ []) → is_new (Peer peer) → p.stops ≡ false
-          → ServesPeer heard written peer p q (shown s) (shown t) → From read waiting rest p q s t
+      pub serves_peer : (mid : Door (Caller P O)) (peer : P) → Takes door mid (Peer peer) → is_new (Peer peer) → p.stops ≡ false
+          → ServesPeer heard written peer mid end p q (shown s) (shown t) → From read door end p q s t
       unfolding serves_one
-      serves_peer peer comes fresh going next =
-          let visit = next.answers.answers.visit in
+      serves_peer mid peer takes fresh going next =
+          let first = next.answers.answers.first in
+          let visit : Visit P = record { before = peer; after = next.gone; first = first } in
           serves_one (OfPeer visit next.answered)
-          (subst (λ x. Come waiting rest (Peer x ∷ [])) (sym next.answers.answers.begins) comes)
-          (one_new (Peer visit.before) (subst (λ x. is_new (Peer x)) (sym next.answers.answers.begins) fresh))
+          (subst (λ w. Come door.0 w (Peer peer ∷ [])) (sym next.ended.waits) takes.comes)
+          (happened_peer door mid end visit next.answered takes next.ended) (one_new (Peer peer) fresh)
           (next.answers.answers.there, next.answers.counts)
-          (steps_first (shown s) (shown t) visit.first next.answers.answers.through)
-          (λ h w stands. no_reads shown made counted w (exchanges_of visit.first))
+          (steps_first (shown s) (shown t) first next.answers.answers.through)
+          (λ h w stands. no_reads shown made counted w (exchanges_of first))
           next.tally tt next.left next.taken
           (goes_on p.stops q.stops going next.stops (OfPeer visit next.answered) (λ never. never))
 
       -- a connection that could not be taken
-      pub serves_untaken : Come waiting rest [] → p.stops ≡ false → q.tally ≡ p.tally → p.left ≡ q.left + 1
-          → q.taken ≡ p.taken + 1 → q.stops ≡ p.stops → s ≡ t → From read waiting rest p q s t
+      pub serves_untaken : TakesNone door end → p.stops ≡ false → q.tally ≡ p.tally → p.left ≡ q.left + 1
+          → q.taken ≡ p.taken + 1 → q.stops ≡ p.stops → s ≡ t → From read door end p q s t
       unfolding serves_one
-      serves_untaken comes going tally left taken stops same =
-          serves_one Untaken comes (All-nil is_new) tt
+      serves_untaken takes going tally left taken stops same =
+          serves_one Untaken takes.comes (happened_untaken door end takes) (All-nil is_new) tt
           (subst (λ x. GoesThroughSteps (shown s) (shown x) []) same (tasks_none (shown s)))
           (λ h w stands. tt) tally tt left taken
           (goes_on p.stops q.stops going stops Untaken (λ never. never))
 
       -- an operator, who ordered no copy
-      pub serves_operator : (idle : Type 0) (meanwhile : Making → Type 0) (tally_now : Tally) (operator : O) (stops : Bool)
-          → Come waiting rest (Operator operator ∷ []) → is_new (Operator operator) → p.stops ≡ false
+      pub serves_operator : (mid : Door (Caller P O)) (idle : Type 0) (meanwhile : Making → Type 0)
+          (tally_now : Tally) (operator gone : O) (stops : Bool)
+          → Takes door mid (Operator operator) → is_new (Operator operator) → p.stops ≡ false
           → tally_now ≡ p.tally
           → (next : ObeysOne heeded told (made s t)
-          (IsPinged tally_now (shown s).failures (shown t).failures (counted s t)) idle meanwhile operator stops
+          (IsPinged tally_now (shown s).failures (shown t).failures (counted s t)) idle meanwhile operator gone stops
           (shown s) (shown t))
-          → GoesThroughSteps (shown s) (shown t) (steps_if next.audience.heard)
+          → GoesThroughSteps (shown s) (shown t) (steps_if next.audience.heard) → Ends mid end (Operator gone)
           → q.tally ≡ p.tally → q.left ≡ p.left → q.taken ≡ p.taken + 1 → q.stops ≡ (p.stops || stops)
-          → From read waiting rest p q s t
+          → From read door end p q s t
       unfolding serves_one
-      serves_operator idle meanwhile tally_now operator stops comes fresh going now next through tally left taken is =
+      serves_operator mid idle meanwhile tally_now operator gone stops takes fresh going now next through ends tally left
+          taken is =
           let x = next.audience in
+          let takes_x = subst (λ o. Takes door mid (Operator o)) (sym next.begins) takes in
+          let ends_x = subst (λ o. Ends mid end (Operator o)) (sym next.leaves) ends in
           serves_one (OfOperator x)
-          (subst (λ o. Come waiting rest (Operator o ∷ [])) (sym next.begins) comes)
+          (subst (λ w. Come door.0 w (Operator x.before ∷ [])) (sym ends_x.waits) takes_x.comes)
+          (happened_operator door mid end x takes_x ends_x)
           (one_new (Operator x.before) (subst (λ o. is_new (Operator o)) (sym next.begins) fresh))
           next.there through
           (λ h w stands. read_heard shown made counted tally_now s t h w stands x.heard next.came next.lists)
@@ -321,27 +222,30 @@ module _ {P O : Type 0} (heeded : O → Account × Reads) (told : O → Option (
     no_stop_told before after making (Err e) there is = cc
 
     -- an operator who had something made, with the callers who were served meanwhile
-    pub serves_made : (waiting left rest : Option (List (Caller P O))) (p q r o : Progress) (s mid t : S)
+    pub serves_made : (door mid last end : Door (Caller P O)) (p q r o : Progress) (s m t : S)
         (before after : O) (making : Making) (said : Result Told Io)
-        → Come waiting left (Operator before ∷ []) → is_new (Operator before) → p.stops ≡ false
+        → Takes door mid (Operator before) → is_new (Operator before) → p.stops ≡ false
         → IsToldThere heeded told before after (Some (hearing.Made making)) said
         → (said ≡ Ok (spoken.Outcome Stopping) → ⊥)
-        → made s t making → From true left rest q r s mid → IsOnlyRead (shown mid) (shown t)
+        → made s t making → From true mid last q r s m → IsOnlyRead (shown m) (shown t) → ¬ IsBusy making
+        → Ends last end (Operator after)
         → q.tally ≡ p.tally → q.left ≡ p.left → q.taken ≡ p.taken + 1 → q.stops ≡ p.stops
         → o.tally ≡ r.tally → o.left ≡ r.left → o.taken ≡ r.taken → o.stops ≡ r.stops
-        → From false waiting rest p o s t
-    serves_made waiting left rest p q r o s mid t before after making said comes fresh going there never came next
-        read tally left_is taken stops tally_o left_o taken_o stops_o =
+        → From false door end p o s t
+    serves_made door mid last end p q r o s m t before after making said takes fresh going there never came next
+        read begun closes tally left_is taken stops tally_o left_o taken_o stops_o =
         let x : Audience O =
         record { before = before; after = after; heard = Some (hearing.Made making); told = said } in
         let call : Call P O = OfOperator x in
         let ys = next.calls in
         record {
           calls = call ∷ ys;
-          came = then_come waiting left rest (Operator before ∷ []) (callers_of ys) comes next.came;
+          came = then_come door.0 mid.0 end.0 (Operator before ∷ []) (callers_of ys) takes.comes
+              (subst (λ w. Come mid.0 w (callers_of ys)) (sym closes.waits) next.came);
+          happened = happened_around door mid last end x ys takes next.happened begun closes;
           begun = All-cons is_new (Operator before) (callers_of ys) fresh next.begun;
           there = All-cons (IsCallThere heeded told heard written) call ys there next.there;
-          through = through_read (shown s) (shown mid) (shown t) (tasks_in (steps_with ys)) next.through read;
+          through = through_read (shown s) (shown m) (shown t) (tasks_in (steps_with ys)) next.through read;
           reads = λ h w stands. (
             record { source = s; source_new = t; honest = h; stands = stands; came = came },
             next.reads (read.honest h) w stands,
@@ -357,16 +261,17 @@ module _ {P O : Type 0} (heeded : O → Account × Reads) (told : O → Option (
 
     -- ---- from the beginning to the end
 
-    module _ (since : List ℕ) (connections : ℕ) (waiting rest : Option (List (Caller P O))) (p q : Progress) (s t : S)
-        (all : From false waiting rest p q s t) (tally : p.tally ≡ tally_of since []) (left : p.left ≡ connections)
+    module _ (since : List ℕ) (connections : ℕ) (door end : Door (Caller P O)) (p q : Progress) (s t : S)
+        (all : From false door end p q s t) (tally : p.tally ≡ tally_of since []) (left : p.left ≡ connections)
         (taken : p.taken ≡ 0) (stops : p.stops ≡ false) where
-      pub serves_each : ReadsEach heeded told heard written shown made counted is_new waiting rest s t since
+      pub serves_each : ReadsEach heeded told heard written shown made counted is_new door end s t since
           connections
       serves_each = record {
         each = record {
           calls = all.calls;
           few = omega (arith, peers_few all.calls, all.left, left);
           came = all.came;
+          happened = all.happened;
           begun = all.begun;
           there = all.there;
           through = all.through;
@@ -377,7 +282,7 @@ module _ {P O : Type 0} (heeded : O → Account × Reads) (told : O → Option (
 
       -- no caller was taken any more
       pub ends_each : IsOver q.stops q.left q.taken
-          → EndsEach heeded told heard written shown made counted is_new waiting rest s t since connections
+          → EndsEach heeded told heard written shown made counted is_new door end s t since connections
       unfolding serves_each
       ends_each over = record {
         reads = serves_each;
@@ -393,7 +298,7 @@ module _ {P O : Type 0} (heeded : O → Account × Reads) (told : O → Option (
     unfolding serves_read
     one_turn a b (inl (read, same)) = subst (ServesMeanwhile heeded told heard written is_new shown made counted a)
         (sym same) (record {
-          serves = serves_read a.waiting a.progress a.store b.store (only_read (shown a.store) (shown b.store) read);
+          serves = serves_read a.door a.progress a.store b.store (only_read (shown a.store) (shown b.store) read);
           notes = notices_none a.errors;
           same = refl;
         })
@@ -408,7 +313,7 @@ module _ {P O : Type 0} (heeded : O → Account × Reads) (told : O → Option (
         let one = one_turn a mid turns.0 in
         let two = turns_all mid b more turns.1 in
         record {
-          serves = serves_more true a.waiting mid.waiting b.waiting a.progress mid.progress b.progress
+          serves = serves_more true a.door mid.door b.door a.progress mid.progress b.progress
               a.store mid.store b.store one.serves two.serves;
           notes = notices_more a.errors mid.errors b.errors one.notes two.notes;
           same = two.same ∙ one.same;
@@ -421,44 +326,46 @@ module _ {P O : Type 0} (heeded : O → Account × Reads) (told : O → Option (
     all_turns a b turns = turns_all a b turns.0 turns.1
 
     -- an operator, for whom no copy was made
-    pub serves_told : (waiting rest : Option (List (Caller P O))) (p q : Progress) (s t : S) (operator : O)
+    pub serves_told : (door mid end : Door (Caller P O)) (p q : Progress) (s t : S) (operator : O)
         (far : Option HowFar)
-        → Come waiting rest (Operator operator ∷ []) → is_new (Operator operator) → p.stops ≡ false
-        → ObeysMeanwhile heeded told shown made counted operator far p q s t → From true waiting rest p q s t
+        → Takes door mid (Operator operator) → is_new (Operator operator) → p.stops ≡ false
+        → ObeysMeanwhile heeded told shown made counted operator far mid end p q s t → From true door end p q s t
     unfolding serves_operator
-    serves_told waiting rest p q s t operator far comes fresh going next =
-        serves_operator true waiting rest p q s t (Unit {0}) (λ making. IsOnlyRead (shown s) (shown t) × IsBusy making)
-        p.tally operator
-        next.stops comes fresh going refl next.obeys
+    serves_told door mid end p q s t operator far takes fresh going next =
+        serves_operator true door end p q s t mid (Unit {0})
+        (λ making. IsOnlyRead (shown s) (shown t) × IsBusy making)
+        p.tally operator next.gone
+        next.stops takes fresh going refl next.obeys
         (through_told (Unit {0}) (shown s) (shown t) next.obeys.audience.heard
         (ordered_if _ _ (shown s) (shown t) next.obeys.audience.heard next.obeys.through))
-        next.tally next.left next.taken next.ends
+        next.ended next.tally next.left next.taken next.ends
 
-    module _ (waiting w v : Option (List (Caller P O))) (p a b q : Progress) (s t : S) (idle : Type 0) (meanwhile : Making → Type 0)
-        (still : idle → (v ≡ w) × (b ≡ a))
+    module _ (door mid last end : Door (Caller P O)) (p a b q : Progress) (s t : S) (idle : Type 0)
+        (meanwhile : Making → Type 0)
+        (still : idle → (last ≡ mid) × (b ≡ a))
         (turns : (making : Making) → meanwhile making
-        → (mid : S) × From true w v a b s mid × IsOnlyRead (shown mid) (shown t))
-        (operator : O) (stops : Bool) (comes : Come waiting w (Operator operator ∷ []))
+        → (m : S) × From true mid last a b s m × IsOnlyRead (shown m) (shown t) × ¬ IsBusy making)
+        (operator gone : O) (stops : Bool) (takes : Takes door mid (Operator operator))
         (fresh : is_new (Operator operator)) (going : p.stops ≡ false)
         (next : ObeysOne heeded told (made s t)
-        (IsPinged a.tally (shown s).failures (shown t).failures (counted s t)) idle meanwhile operator stops
-        (shown s) (shown t))
+        (IsPinged a.tally (shown s).failures (shown t).failures (counted s t)) idle meanwhile operator gone stops
+        (shown s) (shown t)) (ends : Ends last end (Operator gone))
         (tally : a.tally ≡ p.tally) (left : a.left ≡ p.left) (taken : a.taken ≡ p.taken + 1) (same : a.stops ≡ p.stops)
         (tally_q : q.tally ≡ b.tally) (left_q : q.left ≡ b.left) (taken_q : q.taken ≡ b.taken)
         (stops_q : q.stops ≡ (b.stops || stops)) where
       other_served : idle → GoesThroughSteps (shown s) (shown t) (steps_if next.audience.heard)
-          → From false waiting v p q s t
+          → From false door end p q s t
       unfolding serves_operator
       other_served rests through =
           let both = still rests in
-          subst (λ u. From false waiting u p q s t) (sym both.0)
-          (serves_operator false waiting w p q s t idle meanwhile a.tally operator stops comes fresh going tally next
-          through (tally_q ∙ ap (λ x. x.tally) both.1 ∙ tally) (left_q ∙ ap (λ x. x.left) both.1 ∙ left)
+          serves_operator false door end p q s t mid idle meanwhile a.tally operator gone stops takes fresh going tally
+          next through (subst (λ d. Ends d end (Operator gone)) both.0 ends)
+          (tally_q ∙ ap (λ x. x.tally) both.1 ∙ tally) (left_q ∙ ap (λ x. x.left) both.1 ∙ left)
           (taken_q ∙ ap (λ x. x.taken) both.1 ∙ taken)
-          (stops_q ∙ ap (λ x. x.stops || stops) both.1 ∙ ap (λ x. x || stops) same))
+          (stops_q ∙ ap (λ x. x.stops || stops) both.1 ∙ ap (λ x. x || stops) same)
 
       made_served : (making : Making)
-          → next.audience.heard ≡ Some (hearing.Made making) → meanwhile making → From false waiting v p q s t
+          → next.audience.heard ≡ Some (hearing.Made making) → meanwhile making → From false door end p q s t
       unfolding serves_made
       made_served making is done =
           let x = next.audience in
@@ -466,16 +373,16 @@ module _ {P O : Type 0} (heeded : O → Account × Reads) (told : O → Option (
           let there : IsToldThere heeded told x.before x.after (Some (hearing.Made making)) x.told =
           subst (λ h. IsToldThere heeded told x.before x.after h x.told) is next.there in
           let never = no_stop_told x.before x.after making x.told there in
-          serves_made waiting w v p a b q s went.0 t x.before x.after making x.told
-          (subst (λ o. Come waiting w (Operator o ∷ [])) (sym next.begins) comes)
+          serves_made door mid last end p a b q s went.0 t x.before x.after making x.told
+          (subst (λ o. Takes door mid (Operator o)) (sym next.begins) takes)
           (subst (λ o. is_new (Operator o)) (sym next.begins) fresh) going there never
           (subst (λ h. CameIf (made s t)
           (IsPinged a.tally (shown s).failures (shown t).failures (counted s t)) h) is next.came)
-          went.1 went.2 tally left taken same tally_q left_q taken_q
+          went.1 went.2 went.3 (subst (λ o. Ends last end (Operator o)) (sym next.leaves) ends) tally left taken same tally_q left_q taken_q
           (stops_q ∙ or_not b.stops stops (λ on. never (next.stopped.0 on)))
 
       -- an operator, and those who were served while a copy was made for it, if one was
-      pub obey_serves : From false waiting v p q s t
+      pub obey_serves : From false door end p q s t
       unfolding other_served made_served
       obey_serves = elim (ordered_if idle meanwhile (shown s) (shown t) next.audience.heard next.through) [
         | Other rests through ↦ other_served rests through

@@ -9,6 +9,7 @@ use Rattle.world.specs.Store.{Shown}
 use Rattle.world.specs.World.{World, place_cmp}
 use Rattle.meanwhile.specs.Meanwhile.{IsSince, Notes}
 use Rattle.meanwhile.specs.Noted.{IsNoted, with_said}
+use Rattle.socket.specs.History.{Door}
 use Rattle.control.specs.Copying.{Making, Step, OfTask, Made, Counted, Listed, LookedUp, AllRead}
 use Rattle.control.specs.Serving.{Serves}
 use Rattle.control.specs.Tasks.{Task, GoesThroughTasks, StandsIf, world_at}
@@ -92,16 +93,17 @@ module _ {S T : Type 0} (shown : S → Shown) (made : S → S → Making → Typ
 
   module _ {P O : Type 0} (heeded : O → Account × Reads) (told : O → Option (List ℕ) × Writes)
       (heard : P → Account × Reads) (written : P → Option (List ℕ) × Writes) (is_new : Caller P O → Type 0)
-      (waiting rest : Option (List (Caller P O))) (p q : Progress) (s t : T)
+      (door end : Door (Caller P O)) (p q : Progress) (s t : T)
       (all : (w : World) → (shown (inside s)).stands w → said s w)
-      (next : Serves heeded told heard written is_new Shown_too Made_too Counted_too true waiting rest p q s t) where
+      (next : Serves heeded told heard written is_new Shown_too Made_too Counted_too true door end p q s t) where
     -- the callers were served so
-    pub serves_unnoted : Serves heeded told heard written is_new shown made counted true waiting rest p q
+    pub serves_unnoted : Serves heeded told heard written is_new shown made counted true door end p q
         (inside s) (inside t)
     unfolding goes_unnoted read_unnoted
     serves_unnoted = record {
       calls = next.calls;
       came = next.came;
+      happened = next.happened;
       begun = next.begun;
       there = next.there;
       through = goes_unnoted (shown (inside s)) (shown (inside t)) (said s) (said t) _ _ all next.through;

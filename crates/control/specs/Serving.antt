@@ -7,6 +7,7 @@ use Rattle.histories.specs.Calls.{Reads, Writes}
 use Rattle.world.specs.Store.{Shown}
 use Rattle.world.specs.World.{World}
 use Rattle.socket.specs.Connections.{Come}
+use Rattle.socket.specs.History.{Door, Ends}
 use Rattle.meanwhile.specs.Meanwhile.{IsAsItWas}
 use Rattle.meanwhile.specs.declared.between.HowFar.{HowFar}
 use Rattle.control.specs.Copying.{Making, AllRead, IsBusy, IsOnlyRead, tasks_in, has_read}
@@ -15,9 +16,10 @@ use Rattle.control.specs.Notices.{WritesNotices}
 use Rattle.control.specs.Pinging.{TellsHowFar}
 use Rattle.control.specs.Tasks.{GoesThroughTasks}
 use Rattle.control.specs.Visits.{Call, OfPeer, OfOperator, Untaken, AnswersOne, IsCallThere, IsNoStop, IsStop, ObeysOne}
-use Rattle.control.specs.Visits.{TellsTally}
+use Rattle.control.specs.Visits.{Happened, TellsTally}
 use Rattle.control.specs.Visits.{answered_with, callers_of, connections_of, steps_with}
 use Rattle.control.specs.declared.callers.Caller.{Caller}
+use Rattle.control.specs.declared.callers.Caller.TheVariants.{Peer, Operator}
 use Rattle.control.specs.declared.progress.Progress.{Progress}
 use Rattle.control.specs.declared.tally.Tally.{Tally}
 
@@ -42,34 +44,40 @@ EndsBy {P} {O} false true calls =
 EndsBy false false calls = All IsNoStop calls
 
 -- An operator was obeyed while a copy is made or a catalog is printed, with the tally of the moment. No copy was made
--- for it, and a ping was told how far the one is, or of none.
-pub record ObeysMeanwhile {O : Type 0} (heeded : O → Account × Reads) (told : O → Option (List ℕ) × Writes)
+-- for it, and a ping was told how far the one is, or of none. Then it was ended.
+pub record ObeysMeanwhile {P O : Type 0} (heeded : O → Account × Reads) (told : O → Option (List ℕ) × Writes)
     {S : Type 0} (shown : S → Shown) (made : S → S → Making → Type 0)
-    (counted : S → S → ℕ → Type 0) (operator : O) (far : Option HowFar) (before after : Progress) (old new : S) : Type 0
+    (counted : S → S → ℕ → Type 0) (operator : O) (far : Option HowFar) (door end : Door (Caller P O))
+    (before after : Progress) (old new : S) : Type 0
   where
     pub stops : Bool
+    pub gone : O
     pub obeys : ObeysOne heeded told (made old new)
         (IsPinged before.tally (shown old).failures (shown new).failures (counted old new)) (Unit {0})
-        (λ making. IsOnlyRead (shown old) (shown new) × IsBusy making) operator stops (shown old) (shown new)
+        (λ making. IsOnlyRead (shown old) (shown new) × IsBusy making) operator gone stops (shown old) (shown new)
+    pub ended : Ends door end (Operator gone)
     pub tally : after.tally ≡ before.tally
     pub left : after.left ≡ before.left
     pub taken : after.taken ≡ before.taken + 1
     pub ends : after.stops ≡ (before.stops || stops)
     pub tells : IfOk obeys.audience.told (TellsHowFar far)
 
--- a peer was answered, and counts as a connection
-pub record ServesPeer {P : Type 0} (heard : P → Account × Reads) (written : P → Option (List ℕ) × Writes) (peer : P)
-    (before after : Progress) (old new : Shown) : Type 0 where
+-- a peer was answered and then ended, and counts as a connection
+pub record ServesPeer {P O : Type 0} (heard : P → Account × Reads) (written : P → Option (List ℕ) × Writes) (peer : P)
+    (door end : Door (Caller P O)) (before after : Progress) (old new : Shown) : Type 0 where
+  pub gone : P
   pub answered : Answered
-  pub answers : AnswersOne heard written peer old new answered
+  pub answers : AnswersOne heard written peer gone old new answered
+  pub ended : Ends door end (Peer gone)
   pub tally : after.tally ≡ with_one before.tally answered
   pub left : before.left ≡ after.left + 1
   pub taken : after.taken ≡ before.taken + 1
   pub stops : after.stops ≡ before.stops
 
--- a server that makes a copy, and its store, at an instant: who waits, how far it is, what it wrote, and its two loans
+-- a server that makes a copy, and its store, at an instant: who waits and what was done with those who came, how far it
+-- is, what it wrote, and its two loans
 pub record Instant (P O S : Type 0) : Type 0 where
-  pub waiting : Option (List (Caller P O))
+  pub door : Door (Caller P O)
   pub progress : Progress
   pub errors : Option (List ℕ)
   pub lent : ℕ × ℕ
@@ -82,10 +90,11 @@ module _ {P O : Type 0} (heeded : O → Account × Reads) (told : O → Option (
   -- From one moment to another, callers were served one after another, each once; if the flag is true, the store was
   -- also read between them. What was said of them holds as `ServesEach`, `ReadsEach` and `EndsEach` say, and the
   -- progress goes on by them.
-  pub record Serves (read : Bool) (waiting rest : Option (List (Caller P O))) (before after : Progress)
+  pub record Serves (read : Bool) (door end : Door (Caller P O)) (before after : Progress)
       (old new : S) : Type 0 where
     pub calls : List (Call P O)
-    pub came : Come waiting rest (callers_of calls)
+    pub came : Come door.0 end.0 (callers_of calls)
+    pub happened : Happened door.1 end.1 calls
     pub begun : All is_new (callers_of calls)
     pub there : All (IsCallThere heeded told heard written) calls
     pub through : GoesThroughTasks (shown old) (shown new) (tasks_in (steps_with calls))
@@ -100,7 +109,7 @@ module _ {P O : Type 0} (heeded : O → Account × Reads) (told : O → Option (
 
   -- So it was while a copy was made, notices were written, and both loans of the server are the same ones.
   pub record ServesMeanwhile (a b : Instant P O S) : Type 0 where
-    pub serves : Serves true a.waiting b.waiting a.progress b.progress a.store b.store
+    pub serves : Serves true a.door b.door a.progress b.progress a.store b.store
     pub notes : WritesNotices a.errors b.errors
     pub same : b.lent ≡ a.lent
 

@@ -13,9 +13,11 @@ use Rattle.engine.specs.declared.fault.Io.{Io}
 use Rattle.engine.specs.declared.fault.Io.TheVariants as io
 use Rattle.socket.specs.Connections.{Visit, Come, exchanges_of}
 use Rattle.socket.specs.Connections as socket
-use Rattle.control.specs.Copying.{Making, Step, OfTask, AllRead, GoesThroughSteps}
-use Rattle.control.specs.Health.{Answered, IsPinged, tally_of}
-use Rattle.control.specs.Hearing.{Heard, Pinged, CameOf, GoesAs, IsHeard, ListsBy, WritesSome}
+use Rattle.socket.specs.History.{Done, Door}
+use Rattle.socket.specs.declared.deed.Deed.TheVariants as deed
+use Rattle.control.specs.Copying.{Making, Step, OfTask, AllRead, GoesThroughSteps, IsBusy}
+use Rattle.control.specs.Health.{Answered, tally_of}
+use Rattle.control.specs.Hearing.{Heard, Made, Pinged, CameOf, GoesAs, IsHeard, ListsBy, WritesSome}
 use Rattle.control.specs.Hearing.{bytes_heard, steps_heard, told_heard}
 use Rattle.control.specs.Line.{most_tries}
 use Rattle.control.specs.Tasks.{Asked}
@@ -47,6 +49,33 @@ callers_of [] = []
 callers_of (OfPeer visit answered ∷ calls) = Peer visit.before ∷ callers_of calls
 callers_of (OfOperator audience ∷ calls) = Operator audience.before ∷ callers_of calls
 callers_of (Untaken ∷ calls) = callers_of calls
+
+-- something was made for this order, and not refused because another one was being made
+abbrev pub IsLong : Option Heard → Type 0
+IsLong (Some (Made making)) = ¬ IsBusy making
+IsLong other = ⊥
+
+-- These deeds are those for these callers. Each was taken in its turn, as it came, or could not be. The connection of a
+-- peer was ended as it was left before anything else was done, and that of an operator after it was obeyed; where
+-- something was made for it, others may have been taken, and ended, before that.
+module _ {P O : Type 0} where
+  abbrev pub Happens : List (Call P O) → List (Done (Caller P O)) → Type 0
+  Happens [] deeds = deeds ≡ []
+  Happens (OfPeer visit answered ∷ calls) deeds =
+      (rest : List (Done (Caller P O)))
+      × (deeds ≡ ([], deed.Taken (Peer visit.before)) ∷ ([], deed.Ended (Peer visit.after)) ∷ rest)
+      × Happens calls rest
+  Happens (OfOperator audience ∷ calls) deeds =
+      (inner : List (Done (Caller P O))) × (rest : List (Done (Caller P O)))
+      × (deeds ≡ ([], deed.Taken (Operator audience.before)) ∷ inner
+      ++ ([], deed.Ended (Operator audience.after)) ∷ rest)
+      × ((inner ≡ []) ⊎ IsLong audience.heard) × Happens calls (inner ++ rest)
+  Happens (Untaken ∷ calls) deeds =
+      (rest : List (Done (Caller P O))) × (deeds ≡ ([], deed.Untaken) ∷ rest) × Happens calls rest
+
+  -- the second history is the first, and then what was done for these callers
+  abbrev pub Happened : List (Done (Caller P O)) → List (Done (Caller P O)) → List (Call P O) → Type 0
+  Happened before after calls = (deeds : List (Done (Caller P O))) × (after ≡ before ++ deeds) × Happens calls deeds
 
 -- nothing has passed between this caller and us
 module _ {P O : Type 0} (came : P → Account) (written : P → Option (List ℕ)) (heeded : O → Account)
@@ -149,11 +178,11 @@ abbrev pub AllTallied : {P O : Type 0} → List ℕ → List (Call P O) → List
 AllTallied since before [] = Unit {0}
 AllTallied since before (call ∷ calls) = IsTallied since before call × AllTallied since (before ++ call ∷ []) calls
 
--- A peer was answered, and its connection counts as what became of it.
-pub record AnswersOne {P : Type 0} (heard : P → Account × Reads) (written : P → Option (List ℕ) × Writes) (peer : P)
-    (old new : Shown) (answered : Answered) : Type 0 where
-  pub answers : socket.Answers heard written peer old new
-  pub counts : CountsAs answers.visit.first answered
+-- A peer was answered, and left so, and its connection counts as what became of it.
+pub record AnswersOne {P : Type 0} (heard : P → Account × Reads) (written : P → Option (List ℕ) × Writes)
+    (peer gone : P) (old new : Shown) (answered : Answered) : Type 0 where
+  pub answers : socket.Answers heard written peer gone old new
+  pub counts : CountsAs answers.first answered
 
 module _ {O : Type 0} (heeded : O → Account × Reads) (told : O → Option (List ℕ) × Writes) where
   -- What was read came from this operator, and what came of it went to this operator: the whole line, or where a write
@@ -170,28 +199,19 @@ module _ {O : Type 0} (heeded : O → Account × Reads) (told : O → Option (Li
       × WritesSome (told before).0 (told after).0 (bytes_heard heard)
       × ((told before).1.failed < (told after).1.failed)
 
-  -- This operator was obeyed, and the store went through its order. The flag says whether it was told that the server
-  -- ends.
+  -- This operator was obeyed, and left so, and the store went through its order. The flag says whether it was told that
+  -- the server ends.
   pub record ObeysOne (made : Making → Type 0)
       (pinged : Result Health StoreFault → Type 0) (idle : Type 0) (meanwhile : Making → Type 0)
-      (operator : O) (stops : Bool) (old new : Shown) : Type 0 where
+      (operator gone : O) (stops : Bool) (old new : Shown) : Type 0 where
     pub audience : Audience O
     pub begins : audience.before ≡ operator
+    pub leaves : audience.after ≡ gone
     pub there : IsToldThere audience.before audience.after audience.heard audience.told
     pub stopped : IsTrue stops ↔ (audience.told ≡ Ok (spoken.Outcome Stopping))
     pub through : GoesIf idle meanwhile old new audience.heard
     pub came : CameIf made pinged audience.heard
     pub lists : ListsIf old new audience.heard
-
-  -- so it was between two stores, by what is known of copies and counts, with the tally of the moment
-  abbrev pub ObeysOneBy : {S K : Type 0} (shown : S → Shown)
-      (made : S → S → Making → Type 0) (counted : S → S → ℕ → Type 0)
-      (meanwhile : K → K → S → S → Making → Type 0) (tally : Tally) (operator : O) (stops : Bool) (copies copies_new : K)
-      (old new : S) → Type 0
-  ObeysOneBy shown made counted meanwhile tally operator stops copies copies_new old new =
-      ObeysOne (made old new)
-      (IsPinged tally (shown old).failures (shown new).failures (counted old new)) (copies_new ≡ copies)
-      (meanwhile copies copies_new old new) operator stops (shown old) (shown new)
 
   module _ {P : Type 0} (heard : P → Account × Reads) (written : P → Option (List ℕ) × Writes) where
     abbrev pub IsCallThere : Call P O → Type 0
@@ -201,12 +221,13 @@ module _ {O : Type 0} (heeded : O → Account × Reads) (told : O → Option (Li
 
     -- The callers were served one after another, each once, and at most as many peers as there are connections. Each
     -- was new. What a peer sent was answered to that peer, and the outcome of an operator's order went to that
-    -- operator.
-    pub record ServesEach (is_new : Caller P O → Type 0) (waiting left : Option (List (Caller P O))) (old new : Shown)
+    -- operator. Nobody else was taken, and each who was taken was ended as it was left.
+    pub record ServesEach (is_new : Caller P O → Type 0) (door left : Door (Caller P O)) (old new : Shown)
         (connections : ℕ) : Type 0 where
       pub calls : List (Call P O)
       pub few : peers calls ≤ connections
-      pub came : Come waiting left (callers_of calls)
+      pub came : Come door.0 left.0 (callers_of calls)
+      pub happened : Happened door.1 left.1 calls
       pub begun : All is_new (callers_of calls)
       pub there : All IsCallThere calls
       pub through : GoesThroughSteps old new (steps_with calls)
@@ -216,8 +237,8 @@ module _ {O : Type 0} (heeded : O → Account × Reads) (told : O → Option (Li
     pub record ReadsEach
         {S : Type 0} (shown : S → Shown) (made : S → S → Making → Type 0)
         (counted : S → S → ℕ → Type 0) (is_new : Caller P O → Type 0)
-        (waiting left : Option (List (Caller P O))) (old new : S) (since : List ℕ) (connections : ℕ) : Type 0 where
-      pub each : ServesEach is_new waiting left (shown old) (shown new) connections
+        (door left : Door (Caller P O)) (old new : S) (since : List ℕ) (connections : ℕ) : Type 0 where
+      pub each : ServesEach is_new door left (shown old) (shown new) connections
       pub reads : (shown new).is_honest → (w : World) → (shown old).stands w
           → AllRead shown made counted w (steps_with each.calls)
       pub tallies : AllTallied since [] each.calls
@@ -226,6 +247,6 @@ module _ {O : Type 0} (heeded : O → Account × Reads) (told : O → Option (Li
     pub record EndsEach
         {S : Type 0} (shown : S → Shown) (made : S → S → Making → Type 0)
         (counted : S → S → ℕ → Type 0) (is_new : Caller P O → Type 0)
-        (waiting left : Option (List (Caller P O))) (old new : S) (since : List ℕ) (connections : ℕ) : Type 0 where
-      pub reads : ReadsEach shown made counted is_new waiting left old new since connections
+        (door left : Door (Caller P O)) (old new : S) (since : List ℕ) (connections : ℕ) : Type 0 where
+      pub reads : ReadsEach shown made counted is_new door left old new since connections
       pub ends : IsEnd connections reads.each.calls

@@ -1,5 +1,5 @@
 //! Callers: peers, who send requests, and operators, who send orders.
-ghost use Rattle.std.specs.Prelude.{◌≡◌, ◌⊎◌, ℕ, List, [], IfOk, IfErr, IfSome, MatchResult};
+ghost use Rattle.std.specs.Prelude.{◌≡◌, ◌⊎◌, ℕ, List, [], IfOk, IfErr, MatchResult};
 ghost use Rattle.std.specs.Io.KnownBytes.{Appends};
 ghost use Rattle.engine.specs.Causes.{FailsWith, IsCausedIn};
 ghost use Rattle.histories.specs.Account.{Account};
@@ -11,7 +11,6 @@ ghost use Rattle.control.specs.Line.{ReadsLine, most_tries};
 ghost use Rattle.control.specs.Pace.{WritesInTime, time_for_order};
 ghost use Rattle.control.specs.Pinging.{TellsPing};
 ghost use Rattle.control.specs.Told.{bytes_told};
-ghost use Rattle.control.specs.Visits.{IsUnheard};
 
 use crate::copies::CopyOrders;
 use crate::line::{Unread, read_line};
@@ -22,21 +21,14 @@ use crate::told::Told;
 use engine::Io;
 use histories::{
     BoundRead, BoundWrite, Connection, HasCalls, Hear, Hearing, HearingInTime, Start, Tell,
-    Telling, TellingInStretches, TellingInTime, over_tcp, over_unix,
+    Telling, TellingInStretches, TellingInTime,
 };
 use keyring::Keyring;
-use mio::unix::SourceFd;
-use mio::{Events, Interest, Poll, Token};
 use orders::{Order, Outcome, read_order};
-use socket::Peer;
 use std::alloc::Global;
-use std::io::{self, ErrorKind, Write};
+use std::io::{self, Write};
 use std::marker::Brand;
-use std::net::{TcpListener, TcpStream};
-use std::os::fd::AsRawFd;
-use std::os::unix::net::{UnixListener, UnixStream};
-use std::rt::HostRuntime;
-use std::time::{Clock, Duration};
+use std::time::Clock;
 use world::registry::StoreFault;
 
 /// A caller who has connected.
@@ -272,13 +264,20 @@ fn tell_since<C: Clock, J: Start, W: BoundWrite + Drop>(
 }
 
 /// A source of peers and operators.
+///
+/// Each connection is noted when it is taken, and again when it is ended, with all that passed over it.
 pub trait Callers<P, O> {
     ghost use Rattle.std.specs.Prelude.{◌≡◌, Bool, false, List, Option, IfOk, IfSome, MatchOption};
-    ghost use Rattle.socket.specs.Connections.{Accepts};
+    ghost use Rattle.socket.specs.Connections.{both};
+    ghost use Rattle.socket.specs.History.{Done, Ends, TakesNext};
     ghost use Rattle.control.specs.declared.callers.Caller.{Caller};
+    ghost use Rattle.control.specs.declared.callers.Caller.TheVariants.{Peer, Operator};
 
     /// The callers who connect from here on, in their order, if they are known.
     ghost waiting: { Self → Option (List (Caller P O)) };
+
+    /// What was done so far, the oldest first.
+    ghost history: { Self → List (Done (Caller P O)) };
 
     /// What is known of a caller who was just taken.
     ghost is_new: { Caller P O → Type 0 };
@@ -289,199 +288,33 @@ pub trait Callers<P, O> {
     /// Waits for the next connection, however long that takes, and returns its caller. Fails if the connection can't be
     /// taken.
     fn next(&mut self) -> io::Result<Caller<P, O>>
-        ensures takes { Accepts (waiting self.old) (waiting self.new) result }
+        ensures takes { TakesNext (both waiting history self.old) (both waiting history self.new) result }
         ensures fresh { IfOk result (λ caller. is_new caller) };
 
     /// Returns the caller of a connection that waits to be taken, or None if there is none, and waits for none. Fails
     /// if the connection can't be taken.
     fn next_waiting(&mut self) -> Option<io::Result<Caller<P, O>>>
-        ensures takes { MatchOption result (waiting self.new ≡ waiting self.old)
-            (λ next. Accepts (waiting self.old) (waiting self.new) next) }
+        ensures takes { MatchOption result
+            ((waiting self.new ≡ waiting self.old) × (history self.new ≡ history self.old))
+            (λ next. TakesNext (both waiting history self.old) (both waiting history self.new) next) }
         ensures fresh { IfSome result (λ next. IfOk next (λ caller. is_new caller)) };
+
+    /// Ends the connection of a peer as it is left. After a reply that was written whole, which had this status, its
+    /// writing side is shut first, and what the peer still sends is read and dropped: that is not noted.
+    fn end_peer<C: Clock>(&mut self, clock: &C, peer: P, status: Option<u16>)
+        ensures { Ends (both waiting history self.old) (both waiting history self.new) (Peer peer) };
+
+    /// Ends the connection of an operator as it is left.
+    fn end_operator(&mut self, operator: O)
+        ensures { Ends (both waiting history self.old) (both waiting history self.new) (Operator operator) };
 
     /// Watches the operator who was taken last, so that `has_left` can tell of it.
     fn watch_operator(&mut self)
         ensures same { waiting self.new ≡ waiting self.old }
+        ensures undone { history self.new ≡ history self.old }
         ensures here { left self.new ≡ false };
 
     /// Whether the operator who is watched was seen to close its connection.
     fn has_left(&self) -> bool
         ensures { result ≡ left self.now };
-}
-
-/// A peer of a port, or an operator of a Unix socket.
-pub type SystemCaller = Caller<
-    Connection<TcpStream, TcpStream>,
-    Connection<UnixStream, UnixStream>,
->;
-
-const PEERS: Token = Token(0);
-
-const OPERATORS: Token = Token(1);
-
-/// The operator who is watched.
-const OPERATOR: Token = Token(2);
-
-/// A port for peers and a socket for operators, which one thread waits on.
-#[derive(Drop)]
-pub struct Doors {
-    poll: Poll,
-    events: Events<Global>,
-    peers: TcpListener,
-    operators: UnixListener,
-    /// Whether a peer may wait to be taken.
-    peer_waits: bool,
-    /// Whether an operator may.
-    operator_waits: bool,
-    /// The descriptor of the operator who was taken last, or -1 before the first.
-    taken: i32,
-    /// Whether the operator who is watched was seen to close its connection.
-    left: bool,
-}
-
-impl Doors {
-    /// Returns doors that wait on both. Fails if the system refuses to watch one of them, or if memory runs out.
-    pub fn new(rt: &HostRuntime, peers: TcpListener, operators: UnixListener) -> io::Result<Doors> {
-        peers.set_nonblocking(true)?;
-        operators.set_nonblocking(true)?;
-        let poll = Poll::new(rt)?;
-        let events = Events::with_capacity(rt.alloc(), 3)?;
-        watch(&poll, peers.as_raw_fd(), PEERS)?;
-        watch(&poll, operators.as_raw_fd(), OPERATORS)?;
-        Ok(Doors {
-            poll,
-            events,
-            peers,
-            operators,
-            peer_waits: false,
-            operator_waits: false,
-            taken: -1,
-            left: false,
-        })
-    }
-
-    /// How long to wait for somebody to connect: not at all if somebody is known to wait, and otherwise as long as it
-    /// takes.
-    fn longest(&self) -> Option<Duration> {
-        if self.peer_waits || self.operator_waits {
-            Some(Duration::ZERO)
-        } else {
-            None
-        }
-    }
-
-    /// Notes which listeners somebody has connected to, and whether the operator who is watched has left. Waits for
-    /// that at most so long. Fails if the system does.
-    fn look(&mut self, longest: Option<Duration>) -> io::Result<()> {
-        self.poll.poll(&mut self.events, longest)?;
-        for event in self.events.iter() {
-            let token = event.token();
-            if token == OPERATORS {
-                self.operator_waits = true;
-            } else if token == OPERATOR {
-                self.left |= event.is_write_closed();
-            } else {
-                self.peer_waits = true;
-            }
-        }
-        Ok(())
-    }
-
-    /// Returns a caller who has connected, an operator before a peer, or None if there is none. Fails if the system
-    /// does.
-    ///
-    /// The system names a listener when somebody connects, and once more when it is watched anew, if somebody still
-    /// waits. So the listener of a taken caller is watched anew: that takes a tenth of the time of an `accept` that
-    /// finds nobody.
-    fn accept(&mut self) -> io::Result<Option<SystemCaller>>
-        ensures { IfOk result (λ found. IfSome found (λ caller. IsUnheard
-            ⟦<Connection<TcpStream, TcpStream> as Peer>⟧.came ⟦<Connection<TcpStream, TcpStream> as Peer>⟧.written
-            ⟦<Connection<UnixStream, UnixStream> as Operator>⟧.came
-            ⟦<Connection<UnixStream, UnixStream> as Operator>⟧.written caller)) }
-    {
-        if self.operator_waits {
-            match self.operators.accept() {
-                Ok((stream, _)) => {
-                    self.taken = stream.as_raw_fd();
-                    let fd = self.operators.as_raw_fd();
-                    self.operator_waits = !watch_anew(&self.poll, fd, OPERATORS);
-                    return Ok(Some(Caller::Operator(over_unix(stream)?)));
-                }
-                Err(e) if e.kind() == ErrorKind::WouldBlock => self.operator_waits = false,
-                Err(e) => return Err(e),
-            }
-        }
-        if self.peer_waits {
-            match self.peers.accept() {
-                Ok((stream, _)) => {
-                    self.peer_waits = !watch_anew(&self.poll, self.peers.as_raw_fd(), PEERS);
-                    return Ok(Some(Caller::Peer(over_tcp(stream)?)));
-                }
-                Err(e) if e.kind() == ErrorKind::WouldBlock => self.peer_waits = false,
-                Err(e) => return Err(e),
-            }
-        }
-        Ok(None)
-    }
-}
-
-/// The callers who connect are not known.
-impl Callers<Connection<TcpStream, TcpStream>, Connection<UnixStream, UnixStream>> for Doors {
-    ghost use Rattle.std.specs.Prelude.{None};
-    ghost use Rattle.control.specs.Visits.{IsUnheard};
-
-    ghost waiting = { λ _. None };
-
-    ghost left = { λ d. d.left };
-
-    /// Nothing has passed over the connection.
-    ghost is_new = { λ caller. IsUnheard
-        ⟦<Connection<TcpStream, TcpStream> as Peer>⟧.came ⟦<Connection<TcpStream, TcpStream> as Peer>⟧.written
-        ⟦<Connection<UnixStream, UnixStream> as Operator>⟧.came
-        ⟦<Connection<UnixStream, UnixStream> as Operator>⟧.written caller };
-
-    /// Takes an operator before a peer.
-    fn next(&mut self) -> io::Result<SystemCaller> {
-        for _ in 0..u64::MAX {
-            self.look(self.longest())?;
-            if let Some(caller) = self.accept()? {
-                return Ok(caller);
-            }
-        }
-        Err(io::Error::from(ErrorKind::Other))
-    }
-
-    /// Takes an operator before a peer.
-    fn next_waiting(&mut self) -> Option<io::Result<SystemCaller>> {
-        if let Err(e) = self.look(Some(Duration::ZERO)) {
-            return Some(Err(e));
-        }
-        match self.accept() {
-            Ok(Some(caller)) => Some(Ok(caller)),
-            Ok(None) => None,
-            Err(e) => Some(Err(e)),
-        }
-    }
-
-    /// If the system refuses to watch it, nobody is seen to leave.
-    fn watch_operator(&mut self) {
-        self.left = false;
-        let _ = watch(&self.poll, self.taken, OPERATOR);
-    }
-
-    fn has_left(&self) -> bool {
-        self.left
-    }
-}
-
-fn watch(poll: &Poll, fd: i32, token: Token) -> io::Result<()> {
-    poll.registry()
-        .register(&mut SourceFd(&fd), token, Interest::READABLE)
-}
-
-/// Has the poll name a listener again if somebody waits there, and returns whether it will.
-fn watch_anew(poll: &Poll, fd: i32, token: Token) -> bool {
-    poll.registry()
-        .reregister(&mut SourceFd(&fd), token, Interest::READABLE)
-        .is_ok()
 }

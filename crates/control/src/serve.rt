@@ -1,6 +1,7 @@
 //! One caller after another.
-ghost use Rattle.std.specs.Prelude.{◌≡◌, ◌≤◌, ◌+◌, List, [], ◌∷◌, Option, false};
-ghost use Rattle.socket.specs.Connections.{Come, both};
+ghost use Rattle.std.specs.Prelude.{◌≡◌, ◌≤◌, ◌+◌, false};
+ghost use Rattle.socket.specs.Connections.{both};
+ghost use Rattle.socket.specs.History.{Door, Takes};
 ghost use Rattle.control.specs.Notices.{WritesNotices};
 ghost use Rattle.control.specs.Progress.{IsGoing, IsOver};
 ghost use Rattle.control.specs.Serving.{Serves};
@@ -57,19 +58,23 @@ pub fn serve_both<
     // One run of the machine: its events are the messages, at most one on each connection, and the registry commands.
     ensures goes { GoesOn (S.shown shelves.old) (S.shown shelves.new) connections }
     // Each message is answered on the connection that it came over, and the outcome of each order is told on its own.
-    // If none is, or it is not written whole, a call of that connection failed.
+    // If none is, or it is not written whole, a call of that connection failed. Each connection that was taken is ended
+    // as it was left.
     ensures each { ServesEach (both O.came O.reads) (both O.written O.writes)
-        (both P.came P.reads) (both P.written P.writes) L.is_new (L.waiting callers.old) (L.waiting callers.new)
+        (both P.came P.reads) (both P.written P.writes) L.is_new
+        (both L.waiting L.history callers.old) (both L.waiting L.history callers.new)
         (S.shown shelves.old) (S.shown shelves.new) connections }
     // Each copy is made of the machine's world at its moment, between two of its events. Each ping is told the versions
     // that were counted so, and the counts of the connections that were taken before it.
     ensures reads { ReadsEach (both O.came O.reads) (both O.written O.writes)
-        (both P.came P.reads) (both P.written P.writes) S.shown K.made K.counted L.is_new (L.waiting callers.old)
-        (L.waiting callers.new) shelves.old shelves.new since connections }
+        (both P.came P.reads) (both P.written P.writes) S.shown K.made K.counted L.is_new
+        (both L.waiting L.history callers.old) (both L.waiting L.history callers.new)
+        shelves.old shelves.new since connections }
     // It ends once an operator was told so, and not before, unless its connections are used up.
     ensures ends { EndsEach (both O.came O.reads) (both O.written O.writes)
-        (both P.came P.reads) (both P.written P.writes) S.shown K.made K.counted L.is_new (L.waiting callers.old)
-        (L.waiting callers.new) shelves.old shelves.new since connections }
+        (both P.came P.reads) (both P.written P.writes) S.shown K.made K.counted L.is_new
+        (both L.waiting L.history callers.old) (both L.waiting L.history callers.new)
+        shelves.old shelves.new since connections }
     // Only notices are written to `errors`.
     ensures notes { WritesNotices (E.contents errors.old) (E.contents errors.new) }
 {
@@ -123,14 +128,17 @@ fn serve_lent<
     ensures same_errors { result.errors.ghost_name ≡ errors.entry.ghost_name }
     ensures goes { GoesOn (S.shown shelves.old) (S.shown result.shelves.now) connections }
     ensures each { ServesEach (both O.came O.reads) (both O.written O.writes)
-        (both P.came P.reads) (both P.written P.writes) L.is_new (L.waiting callers.old) (L.waiting result.callers.now)
+        (both P.came P.reads) (both P.written P.writes) L.is_new
+        (both L.waiting L.history callers.old) (both L.waiting L.history result.callers.now)
         (S.shown shelves.old) (S.shown result.shelves.now) connections }
     ensures reads { ReadsEach (both O.came O.reads) (both O.written O.writes)
-        (both P.came P.reads) (both P.written P.writes) S.shown K.made K.counted L.is_new (L.waiting callers.old)
-        (L.waiting result.callers.now) shelves.old result.shelves.now since connections }
+        (both P.came P.reads) (both P.written P.writes) S.shown K.made K.counted L.is_new
+        (both L.waiting L.history callers.old) (both L.waiting L.history result.callers.now)
+        shelves.old result.shelves.now since connections }
     ensures ends { EndsEach (both O.came O.reads) (both O.written O.writes)
-        (both P.came P.reads) (both P.written P.writes) S.shown K.made K.counted L.is_new (L.waiting callers.old)
-        (L.waiting result.callers.now) shelves.old result.shelves.now since connections }
+        (both P.came P.reads) (both P.written P.writes) S.shown K.made K.counted L.is_new
+        (both L.waiting L.history callers.old) (both L.waiting L.history result.callers.now)
+        shelves.old result.shelves.now since connections }
     ensures notes { WritesNotices (E.contents errors.old) (E.contents result.errors.now) }
 {
     let mut server = Server::new(
@@ -171,7 +179,7 @@ impl<
         requires { self.old.progress.taken ≡ 0 }
         ensures serves { Serves (both O.came O.reads) (both O.written O.writes)
             (both P.came P.reads) (both P.written P.writes) L.is_new S.shown K.made K.counted false
-            (L.waiting self.old.callers.now) (L.waiting self.new.callers.now)
+            (both L.waiting L.history self.old.callers.now) (both L.waiting L.history self.new.callers.now)
             self.old.progress self.new.progress watched.old.inner.now watched.new.inner.now }
         ensures over { IsOver self.new.progress.stops self.new.progress.left self.new.progress.taken }
         ensures same { self.new.callers.ghost_name ≡ self.old.callers.ghost_name }
@@ -190,18 +198,18 @@ impl<
         }
     }
 
-    /// Carries out the order of an operator. While a copy is made for it, others are served. Ignores failures of the
-    /// connection.
+    /// Carries out the order of an operator, and ends its connection. While a copy is made for it, others are served.
+    /// Ignores failures of the connection.
     fn obey_on<N: Loan, S: Keyring>(&mut self, operator: O, watched: &mut Watched<'_, N, S>)
     where
         K: Copies<S>,
         requires { IsGoing self.old.progress.stops self.old.progress.left self.old.progress.taken }
-        ensures serves { (waiting : Option (List (Caller P O)))
-            → Come waiting (L.waiting self.old.callers.now) (Operator operator ∷ [])
+        ensures serves { (door : Door (Caller P O))
+            → Takes door (both L.waiting L.history self.old.callers.now) (Operator operator)
             → L.is_new (Operator operator)
             → Serves (both O.came O.reads) (both O.written O.writes)
             (both P.came P.reads) (both P.written P.writes) L.is_new S.shown K.made K.counted false
-            waiting (L.waiting self.new.callers.now)
+            door (both L.waiting L.history self.new.callers.now)
             self.old.progress self.new.progress watched.old.inner.now watched.new.inner.now }
         ensures taken { self.old.progress.taken + 1 ≤ self.new.progress.taken }
         ensures same { self.new.callers.ghost_name ≡ self.old.callers.ghost_name }
@@ -214,5 +222,6 @@ impl<
         watched.note_told(&after.told);
         self.progress.end_if(is_stopping(after.told));
         self.tell(watched);
+        self.callers.end_operator(after.operator);
     }
 }

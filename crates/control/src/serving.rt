@@ -21,7 +21,7 @@ use histories::Tell;
 use meanwhile::between::HowFar;
 use modver::TimeText;
 use orders::Outcome;
-use socket::{After, Peer};
+use socket::{After, Peer, written_status};
 use std::alloc::Global;
 use std::marker::PhantomData;
 use std::time::Clock;
@@ -114,19 +114,23 @@ impl<
         (self.callers, self.errors)
     }
 
-    /// Answers a peer, and counts its connection. While not all of the room is there that an order needed, no version
-    /// is published.
+    /// Answers a peer, ends its connection and counts it. While not all of the room is there that an order needed, no
+    /// version is published.
     pub(crate) fn answer<N: Loan, S: Shelves>(&mut self, peer: P, watched: &mut Watched<'_, N, S>)
         requires { IsGoing self.old.progress.stops self.old.progress.left self.old.progress.taken }
         ensures serves { ServesPeer (both P.came P.reads) (both P.written P.writes) peer
+            (both L.waiting L.history self.old.callers.now) (both L.waiting L.history self.new.callers.now)
             self.old.progress self.new.progress (S.shown watched.old.inner.now) (S.shown watched.new.inner.now) }
-        ensures same { self.new.callers ≡ self.old.callers }
+        ensures same { self.new.callers.ghost_name ≡ self.old.callers.ghost_name }
         ensures notes { WritesNotices (E.contents self.old.errors.now) (E.contents self.new.errors.now) }
         ensures same_errors { self.new.errors.ghost_name ≡ self.old.errors.ghost_name }
     {
         self.keep_room_unless_whole();
         watched.is_held = self.room == Room::Short;
-        let answered = answer_on(self.alloc, self.clock, &mut self.routes, peer, watched);
+        let after = answer_on(self.alloc, self.clock, &mut self.routes, peer, watched);
+        let (clock, answered) = (self.clock, after.status);
+        self.callers
+            .end_peer(clock, after.peer, written_status(answered));
         self.progress.count_peer(answered);
         self.tell_of(watched);
     }
@@ -187,23 +191,18 @@ impl<
     }
 }
 
-/// Answers the first message of a peer, ends the connection if that wrote a status, and returns the result of
-/// `Peer::answer`.
+/// Answers the first message of a peer, as `Peer::answer` does.
 fn answer_on<C: Clock, P: Peer + Drop, N: Loan, S: Shelves>(
     alloc: Global,
     clock: &C,
     routes: &mut RouteTable,
     peer: P,
     watched: &mut Watched<'_, N, S>,
-) -> Result<Option<u16>, Io>
-    ensures { AnswersOne (both P.came P.reads) (both P.written P.writes) peer
-        (S.shown watched.old.inner.now) (S.shown watched.new.inner.now) result }
+) -> After<P>
+    ensures { AnswersOne (both P.came P.reads) (both P.written P.writes) peer result.peer
+        (S.shown watched.old.inner.now) (S.shown watched.new.inner.now) result.status }
 {
-    let After { peer, status } = peer.answer(alloc, clock, routes, watched);
-    if let Ok(Some(number)) = status {
-        let _ = peer.end(clock, number);
-    }
-    status
+    peer.answer(alloc, clock, routes, watched)
 }
 
 /// Whether `Stopping` was written to an operator.

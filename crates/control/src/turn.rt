@@ -1,6 +1,7 @@
 //! A turn between two slices of a copy, or two lines of a catalog: those who wait are served.
-ghost use Rattle.std.specs.Prelude.{◌≡◌, ◌⊎◌, List, Option, IfOk, IsErrOf, OnOk, true, false};
-ghost use Rattle.socket.specs.Connections.{Accepts, both};
+ghost use Rattle.std.specs.Prelude.{◌≡◌, ◌⊎◌, IfOk, IsErrOf, OnOk, true, false};
+ghost use Rattle.socket.specs.Connections.{both};
+ghost use Rattle.socket.specs.History.{Door, TakesNext};
 ghost use Rattle.meanwhile.specs.Meanwhile.{Notes};
 ghost use Rattle.meanwhile.specs.Noted.{IsNoted, with_said};
 ghost use Rattle.world.specs.Store.{HasCause};
@@ -152,7 +153,8 @@ impl<
     D: Calendar + Drop,
     E: Tell,
 > Server<'x, C, P, O, L, K, D, E> {
-    /// Carries out the order of an operator who came while a copy is made. Ignores failures of the connection.
+    /// Carries out the order of an operator who came while a copy is made, and ends its connection, whose failures it
+    /// ignores.
     fn obey_meanwhile<'b, N: Loan, M: Moment, S: Keyring>(
         &mut self,
         operator: O,
@@ -165,9 +167,11 @@ impl<
             ⟦<Noting<'b, M, S> as Shelves>⟧.shown
             (λ old new making. K.made old.inner.now new.inner.now making)
             (λ old new n. K.counted old.inner.now new.inner.now n)
-            operator self.old.how_far self.old.progress self.new.progress
+            operator self.old.how_far
+            (both L.waiting L.history self.old.callers.now) (both L.waiting L.history self.new.callers.now)
+            self.old.progress self.new.progress
             watched.old.inner.now watched.new.inner.now }
-        ensures same { self.new.callers ≡ self.old.callers }
+        ensures same { self.new.callers.ghost_name ≡ self.old.callers.ghost_name }
         ensures same_errors { self.new.errors.ghost_name ≡ self.old.errors.ghost_name }
         ensures notes { WritesNotices (E.contents self.old.errors.now) (E.contents self.new.errors.now) }
     {
@@ -181,6 +185,7 @@ impl<
         watched.note_told(&after.told);
         self.progress.end_if(is_stopping(after.told));
         self.tell(watched);
+        self.callers.end_operator(after.operator);
     }
 
     /// Serves a caller who was taken while a copy is made, or counts a connection that could not be taken.
@@ -192,12 +197,14 @@ impl<
     where
         K: Copies<S>,
         requires { IsGoing self.old.progress.stops self.old.progress.left self.old.progress.taken }
-        ensures serves { (waiting : Option (List (Caller P O)))
-            → Accepts waiting (L.waiting self.old.callers.now) next → IfOk next (λ caller. L.is_new caller)
+        ensures serves { (door : Door (Caller P O))
+            → TakesNext door (both L.waiting L.history self.old.callers.now) next
+            → IfOk next (λ caller. L.is_new caller)
             → Serves (both O.came O.reads) (both O.written O.writes)
             (both P.came P.reads) (both P.written P.writes) L.is_new ⟦<Noting<'b, M, S> as Shelves>⟧.shown
             (λ old new making. K.made old.inner.now new.inner.now making)
-            (λ old new n. K.counted old.inner.now new.inner.now n) true waiting (L.waiting self.new.callers.now)
+            (λ old new n. K.counted old.inner.now new.inner.now n) true
+            door (both L.waiting L.history self.new.callers.now)
             self.old.progress self.new.progress watched.old.inner.now watched.new.inner.now }
         ensures same { self.new.callers.ghost_name ≡ self.old.callers.ghost_name }
         ensures same_errors { self.new.errors.ghost_name ≡ self.old.errors.ghost_name }
@@ -221,7 +228,7 @@ impl<
             (both P.came P.reads) (both P.written P.writes) L.is_new ⟦<Noting<'b, M, S> as Shelves>⟧.shown
             (λ old new making. K.made old.inner.now new.inner.now making)
             (λ old new n. K.counted old.inner.now new.inner.now n) true
-            (L.waiting self.old.callers.now) (L.waiting self.new.callers.now)
+            (both L.waiting L.history self.old.callers.now) (both L.waiting L.history self.new.callers.now)
             self.old.progress self.new.progress watched.old.inner.now watched.new.inner.now }
         ensures same { self.new.callers.ghost_name ≡ self.old.callers.ghost_name }
         ensures same_errors { self.new.errors.ghost_name ≡ self.old.errors.ghost_name }
@@ -252,7 +259,7 @@ impl<
             (both P.came P.reads) (both P.written P.writes) L.is_new ⟦<Noting<'b, M, S> as Shelves>⟧.shown
             (λ old new making. K.made old.inner.now new.inner.now making)
             (λ old new n. K.counted old.inner.now new.inner.now n) true
-            (L.waiting self.old.callers.now) (L.waiting self.new.callers.now)
+            (both L.waiting L.history self.old.callers.now) (both L.waiting L.history self.new.callers.now)
             self.old.progress self.new.progress noting.old result.now }
         ensures same { self.new.callers.ghost_name ≡ self.old.callers.ghost_name }
         ensures same_errors { self.new.errors.ghost_name ≡ self.old.errors.ghost_name }
@@ -281,7 +288,7 @@ impl<
         ensures same_store { result.shelves.ghost_name ≡ shelves.entry.ghost_name }
         ensures serves { Serves (both O.came O.reads) (both O.written O.writes)
             (both P.came P.reads) (both P.written P.writes) L.is_new S.shown K.made K.counted true
-            (L.waiting self.old.callers.now) (L.waiting self.new.callers.now)
+            (both L.waiting L.history self.old.callers.now) (both L.waiting L.history self.new.callers.now)
             self.old.progress self.new.progress shelves.old result.shelves.now }
         ensures newcomers { result.lost ≡ false
             → Notes (S.shown shelves.old) (S.shown result.shelves.now) news.old news.new }
@@ -324,14 +331,14 @@ impl<
     ghost went = { λ old new s t. TakesTurns (both O.came O.reads) (both O.written O.writes)
         (both P.came P.reads) (both P.written P.writes) L.is_new S.shown K.made K.counted
         (record {
-          waiting = L.waiting old.callers.now;
+          door = both L.waiting L.history old.callers.now;
           progress = old.progress;
           errors = E.contents old.errors.now;
           lent = (old.callers.ghost_name, old.errors.ghost_name);
           store = s;
         })
         (record {
-          waiting = L.waiting new.callers.now;
+          door = both L.waiting L.history new.callers.now;
           progress = new.progress;
           errors = E.contents new.errors.now;
           lent = (new.callers.ghost_name, new.errors.ghost_name);

@@ -1,7 +1,7 @@
 -- What a store goes through on one more connection.
-use Rattle.std.proofs.Common.{ℕ, ◌+◌, ◌≤◌, ◌≡◌, refl, sym, ap, ◌∙◌, subst, List, [], ◌∷◌, ◌++◌, length, map, All}
-use Rattle.std.proofs.Common.{Option, Some, None, Result, Ok, Err, IfErr, inl, inr, arith, append_assoc, append-nil}
-use Rattle.std.proofs.lemmas.List.{length-append, map-append}
+use Rattle.std.proofs.Common.{ℕ, ◌+◌, ◌≤◌, ◌≡◌, refl, sym, ap, ◌∙◌, subst, List, [], ◌∷◌, ◌++◌, length, All, Option}
+use Rattle.std.proofs.Common.{Some, None, Result, Ok, Err, IfErr, inl, inr, arith, append_assoc, append-nil}
+use Rattle.std.proofs.lemmas.List.{length-append}
 use Rattle.std.proofs.lemmas.List.Elements.{All-nil, All-push}
 use Rattle.histories.specs.Account.{Account}
 use Rattle.histories.specs.Calls.{Reads, Writes}
@@ -12,30 +12,45 @@ use Rattle.engine.specs.Store.{GoesThrough}
 use Rattle.engine.specs.declared.fault.Io.{Io}
 use Rattle.engine.specs.declared.fault.Io.TheVariants as io
 use Rattle.engine.proofs.StoreLemmas.{through_none, through_more}
-use Rattle.socket.specs.Connections.{Visit, Answers, AnswersEach, Come, IsAnsweredThere, exchanges_of, exchanges_with}
-use Rattle.socket.specs.Connections.{peer_of}
+use Rattle.socket.specs.Connections.{Answers, Come, exchanges_of}
+use Rattle.socket.specs.History.{Door, Ends, Takes, TakesNone}
+use Rattle.socket.specs.Serving.{AnswersEach, AnswersNext, Call, IsServed, OfPeer, Untaken}
+use Rattle.socket.specs.Serving.{deeds_of, deeds_with, exchanges_at, exchanges_in, peers_of}
+use Rattle.socket.specs.declared.deed.Deed.TheVariants as deed
 
 one_at_most : (first : Option First) → length (exchanges_of first) ≤ 1
 one_at_most None = omega arith
 one_at_most (Some (Message x)) = omega arith
 one_at_most (Some (Closes closing)) = omega arith
 
--- there are at most as many messages as visits
-pub one_each : {P : Type 0} (visits : List (Visit P)) → length (exchanges_with visits) ≤ length visits
+-- there are at most as many messages as connections
+pub one_each : {P : Type 0} (calls : List (Call P)) → length (exchanges_in calls) ≤ length calls
 one_each [] = omega arith
-one_each (visit ∷ visits) = omega (
+one_each (OfPeer visit ∷ calls) = omega (
   arith,
-  length-append (exchanges_of visit.first) (exchanges_with visits),
+  length-append (exchanges_of visit.first) (exchanges_in calls),
   one_at_most visit.first,
-  one_each visits,
+  one_each calls,
 )
+one_each (Untaken ∷ calls) = let e = one_each calls in omega (arith, e)
 
-with_last : {P : Type 0} (visits : List (Visit P)) (last : Visit P)
-    → exchanges_with (visits ++ last ∷ []) ≡ exchanges_with visits ++ exchanges_of last.first
-with_last [] last = append-nil (exchanges_of last.first)
-with_last (visit ∷ visits) last =
-    ap (λ more. exchanges_of visit.first ++ more) (with_last visits last)
-    ∙ sym (append_assoc (exchanges_of visit.first) (exchanges_with visits) (exchanges_of last.first))
+deeds_last : {P : Type 0} (calls : List (Call P)) (last : Call P)
+    → deeds_with (calls ++ last ∷ []) ≡ deeds_with calls ++ deeds_of last
+deeds_last [] last = append-nil (deeds_of last)
+deeds_last (call ∷ calls) last = ap (λ more. deeds_of call ++ more) (deeds_last calls last)
+    ∙ sym (append_assoc (deeds_of call) (deeds_with calls) (deeds_of last))
+
+exchanges_last : {P : Type 0} (calls : List (Call P)) (last : Call P)
+    → exchanges_in (calls ++ last ∷ []) ≡ exchanges_in calls ++ exchanges_at last
+exchanges_last [] last = append-nil (exchanges_at last)
+exchanges_last (call ∷ calls) last = ap (λ more. exchanges_at call ++ more) (exchanges_last calls last)
+    ∙ sym (append_assoc (exchanges_at call) (exchanges_in calls) (exchanges_at last))
+
+peers_last : {P : Type 0} (calls : List (Call P)) (last : Call P)
+    → peers_of (calls ++ last ∷ []) ≡ peers_of calls ++ peers_of (last ∷ [])
+peers_last [] last = refl
+peers_last (OfPeer visit ∷ calls) last = ap (λ more. visit.before ∷ more) (peers_last calls last)
+peers_last (Untaken ∷ calls) last = peers_last calls last
 
 none_come : {P : Type 0} (waiting : Option (List P)) → Come waiting waiting []
 none_come None = tt
@@ -51,84 +66,69 @@ then_come (Some all) (Some more) None first next one two = absurd two
 then_come (Some all) (Some more) (Some few) first next one two =
     one ∙ ap (λ l. first ++ l) two ∙ sym (append_assoc first next few)
 
-same_come : {P : Type 0} (waiting left rest : Option (List P)) (first : List P) → Come waiting left first
-    → Come left rest []
-    → Come waiting rest first
-same_come waiting left rest first one two =
-    subst (Come waiting rest) (append-nil first) (then_come waiting left rest first [] one two)
-
 module _ {P : Type 0} (heard : P → Account × Reads) (written : P → Option (List ℕ) × Writes) where
   -- a peer whose first message was served as `ServesHeard` says was answered, where a failure has its cause
-  pub answered : (old new : Shown) (peer after : P) (status : Result (Option ℕ) Io)
-      → ServesHeard old new (heard peer).0 (heard after).0 (written peer).0 (written after).0 status
-      → IfErr status (IsCaused (heard peer).1 (heard after).1 (written peer).1 (written after).1)
-      → Answers heard written peer old new
-  answered old new peer after (Ok status) (first, takes, through, is, ended) cause = record {
-    visit = record { before = peer; after = after; first = Some first };
-    begins = refl;
-    there = (takes, inr ended);
-    through = through;
-  }
-  answered old new peer after (Err io.Read) (got, consumed, unfinished, through, same) cause = record {
-    visit = record { before = peer; after = after; first = None };
-    begins = refl;
-    there = (same, cause);
-    through = through;
-  }
-  answered old new peer after (Err io.Write) (first, takes, through, inl begun) cause = record {
-    visit = record { before = peer; after = after; first = Some first };
-    begins = refl;
-    there = (takes, inl (begun, cause));
-    through = through;
-  }
-  answered old new peer after (Err io.Write) (first, takes, through, inr ended) cause = record {
-    visit = record { before = peer; after = after; first = Some first };
-    begins = refl;
-    there = (takes, inr ended);
-    through = through;
-  }
+  pub answered : (old new : Shown) (peer gone : P) (status : Result (Option ℕ) Io)
+      → ServesHeard old new (heard peer).0 (heard gone).0 (written peer).0 (written gone).0 status
+      → IfErr status (IsCaused (heard peer).1 (heard gone).1 (written peer).1 (written gone).1)
+      → Answers heard written peer gone old new
+  answered old new peer gone (Ok status) (first, takes, through, is, ended) cause =
+      record { first = Some first; there = (takes, inr ended); through = through }
+  answered old new peer gone (Err io.Read) (got, consumed, unfinished, through, same) cause =
+      record { first = None; there = (same, cause); through = through }
+  answered old new peer gone (Err io.Write) (first, takes, through, inl begun) cause =
+      record { first = Some first; there = (takes, inl (begun, cause)); through = through }
+  answered old new peer gone (Err io.Write) (first, takes, through, inr ended) cause =
+      record { first = Some first; there = (takes, inr ended); through = through }
 
   module _ (is_new : P → Type 0) where
-    pub each_none : (waiting : Option (List P)) (shown : Shown)
-        → AnswersEach heard written is_new waiting waiting shown shown 0
-    each_none waiting shown = record {
-      visits = [];
-      few = omega arith;
-      came = none_come waiting;
-      begun = All-nil is_new;
-      there = All-nil (IsAnsweredThere heard written);
+    -- a connection that was taken, answered and ended
+    pub next_peer : (door mid left : Door P) (old new : Shown) (peer gone : P) → is_new peer
+        → Takes door mid peer → Answers heard written peer gone old new → Ends mid left gone
+        → AnswersNext heard written is_new door left old new
+    next_peer door mid left old new peer gone fresh takes next ends = record {
+      call = OfPeer (record { before = peer; after = gone; first = next.first });
+      came = subst (λ w. Come door.0 w (peer ∷ [])) (sym ends.waits) takes.comes;
+      done = ends.noted ∙ (ap (λ m. m ++ ([], deed.Ended gone) ∷ []) takes.noted
+          ∙ append_assoc door.1 (([], deed.Taken peer) ∷ []) (([], deed.Ended gone) ∷ []));
+      served = (fresh, next.there);
+      through = next.through;
+    }
+
+    -- a connection that could not be taken
+    pub next_untaken : (door left : Door P) (shown : Shown) → TakesNone door left
+        → AnswersNext heard written is_new door left shown shown
+    next_untaken door left shown takes = record {
+      call = Untaken;
+      came = takes.comes;
+      done = takes.noted;
+      served = tt;
       through = through_none shown;
     }
 
-    module _ (waiting left rest : Option (List P)) (old mid new : Shown) (n : ℕ)
-        (first : AnswersEach heard written is_new waiting left old mid n) where
-      -- answering one more peer after others answers each of them
-      pub each_more : (peer : P) → Come left rest (peer ∷ []) → is_new peer → Answers heard written peer mid new
-          → AnswersEach heard written is_new waiting rest old new (n + 1)
-      each_more peer comes fresh next = record {
-        visits = first.visits ++ next.visit ∷ [];
-        few = omega (arith, length-append first.visits (next.visit ∷ []), first.few);
-        came = subst (Come waiting rest) (sym (map-append peer_of first.visits (next.visit ∷ [])))
-            (then_come waiting left rest (map peer_of first.visits) (next.visit.before ∷ []) first.came
-            (subst (λ p. Come left rest (p ∷ [])) (sym next.begins) comes));
-        begun = subst (All is_new) (sym (map-append peer_of first.visits (next.visit ∷ [])))
-            (All-push is_new (map peer_of first.visits) next.visit.before first.begun
-            (subst is_new (sym next.begins) fresh));
-        there = All-push (IsAnsweredThere heard written) first.visits next.visit first.there next.there;
-        through = subst (GoesThrough old new) (sym (with_last first.visits next.visit))
-            (through_more old mid new (exchanges_with first.visits) first.through (exchanges_of next.visit.first)
-            next.through);
-      }
+    pub each_none : (door : Door P) (shown : Shown) → AnswersEach heard written is_new door door shown shown 0
+    each_none door shown = record {
+      calls = [];
+      count = refl;
+      came = none_come door.0;
+      done = sym (append-nil door.1);
+      served = All-nil (IsServed heard written is_new);
+      through = through_none shown;
+    }
 
-    -- a failed accept counts, and answers nobody
-    pub each_same : (waiting left rest : Option (List P)) (old new : Shown) (n : ℕ) → Come left rest []
-        → AnswersEach heard written is_new waiting left old new n
-        → AnswersEach heard written is_new waiting rest old new (n + 1)
-    each_same waiting left rest old new n comes first = record {
-      visits = first.visits;
-      few = omega (arith, first.few);
-      came = same_come waiting left rest (map peer_of first.visits) first.came comes;
-      begun = first.begun;
-      there = first.there;
-      through = first.through;
+    -- one more after others
+    pub each_more : (door mid left : Door P) (old now new : Shown) (n : ℕ)
+        → AnswersEach heard written is_new door mid old now n → AnswersNext heard written is_new mid left now new
+        → AnswersEach heard written is_new door left old new (n + 1)
+    each_more door mid left old now new n first next = record {
+      calls = first.calls ++ next.call ∷ [];
+      count = length-append first.calls (next.call ∷ []) ∙ ap (λ k. k + 1) first.count;
+      came = subst (Come door.0 left.0) (sym (peers_last first.calls next.call))
+          (then_come door.0 mid.0 left.0 (peers_of first.calls) (peers_of (next.call ∷ [])) first.came next.came);
+      done = next.done ∙ (ap (λ m. m ++ deeds_of next.call) first.done
+          ∙ (append_assoc door.1 (deeds_with first.calls) (deeds_of next.call)
+          ∙ ap (λ l. door.1 ++ l) (sym (deeds_last first.calls next.call))));
+      served = All-push (IsServed heard written is_new) first.calls next.call first.served next.served;
+      through = subst (GoesThrough old new) (sym (exchanges_last first.calls next.call))
+          (through_more old now new (exchanges_in first.calls) first.through (exchanges_at next.call) next.through);
     }

@@ -1,6 +1,5 @@
 -- What a store goes through while connections are served.
-use Rattle.std.specs.Prelude.{ℕ, ◌≡◌, ◌<◌, ◌≤◌, ◌⊎◌, List, [], ◌∷◌, ◌++◌, length, map, All, Option, Some, None, Result}
-use Rattle.std.specs.Prelude.{Ok, Err}
+use Rattle.std.specs.Prelude.{ℕ, ◌≡◌, ◌<◌, ◌≤◌, ◌⊎◌, List, [], ◌∷◌, ◌++◌, length, Option, Some, None}
 use Rattle.std.specs.Io.KnownBytes.{Appends, Keeps}
 use Rattle.histories.specs.Account.{Account}
 use Rattle.histories.specs.Calls.{Reads, Writes}
@@ -23,11 +22,6 @@ Come None left peers = Unit {0}
 Come (Some all) None peers = ⊥
 Come (Some all) (Some left) peers = all ≡ peers ++ left
 
--- the next peer is taken, or no peer if the accept fails
-abbrev pub Accepts : {P E : Type 0} → Option (List P) → Option (List P) → Result P E → Type 0
-Accepts waiting left (Ok peer) = Come waiting left (peer ∷ [])
-Accepts waiting left (Err e) = Come waiting left []
-
 -- A peer before and after it was answered, and what came first on its connection, unless a read failed before that was
 -- whole.
 pub record Visit (P : Type 0) : Type 0 where
@@ -35,20 +29,13 @@ pub record Visit (P : Type 0) : Type 0 where
   pub after : P
   pub first : Option First
 
-abbrev pub peer_of : {P : Type 0} → Visit P → P
-peer_of visit = visit.before
-
 -- the message that came first with its outcome, if a message did
 abbrev pub exchanges_of : Option First → List Exchange
 exchanges_of None = []
 exchanges_of (Some first) = first_exchanges first
 
--- the exchanges with all peers, in the order of their connections
-abbrev pub exchanges_with : {P : Type 0} → List (Visit P) → List Exchange
-exchanges_with [] = []
-exchanges_with (visit ∷ visits) = exchanges_of visit.first ++ exchanges_with visits
-
--- both accounts of a caller: the bytes that passed one way, and the calls that moved them
+-- both accounts: of a caller the bytes that passed one way, and the calls that moved them; of a source of callers those
+-- who wait, and what was done
 abbrev pub both : {P Bytes Calls : Type 0} → (P → Bytes) → (P → Calls) → P → Bytes × Calls
 both bytes calls caller = (bytes caller, calls caller)
 
@@ -68,20 +55,8 @@ module _ {P : Type 0} (heard : P → Account × Reads) (written : P → Option (
   abbrev pub IsAnsweredThere : Visit P → Type 0
   IsAnsweredThere visit = IsBetween visit.before visit.after visit.first
 
-  -- this peer was visited, and the store went through its message
-  pub record Answers (peer : P) (old new : Shown) : Type 0 where
-    pub visit : Visit P
-    pub begins : visit.before ≡ peer
-    pub there : IsAnsweredThere visit
-    pub through : GoesThrough old new (exchanges_of visit.first)
-
-  -- The peers that came were answered one after another, each once, and at most as many as there are connections. Each
-  -- was new, and what it sent was answered to it.
-  pub record AnswersEach (is_new : P → Type 0) (waiting left : Option (List P)) (old new : Shown)
-      (connections : ℕ) : Type 0 where
-    pub visits : List (Visit P)
-    pub few : length visits ≤ connections
-    pub came : Come waiting left (map peer_of visits)
-    pub begun : All is_new (map peer_of visits)
-    pub there : All IsAnsweredThere visits
-    pub through : GoesThrough old new (exchanges_with visits)
+  -- this peer was answered, and left so, and the store went through its message
+  pub record Answers (peer gone : P) (old new : Shown) : Type 0 where
+    pub first : Option First
+    pub there : IsBetween peer gone first
+    pub through : GoesThrough old new (exchanges_of first)

@@ -1,2 +1,4 @@
 pub mod Connections
+pub mod History
 pub mod Pace
+pub mod Serving

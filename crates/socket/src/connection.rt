@@ -11,12 +11,11 @@ use crate::rest::drop_rest;
 use engine::{Io, answer_one};
 use histories::{
     BoundRead, BoundWrite, Connection, HasCalls, Hear, Hearing, HearingInTime, Start, Tell,
-    Telling, TellingInTime, over_tcp,
+    Telling, TellingInTime,
 };
 use std::alloc::Global;
-use std::io::{self, Read, Write};
+use std::io::{Read, Write};
 use std::marker::Brand;
-use std::net::{TcpListener, TcpStream};
 use std::time::Clock;
 use wire::RouteTable;
 use world::shelves::Shelves;
@@ -240,40 +239,5 @@ impl<R: BoundRead + Drop, W: BoundWrite + Drop> Peer for Connection<R, W> {
             reader: drop_rest(clock, reader, status),
             writer,
         }
-    }
-}
-
-/// A source of connections.
-pub trait Listener<P> {
-    ghost use Rattle.std.specs.Prelude.{List, Option, IfOk};
-    ghost use Rattle.socket.specs.Connections.{Accepts};
-
-    /// The peers that connect from here on, in their order, if they are known.
-    ghost waiting: { Self → Option (List P) };
-
-    /// What is known of a peer that was just taken.
-    ghost is_new: { P → Type 0 };
-
-    /// Waits for the next connection, however long that takes, and returns its peer. Fails if the connection can't be
-    /// taken.
-    fn accept(&mut self) -> io::Result<P>
-        ensures takes { Accepts (waiting self.old) (waiting self.new) result }
-        ensures fresh { IfOk result (λ peer. is_new peer) };
-}
-
-/// The peers that connect to a port are not known.
-impl<'a> Listener<Connection<TcpStream, TcpStream>> for &'a TcpListener {
-    ghost use Rattle.std.specs.Prelude.{None};
-    ghost use Rattle.histories.specs.Account.{IsUnused};
-
-    ghost waiting = { λ _. None };
-
-    /// Nothing has passed over the connection.
-    ghost is_new = { λ c. IsUnused (⟦<Hearing<TcpStream> as Hear>⟧.account c.reader)
-        (⟦<Telling<TcpStream> as Write>⟧.contents c.writer) };
-
-    fn accept(&mut self) -> io::Result<Connection<TcpStream, TcpStream>> {
-        let (stream, _) = TcpListener::accept(self)?;
-        over_tcp(stream)
     }
 }

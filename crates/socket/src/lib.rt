@@ -22,9 +22,13 @@
 
 mod bounds;
 mod connection;
+mod deed;
+mod listener;
 mod pace;
 mod rest;
 mod serve;
 
-pub use connection::{After, Answered, Listener, Peer, answer_in_time};
-pub use serve::serve_on;
+pub use connection::{After, Answered, Peer, answer_in_time};
+pub use deed::{Deed, note_ended, note_taken};
+pub use listener::{Listener, PortListener, SystemPeer};
+pub use serve::{serve_on, written_status};

@@ -1,6 +1,6 @@
 //! Connections of this process to itself.
 use crate::shelves::shelves;
-use socket::serve_on;
+use socket::{PortListener, serve_on};
 use std::io::{Read, Write};
 use std::net::{TcpListener, TcpStream};
 use std::rt::HostRuntime;
@@ -36,8 +36,9 @@ fn client(rt: &HostRuntime, port: u16, bytes: &[u8]) -> Result<TcpStream, Fail> 
 }
 
 /// Serves two connections from shelves, and then drops them.
-fn serve_two<S: Shelves + Drop>(rt: &HostRuntime, mut shelves: S, mut listener: &TcpListener) {
-    serve_on(rt.alloc(), rt, &mut listener, &mut shelves, 2);
+fn serve_two<S: Shelves + Drop>(rt: &HostRuntime, mut shelves: S, listener: TcpListener) {
+    let mut port = PortListener::new(listener);
+    serve_on(rt.alloc(), rt, &mut port, &mut shelves, 2);
 }
 
 /// Returns all that a client still gets.
@@ -52,7 +53,7 @@ fn answers_one_request_on_each_of_two_connections(rt: HostRuntime) -> Result<(),
     let (listener, port) = listening(&rt)?;
     let first = client(&rt, port, PUT)?;
     let second = client(&rt, port, GET)?;
-    serve_two(&rt, shelves(rt.alloc())?, &listener);
+    serve_two(&rt, shelves(rt.alloc())?, listener);
     assert!(rt; reply(&rt, first)?.as_str() == PUBLISHED);
     assert!(rt; reply(&rt, second)?.as_str() == SERVED);
     Ok(())

@@ -1,4 +1,5 @@
-use Rattle.socket.specs.Connections.{AnswersEach, both}
+use Rattle.socket.specs.Connections.{both}
+use Rattle.socket.specs.Serving.{AnswersEach}
 use Rattle.socket.proofs.serve.serve_on.Given as goal
 
 -- the connections so far
@@ -6,7 +7,7 @@ abbrev pub invariant-loop : goal.invariant-loop
 invariant-loop g l =
     let s = g.S.Shelves in
     let p = g.P.Peer in
-    let waiting = g.L.Listener.waiting in
+    let door = both g.L.Listener.waiting g.L.Listener.history in
     AnswersEach (both p.came p.reads) (both p.written p.writes) g.L.Listener.is_new
-    (waiting l.fn.listener) (waiting l.listener) (s.shown l.fn.shelves) (s.shown l.shelves)
+    (door l.fn.listener) (door l.listener) (s.shown l.fn.shelves) (s.shown l.shelves)
     l.counter

@@ -5,7 +5,7 @@ use Rattle.control.specs.Health.{IsPinged}
 use Rattle.control.specs.Pinging.{TellsHowFar}
 use Rattle.control.proofs.FarLemmas.{obeys_meanwhile, tells_how_far}
 use Rattle.control.proofs.ServeLemmas.{obeyed_one, obeyed_told}
-use Rattle.control.proofs.ServingLemmas.{obeys_unsaid, unsaid_told}
+use Rattle.control.proofs.OrderedLemmas.{obeys_unsaid, unsaid_told}
 use Rattle.control.proofs.serving.Server.obey_meanwhile.Goals as goal
 
 pub returns-clause-obeys : goal.returns-clause-obeys
@@ -23,10 +23,10 @@ returns-clause-obeys g c =
     (IsPinged c.count_operator.new.self.tally (shown old).failures (shown new).failures
     (g.K.Copies.counted old new)) c.obeyed-after.result.told given.figures in
     rw (c.tell.ensures.store, c.note_told.ensures.same)
-    (obeys_meanwhile _ _ _ _ _ far _ _ _ _ _ _ _ (obeys_unsaid _ _ _ _ _ _ _ _ _ _ obeyed)
+    (obeys_meanwhile _ _ _ _ _ far _ _ _ _ _ _ _ _ _ _ (obeys_unsaid _ _ _ _ _ _ _ _ _ _ _ obeyed)
     (subst (λ r. IfOk r (TellsHowFar far))
-    (sym (unsaid_told _ _ _ _ _ _ _ _ _ _ obeyed ∙ obeyed_told _ _ _ _ _ _ _ _ _ _ _ _ _ _ _)) told)
-    c.count_operator.ensures.tally
+    (sym (unsaid_told _ _ _ _ _ _ _ _ _ _ _ obeyed ∙ obeyed_told _ _ _ _ _ _ _ _ _ _ _ _ _ _ _)) told)
+    c.count_operator.ensures.tally (rw c.tell.ensures.same at c.end_operator.ensures)
     (rw c.tell.ensures.progress (c.end_if.ensures.tally ∙ c.count_operator.ensures.tally))
     (rw c.tell.ensures.progress (c.end_if.ensures.left ∙ c.count_operator.ensures.left))
     (rw c.tell.ensures.progress (c.end_if.ensures.taken ∙ c.count_operator.ensures.taken))

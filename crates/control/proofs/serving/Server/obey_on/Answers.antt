@@ -2,19 +2,21 @@ use Rattle.std.proofs.Common.{◌≤◌, ◌≡◌, ap, arith, ◌∙◌}
 use Rattle.socket.specs.Connections.{both}
 use Rattle.control.proofs.NoticeLemmas.{notices_more, notices_none}
 use Rattle.control.proofs.ServeLemmas.{obeyed_one}
-use Rattle.control.proofs.ServingLemmas.{all_turns, either_way, obey_serves, ordered_if}
+use Rattle.control.proofs.OrderedLemmas.{either_way, ordered_if}
+use Rattle.control.proofs.ServingLemmas.{all_turns, obey_serves}
 use Rattle.control.proofs.serving.Server.obey_on.Goals as goal
 
 pub returns-clause-serves : goal.returns-clause-serves
-returns-clause-serves g c = λ waiting comes fresh.
+returns-clause-serves g c = λ door takes fresh.
     let o = g.O.Operator in
     let next = obeyed_one (both o.came o.reads) (both o.written o.writes) _ _ _ _ _ _ _ _ _ _
     c.obeyed-after.ensures.obeys c.obeyed-after.ensures.cause c.is_stopping.ensures in
-    rw (c.tell.ensures.store, c.note_told.ensures.same, c.tell.ensures.same, c.tell.ensures.progress)
-    (obey_serves _ _ _ _ _ _ _ _ waiting _ _ _ _ _ _ _ _ _ _
-    (λ same. (ap (λ x. g.L.Callers.waiting x.callers.now) same, ap (λ x. x.progress) same))
-    (λ making made. (made.0, (all_turns _ _ _ _ _ _ _ _ _ _ made.1).serves, made.2))
-    c.args.operator c.is_stopping.result comes fresh c.requires.0 next
+    rw (c.tell.ensures.store, c.note_told.ensures.same, c.tell.ensures.progress)
+    (obey_serves _ _ _ _ _ _ _ _ door _ _ _ _ _ _ _ _ _ _ _
+    (λ same. (ap (λ x. both g.L.Callers.waiting g.L.Callers.history x.callers.now) same, ap (λ x. x.progress) same))
+    (λ making made. (made.0, (all_turns _ _ _ _ _ _ _ _ _ _ made.1).serves, made.2, made.3.begun))
+    c.args.operator _ c.is_stopping.result takes fresh c.requires.0 next
+    (rw c.tell.ensures.same at c.end_operator.ensures)
     c.count_operator.ensures.tally c.count_operator.ensures.left c.count_operator.ensures.taken
     c.count_operator.ensures.stops c.end_if.ensures.tally c.end_if.ensures.left c.end_if.ensures.taken
     c.end_if.ensures.stops)

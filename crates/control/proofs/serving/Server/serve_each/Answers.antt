@@ -28,13 +28,13 @@ loop-preserved g c =
         same_errors = w.obey_on.ensures.same_errors ∙ holds.same_errors;
         notes = notices_more _ _ _ holds.notes w.obey_on.ensures.notes;
       })
-      | in-Ok-Peer w ↦ rw (w.self-is, w.watched-is, w.answer.ensures.same) (record {
+      | in-Ok-Peer w ↦ rw (w.self-is, w.watched-is) (record {
         some = omega (arith, holds.some, w.answer.ensures.serves.taken);
         all = serves_more _ _ _ _ _ _ _ _ false _ _ _ _ _ _ _ _ _ holds.all
-            (serves_peer _ _ _ _ _ _ _ _ false _ _ _ _ _ _ _
+            (serves_peer _ _ _ _ _ _ _ _ false _ _ _ _ _ _ _ _
             (rw w.in-Ok-Peer.field-0-is at w.in-Ok-Peer.ensures.takes)
             (rw w.in-Ok-Peer.field-0-is at w.in-Ok-Peer.ensures.fresh) going.0 w.answer.ensures.serves);
-        same = holds.same;
+        same = w.answer.ensures.same ∙ holds.same;
         same_errors = w.answer.ensures.same_errors ∙ holds.same_errors;
         notes = notices_more _ _ _ holds.notes w.answer.ensures.notes;
       })

@@ -10,12 +10,12 @@ invariant-loop g l =
     let s = g.S.Shelves in
     let o = g.O.Operator in
     let p = g.P.Peer in
-    let waiting = g.L.Callers.waiting in
+    let door = both g.L.Callers.waiting g.L.Callers.history in
     record {
       some : l.counter ≤ l.self.progress.taken;
       all : Serves (both o.came o.reads) (both o.written o.writes) (both p.came p.reads) (both p.written p.writes)
           g.L.Callers.is_new s.shown g.K.Copies.made g.K.Copies.counted false
-          (waiting l.fn.self.callers.now) (waiting l.self.callers.now) l.fn.self.progress l.self.progress
+          (door l.fn.self.callers.now) (door l.self.callers.now) l.fn.self.progress l.self.progress
           l.fn.watched.inner.now l.watched.inner.now;
       same : l.self.callers.ghost_name ≡ l.fn.self.callers.ghost_name;
       same_errors : l.self.errors.ghost_name ≡ l.fn.self.errors.ghost_name;

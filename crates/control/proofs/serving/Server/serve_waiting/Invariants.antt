@@ -10,14 +10,14 @@ abbrev pub invariant-loop : goal.invariant-loop
 invariant-loop g l =
     let o = g.O.Operator in
     let p = g.P.Peer in
-    let waiting = g.L.Callers.waiting in
+    let door = both g.L.Callers.waiting g.L.Callers.history in
     record {
       all : Serves (both o.came o.reads) (both o.written o.writes) (both p.came p.reads) (both p.written p.writes)
           g.L.Callers.is_new
           (λ n. with_said (g.S.Shelves.shown n.inner.now) (IsNoted n.lost g.M.Moment.was g.M.Moment.before n.news))
           (λ old new making. g.K.Copies.made old.inner.now new.inner.now making)
           (λ old new n. g.K.Copies.counted old.inner.now new.inner.now n) true
-          (waiting l.fn.self.callers.now) (waiting l.self.callers.now) l.fn.self.progress l.self.progress
+          (door l.fn.self.callers.now) (door l.self.callers.now) l.fn.self.progress l.self.progress
           l.fn.watched.inner.now l.watched.inner.now;
       same : l.self.callers.ghost_name ≡ l.fn.self.callers.ghost_name;
       same_errors : l.self.errors.ghost_name ≡ l.fn.self.errors.ghost_name;

@@ -1,0 +1,66 @@
+-- Connections that are served one after another, by the history of who took them.
+use Rattle.std.specs.Prelude.{ℕ, ◌≡◌, List, [], ◌∷◌, ◌++◌, length, All, Option}
+use Rattle.histories.specs.Account.{Account}
+use Rattle.histories.specs.Calls.{Reads, Writes}
+use Rattle.world.specs.Store.{Shown}
+use Rattle.engine.specs.Exchange.{Exchange}
+use Rattle.engine.specs.Store.{GoesThrough}
+use Rattle.socket.specs.Connections.{Come, Visit, IsAnsweredThere, exchanges_of}
+use Rattle.socket.specs.History.{Done, Door}
+use Rattle.socket.specs.declared.deed.Deed.TheVariants as deed
+
+-- a peer whose connection was taken, as it came and as it was left; or a connection that could not be taken
+pub data Call (P : Type 0) : Type 0 where
+  OfPeer : Visit P → Call P
+  Untaken : Call P
+
+-- those who came, in their order
+abbrev pub peers_of : {P : Type 0} → List (Call P) → List P
+peers_of [] = []
+peers_of (OfPeer visit ∷ calls) = visit.before ∷ peers_of calls
+peers_of (Untaken ∷ calls) = peers_of calls
+
+-- what is done for one: the connection is taken, and ended as it was left; or it could not be taken
+abbrev pub deeds_of : {P : Type 0} → Call P → List (Done P)
+deeds_of (OfPeer visit) = ([], deed.Taken visit.before) ∷ ([], deed.Ended visit.after) ∷ []
+deeds_of Untaken = ([], deed.Untaken) ∷ []
+
+abbrev pub deeds_with : {P : Type 0} → List (Call P) → List (Done P)
+deeds_with [] = []
+deeds_with (call ∷ calls) = deeds_of call ++ deeds_with calls
+
+-- the message that came first with its outcome, if a message did
+abbrev pub exchanges_at : {P : Type 0} → Call P → List Exchange
+exchanges_at (OfPeer visit) = exchanges_of visit.first
+exchanges_at Untaken = []
+
+-- the exchanges with all peers, in the order of their connections
+abbrev pub exchanges_in : {P : Type 0} → List (Call P) → List Exchange
+exchanges_in [] = []
+exchanges_in (call ∷ calls) = exchanges_at call ++ exchanges_in calls
+
+module _ {P : Type 0} (heard : P → Account × Reads) (written : P → Option (List ℕ) × Writes) (is_new : P → Type 0)
+  where
+    -- a peer was new, what it sent first was answered to it, and nothing else was written to it
+    abbrev pub IsServed : Call P → Type 0
+    IsServed (OfPeer visit) = is_new visit.before × IsAnsweredThere heard written visit
+    IsServed Untaken = Unit {0}
+
+    -- One connection was taken, answered and ended as it was left, or it could not be taken. Nothing else was done, and
+    -- the store went through the message that came over it.
+    pub record AnswersNext (door left : Door P) (old new : Shown) : Type 0 where
+      pub call : Call P
+      pub came : Come door.0 left.0 (peers_of (call ∷ []))
+      pub done : left.1 ≡ door.1 ++ deeds_of call
+      pub served : IsServed call
+      pub through : GoesThrough old new (exchanges_at call)
+
+    -- So it was with this many connections, one after another, no more and no fewer. Nothing else was done, and the
+    -- store went through the messages that came over them, in their order, and through nothing else.
+    pub record AnswersEach (door left : Door P) (old new : Shown) (connections : ℕ) : Type 0 where
+      pub calls : List (Call P)
+      pub count : length calls ≡ connections
+      pub came : Come door.0 left.0 (peers_of calls)
+      pub done : left.1 ≡ door.1 ++ deeds_with calls
+      pub served : All IsServed calls
+      pub through : GoesThrough old new (exchanges_in calls)

@@ -1,5 +1,5 @@
 -- A key that is made, added and printed.
-use Rattle.std.proofs.Common.{◌≡◌, ap, inl, inr, ℕ, List, Option, Result, Ok, Err}
+use Rattle.std.proofs.Common.{◌≡◌, ◌∙◌, ap, arith, inl, inr, refl, subst, sym, ℕ, List, Option, Some, Result, Ok, Err}
 use Rattle.std.specs.Borrow.{Bor}
 use Rattle.histories.specs.Calls.{Writes}
 use Rattle.world.specs.Store.{Shown}
@@ -9,58 +9,32 @@ use Rattle.world.specs.declared.registry.RegistryReply.TheVariants as registered
 use Rattle.world.specs.declared.registry.StoreFault.{StoreFault}
 use Rattle.world.specs.declared.registry.StoreFault.TheVariants as fault
 use Rattle.orders.specs.declared.command.RegistryCommand.{RegistryCommand}
+use Rattle.network.specs.History.{Done}
+use Rattle.commands.specs.Connection.{Passed}
 use Rattle.commands.specs.Ending.{Registers, ending}
-use Rattle.commands.specs.NewKey.{AddsDrawn, AddsKey, AddsMade, EndsWithIo, HasCause, HasNoKeyOr, Shows}
-use Rattle.commands.specs.RandomBytes.{Drawn}
+use Rattle.commands.specs.NewKey.{AddsDrawn, AddsKey, DrawsKey, EndsWithIo, FailsOr, HasCause, HasNoKeyOr}
+use Rattle.commands.specs.NewKey.{OrdersDrawn, OrdersNew}
+use Rattle.commands.specs.RandomBytes.{Drawn, no_draws}
 use Rattle.commands.specs.declared.refusal.CommandRefusal.{CommandRefusal}
-use Rattle.commands.specs.declared.refusal.CommandRefusal.TheVariants.{Io}
+use Rattle.commands.specs.declared.refusal.CommandRefusal.TheVariants.{Io, Memory}
 
--- ---- what is known of one that carries registry commands out holds of what is known less of
+-- ---- a key that was drawn
 
-module _ {R T : Type 0} (registers : R → R → RegistryCommand → Result (Unit {0}) CommandRefusal → Type 0)
-    (others : T → T → RegistryCommand → Result (Unit {0}) CommandRefusal → Type 0) (at : R → T)
-    (then : (old new : R) (order : RegistryCommand) (ended : Result (Unit {0}) CommandRefusal)
-    → registers old new order ended → others (at old) (at new) order ended)
-    (shelf : Bor (List ℕ)) (right : Right) where
-  shows_so : (added : Result (Unit {0}) CommandRefusal) (key : Bor (List ℕ)) (mid new : R)
-      (written written_new : Option (List ℕ)) (result : Result (Unit {0}) CommandRefusal)
-      → Shows registers shelf right added key mid new written written_new result
-      → Shows others shelf right added key (at mid) (at new) written written_new result
-  shows_so (Ok u) key mid new written written_new result (inl printed) =
-      inl (printed.0, ap at printed.1, printed.2)
-  shows_so (Ok u) key mid new written written_new result (inr failed) =
-      let revoked = failed.1 in
-      inr (failed.0, (revoked.0, then _ _ _ _ revoked.1, revoked.2))
-  shows_so (Err refusal) key mid new written written_new result shows = (shows.0, ap at shows.1, shows.2)
-
-  key_so : (key : Bor (List ℕ)) (old new : R) (written written_new : Option (List ℕ))
-      (result : Result (Unit {0}) CommandRefusal)
+module _ {R : Type 0} (registers : R → R → RegistryCommand → Result (Unit {0}) CommandRefusal → Type 0)
+    (shelf : Bor (List ℕ)) (right : Right) (drawn drawn_new : Drawn) where
+  pub drawn_by : (drew : List ℕ) (key : Bor (List ℕ)) (old new : R) (written written_new : Option (List ℕ))
+      (result : Result (Unit {0}) CommandRefusal) → DrawsKey drawn drawn_new (Ok drew) → key.now ≡ drew
       → AddsKey registers shelf right key old new written written_new result
-      → AddsKey others shelf right key (at old) (at new) written written_new result
-  key_so key old new written written_new result adds = record {
-    mid = at adds.mid;
-    added = adds.added;
-    adds = then _ _ _ _ adds.adds;
-    shows = shows_so adds.added key adds.mid new written written_new result adds.shows;
-  }
-
-  made_so : (bytes : List ℕ) (old new : R) (written written_new : Option (List ℕ))
-      (result : Result (Unit {0}) CommandRefusal)
-      → AddsMade registers shelf right bytes old new written written_new result
-      → AddsMade others shelf right bytes (at old) (at new) written written_new result
-  made_so bytes old new written written_new result (inl made) =
-      inl (made.0, made.1, key_so made.0 old new written written_new result made.2)
-  made_so bytes old new written written_new result (inr none) =
-      inr (none.0, none.1, none.2, ap at none.3, none.4)
-
-  pub drawn_so : (drawn drawn_new : Drawn) (old new : R) (written written_new : Option (List ℕ))
-      (result : Result (Unit {0}) CommandRefusal)
       → AddsDrawn registers shelf right drawn drawn_new old new written written_new result
-      → AddsDrawn others shelf right drawn drawn_new (at old) (at new) written written_new result
-  drawn_so drawn drawn_new old new written written_new result (inl gave) =
-      inl (gave.0, gave.1, made_so gave.0 old new written written_new result gave.2)
-  drawn_so drawn drawn_new old new written written_new result (inr none) =
-      inr (none.0, none.1, ap at none.2, none.3)
+  drawn_by drew key old new written written_new result (bytes, gives, makes) is adds =
+      inl (bytes, gives, inl (key, makes ∙ ap Some (sym is), adds))
+
+  pub none_drawn : (refusal : CommandRefusal) (old : R) (written : Option (List ℕ))
+      → DrawsKey drawn drawn_new (Err refusal)
+      → AddsDrawn registers shelf right drawn drawn_new old old written written (Err refusal)
+  none_drawn refusal old written (inl (bytes, gives, none)) =
+      inl (bytes, gives, inr (refusal, none, refl, refl, refl))
+  none_drawn refusal old written (inr (none, is)) = inr (none, ap Err is, refl, refl)
 
 -- ---- why a command ends with `Io`
 
@@ -75,22 +49,48 @@ never_io (Err fault.Device) is = cc
 never_io (Err fault.Memory) is = cc
 
 -- no registry command of a store does
-pub never_registers : {S : Type 0} (shown : S → Shown)
-    → ¬ EndsWithIo (λ old new order ended. Registers (shown old) (shown new) order ended)
-never_registers shown ends = never_io ends.3.told ends.3.ends
+pub never_registers : (old new : Shown) (order : RegistryCommand) (refusal : CommandRefusal)
+    → Registers old new order (Err refusal) → refusal ≡ Io → ⊥
+never_registers old new order refusal ends is = never_io ends.told (sym (ap Err is) ∙ ends.ends)
 
--- a command of which each cause is another has that
-pub cause_map : (result : Result (Unit {0}) CommandRefusal) (cause other : Type 0) → (cause → other)
-    → HasCause result cause → HasCause result other
-cause_map (Ok u) cause other map has = tt
-cause_map (Err e) cause other map has = λ is. map (has is)
+-- a key that was drawn leaves the causes of what is done with it
+pub drawn_cause : (other cause : Type 0) (drawn drawn_new : Drawn) (writes writes_new : Writes) (drew : List ℕ)
+    (result : Result (Unit {0}) CommandRefusal) → DrawsKey drawn drawn_new (Ok drew)
+    → (cause → FailsOr other writes writes_new) → HasCause result cause
+    → HasCause result (HasNoKeyOr other drawn drawn_new writes writes_new)
+drawn_cause other cause drawn drawn_new writes writes_new drew (Ok u) draws into has = tt
+drawn_cause other cause drawn drawn_new writes writes_new drew (Err e) (bytes, gives, makes) into has =
+    λ is. inr (bytes, gives, inr (into (has is)))
 
-pub no_key_or : (cause other : Type 0) → (cause → other) → (drawn drawn_new : Drawn) (writes writes_new : Writes)
-    → HasNoKeyOr cause drawn drawn_new writes writes_new → HasNoKeyOr other drawn drawn_new writes writes_new
-no_key_or cause other map drawn drawn_new writes writes_new (inl failed) = inl failed
-no_key_or cause other map drawn drawn_new writes writes_new (inr (bytes, gives, inl none)) =
-    inr (bytes, gives, inl none)
-no_key_or cause other map drawn drawn_new writes writes_new (inr (bytes, gives, inr (inl failed))) =
-    inr (bytes, gives, inr (inl failed))
-no_key_or cause other map drawn drawn_new writes writes_new (inr (bytes, gives, inr (inr is))) =
-    inr (bytes, gives, inr (inr (map is)))
+never_both : Memory ≡ Io → ⊥
+never_both is = cc
+
+no_memory : (refusal : CommandRefusal) → refusal ≡ Memory → refusal ≡ Io → ⊥
+no_memory refusal one other = never_both (sym one ∙ other)
+
+-- why there is none
+pub none_cause : (other : Type 0) (drawn drawn_new : Drawn) (writes : Writes) (refusal : CommandRefusal)
+    → DrawsKey drawn drawn_new (Err refusal) → HasCause (Err refusal) (HasNoKeyOr other drawn drawn_new writes writes)
+none_cause other drawn drawn_new writes refusal (inl (bytes, gives, inl memory)) is =
+    absurd (no_memory refusal memory is)
+none_cause other drawn drawn_new writes refusal (inl (bytes, gives, inr none)) is = inr (bytes, gives, inl none.1)
+none_cause other drawn drawn_new writes refusal (inr (none, ends)) is =
+    inl (omega (arith, none.1))
+
+-- an order that ended with `Io` is the cause
+pub ends_io : {R : Type 0} (registers : R → R → RegistryCommand → Result (Unit {0}) CommandRefusal → Type 0) (old new : R)
+    (order : RegistryCommand) (refusal : CommandRefusal) → registers old new order (Err refusal) → refusal ≡ Io
+    → EndsWithIo registers
+ends_io registers old new order refusal ended is =
+    (old, new, order, subst (λ e. registers old new order (Err e)) is ended)
+
+-- so it is of the first key that is drawn
+pub orders_new : {L : Type 0} (all : L → Passed → Type 0) (path : List ℕ) (before after : List (Done L))
+    (drawn drawn_new : Drawn) (shelf : Bor (List ℕ)) (right : Right) (written written_new : Option (List ℕ))
+    (result : Result (Unit {0}) CommandRefusal) → drawn ≡ no_draws
+    → OrdersDrawn all path before after drawn drawn_new shelf right written written_new result
+    → OrdersNew all path before after shelf right written written_new result
+orders_new all path before after drawn drawn_new shelf right written written_new result is orders = (
+  drawn_new,
+  subst (λ d. OrdersDrawn all path before after d drawn_new shelf right written written_new result) is orders,
+)

@@ -1,9 +1,13 @@
 -- A list of a running `serve`, printed.
-use Rattle.std.specs.Prelude.{ℕ, ◌≡◌, ◌⊎◌, Bool, List, Option, Result, Ok, Err}
-use Rattle.control.specs.Asking.{AsksForList}
+use Rattle.std.specs.Prelude.{ℕ, ◌≡◌, Bool, List, Option, Result, Ok, Err}
+use Rattle.histories.specs.Account.{Account}
+use Rattle.network.specs.History.{Done}
+use Rattle.control.specs.Asking.{AsksForList, HearsList, LineGets, TellsBytes}
 use Rattle.control.specs.declared.client.Untold.{Untold}
+use Rattle.orders.specs.Order.{ListOf, line_for}
 use Rattle.orders.specs.declared.listing.Listing.{Listing}
 use Rattle.orders.specs.declared.outcome.Outcome.{Outcome}
+use Rattle.commands.specs.Connection.{AsksServer, Passed, PrintsBy}
 use Rattle.commands.specs.Ping.{refusal_of}
 use Rattle.commands.specs.Report.{Prints}
 use Rattle.commands.specs.declared.refusal.CommandRefusal.{CommandRefusal}
@@ -22,9 +26,17 @@ pub record ListsOver (unread unread_new written written_new : Option (List ℕ))
   pub asks : AsksForList unread unread_new written written_new listing told
   pub prints : Prints printed printed_new result (list_ending told)
 
--- so it was over a connection, or there was none
-abbrev pub ListsThere : Listing → Option (List ℕ) → Option (List ℕ) → Result Bool CommandRefusal → Type 0
-ListsThere listing printed printed_new result =
-    ((unread unread_new written written_new : Option (List ℕ))
-    × ListsOver unread unread_new written written_new listing printed printed_new result)
-    ⊎ ((result ≡ Err Device) × (printed_new ≡ printed))
+-- so it was by what came, which need not be known before
+pub record ListsHeard (came came_new : Account) (written written_new : Option (List ℕ)) (failed failed_new : ℕ)
+    (listing : Listing) (printed printed_new : Option (List ℕ)) (result : Result Bool CommandRefusal) : Type 0 where
+  pub told : Result (Result (List ℕ) Outcome) Untold
+  pub asks : LineGets HearsList came came_new written written_new failed failed_new (line_for (ListOf listing)) told
+  pub prints : Prints printed printed_new result (list_ending told)
+
+-- The server of this path, and no other, was asked for the list, and that was printed. Or it could not be connected to,
+-- and nothing was printed.
+abbrev pub ListsTo : {L : Type 0} → (L → Passed → Type 0) → List (Done L) → List (Done L) → List ℕ → Listing
+    → Option (List ℕ) → Option (List ℕ) → Result Bool CommandRefusal → Type 0
+ListsTo all before after path listing printed printed_new result =
+    AsksServer all before after path (PrintsBy TellsBytes list_ending (ListOf listing) printed printed_new result)
+    ((result ≡ Err Device) × (printed_new ≡ printed))

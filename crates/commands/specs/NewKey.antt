@@ -9,7 +9,9 @@ use Rattle.world.specs.declared.entry.Right.{Right}
 use Rattle.orders.specs.declared.command.RegistryCommand.{RegistryCommand}
 use Rattle.orders.specs.declared.command.RegistryCommand.TheVariants.{KeyAdd, KeyRevoke}
 use Rattle.commands.specs.Ending.{Registers}
-use Rattle.commands.specs.Order.{OrdersThere}
+use Rattle.network.specs.History.{Done}
+use Rattle.commands.specs.Connection.{Passed}
+use Rattle.commands.specs.Order.{OrdersTo}
 use Rattle.commands.specs.Printed.{HasFailed, PrintsFront}
 use Rattle.commands.specs.RandomBytes.{Drawn, Gives, GivesNone, no_draws}
 use Rattle.commands.specs.declared.refusal.CommandRefusal.{CommandRefusal}
@@ -23,6 +25,13 @@ MakesNone bytes refusal = (refusal ≡ Memory) ⊎ ((refusal ≡ Io) × (key_of 
 abbrev pub MakesKey : List ℕ → Result (List ℕ) CommandRefusal → Type 0
 MakesKey bytes (Ok key) = key_of bytes ≡ Some key
 MakesKey bytes (Err refusal) = MakesNone bytes refusal
+
+-- so it is of bytes that were drawn, or none could be drawn
+abbrev pub DrawsKey : Drawn → Drawn → Result (List ℕ) CommandRefusal → Type 0
+DrawsKey drawn drawn_new (Ok key) = (bytes : List ℕ) × Gives drawn drawn_new bytes × (key_of bytes ≡ Some key)
+DrawsKey drawn drawn_new (Err refusal) =
+    ((bytes : List ℕ) × Gives drawn drawn_new bytes × MakesNone bytes refusal)
+    ⊎ (GivesNone drawn drawn_new × (refusal ≡ Io))
 
 -- the line of a key
 abbrev pub key_line : List ℕ → List ℕ
@@ -82,18 +91,21 @@ AddsNew shown drawn drawn_new old new shelf right written written_new result =
     AddsDrawn (λ old new order ended. Registers (shown old) (shown new) order ended) shelf right drawn drawn_new
     old new written written_new result
 
--- so it is of a `serve` that is asked, of which nothing is known but what the orders say
-abbrev pub OrdersDrawn : Drawn → Drawn → Bor (List ℕ) → Right → Option (List ℕ) → Option (List ℕ)
-    → Result (Unit {0}) CommandRefusal → Type 0
-OrdersDrawn drawn drawn_new shelf right written written_new result =
-    AddsDrawn {R = Unit {0}} (λ old new order ended. OrdersThere order ended) shelf right drawn drawn_new tt tt
-    written written_new result
+-- so it is of a `serve` that is asked: each order was sent to the server of this path, and to no other
+module _ {L : Type 0} (all : L → Passed → Type 0) (path : List ℕ) where
+  abbrev pub Ordered : List (Done L) → List (Done L) → RegistryCommand → Result (Unit {0}) CommandRefusal → Type 0
+  Ordered before after order ended = OrdersTo all before after path order ended
 
--- so it is where nothing was drawn before
-abbrev pub OrdersNew : Bor (List ℕ) → Right → Option (List ℕ) → Option (List ℕ) → Result (Unit {0}) CommandRefusal
-    → Type 0
-OrdersNew shelf right written written_new result =
-    (drawn : Drawn) × OrdersDrawn no_draws drawn shelf right written written_new result
+  abbrev pub OrdersDrawn : List (Done L) → List (Done L) → Drawn → Drawn → Bor (List ℕ) → Right
+      → Option (List ℕ) → Option (List ℕ) → Result (Unit {0}) CommandRefusal → Type 0
+  OrdersDrawn before after drawn drawn_new shelf right written written_new result =
+      AddsDrawn Ordered shelf right drawn drawn_new before after written written_new result
+
+  -- so it is where nothing was drawn before
+  abbrev pub OrdersNew : List (Done L) → List (Done L) → Bor (List ℕ) → Right → Option (List ℕ) → Option (List ℕ)
+      → Result (Unit {0}) CommandRefusal → Type 0
+  OrdersNew before after shelf right written written_new result =
+      (drawn : Drawn) × OrdersDrawn before after no_draws drawn shelf right written written_new result
 
 -- ---- why a command ends with `Io`
 
@@ -120,9 +132,8 @@ abbrev pub HasNoKey : Drawn → Drawn → Writes → Writes → Type 0
 HasNoKey drawn drawn_new writes writes_new = HasNoKeyOr ⊥ drawn drawn_new writes writes_new
 
 -- an order may
-abbrev pub HasNoKeyOrOrder : Drawn → Drawn → Writes → Writes → Type 0
-HasNoKeyOrOrder drawn drawn_new writes writes_new =
-    HasNoKeyOr ((order : RegistryCommand) × OrdersThere order (Err Io)) drawn drawn_new writes writes_new
+abbrev pub HasNoKeyOrOrder : {L : Type 0} → (L → Passed → Type 0) → List ℕ → Drawn → Drawn → Writes → Writes → Type 0
+HasNoKeyOrOrder all path = HasNoKeyOr (EndsWithIo (Ordered all path))
 
 -- a command that ended with `Io` did so because of this
 abbrev pub HasCause : Result (Unit {0}) CommandRefusal → Type 0 → Type 0

@@ -17,7 +17,7 @@ use Rattle.control.specs.RegistryCommand.{event_of, outcome_in}
 use Rattle.orders.specs.Order as orders
 use Rattle.orders.specs.Order.{HasLine, HasNoLine, commanded, line_for}
 use Rattle.orders.specs.declared.outcome.Outcome.{Outcome}
-use Rattle.commands.specs.Connection.{AsksServer, Exchanges, Passed}
+use Rattle.commands.specs.Connection.{AsksServer, AsksServerAndPings, EndsBy, Exchanges, IsOutcomeIn, Passed}
 use Rattle.commands.specs.Ending.{ending}
 use Rattle.commands.specs.SentOrder.{order_ending}
 use Rattle.commands.specs.declared.refusal.CommandRefusal.{CommandRefusal}
@@ -81,13 +81,6 @@ pub record OrdersOver
 abbrev pub CanBeSent : RegistryCommand → Type 0
 CanBeSent order = (asked : RegistryCommand) × IsSentFor order asked × HasLine (orders.Registry (commanded asked))
 
--- so it was over a connection, or there was none for an order that can be sent
-abbrev pub OrdersThere : RegistryCommand → Result (Unit {0}) CommandRefusal → Type 0
-OrdersThere order result =
-    ((unread unread_new written written_new : Option (List ℕ))
-    × OrdersOver unread unread_new written written_new order result)
-    ⊎ ((result ≡ Err Device) × CanBeSent order)
-
 -- in each world, the command ends as the revocation of the key with this fingerprint does there
 abbrev pub EndsNamedInEach : List ℕ → Result (Unit {0}) CommandRefusal → Type 0
 EndsNamedInEach f result = (w : World) → result ≡ ending (Ok (revoked_with w f))
@@ -108,13 +101,6 @@ pub record CopiesOver (unread unread_new written written_new : Option (List ℕ)
   pub told : Result Outcome Untold
   pub asks : Asks unread unread_new written written_new (orders.Copy path) told
   pub ends : result ≡ order_ending Copy Name told
-
--- so it was over a connection, or there was none for the line
-abbrev pub CopiesThere : List ℕ → Result (Unit {0}) CommandRefusal → Type 0
-CopiesThere path result =
-    ((unread unread_new written written_new : Option (List ℕ))
-    × CopiesOver unread unread_new written written_new path result)
-    ⊎ ((result ≡ Err Device) × HasLine (orders.Copy path))
 
 -- the line that ends a server was sent as `AsksToStop` says, and the command ends by the result
 pub record StopsOver (unread unread_new written written_new : Option (List ℕ))
@@ -141,6 +127,11 @@ module _ (came came_new : Account) (written written_new : Option (List ℕ)) (fa
     pub ends : result ≡ order_ending Registry NoKey told
     pub unsent : told ≡ Err untold.Words → EndsNamedInEach f result
 
+  pub record CopiesHeard (path : List ℕ) (result : Result (Unit {0}) CommandRefusal) : Type 0 where
+    pub told : Result Outcome Untold
+    pub asks : AsksHeard came came_new written written_new failed failed_new (orders.Copy path) told
+    pub ends : result ≡ order_ending Copy Name told
+
   pub record StopsHeard (result : Result (Unit {0}) CommandRefusal) : Type 0 where
     pub told : Result Outcome Untold
     pub asks : SendsHeard came came_new written written_new failed failed_new (line_for orders.Stop) told
@@ -153,7 +144,7 @@ pub record OrdersBy (order : RegistryCommand) (result : Result (Unit {0}) Comman
     pub asked : RegistryCommand
     pub same : ComeToTheSame asked order
     pub told : Result Outcome Untold
-    pub exchanges : Exchanges (orders.Registry (commanded asked)) passed told
+    pub exchanges : Exchanges IsOutcomeIn (orders.Registry (commanded asked)) passed told
     pub ends : result ≡ order_ending Registry (unsayable asked) told
     pub unsent : told ≡ Err untold.Words → EndsInEach order result
 
@@ -161,15 +152,17 @@ pub record OrdersBy (order : RegistryCommand) (result : Result (Unit {0}) Comman
 -- there is no such line, the command ends as the revocation does in each world.
 pub record RevokesBy (f : List ℕ) (result : Result (Unit {0}) CommandRefusal) (passed : Passed) : Type 0 where
   pub told : Result Outcome Untold
-  pub exchanges : Exchanges (orders.RevokeNamed f) passed told
+  pub exchanges : Exchanges IsOutcomeIn (orders.RevokeNamed f) passed told
   pub ends : result ≡ order_ending Registry NoKey told
   pub unsent : told ≡ Err untold.Words → EndsNamedInEach f result
 
--- the line that ends a server was sent, and what came decides how the command ends
-pub record StopsBy (result : Result (Unit {0}) CommandRefusal) (passed : Passed) : Type 0 where
-  pub told : Result Outcome Untold
-  pub exchanges : Exchanges orders.Stop passed told
-  pub ends : result ≡ order_ending Stop Io told
+-- so it was with the order to make a copy in the file of a path
+abbrev pub CopiesBy : List ℕ → Result (Unit {0}) CommandRefusal → Passed → Type 0
+CopiesBy path = EndsBy Copy Name (orders.Copy path)
+
+-- so it was with the line that ends a server
+abbrev pub StopsBy : Result (Unit {0}) CommandRefusal → Passed → Type 0
+StopsBy = EndsBy Stop Io orders.Stop
 
 -- ---- what is connected to
 
@@ -184,15 +177,22 @@ module _ {L : Type 0} (all : L → Passed → Type 0) (before after : List (Done
   -- to.
   abbrev pub OrdersTo : RegistryCommand → Result (Unit {0}) CommandRefusal → Type 0
   OrdersTo order result =
-      (CanBeSent order × AsksServer all before after path (OrdersBy order result) result)
+      (CanBeSent order × AsksServer all before after path (OrdersBy order result) (result ≡ Err Device))
       ⊎ (IsIdle before after × ((refusal : CommandRefusal) × (result ≡ Err refusal) × IsUnsent order refusal))
 
   -- so it was with the order to revoke the key with this fingerprint
   abbrev pub RevokesTo : List ℕ → Result (Unit {0}) CommandRefusal → Type 0
   RevokesTo f result =
-      (HasLine (orders.RevokeNamed f) × AsksServer all before after path (RevokesBy f result) result)
+      (HasLine (orders.RevokeNamed f) × AsksServer all before after path (RevokesBy f result) (result ≡ Err Device))
       ⊎ (IsIdle before after × HasNoLine (orders.RevokeNamed f) × (result ≡ Err NoKey) × EndsNamedInEach f result)
 
   -- the server of this path was told to end, and no other
   abbrev pub StopsTo : Result (Unit {0}) CommandRefusal → Type 0
-  StopsTo result = AsksServer all before after path (StopsBy result) result
+  StopsTo result = AsksServer all before after path (StopsBy result) (result ≡ Err Device)
+
+  -- The server of this path was ordered to make a copy in a file, and meanwhile was only asked how far it is. A path that
+  -- no line can carry counts as a name that breaks its rule.
+  abbrev pub CopiesTo : List ℕ → Result (Unit {0}) CommandRefusal → Type 0
+  CopiesTo to result =
+      (HasLine (orders.Copy to) × AsksServerAndPings all before after path (CopiesBy to result) (result ≡ Err Device))
+      ⊎ (IsIdle before after × HasNoLine (orders.Copy to) × (result ≡ Err Name))

@@ -1,13 +1,18 @@
 -- The health of a running `serve`, printed.
-use Rattle.std.specs.Prelude.{ℕ, ◌≡◌, ◌⊎◌, Bool, List, Option, Result, Ok, Err}
+use Rattle.std.specs.Prelude.{ℕ, ◌≡◌, Bool, List, Option, Result, Ok, Err}
+use Rattle.histories.specs.Account.{Account}
 use Rattle.histories.specs.Calls.{Writes}
 use Rattle.world.specs.declared.registry.StoreFault.TheVariants as fault
-use Rattle.control.specs.Asking.{AsksForHealth}
+use Rattle.network.specs.History.{Done}
+use Rattle.control.specs.Asking.{AsksForHealth, HearsHealth, LineGets}
 use Rattle.control.specs.declared.client.Untold.{Untold}
+use Rattle.orders.specs.Order as orders
+use Rattle.orders.specs.Order.{line_for}
 use Rattle.orders.specs.declared.outcome.Outcome.{Outcome}
 use Rattle.orders.specs.declared.outcome.Outcome.TheVariants as outcome
 use Rattle.control.specs.declared.told.Told.{Told}
 use Rattle.control.specs.declared.told.Told.TheVariants as spoken
+use Rattle.commands.specs.Connection.{AsksServer, IsHealthIn, Passed, PrintsBy}
 use Rattle.commands.specs.Printed.{HasCause}
 use Rattle.commands.specs.Report.{Prints}
 use Rattle.commands.specs.declared.refusal.CommandRefusal.{CommandRefusal}
@@ -48,9 +53,17 @@ pub record FailsOver (unread unread_new written written_new : Option (List ℕ))
   pub asks : AsksForHealth unread unread_new written written_new told
   pub cause : HasCause writes writes_new result (health_ending told)
 
--- so it was over a connection, or there was none
-abbrev pub PingsThere : Option (List ℕ) → Option (List ℕ) → Result Bool CommandRefusal → Type 0
-PingsThere printed printed_new result =
-    ((unread unread_new written written_new : Option (List ℕ))
-    × PingsOver unread unread_new written written_new printed printed_new result)
-    ⊎ ((result ≡ Err Device) × (printed_new ≡ printed))
+-- so it was by what came, which need not be known before
+pub record PingsHeard (came came_new : Account) (written written_new : Option (List ℕ)) (failed failed_new : ℕ)
+    (printed printed_new : Option (List ℕ)) (result : Result Bool CommandRefusal) : Type 0 where
+  pub told : Result Told Untold
+  pub asks : LineGets HearsHealth came came_new written written_new failed failed_new (line_for orders.Ping) told
+  pub prints : Prints printed printed_new result (health_ending told)
+
+-- The server of this path, and no other, was asked for its health, and that was printed. Or it could not be connected to,
+-- and nothing was printed.
+abbrev pub PingsTo : {L : Type 0} → (L → Passed → Type 0) → List (Done L) → List (Done L) → List ℕ
+    → Option (List ℕ) → Option (List ℕ) → Result Bool CommandRefusal → Type 0
+PingsTo all before after path printed printed_new result =
+    AsksServer all before after path (PrintsBy IsHealthIn health_ending orders.Ping printed printed_new result)
+    ((result ≡ Err Device) × (printed_new ≡ printed))

@@ -13,7 +13,8 @@
 //! | `key-list`, `shelf-list` | prints a line for each key, or for each shelf | [`report`] |
 //! | `answer` | answers the requests of a reader from a store, or from shelves in memory | [`answer`], [`memory`] |
 //! | `serve` | prints where it listens, answers each connection's message, and obeys orders between them | [`serve`] |
-//! | with `--control`; `copy`, `stop` | sends an order to `serve`, and ends by its outcome | [`order`], `sent_order` |
+//! | with `--control`; `stop` | sends an order to `serve`, and ends by its outcome | [`order`], `sent_order` |
+//! | `copy` | orders `serve` to make a copy, and waits for it | [`copy`] |
 //! | `key-list`, `shelf-list` with `--control` | asks a running `serve` for the list, and prints it | [`listing`] |
 //! | `catalog` with `--control` | prints the catalog of a running `serve`, once it came whole | [`served_catalog`] |
 //! | `ping` | asks a running `serve` for its health, and prints the line | [`ping`] |
@@ -29,6 +30,7 @@
 
 pub mod action;
 pub mod answer;
+pub mod copy;
 pub mod copy_progress;
 pub mod exit;
 pub mod files;
@@ -52,7 +54,6 @@ pub mod progress;
 pub mod publish;
 pub mod random_bytes;
 pub mod refusal;
-mod registrar;
 pub mod registry;
 pub mod report;
 pub mod requirements;

@@ -1,38 +1,40 @@
 //! A list of keys or of shelves, asked of a running `serve` and printed.
 ghost use Rattle.std.specs.Prelude.{◌≡◌, [], OnOk};
+ghost use Rattle.commands.specs.Connection.{IsAll};
 ghost use Rattle.commands.specs.Listing as spec;
 
 use crate::ping::refusal_of;
 use crate::refusal::CommandRefusal;
 use crate::report::print;
 use control::{Untold, ask_for_list};
-use histories::{Hear, Hearing, Tell, Telling};
-use network::system::server_at;
+use histories::{Hear, Tell};
+use network::servers::{Servers, Wait};
 use orders::{Listing, Outcome};
 use std::alloc::Global;
-use std::rt::HostRuntime;
 use world::bytes::Bytes;
 
 /// Asks the `serve` that listens at a socket for a list, prints it and returns true. `Device` if nobody listens there,
 /// the system refuses the connection, or the store of that server met a fault; `Memory` if the server had no memory for
 /// the list. `Io` if no whole list came: then nothing is printed; or the output failed: then a beginning of the list is
 /// printed, or all of it.
-pub fn list_at<O: Tell>(
-    rt: &HostRuntime,
+pub fn list_at<R: Hear, W: Tell, V: Servers<R, W>, O: Tell>(
+    alloc: Global,
+    servers: &mut V,
     path: &str,
     listing: Listing,
     output: &mut O,
 ) -> Result<bool, CommandRefusal>
-    ensures { spec.ListsThere listing (O.contents output.old) (O.contents output.new) result }
+    ensures { spec.ListsTo
+        (λ link passed. IsAll (R.account link.reader) (W.contents link.writer) (W.writes link.writer).failed passed)
+        (V.history servers.old) (V.history servers.new) path.now listing
+        (O.contents output.old) (O.contents output.new) result }
 {
-    match server_at(rt, path) {
-        Ok(server) => list_over(
-            rt.alloc(),
-            &mut Hearing::new(&server),
-            &mut Telling::new(&server),
-            listing,
-            output,
-        ),
+    match servers.connect(path, Wait::Minute) {
+        Ok(mut link) => {
+            let ended = list_over(alloc, &mut link.reader, &mut link.writer, listing, output);
+            servers.end(link);
+            ended
+        }
         Err(_) => Err(CommandRefusal::Device),
     }
 }
@@ -48,6 +50,10 @@ pub fn list_over<R: Hear, W: Tell, O: Tell>(
 ) -> Result<bool, CommandRefusal>
     ensures lists { spec.ListsOver (R.remaining reader.old) (R.remaining reader.new)
         (W.contents writer.old) (W.contents writer.new) listing
+        (O.contents output.old) (O.contents output.new) result }
+    // So it is by what came, which need not be known before.
+    ensures heard { spec.ListsHeard (R.account reader.old) (R.account reader.new) (W.contents writer.old)
+        (W.contents writer.new) (W.writes writer.old).failed (W.writes writer.new).failed listing
         (O.contents output.old) (O.contents output.new) result }
     // What was printed is flushed.
     ensures flushed { OnOk result ((O.writes output.new).unflushed ≡ []) }

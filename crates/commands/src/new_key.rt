@@ -1,13 +1,19 @@
 //! A key that is made, added and printed.
 ghost use Rattle.std.specs.Prelude.{◌≡◌, [], IfErr, OnOk};
+ghost use Rattle.network.specs.declared.servers.Link.{Link};
+ghost use Rattle.commands.specs.Connection.{IsAll};
+ghost use Rattle.commands.specs.Ending.{Registers};
 ghost use Rattle.commands.specs.NewKey as spec;
+ghost use Rattle.commands.specs.Printed.{HasFailed};
 
+use crate::order::order_at;
 use crate::printing::print_both;
 use crate::random_bytes::{RandomBytes, SystemRandomBytes};
 use crate::refusal::CommandRefusal;
-use crate::registrar::{Registrar, Served};
-use histories::Tell;
+use crate::registry::register;
+use histories::{Hear, Tell};
 use keyring::made::key_of;
+use network::servers::Servers;
 use orders::RegistryCommand;
 use std::alloc::Global;
 use std::rt::HostRuntime;
@@ -35,23 +41,29 @@ pub fn add_new<B: RandomBytes, S: Shelves, O: Tell>(
     // What was printed is flushed.
     ensures flushed { OnOk result ((O.writes output.new).unflushed ≡ []) }
 {
-    add_drawn(alloc, random, shelves, shelf, right, output)
+    let key = drawn_key(alloc, random)?;
+    add_key(shelves, shelf, right, key.as_str(), output)
 }
 
 /// Makes a key of the system's randomness, orders the `serve` that listens at a socket to add it to a shelf, and then
 /// prints it on a line. Fails as `order_new` does.
-pub fn order_new_at<O: Tell>(
+pub fn order_new_at<R: Hear, W: Tell, V: Servers<R, W>, O: Tell>(
     rt: &HostRuntime,
+    servers: &mut V,
     path: &str,
     shelf: &str,
     right: Right,
     output: &mut O,
 ) -> Result<(), CommandRefusal>
-    ensures { spec.OrdersNew shelf.entry right (O.contents output.old) (O.contents output.new) result }
+    ensures { spec.OrdersNew
+        (λ link passed. IsAll (R.account link.reader) (W.contents link.writer) (W.writes link.writer).failed passed)
+        path.now (V.history servers.old) (V.history servers.new) shelf.entry right
+        (O.contents output.old) (O.contents output.new) result }
 {
     order_new(
-        rt,
+        rt.alloc(),
         &mut SystemRandomBytes::new(rt),
+        servers,
         path,
         shelf,
         right,
@@ -64,95 +76,94 @@ pub fn order_new_at<O: Tell>(
 /// memory runs out for it: then no key is printed, and none is added, but perhaps after `Io` of the order. If the
 /// output fails, the server is ordered to revoke the key, and it fails with `Io`; if that order fails, it fails as that
 /// does, and the key may stay.
-pub fn order_new<B: RandomBytes, O: Tell>(
-    rt: &HostRuntime,
+pub fn order_new<B: RandomBytes, R: Hear, W: Tell, V: Servers<R, W>, O: Tell>(
+    alloc: Global,
     random: &mut B,
+    servers: &mut V,
     path: &str,
     shelf: &str,
     right: Right,
     output: &mut O,
 ) -> Result<(), CommandRefusal>
-    ensures orders { spec.OrdersDrawn (B.drawn random.old) (B.drawn random.new) shelf.entry right
-        (O.contents output.old) (O.contents output.new) result }
+    ensures orders { spec.OrdersDrawn
+        (λ (link : Link R W) passed. IsAll
+            (R.account link.reader) (W.contents link.writer) (W.writes link.writer).failed passed)
+        path.now (V.history servers.old) (V.history servers.new) (B.drawn random.old) (B.drawn random.new)
+        shelf.entry right (O.contents output.old) (O.contents output.new) result }
     // It ends with `Io` only if there are no random bytes, they make no key, a call of the output failed, or an order
     // ended so.
-    ensures cause { spec.HasCause result (spec.HasNoKeyOrOrder (B.drawn random.old) (B.drawn random.new)
-        (O.writes output.old) (O.writes output.new)) }
+    ensures cause { spec.HasCause result (spec.HasNoKeyOrOrder
+        (λ (link : Link R W) passed. IsAll
+            (R.account link.reader) (W.contents link.writer) (W.writes link.writer).failed passed)
+        path.now (B.drawn random.old) (B.drawn random.new) (O.writes output.old) (O.writes output.new)) }
     // What was printed is flushed.
     ensures flushed { OnOk result ((O.writes output.new).unflushed ≡ []) }
 {
-    add_drawn(
-        rt.alloc(),
-        random,
-        &mut Served::new(rt, path),
-        shelf,
-        right,
-        output,
-    )
+    let key = drawn_key(alloc, random)?;
+    order_key(alloc, servers, path, shelf, right, key.as_str(), output)
 }
 
-/// Makes a key of random bytes, adds it to a shelf, and prints it. Fails as `add_new` and `order_new` do.
-fn add_drawn<B: RandomBytes, R: Registrar, O: Tell>(
-    alloc: Global,
-    random: &mut B,
-    registrar: &mut R,
-    shelf: &str,
-    right: Right,
-    output: &mut O,
-) -> Result<(), CommandRefusal>
-    ensures adds { spec.AddsDrawn R.registers shelf.entry right (B.drawn random.old) (B.drawn random.new)
-        registrar.old registrar.new (O.contents output.old) (O.contents output.new) result }
-    ensures cause { spec.HasCause result (spec.HasNoKeyOr (spec.EndsWithIo R.registers)
-        (B.drawn random.old) (B.drawn random.new) (O.writes output.old) (O.writes output.new)) }
-    ensures flushed { OnOk result ((O.writes output.new).unflushed ≡ []) }
+/// Returns a key that is made of random bytes. `Io` if there are none or they make no key, and `Memory` if memory runs
+/// out.
+fn drawn_key<B: RandomBytes>(alloc: Global, random: &mut B) -> Result<Text, CommandRefusal>
+    ensures { spec.DrawsKey (B.drawn random.old) (B.drawn random.new) result }
 {
     match random.draw() {
-        Ok(bytes) => add_made(alloc, registrar, shelf, right, &bytes, output),
+        Ok(bytes) => made_key(alloc, &bytes),
         Err(_) => Err(CommandRefusal::Io),
     }
 }
 
-/// Adds the key that these bytes make to a shelf, and prints it. Fails as `add_drawn` does.
-fn add_made<R: Registrar, O: Tell>(
-    alloc: Global,
-    registrar: &mut R,
-    shelf: &str,
-    right: Right,
-    bytes: &[u8],
-    output: &mut O,
-) -> Result<(), CommandRefusal>
-    ensures adds { spec.AddsMade R.registers shelf.entry right bytes.now registrar.old registrar.new
-        (O.contents output.old) (O.contents output.new) result }
-    ensures cause { spec.HasCause result (spec.IsUnmadeOr (spec.EndsWithIo R.registers) bytes.now
-        (O.writes output.old) (O.writes output.new)) }
-    ensures flushed { OnOk result ((O.writes output.new).unflushed ≡ []) }
-{
-    match made_key(alloc, bytes) {
-        Ok(key) => add_key(registrar, shelf, right, key.as_str(), output),
-        Err(refusal) => Err(refusal),
-    }
-}
-
-/// Adds a key to a shelf, and prints it on a line. A key that can't be printed is revoked. Fails as `add_drawn` does.
-fn add_key<R: Registrar, O: Tell>(
-    registrar: &mut R,
+/// Adds a key to a shelf, and prints it on a line. A key that can't be printed is revoked. Fails as `add_new` does.
+fn add_key<S: Shelves, O: Tell>(
+    shelves: &mut S,
     shelf: &str,
     right: Right,
     key: &str,
     output: &mut O,
 ) -> Result<(), CommandRefusal>
-    ensures adds { spec.AddsKey R.registers shelf.entry right key.entry registrar.old registrar.new
-        (O.contents output.old) (O.contents output.new) result }
-    ensures cause { spec.HasCause result (spec.FailsOr (spec.EndsWithIo R.registers)
-        (O.writes output.old) (O.writes output.new)) }
+    ensures adds { spec.AddsKey (λ old new order ended. Registers (S.shown old) (S.shown new) order ended)
+        shelf.entry right key.entry shelves.old shelves.new (O.contents output.old) (O.contents output.new) result }
+    ensures cause { spec.HasCause result (HasFailed (O.writes output.old) (O.writes output.new)) }
     ensures flushed { OnOk result ((O.writes output.new).unflushed ≡ []) }
 {
-    if let Err(refusal) = registrar.carry(&RegistryCommand::KeyAdd { shelf, key, right }) {
+    if let Err(refusal) = register(shelves, &RegistryCommand::KeyAdd { shelf, key, right }) {
         return Err(refusal);
     }
     match print_both(key.as_bytes(), b"\n", output) {
         Ok(()) => Ok(()),
-        Err(_) => Err(unprinted(registrar.carry(&RegistryCommand::KeyRevoke { key }))),
+        Err(_) => Err(unprinted(register(shelves, &RegistryCommand::KeyRevoke { key }))),
+    }
+}
+
+/// Orders a `serve` to add a key to a shelf, and prints it on a line. A key that can't be printed is to be revoked.
+/// Fails as `order_new` does.
+fn order_key<R: Hear, W: Tell, V: Servers<R, W>, O: Tell>(
+    alloc: Global,
+    servers: &mut V,
+    path: &str,
+    shelf: &str,
+    right: Right,
+    key: &str,
+    output: &mut O,
+) -> Result<(), CommandRefusal>
+    ensures orders { spec.AddsKey (spec.Ordered
+        (λ (link : Link R W) passed. IsAll
+            (R.account link.reader) (W.contents link.writer) (W.writes link.writer).failed passed)
+        path.now) shelf.entry right key.entry (V.history servers.old) (V.history servers.new)
+        (O.contents output.old) (O.contents output.new) result }
+    ensures cause { spec.HasCause result (spec.FailsOr (spec.EndsWithIo (spec.Ordered
+        (λ (link : Link R W) passed. IsAll
+            (R.account link.reader) (W.contents link.writer) (W.writes link.writer).failed passed)
+        path.now)) (O.writes output.old) (O.writes output.new)) }
+    ensures flushed { OnOk result ((O.writes output.new).unflushed ≡ []) }
+{
+    if let Err(refusal) = order_at(alloc, servers, path, &RegistryCommand::KeyAdd { shelf, key, right }) {
+        return Err(refusal);
+    }
+    match print_both(key.as_bytes(), b"\n", output) {
+        Ok(()) => Ok(()),
+        Err(_) => Err(unprinted(order_at(alloc, servers, path, &RegistryCommand::KeyRevoke { key }))),
     }
 }
 

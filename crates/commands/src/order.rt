@@ -1,19 +1,16 @@
-//! The commands of the registry that are sent to a running `serve`, a copy of its store, and its end.
+//! The commands of the registry that are sent to a running `serve`, and its end.
 ghost use Rattle.std.specs.Prelude.{◌≡◌, Err, MatchOption, option_copied};
 ghost use Rattle.commands.specs.Connection.{IsAll};
 ghost use Rattle.commands.specs.Order as spec;
 
-use crate::copy_progress::{AwaitedCopy, patient_server_at};
-use crate::progress::StderrLine;
 use crate::refusal::CommandRefusal;
 use crate::sent_order::{SentOrder, order_ending};
 use control::{ask, ask_to_stop};
-use histories::{Hear, Hearing, Tell, Telling};
-use network::servers::Servers;
+use histories::{Hear, Tell};
+use network::servers::{Servers, Wait};
 use orders::{Order, RegistryCommand};
 use std::alloc::Global;
 use std::io::Write;
-use std::rt::HostRuntime;
 use world::names::{is_key, is_team_name};
 
 /// What is sent for a group whose name breaks the rule: no group has this name either.
@@ -37,7 +34,7 @@ pub fn order_at<R: Hear, W: Tell, V: Servers<R, W>>(
     if let Some(refusal) = unsent_refusal(order) {
         return Err(refusal);
     }
-    match servers.connect(path) {
+    match servers.connect(path, Wait::Minute) {
         Ok(mut link) => {
             let ended = order_over(alloc, &mut link.reader, &mut link.writer, order);
             servers.end(link);
@@ -140,7 +137,7 @@ pub fn revoke_at<R: Hear, W: Tell, V: Servers<R, W>>(
     if !Order::RevokeNamed(fingerprint).has_line() {
         return Err(CommandRefusal::NoKey);
     }
-    match servers.connect(path) {
+    match servers.connect(path, Wait::Minute) {
         Ok(mut link) => {
             let ended = revoke_over(alloc, &mut link.reader, &mut link.writer, fingerprint);
             servers.end(link);
@@ -169,44 +166,6 @@ pub fn revoke_over<R: Hear, W: Tell>(
     order_ending(SentOrder::Registry, CommandRefusal::NoKey, told)
 }
 
-/// Has the `serve` that listens at a socket copy its store into the file of a path, as that server sees it, and waits
-/// for that as long as it takes. On a terminal it shows how far the copy is. `NotEmpty` if the file has more than an
-/// empty store or is that of the served store. `Device` if nobody listens there, the system refuses the connection, the
-/// file can't be opened, SQLite has a use for it beside a database, or a disk failed. `Memory` if memory ran out there,
-/// or here for the line. `Busy` if the server is making another copy or printing a catalog, and `Ended` if it ended
-/// this one. `Name` if no line can carry the path: nothing was sent. `Io` if no outcome of a copy came.
-pub fn copy_at(rt: &HostRuntime, control: &str, path: &str) -> Result<(), CommandRefusal>
-    ensures { spec.CopiesThere path.now result }
-{
-    if !Order::Copy(path).has_line() {
-        return Err(CommandRefusal::Name);
-    }
-    let line = StderrLine::on_stderr(rt, "copy");
-    match patient_server_at(rt, control, &line) {
-        Ok(server) => copy_over(
-            rt.alloc(),
-            &mut Hearing::new(AwaitedCopy::new(rt, control, &server, line)),
-            &mut Telling::new(&server),
-            path,
-        ),
-        Err(_) => Err(CommandRefusal::Device),
-    }
-}
-
-/// Writes the line that orders a copy, and reads the line of its outcome. Fails as `copy_at` does once it is connected.
-pub fn copy_over<R: Hear, W: Tell>(
-    alloc: Global,
-    reader: &mut R,
-    writer: &mut W,
-    path: &str,
-) -> Result<(), CommandRefusal>
-    ensures { spec.CopiesOver (R.remaining reader.old) (R.remaining reader.new)
-        (W.contents writer.old) (W.contents writer.new) path.now result }
-{
-    let told = ask(alloc, reader, writer, &Order::Copy(path));
-    order_ending(SentOrder::Copy, CommandRefusal::Name, told)
-}
-
 /// Ends the `serve` that listens at a path, after the current request. `Device` if nobody listens there or the system
 /// refuses the connection; otherwise it ends as `stop_over` does.
 pub fn stop_at<R: Hear, W: Tell, V: Servers<R, W>>(
@@ -218,7 +177,7 @@ pub fn stop_at<R: Hear, W: Tell, V: Servers<R, W>>(
         (λ link passed. IsAll (R.account link.reader) (W.contents link.writer) (W.writes link.writer).failed passed)
         (V.history servers.old) (V.history servers.new) path.now result }
 {
-    match servers.connect(path) {
+    match servers.connect(path, Wait::Minute) {
         Ok(mut link) => {
             let ended = stop_over(alloc, &mut link.reader, &mut link.writer);
             servers.end(link);

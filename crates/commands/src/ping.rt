@@ -1,5 +1,6 @@
 //! The health of a running `serve`, asked for and printed.
 ghost use Rattle.std.specs.Prelude.{◌≡◌, [], OnOk};
+ghost use Rattle.commands.specs.Connection.{IsAll};
 ghost use Rattle.commands.specs.Ping as spec;
 ghost use Rattle.commands.specs.Printed.{HasCause};
 ghost use Rattle.commands.specs.Report.{Prints};
@@ -7,11 +8,10 @@ ghost use Rattle.commands.specs.Report.{Prints};
 use crate::refusal::CommandRefusal;
 use crate::report::print_text;
 use control::{Told, Untold, ask_for_health};
-use histories::{Hear, Hearing, Tell, Telling};
-use network::system::server_at;
+use histories::{Hear, Tell};
+use network::servers::{Servers, Wait};
 use orders::Outcome;
 use std::alloc::Global;
-use std::rt::HostRuntime;
 use text::Text;
 use world::registry::StoreFault;
 
@@ -19,20 +19,23 @@ use world::registry::StoreFault;
 /// listens there, the system refuses the connection, or the store of that server met a fault; `Memory` if the server
 /// had no memory for the lines. `Io` if no such lines came, or the output failed: then a beginning of the lines is
 /// printed, or all of them.
-pub fn ping_at<O: Tell>(
-    rt: &HostRuntime,
+pub fn ping_at<R: Hear, W: Tell, V: Servers<R, W>, O: Tell>(
+    alloc: Global,
+    servers: &mut V,
     path: &str,
     output: &mut O,
 ) -> Result<bool, CommandRefusal>
-    ensures { spec.PingsThere (O.contents output.old) (O.contents output.new) result }
+    ensures { spec.PingsTo
+        (λ link passed. IsAll (R.account link.reader) (W.contents link.writer) (W.writes link.writer).failed passed)
+        (V.history servers.old) (V.history servers.new) path.now
+        (O.contents output.old) (O.contents output.new) result }
 {
-    match server_at(rt, path) {
-        Ok(server) => ping_over(
-            rt.alloc(),
-            &mut Hearing::new(&server),
-            &mut Telling::new(&server),
-            output,
-        ),
+    match servers.connect(path, Wait::Minute) {
+        Ok(mut link) => {
+            let ended = ping_over(alloc, &mut link.reader, &mut link.writer, output);
+            servers.end(link);
+            ended
+        }
         Err(_) => Err(CommandRefusal::Device),
     }
 }
@@ -47,6 +50,10 @@ pub fn ping_over<R: Hear, W: Tell, O: Tell>(
 ) -> Result<bool, CommandRefusal>
     ensures pings { spec.PingsOver (R.remaining reader.old) (R.remaining reader.new)
         (W.contents writer.old) (W.contents writer.new) (O.contents output.old) (O.contents output.new) result }
+    // So it is by what came, which need not be known before.
+    ensures heard { spec.PingsHeard (R.account reader.old) (R.account reader.new) (W.contents writer.old)
+        (W.contents writer.new) (W.writes writer.old).failed (W.writes writer.new).failed
+        (O.contents output.old) (O.contents output.new) result }
     // It fails only because of what came in the place of the line, or because a call of the output failed.
     ensures cause { spec.FailsOver (R.remaining reader.old) (R.remaining reader.new)
         (W.contents writer.old) (W.contents writer.new) (O.writes output.old) (O.writes output.new) result }

@@ -1,20 +1,20 @@
 //! The catalog of a key, asked of a running `serve`, read whole and then printed.
 ghost use Rattle.std.specs.Prelude.{◌≡◌, ◌⊎◌, ◌≤◌, [], IfErr, OnOk, length, take};
+ghost use Rattle.std.specs.Io.KnownBytes.{Consumes};
+ghost use Rattle.histories.specs.Account.{Gives};
 ghost use Rattle.control.specs.Listing.{AreLines};
+ghost use Rattle.commands.specs.Connection.{IsAll};
 ghost use Rattle.commands.specs.Printed.{HasFailed};
 ghost use Rattle.commands.specs.ServedCatalog as spec;
 
 use crate::refusal::CommandRefusal;
 use crate::report::print;
 use crate::sent_order::{SentOrder, order_ending, untold_ending};
-use control::{Unread, Untold, ask_for_catalog, read_all};
-use histories::{Hear, Hearing, Tell, Telling};
-use network::system::server_at;
+use control::{Unread, Untold, read_all, send_order};
+use histories::{Hear, Tell};
+use network::servers::{Servers, Wait};
 use orders::{Order, read_outcome};
 use std::alloc::Global;
-use std::io;
-use std::os::unix::net::UnixStream;
-use std::rt::HostRuntime;
 use world::bytes::Bytes;
 
 /// Asks the `serve` that listens at a socket for the catalog of a key, reads all of it, prints its lines and returns
@@ -25,34 +25,29 @@ use world::bytes::Bytes;
 /// `Busy` if the server makes a copy or another catalog, and `Ended` if it ended this one; `Io` if what came does not
 /// end with the word of an outcome: then nothing is printed. `Io` if the output failed: then a beginning of the lines
 /// is printed, or all of them.
-pub fn catalog_at<O: Tell>(
-    rt: &HostRuntime,
+pub fn catalog_at<R: Hear, W: Tell, V: Servers<R, W>, O: Tell>(
+    alloc: Global,
+    servers: &mut V,
     path: &str,
     key: &str,
     output: &mut O,
 ) -> Result<bool, CommandRefusal>
-    ensures { spec.CatalogsThere key.now (O.contents output.old) (O.contents output.new) result }
+    ensures { spec.CatalogsTo
+        (λ link passed. IsAll (R.account link.reader) (W.contents link.writer) (W.writes link.writer).failed passed)
+        (V.history servers.old) (V.history servers.new) path.now key.now
+        (O.contents output.old) (O.contents output.new) result }
 {
     if !Order::Catalog(key).has_line() {
         return Err(CommandRefusal::NoKey);
     }
-    match waiting_server_at(rt, path) {
-        Ok(server) => catalog_over(
-            rt.alloc(),
-            &mut Hearing::new(&server),
-            &mut Telling::new(&server),
-            key,
-            output,
-        ),
+    match servers.connect(path, Wait::Unbounded) {
+        Ok(mut link) => {
+            let ended = catalog_over(alloc, &mut link.reader, &mut link.writer, key, output);
+            servers.end(link);
+            ended
+        }
         Err(_) => Err(CommandRefusal::Device),
     }
-}
-
-/// A connection to the server that listens at a socket. Each read from it waits as long as it takes.
-fn waiting_server_at(rt: &HostRuntime, control: &str) -> io::Result<UnixStream> {
-    let server = server_at(rt, control)?;
-    server.set_read_timeout(None)?;
-    Ok(server)
 }
 
 /// Writes the line that asks for the catalog of a key, reads all that comes, prints its lines if they are a whole
@@ -66,15 +61,19 @@ pub fn catalog_over<R: Hear, W: Tell, O: Tell>(
     output: &mut O,
 ) -> Result<bool, CommandRefusal>
     ensures catalogs { spec.CatalogsOver (R.remaining reader.old) (R.remaining reader.new)
-        (W.contents writer.old) (W.contents writer.new) key.now
-        (O.contents output.old) (O.contents output.new) result }
+        (W.contents writer.old) (W.contents writer.new) (W.writes writer.old).failed (W.writes writer.new).failed
+        key.now (O.contents output.old) (O.contents output.new) result }
+    // So it is by what came, which need not be known before.
+    ensures heard { spec.CatalogsHeard (R.account reader.old) (R.account reader.new)
+        (W.contents writer.old) (W.contents writer.new) (W.writes writer.old).failed (W.writes writer.new).failed
+        key.now (O.contents output.old) (O.contents output.new) result }
     // It prints all, or nothing, unless a call of the output failed.
     ensures whole { IfErr result (λ _. (O.contents output.new ≡ O.contents output.old)
         ⊎ HasFailed (O.writes output.old) (O.writes output.new)) }
     // What was printed is flushed.
     ensures flushed { OnOk result ((O.writes output.new).unflushed ≡ []) }
 {
-    let asked = ask_for_catalog(alloc, writer, key);
+    let asked = send_order(alloc, writer, &Order::Catalog(key));
     print(hear_asked(alloc, asked, reader), output)
 }
 
@@ -84,7 +83,10 @@ fn hear_asked<R: Hear>(
     asked: Result<(), Untold>,
     reader: &mut R,
 ) -> Result<Bytes, CommandRefusal>
-    ensures { spec.HearsAsked (R.remaining reader.old) (R.remaining reader.new) result asked }
+    ensures known { spec.HearsAsked (Consumes (R.remaining reader.old) (R.remaining reader.new))
+        (R.remaining reader.new ≡ R.remaining reader.old) result asked }
+    ensures heard { spec.HearsAsked (Gives (R.account reader.old) (R.account reader.new))
+        (R.account reader.new ≡ R.account reader.old) result asked }
 {
     match asked {
         Ok(()) => hear_catalog(alloc, reader),
@@ -92,23 +94,35 @@ fn hear_asked<R: Hear>(
     }
 }
 
-/// Reads a catalog to the end of the stream, and returns its lines. Fails with what the last line says if that is not
-/// `done`; with `Memory` if memory runs out; and with `Io` if a read fails or the last line says nothing.
+/// Reads a catalog to the end of the stream, and returns its lines. Fails as `catalog_in` does; with `Memory` if memory
+/// runs out; and with `Io` if a read fails.
 fn hear_catalog<R: Hear>(alloc: Global, reader: &mut R) -> Result<Bytes, CommandRefusal>
-    ensures { spec.HearsCatalog (R.remaining reader.old) (R.remaining reader.new) result }
+    ensures known { spec.HearsCatalog (Consumes (R.remaining reader.old) (R.remaining reader.new)) result }
+    ensures heard { spec.HearsCatalog (Gives (R.account reader.old) (R.account reader.new)) result }
 {
-    let mut got = match read_all(alloc, reader) {
-        Ok(got) => got,
-        Err(Unread::Memory) => return Err(CommandRefusal::Memory),
-        Err(Unread::Io) => return Err(CommandRefusal::Io),
-    };
+    match read_all(alloc, reader) {
+        Ok(got) => catalog_in(got),
+        Err(Unread::Memory) => Err(CommandRefusal::Memory),
+        Err(Unread::Io) => Err(CommandRefusal::Io),
+    }
+}
+
+/// Returns the lines of the catalog that these bytes are. Fails with what the last line says if that is not `done`, and
+/// with `Io` if it says nothing.
+fn catalog_in(mut got: Vec<u8>) -> Result<Bytes, CommandRefusal>
+    ensures { spec.HearsCatalog (λ text. got.items ≡ text) result }
+{
     let at = last_line_at(&got);
     let Some(told) = read_outcome(&got[at..]) else {
         return Err(CommandRefusal::Io);
     };
-    order_ending(SentOrder::Catalog, CommandRefusal::NoKey, Ok(told))?;
-    got.truncate(at);
-    Ok(Bytes::new(got))
+    match order_ending(SentOrder::Catalog, CommandRefusal::NoKey, Ok(told)) {
+        Ok(()) => {
+            got.truncate(at);
+            Ok(Bytes::new(got))
+        }
+        Err(why) => Err(why),
+    }
 }
 
 /// Returns where the last line of a text begins, with its end or without.

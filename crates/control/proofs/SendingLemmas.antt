@@ -3,7 +3,7 @@ use Rattle.std.proofs.Common.{◌≡◌, ℕ, List, Option, Result, Ok, Err, sym
 use Rattle.histories.specs.Account.{Account, Gives}
 use Rattle.orders.specs.Order.{IsLineOf, Ordered}
 use Rattle.orders.specs.declared.outcome.Outcome.{Outcome}
-use Rattle.control.specs.Asking.{Asks, AsksHeard, Sends, SendsHeard}
+use Rattle.control.specs.Asking.{Asks, LineGets, OrderGets, Sends}
 use Rattle.control.specs.declared.client.Untold.{Untold}
 
 -- what was sent is the line of the order
@@ -14,12 +14,12 @@ asks_by u u' w w' line o (Err why) is (same, sends) =
     subst (λ x. Asks u u' w w' o (Err x)) (sym same) (line, is, sends)
 
 -- so it is by what came
-pub asks_heard : (a b : Account) (w w' : Option (List ℕ)) (f f' : ℕ) (line : List ℕ) (o : Ordered)
-    (told : Result Outcome Untold)
-    → IsLineOf line o → SendsHeard a b w w' f f' line told → AsksHeard a b w w' f f' o told
-asks_heard a b w w' f f' line o (Ok told) is sends = (line, is, sends.0, sends.1)
-asks_heard a b w w' f f' line o (Err why) is (same, sends) =
-    subst (λ x. AsksHeard a b w w' f f' o (Err x)) (sym same) (line, is, sends)
+pub order_gets : {T : Type 0} (Hears : Account → Account → T → Type 0) (a b : Account) (w w' : Option (List ℕ))
+    (f f' : ℕ) (line : List ℕ) (o : Ordered) (told : Result T Untold)
+    → IsLineOf line o → LineGets Hears a b w w' f f' line told → OrderGets Hears a b w w' f f' o told
+order_gets Hears a b w w' f f' line o (Ok told) is gets = (line, is, gets.0, gets.1)
+order_gets Hears a b w w' f f' line o (Err why) is (same, gets) =
+    subst (λ x. OrderGets Hears a b w w' f f' o (Err x)) (sym same) (line, is, gets)
 
 -- the line that came is that of the outcome
 pub line_heard : (a b : Account) (got line : List ℕ) → got ≡ line → Gives a b got → Gives a b line

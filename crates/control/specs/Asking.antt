@@ -3,7 +3,7 @@ use Rattle.std.specs.Prelude.{ℕ, ◌≡◌, ◌<◌, ◌⊎◌, List, Option, 
 use Rattle.std.specs.Io.KnownBytes.{Consumes, Appends, Keeps}
 use Rattle.histories.specs.Account.{Account, Gives}
 use Rattle.engine.specs.Written.{WritesBeginning}
-use Rattle.orders.specs.Order.{HasNoLine, IsLineOf, Ordered, Catalog, ListOf, Ping, Stop, line_for}
+use Rattle.orders.specs.Order.{HasNoLine, IsLineOf, Ordered, ListOf, Ping, Stop, line_for}
 use Rattle.orders.specs.Outcome.{line_of}
 use Rattle.orders.specs.declared.listing.Listing.{Listing}
 use Rattle.orders.specs.declared.outcome.Outcome.{Outcome}
@@ -98,40 +98,63 @@ AsksForList unread unread_new written written_new listing (Err why) =
     (why ≡ Io)
     × (WritesBeginning written written_new (line_for (ListOf listing)) ⊎ Appends written written_new (line_for (ListOf listing)))
 
--- The line that asks for the catalog of this key was sent. Or nothing was sent, because no bytes are such a line or
--- memory ran out. Or a beginning of the line was sent.
-abbrev pub AsksForCatalog : Option (List ℕ) → Option (List ℕ) → List ℕ → Result (Unit {0}) Untold → Type 0
-AsksForCatalog written written_new key (Ok u) =
-    (sent : List ℕ) × IsLineOf sent (Catalog key) × Appends written written_new sent
-AsksForCatalog written written_new key (Err Words) =
-    HasNoLine (Catalog key) × Keeps written written_new
-AsksForCatalog written written_new key (Err Memory) = Keeps written written_new
-AsksForCatalog written written_new key (Err Io) =
-    (sent : List ℕ) × IsLineOf sent (Catalog key) × WritesBeginning written written_new sent
-
 -- ---- by what came, which need not be known before
 
--- This line was sent, and the line of the outcome came and nothing else. Or a beginning of it was sent, a write failed,
--- and nothing was read. Or it was sent, whatever came.
+-- the line of the outcome came, and nothing else
+abbrev pub HearsOutcome : Account → Account → Outcome → Type 0
+HearsOutcome came came_new told = Gives came came_new (line_of told)
+
+-- so it was, or `Io` was returned
+abbrev pub HearsOrIo : Account → Account → Result Outcome Untold → Type 0
+HearsOrIo came came_new (Ok told) = HearsOutcome came came_new told
+HearsOrIo came came_new (Err why) = why ≡ Io
+
+-- the lines of a health or the line of an outcome came, and nothing else
+abbrev pub HearsHealth : Account → Account → Told → Type 0
+HearsHealth came came_new told = IsTold told × Gives came came_new (bytes_told told)
+
+-- a whole list or the line of an outcome came, and nothing else
+abbrev pub HearsList : Account → Account → Result (List ℕ) Outcome → Type 0
+HearsList came came_new told = (got : List ℕ) × TellsBytes told got × Gives came came_new got
+
+-- `Hears` says what came where a reply tells this.
+module _ {T : Type 0} (Hears : Account → Account → T → Type 0) (came came_new : Account)
+    (written written_new : Option (List ℕ)) (failed failed_new : ℕ) where
+  -- This line was sent, and the reply came. Or a beginning of it was sent, a write failed, and nothing was read. Or it
+  -- was sent, whatever came.
+  abbrev pub LineGets : List ℕ → Result T Untold → Type 0
+  LineGets line (Ok told) = Appends written written_new line × Hears came came_new told
+  LineGets line (Err why) =
+      (why ≡ Io) × ((WritesBeginning written written_new line × (failed < failed_new) × (came_new ≡ came))
+      ⊎ Appends written written_new line)
+
+  -- So it was with the line of the order. Or nothing was sent or read, because no bytes are such a line or memory ran
+  -- out.
+  abbrev pub OrderGets : Ordered → Result T Untold → Type 0
+  OrderGets o (Ok told) =
+      (sent : List ℕ) × IsLineOf sent o × Appends written written_new sent × Hears came came_new told
+  OrderGets o (Err Words) = HasNoLine o × (written_new ≡ written) × (came_new ≡ came)
+  OrderGets o (Err Memory) = (written_new ≡ written) × (came_new ≡ came)
+  OrderGets o (Err Io) =
+      (sent : List ℕ) × IsLineOf sent o × ((WritesBeginning written written_new sent × (failed < failed_new)
+      × (came_new ≡ came)) ⊎ Appends written written_new sent)
+
+-- this line was sent, and an outcome came of it
 abbrev pub SendsHeard : Account → Account → Option (List ℕ) → Option (List ℕ) → ℕ → ℕ → List ℕ → Result Outcome Untold
     → Type 0
-SendsHeard came came_new written written_new failed failed_new line (Ok told) =
-    Appends written written_new line × Gives came came_new (line_of told)
-SendsHeard came came_new written written_new failed failed_new line (Err why) =
-    (why ≡ Io) × ((WritesBeginning written written_new line × (failed < failed_new) × (came_new ≡ came))
-    ⊎ Appends written written_new line)
+SendsHeard = LineGets HearsOutcome
 
--- The line of the order was sent, and the line of the outcome came and nothing else. Or nothing was sent or read,
--- because no bytes are such a line or memory ran out. Or a beginning of the line was sent, a write failed, and nothing
--- was read. Or it was sent, whatever came.
+-- so it was with the line of the order
 abbrev pub AsksHeard : Account → Account → Option (List ℕ) → Option (List ℕ) → ℕ → ℕ → Ordered → Result Outcome Untold
     → Type 0
-AsksHeard came came_new written written_new failed failed_new o (Ok told) =
-    (sent : List ℕ) × IsLineOf sent o × Appends written written_new sent × Gives came came_new (line_of told)
-AsksHeard came came_new written written_new failed failed_new o (Err Words) =
-    HasNoLine o × (written_new ≡ written) × (came_new ≡ came)
-AsksHeard came came_new written written_new failed failed_new o (Err Memory) =
-    (written_new ≡ written) × (came_new ≡ came)
-AsksHeard came came_new written written_new failed failed_new o (Err Io) =
-    (sent : List ℕ) × IsLineOf sent o × ((WritesBeginning written written_new sent × (failed < failed_new)
-    × (came_new ≡ came)) ⊎ Appends written written_new sent)
+AsksHeard = OrderGets HearsOutcome
+
+-- The line of the order was sent. Or nothing was sent, because no bytes are such a line or memory ran out. Or a
+-- beginning of the line was sent, and a write failed.
+abbrev pub IsSent : Option (List ℕ) → Option (List ℕ) → ℕ → ℕ → Ordered → Result (Unit {0}) Untold → Type 0
+IsSent written written_new failed failed_new o (Ok u) =
+    (sent : List ℕ) × IsLineOf sent o × Appends written written_new sent
+IsSent written written_new failed failed_new o (Err Words) = HasNoLine o × (written_new ≡ written)
+IsSent written written_new failed failed_new o (Err Memory) = written_new ≡ written
+IsSent written written_new failed failed_new o (Err Io) =
+    (sent : List ℕ) × IsLineOf sent o × WritesBeginning written written_new sent × (failed < failed_new)

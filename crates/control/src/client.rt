@@ -1,11 +1,11 @@
 //! The operator's side.
 ghost use Rattle.std.specs.Prelude.{◌≡◌, IfOk, IfErr, IfSome, string_bytes};
 ghost use Rattle.histories.specs.Account.{Gives};
-ghost use Rattle.orders.specs.Order.{IsLineOf, Catalog, Stop, line_for, ordered};
+ghost use Rattle.orders.specs.Order.{IsLineOf, ListOf, Ping, Stop, line_for, ordered};
 ghost use Rattle.orders.specs.Outcome.{line_of};
-ghost use Rattle.control.specs.Asking.{Asks, AsksHeard, SendsHeard};
-ghost use Rattle.control.specs.Asking.{AsksForCatalog, AsksForHealth, AsksForList, AsksToStop};
-ghost use Rattle.control.specs.Asking.{IsUnwritten, Sends, TellsOutcome, TellsHealth, TellsList, IsTold, TellsBytes};
+ghost use Rattle.control.specs.Asking.{Asks, AsksForHealth, AsksForList, AsksHeard, AsksToStop, HearsHealth};
+ghost use Rattle.control.specs.Asking.{HearsList, IsSent, IsTold, IsUnwritten, LineGets, Sends, SendsHeard};
+ghost use Rattle.control.specs.Asking.{TellsBytes, TellsHealth, TellsList, TellsOutcome};
 ghost use Rattle.control.specs.Told.{bytes_told};
 
 use crate::health::health_line_in;
@@ -87,8 +87,11 @@ pub fn ask_for_health<R: Hear, W: Tell>(
     reader: &mut R,
     writer: &mut W,
 ) -> Result<Told, Untold>
-    ensures { AsksForHealth (R.remaining reader.old) (R.remaining reader.new)
+    ensures asks { AsksForHealth (R.remaining reader.old) (R.remaining reader.new)
         (W.contents writer.old) (W.contents writer.new) result }
+    // So it is by what came, which need not be known before.
+    ensures heard { LineGets HearsHealth (R.account reader.old) (R.account reader.new) (W.contents writer.old)
+        (W.contents writer.new) (W.writes writer.old).failed (W.writes writer.new).failed (line_for Ping) result }
 {
     match write_bytes(writer, ping_line().as_bytes()) {
         Ok(()) => hear_health(alloc, reader),
@@ -104,8 +107,12 @@ pub fn ask_for_list<R: Hear, W: Tell>(
     writer: &mut W,
     listing: Listing,
 ) -> Result<Result<Bytes, Outcome>, Untold>
-    ensures { AsksForList (R.remaining reader.old) (R.remaining reader.new)
+    ensures asks { AsksForList (R.remaining reader.old) (R.remaining reader.new)
         (W.contents writer.old) (W.contents writer.new) listing result }
+    // So it is by what came, which need not be known before.
+    ensures heard { LineGets HearsList (R.account reader.old) (R.account reader.new) (W.contents writer.old)
+        (W.contents writer.new) (W.writes writer.old).failed (W.writes writer.new).failed
+        (line_for (ListOf listing)) result }
 {
     match write_bytes(writer, listing.line().as_bytes()) {
         Ok(()) => hear_list(alloc, reader),
@@ -113,14 +120,15 @@ pub fn ask_for_list<R: Hear, W: Tell>(
     }
 }
 
-/// Asks for the catalog of a key. What comes then are its lines, and behind them the line of an outcome.
+/// Sends an order, of which the reply is still to be read.
 ///
-/// `Untold::Words`: no line can carry the key, and so nobody has it. `Untold::Memory`: memory ran out for the line. In
-/// both cases nothing was sent. `Untold::Io`: the line was not sent whole.
-pub fn ask_for_catalog<W: Tell>(alloc: Global, writer: &mut W, key: &str) -> Result<(), Untold>
-    ensures { AsksForCatalog (W.contents writer.old) (W.contents writer.new) key.now result }
+/// `Untold::Words`: the order has no line. `Untold::Memory`: memory ran out for the line. In both cases nothing was
+/// sent. `Untold::Io`: the line was not sent whole.
+pub fn send_order<W: Tell>(alloc: Global, writer: &mut W, order: &Order) -> Result<(), Untold>
+    ensures { IsSent (W.contents writer.old) (W.contents writer.new)
+        (W.writes writer.old).failed (W.writes writer.new).failed (ordered order.now) result }
 {
-    let line = line_to_send(alloc, &Order::Catalog(key))?;
+    let line = line_to_send(alloc, order)?;
     match write_bytes(writer, line.as_bytes()) {
         Ok(()) => Ok(()),
         Err(_) => Err(Untold::Io),
@@ -171,7 +179,8 @@ fn hear_outcome<R: Hear>(alloc: Global, reader: &mut R) -> Result<Outcome, Untol
 
 /// Reads the lines of a health to their end, or the line of an outcome.
 fn hear_health<R: Hear>(alloc: Global, reader: &mut R) -> Result<Told, Untold>
-    ensures { TellsHealth (R.remaining reader.old) (R.remaining reader.new) result }
+    ensures tells { TellsHealth (R.remaining reader.old) (R.remaining reader.new) result }
+    ensures heard { IfOk result (λ told. HearsHealth (R.account reader.old) (R.account reader.new) told) }
 {
     let Ok(got) = read_all(alloc, reader) else {
         return Err(Untold::Io);
@@ -184,7 +193,8 @@ fn hear_health<R: Hear>(alloc: Global, reader: &mut R) -> Result<Told, Untold>
 
 /// Reads a list to its end, or the line of an outcome.
 fn hear_list<R: Hear>(alloc: Global, reader: &mut R) -> Result<Result<Bytes, Outcome>, Untold>
-    ensures { TellsList (R.remaining reader.old) (R.remaining reader.new) result }
+    ensures tells { TellsList (R.remaining reader.old) (R.remaining reader.new) result }
+    ensures heard { IfOk result (λ told. HearsList (R.account reader.old) (R.account reader.new) told) }
 {
     let Ok(got) = read_all(alloc, reader) else {
         return Err(Untold::Io);

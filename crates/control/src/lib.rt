@@ -12,7 +12,7 @@
 //! | room on the disk, so that an order can be carried out once it is full | [`KeepsRoom`], [`Reserve`] |
 //! | the socket | [`operators_at`], [`remove_socket`] |
 //! | the operator's side | [`ask`], [`ask_to_stop`] |
-//! | what it asks to be told | [`ask_for_health`], [`ask_for_list`], [`ask_for_catalog`], [`read_all`] |
+//! | what it asks to be told | [`ask_for_health`], [`ask_for_list`], [`send_order`], [`hear_on`], [`read_all`] |
 #![tactic(auto)]
 
 mod calendar;
@@ -49,11 +49,11 @@ mod watched;
 pub use calendar::Calendar;
 pub use callers::{Caller, Callers, Obeyed, Operator};
 pub use carry::{carry_out, carry_out_in};
-pub use client::{Untold, ask, ask_for_catalog, ask_for_health, ask_for_list, ask_to_stop};
+pub use client::{Untold, ask, ask_for_health, ask_for_list, ask_to_stop, send_order};
 pub use copies::{CatalogRefusal, Copies, CopyOrders, CopyRefusal};
 pub use doors::{Doors, SystemCaller, SystemOperator};
 pub use health::{Figures, Health};
-pub use line::{Unread, read_all};
+pub use line::{Came, Unread, hear_on, read_all};
 pub use notice::{Notice, ended, opened, reserved};
 pub use reserve::{KeepsRoom, Reserve, Room, RoomDeed};
 pub use serve::serve_both;

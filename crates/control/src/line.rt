@@ -7,7 +7,7 @@ ghost use Rattle.control.specs.Line as spec;
 use histories::Hear;
 use orders::LONGEST_LINE;
 use std::alloc::{AllocError, Global};
-use std::io::ErrorKind;
+use std::io::{self, ErrorKind};
 
 /// The most reads of one line, interrupted ones included.
 const TRIES: u32 = 1_000;
@@ -112,6 +112,44 @@ fn read_more<R: Hear>(reader: &mut R, got: &mut Vec<u8>) -> Result<bool, Unread>
         Err(e) if e.kind() == ErrorKind::Interrupted => Ok(false),
         Err(_) => Err(Unread::Io),
     }
+}
+
+/// What a read of a line came to.
+#[derive(Clone, Copy, Debug, Drop, PartialEq, Eq)]
+pub enum Came {
+    /// The line has its end, or is too long, or the stream has ended.
+    Line,
+    /// More has to be read.
+    Part,
+    /// Nothing came in time, or the read was interrupted: Linux interrupts a read whose wait is bounded once its process
+    /// was stopped and goes on.
+    Nothing,
+}
+
+/// Reads once, after what was read. Fails with `Io` if the read fails otherwise than for want of time, and with
+/// `Memory` if memory runs out.
+pub fn hear_on<R: Hear>(reader: &mut R, got: &mut Vec<u8>) -> Result<Came, Unread>
+    ensures { IfOk result (λ _.
+        spec.ReadsMore (R.account reader.old) (R.account reader.new) got.old.items got.new.items) }
+{
+    let mut chunk = [0; LONGEST_LINE + 1];
+    match reader.hear(&mut chunk) {
+        Ok(0) => Ok(Came::Line),
+        Ok(n) => {
+            got.extend_from_slice(&chunk[..n])?;
+            Ok(if is_enough(got, LONGEST_LINE) { Came::Line } else { Came::Part })
+        }
+        Err(e) if is_late(&e) => Ok(Came::Nothing),
+        Err(_) => Err(Unread::Io),
+    }
+}
+
+/// Whether a read failed because nothing came in time, or was interrupted.
+fn is_late(error: &io::Error) -> bool {
+    matches!(
+        error.kind(),
+        ErrorKind::WouldBlock | ErrorKind::TimedOut | ErrorKind::Interrupted
+    )
 }
 
 /// Whether a line ends in these bytes, or would be too long.

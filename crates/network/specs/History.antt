@@ -1,11 +1,20 @@
 -- What was done at sockets.
-use Rattle.std.specs.Prelude.{ℕ, ◌≡◌, List, [], ◌∷◌, ◌++◌}
+use Rattle.std.specs.Prelude.{ℕ, ◌≡◌, List, [], ◌∷◌, ◌++◌, All, IfSome, Option, Some, None}
 use Rattle.network.specs.declared.deed.Deed.{Deed}
 use Rattle.network.specs.declared.deed.Deed.TheVariants.{Connected, Unconnected, Ended}
 
 -- a deed, with the path of its socket, or with none for the end of a connection
 abbrev pub Done : Type 0 → Type 0
 Done L = List ℕ × Deed L
+
+-- what is done where the server of a path is asked once: it could not be connected to, or this is left of the connection
+abbrev pub deeds_of : {L : Type 0} → List ℕ → Option L → List (Done L)
+deeds_of path None = (path, Unconnected) ∷ []
+deeds_of path (Some link) = (path, Connected) ∷ ([], Ended link) ∷ []
+
+abbrev pub deeds_between : {L : Type 0} → List ℕ → List (Option L) → List (Done L)
+deeds_between path [] = []
+deeds_between path (asked ∷ more) = deeds_of path asked ++ deeds_between path more
 
 -- A span of a history: what was done before it and after it.
 module _ {L : Type 0} (before after : List (Done L)) where
@@ -23,3 +32,12 @@ module _ {L : Type 0} (before after : List (Done L)) where
     pub link : L
     pub passes : Passes link
     pub done : after ≡ before ++ (path, Connected) ∷ ([], Ended link) ∷ []
+
+  -- So it was; meanwhile the server of this path was asked in between, each time over a connection of its own, over which
+  -- this passed, or it could not be connected to.
+  pub record CallsMeanwhile (path : List ℕ) (Passes PassesBetween : L → Type 0) : Type 0 where
+    pub link : L
+    pub passes : Passes link
+    pub between : List (Option L)
+    pub each : All (λ asked. IfSome asked PassesBetween) between
+    pub done : after ≡ before ++ (path, Connected) ∷ (deeds_between path between ++ ([], Ended link) ∷ [])

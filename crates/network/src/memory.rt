@@ -3,7 +3,7 @@ ghost use Rattle.std.specs.Prelude.{◌≡◌, [], ◌∷◌, ◌++◌};
 ghost use Rattle.network.specs.declared.deed.Deed.TheVariants.{Ended};
 
 use crate::deed::Deed;
-use crate::servers::{Link, Servers};
+use crate::servers::{Link, Servers, Wait};
 use histories::{Hearing, Telling};
 use std::alloc::Global;
 use std::io::{self, ErrorKind};
@@ -35,7 +35,11 @@ impl<'a> MemoryServers<'a> {
 impl<'a> Servers<Hearing<&'a [u8]>, Telling<Vec<u8>>> for MemoryServers<'a> {
     ghost history = { λ s. s.noted.deeds };
 
-    fn connect(&mut self, path: &str) -> io::Result<Link<Hearing<&'a [u8]>, Telling<Vec<u8>>>> {
+    fn connect(
+        &mut self,
+        path: &str,
+        _wait: Wait,
+    ) -> io::Result<Link<Hearing<&'a [u8]>, Telling<Vec<u8>>>> {
         if path == self.path {
             self.noted.note(path.as_bytes(), &Deed::Connected);
             return Ok(Link {

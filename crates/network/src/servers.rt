@@ -2,6 +2,17 @@
 use histories::{Hear, Tell};
 use std::io;
 
+/// How long a read from a server waits.
+#[derive(Clone, Copy, Debug, Drop, PartialEq, Eq)]
+pub enum Wait {
+    /// At most a second.
+    Second,
+    /// At most a minute. One connection of a peer holds the server at most half as long.
+    Minute,
+    /// As long as it takes.
+    Unbounded,
+}
+
 /// A connection to a server, with both its ends.
 #[derive(Drop)]
 pub struct Link<R, W> {
@@ -23,9 +34,9 @@ pub trait Servers<R: Hear, W: Tell> {
     /// What was done so far, the oldest first.
     ghost history: { Self → List (Done (Link R W)) };
 
-    /// Connects to the server that listens at a path. Each read from it waits at most a minute. Fails if nobody listens
-    /// there, or if the system refuses the connection.
-    fn connect(&mut self, path: &str) -> io::Result<Link<R, W>>
+    /// Connects to the server that listens at a path. Each read from it waits so long. Fails if nobody listens there, or
+    /// if the system refuses the connection.
+    fn connect(&mut self, path: &str, wait: Wait) -> io::Result<Link<R, W>>
         ensures connected { IfOk result (λ _. history self.new ≡ history self.old ++ (path.now, Connected) ∷ []) }
         // Nothing has passed over it.
         ensures fresh { IfOk result (λ link. IsUnused (R.account link.reader) (W.contents link.writer)) }

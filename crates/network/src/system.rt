@@ -5,16 +5,13 @@ ghost use Rattle.histories.specs.Calls.{no_reads, no_writes};
 ghost use Rattle.network.specs.declared.deed.Deed.TheVariants.{Ended};
 
 use crate::deed::Deed;
-use crate::servers::{Link, Servers};
+use crate::servers::{Link, Servers, Wait};
 use histories::{Hear, Hearing, Tell, Telling};
 use std::io::{self, Write};
 use std::os::unix::net::UnixStream;
 use std::rt::HostRuntime;
 use std::time::Duration;
 use store_files::record::Record;
-
-/// The seconds that a read waits. One connection of a peer holds the server at most half as long.
-const LONGEST_WAIT: u64 = 60;
 
 /// A connection to a server of the system.
 pub type SystemLink = Link<Hearing<UnixStream>, Telling<UnixStream>>;
@@ -42,8 +39,8 @@ impl<'a> SystemServers<'a> {
 impl<'a> Servers<Hearing<UnixStream>, Telling<UnixStream>> for SystemServers<'a> {
     ghost history = { λ s. s.noted.deeds };
 
-    fn connect(&mut self, path: &str) -> io::Result<SystemLink> {
-        match link_to(self.rt, path) {
+    fn connect(&mut self, path: &str, wait: Wait) -> io::Result<SystemLink> {
+        match link_to(self.rt, path, wait) {
             Ok(link) => {
                 self.noted.note(path.as_bytes(), &Deed::Connected);
                 Ok(link)
@@ -62,15 +59,16 @@ impl<'a> Servers<Hearing<UnixStream>, Telling<UnixStream>> for SystemServers<'a>
     }
 }
 
-/// Connects to a path, and returns both ends, over which nothing has passed. Fails as `server_at` does, or if the
-/// system has no second handle.
-fn link_to(rt: &HostRuntime, path: &str) -> io::Result<SystemLink>
+/// Connects to the server that listens at a path, and returns both ends of the connection, over which nothing has
+/// passed. Fails if nobody listens there, or if the system refuses the connection, its wait or a second handle of it.
+fn link_to(rt: &HostRuntime, path: &str, wait: Wait) -> io::Result<SystemLink>
     ensures fresh { IfOk result (λ link. IsUnused (⟦<Hearing<UnixStream> as Hear>⟧.account link.reader)
         (⟦<Telling<UnixStream> as Write>⟧.contents link.writer)) }
     ensures uncalled { IfOk result (λ link. (⟦<Hearing<UnixStream> as Hear>⟧.reads link.reader ≡ no_reads)
         × (⟦<Telling<UnixStream> as Tell>⟧.writes link.writer ≡ no_writes)) }
 {
-    let stream = server_at(rt, path)?;
+    let stream = UnixStream::connect(rt, path)?;
+    stream.set_read_timeout(longest(wait))?;
     let writer = stream.try_clone()?;
     Ok(Link {
         reader: Hearing::new(stream),
@@ -78,10 +76,11 @@ fn link_to(rt: &HostRuntime, path: &str) -> io::Result<SystemLink>
     })
 }
 
-/// Connects to the server that listens at a socket, and returns the connection. Each read from it waits at most a
-/// minute. Fails if nobody listens there, or if the system refuses the connection.
-pub fn server_at(rt: &HostRuntime, path: &str) -> io::Result<UnixStream> {
-    let server = UnixStream::connect(rt, path)?;
-    server.set_read_timeout(Some(Duration::from_secs(LONGEST_WAIT)))?;
-    Ok(server)
+/// Returns the longest time of a wait, or None if it has none.
+fn longest(wait: Wait) -> Option<Duration> {
+    match wait {
+        Wait::Second => Some(Duration::from_secs(1)),
+        Wait::Minute => Some(Duration::from_secs(60)),
+        Wait::Unbounded => None,
+    }
 }

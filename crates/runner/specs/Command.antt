@@ -9,11 +9,11 @@ use Rattle.world.specs.declared.entry.Right.{Right}
 use Rattle.commands.specs.Opening.{AnsweredFor}
 use Rattle.network.specs.History as network
 use Rattle.commands.specs.Connection.{Passed}
-use Rattle.commands.specs.Order.{CopiesThere, OrdersTo, RevokesTo, StopsTo}
-use Rattle.commands.specs.Listing.{ListsThere}
+use Rattle.commands.specs.Order.{CopiesTo, OrdersTo, RevokesTo, StopsTo}
+use Rattle.commands.specs.Listing.{ListsTo}
 use Rattle.commands.specs.NewKey.{OrdersNew}
-use Rattle.commands.specs.Ping.{PingsThere}
-use Rattle.commands.specs.ServedCatalog.{CatalogsThere}
+use Rattle.commands.specs.Ping.{PingsTo}
+use Rattle.commands.specs.ServedCatalog.{CatalogsTo}
 use Rattle.commands.specs.Action.{acceptance}
 use Rattle.commands.specs.declared.refusal.CommandRefusal.{CommandRefusal}
 use Rattle.orders.specs.declared.listing.Listing.{Listing}
@@ -36,26 +36,17 @@ module _ (came came_new : Account) (written written_new : Option (List ℕ)) (re
     pub does : done ended
     pub tells : TellsAlone came came_new written written_new result (acceptance ended)
 
-  -- a running `serve` was ordered to add a key that was made, and the key printed, no store was opened, and nothing read
-  pub record OrdersNewAlone (shelf : Bor (List ℕ)) (right : Right) : Type 0 where
+  -- this was done, which says what was printed and how it ended, and nothing was read
+  pub record PrintsAlone (done : Option (List ℕ) → Option (List ℕ) → Result Bool CommandRefusal → Type 0) : Type 0 where
+    pub does : done written written_new result
+    pub input : came_new ≡ came
+
+  -- so it was with an end that has no output of its own
+  pub record EndsPrinting (done : Option (List ℕ) → Option (List ℕ) → Result (Unit {0}) CommandRefusal → Type 0)
+      : Type 0 where
     pub ended : Result (Unit {0}) CommandRefusal
-    pub orders : OrdersNew shelf right written written_new ended
+    pub does : done written written_new ended
     pub tells : result ≡ acceptance ended
-    pub input : came_new ≡ came
-
-  -- a running `serve` was asked for its health, which was printed, no store was opened, and nothing was read
-  pub record PingsAlone : Type 0 where
-    pub pings : PingsThere written written_new result
-    pub input : came_new ≡ came
-
-  -- a running `serve` was asked for a list, which was printed, no store was opened, and nothing was read
-  pub record ListsAlone (listing : Listing) : Type 0 where
-    pub lists : ListsThere listing written written_new result
-    pub input : came_new ≡ came
-
-  -- a running `serve` was asked for the catalog of a key, which was printed, no store was opened, and nothing was read
-  pub record CatalogsAlone (key : List ℕ) : Type 0 where
-    pub catalogs : CatalogsThere key written written_new result
     pub input : came_new ≡ came
 
 module _ {S C : Type 0} (acts : Deeds S) (state_of : C → State) (shown : S → Shown)
@@ -94,12 +85,17 @@ module _ {S C : Type 0} (acts : Deeds S) (state_of : C → State) (shown : S →
   Runs (command.Order control command) =
       Alone (OrdersTo all connected connected_new control.now command) × IsOnNone
   Runs (command.OrderNew control shelf right) =
-      OrdersNewAlone came came_new written written_new result shelf right × IsOnNone
+      EndsPrinting came came_new written written_new result
+      (OrdersNew all control.now connected connected_new shelf right) × IsOnNone
   Runs (command.OrderNamed control fingerprint) =
       Alone (RevokesTo all connected connected_new control.now fingerprint.now) × IsOnNone
-  Runs (command.Copy control to) = Alone (CopiesThere to.now) × IsOnNone
-  Runs (command.Ping control) = PingsAlone came came_new written written_new result × IsOnNone
-  Runs (command.List control listing) = ListsAlone came came_new written written_new result listing × IsOnNone
+  Runs (command.Copy control to) = Alone (CopiesTo all connected connected_new control.now to.now) × IsOnNone
+  Runs (command.Ping control) =
+      PrintsAlone came came_new written written_new result (PingsTo all connected connected_new control.now) × IsOnNone
+  Runs (command.List control listing) =
+      PrintsAlone came came_new written written_new result (ListsTo all connected connected_new control.now listing)
+      × IsOnNone
   Runs (command.Catalog control key) =
-      CatalogsAlone came came_new written written_new result key.now × IsOnNone
+      PrintsAlone came came_new written written_new result (CatalogsTo all connected connected_new control.now key.now)
+      × IsOnNone
   Runs (command.Stop control) = Alone (StopsTo all connected connected_new control.now) × IsOnNone

@@ -12,16 +12,12 @@ use crate::older_files::OlderFiles;
 use crate::system::SystemStoreFiles;
 use commands::action::{Action, act_on};
 use commands::files::{is_empty_file, is_missing_or_empty, is_same_file};
-use commands::listing::list_at;
 use commands::new_key::order_new_at;
-use commands::order::copy_at;
-use commands::ping::ping_at;
 use commands::progress::StderrLine;
 use commands::refusal::CommandRefusal;
-use commands::served_catalog::catalog_at;
 use file_action::host::ActionHost;
 use histories::{Hear, Tell};
-use orders::Listing;
+use network::servers::Servers;
 use sqlite::Alter;
 use sqlite_trees::store::Store;
 use std::alloc::Global;
@@ -38,11 +34,8 @@ use world::shelves::Shelves;
 pub trait Host<S, C>: ActionHost<S> + FileChecks {
     ghost use Rattle.std.specs.Prelude.{map as each};
     ghost use Rattle.sqlite.specs.State.{State};
-    ghost use Rattle.commands.specs.Order.{CopiesThere};
-    ghost use Rattle.commands.specs.Listing.{ListsThere};
+    ghost use Rattle.commands.specs.Connection.{IsAll};
     ghost use Rattle.commands.specs.NewKey.{OrdersNew};
-    ghost use Rattle.commands.specs.Ping.{PingsThere};
-    ghost use Rattle.commands.specs.ServedCatalog.{CatalogsThere};
     ghost use Rattle.runner.specs.Extract.{ExtractsFile};
     ghost use Rattle.runner.specs.Migrate.{MigratesFile};
     ghost use Rattle.world.specs.Store.{Shown};
@@ -86,40 +79,18 @@ pub trait Host<S, C>: ActionHost<S> + FileChecks {
             from.now to.now result };
 
     /// Makes a key, sends an order to add it to a running `serve`, and prints it. Fails as [`order_new_at`] does.
-    fn order_new<O: Tell>(
+    fn order_new<R: Hear, U: Tell, V: Servers<R, U>, O: Tell>(
         &mut self,
+        servers: &mut V,
         control: &str,
         shelf: &str,
         right: Right,
         output: &mut O,
     ) -> Result<(), CommandRefusal>
-        ensures { OrdersNew shelf.entry right (O.contents output.old) (O.contents output.new) result };
-
-    /// Has a running `serve` copy its store into a file. Fails as [`copy_at`] does.
-    fn copy(&mut self, control: &str, to: &str) -> Result<(), CommandRefusal>
-        ensures { CopiesThere to.now result };
-
-    /// Asks a running `serve` for its health, and prints it. Fails as [`ping_at`] does.
-    fn ping<O: Tell>(&mut self, control: &str, output: &mut O) -> Result<bool, CommandRefusal>
-        ensures { PingsThere (O.contents output.old) (O.contents output.new) result };
-
-    /// Asks a running `serve` for a list, and prints it. Fails as [`list_at`] does.
-    fn list<O: Tell>(
-        &mut self,
-        control: &str,
-        listing: Listing,
-        output: &mut O,
-    ) -> Result<bool, CommandRefusal>
-        ensures { ListsThere listing (O.contents output.old) (O.contents output.new) result };
-
-    /// Asks a running `serve` for the catalog of a key, and prints it. Fails as [`catalog_at`] does.
-    fn catalog<O: Tell>(
-        &mut self,
-        control: &str,
-        key: &str,
-        output: &mut O,
-    ) -> Result<bool, CommandRefusal>
-        ensures { CatalogsThere key.now (O.contents output.old) (O.contents output.new) result };
+        ensures { OrdersNew
+            (λ link passed. IsAll (R.account link.reader) (U.contents link.writer) (U.writes link.writer).failed passed)
+            control.now (V.history servers.old) (V.history servers.new) shelf.entry right
+            (O.contents output.old) (O.contents output.new) result };
 }
 
 /// The system.
@@ -224,40 +195,15 @@ impl<'a> Host<OpenedStore, ClosedFile> for SystemHost<'a> {
         migrate_file(self.rt.alloc(), self, older, targets, from, to)
     }
 
-    fn order_new<O: Tell>(
+    fn order_new<R: Hear, U: Tell, V: Servers<R, U>, O: Tell>(
         &mut self,
+        servers: &mut V,
         control: &str,
         shelf: &str,
         right: Right,
         output: &mut O,
     ) -> Result<(), CommandRefusal> {
-        order_new_at(self.rt, control, shelf, right, output)
-    }
-
-    fn copy(&mut self, control: &str, to: &str) -> Result<(), CommandRefusal> {
-        copy_at(self.rt, control, to)
-    }
-
-    fn ping<O: Tell>(&mut self, control: &str, output: &mut O) -> Result<bool, CommandRefusal> {
-        ping_at(self.rt, control, output)
-    }
-
-    fn list<O: Tell>(
-        &mut self,
-        control: &str,
-        listing: Listing,
-        output: &mut O,
-    ) -> Result<bool, CommandRefusal> {
-        list_at(self.rt, control, listing, output)
-    }
-
-    fn catalog<O: Tell>(
-        &mut self,
-        control: &str,
-        key: &str,
-        output: &mut O,
-    ) -> Result<bool, CommandRefusal> {
-        catalog_at(self.rt, control, key, output)
+        order_new_at(self.rt, servers, control, shelf, right, output)
     }
 }
 

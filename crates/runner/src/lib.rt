@@ -47,9 +47,13 @@ pub mod temporary_files;
 use crate::host::Host;
 use crate::older_files::OlderFiles;
 use commands::action::{Action, acceptance};
+use commands::copy::copy_at;
+use commands::listing::list_at;
 use commands::memory::answer_in_memory;
 use commands::order::{order_at, revoke_at, stop_at};
+use commands::ping::ping_at;
 use commands::refusal::CommandRefusal;
+use commands::served_catalog::catalog_at;
 use file_action::{init, on_file};
 use histories::{Hear, Tell};
 use network::servers::Servers;
@@ -137,10 +141,10 @@ pub enum Command<'a> {
 /// By `files` it looks once whether the file of an `init` has bytes, and opens the store of a command; by `targets` it
 /// opens the new store of an `extract` or a `migrate`, and by `older` a copy of an older store: each file of the
 /// command once, and it closes a store in the state that the command left it in. Neither this function nor `host` does
-/// anything else by them. By `servers` it connects to the `serve` of a registry command, of a revocation by fingerprint
-/// and of `stop`: once, to the socket of the command, and nothing passes over that connection but the line of the order
-/// and that of its outcome. An action is done by `host`, and so are checks, copies and whatever prints the answer of a
-/// `serve`.
+/// anything else by them. By `servers` it connects to the `serve` of a command with `--control`: once, to the socket of
+/// the command, and nothing passes over that connection but the line of the order and what comes of it, which decides
+/// what is printed and how the command ends. `key-add --new` sends a second order if it can't print the key, and a
+/// `copy` asks how far it is, over connections of their own. An action is done by `host`, and so are checks.
 pub fn run<S, C, H, F, G, Q, R, U, V, I, W>(
     host: &mut H,
     files: &mut F,
@@ -188,15 +192,22 @@ where
             control,
             shelf,
             right,
-        } => acceptance(host.order_new(control, shelf, *right, output)),
+        } => acceptance(host.order_new(servers, control, shelf, *right, output)),
         Command::OrderNamed {
             control,
             fingerprint,
         } => acceptance(revoke_at(host.alloc(), servers, control, fingerprint)),
-        Command::Copy { control, to } => acceptance(host.copy(control, to)),
-        Command::Ping { control } => host.ping(control, output),
-        Command::List { control, listing } => host.list(control, *listing, output),
-        Command::Catalog { control, key } => host.catalog(control, key, output),
+        Command::Copy { control, to } => {
+            let line = host.line("copy");
+            acceptance(copy_at(host.alloc(), servers, control, to, line))
+        }
+        Command::Ping { control } => ping_at(host.alloc(), servers, control, output),
+        Command::List { control, listing } => {
+            list_at(host.alloc(), servers, control, *listing, output)
+        }
+        Command::Catalog { control, key } => {
+            catalog_at(host.alloc(), servers, control, key, output)
+        }
         Command::Stop { control } => acceptance(stop_at(host.alloc(), servers, control)),
     }
 }

@@ -6,7 +6,7 @@ use commands::report::print_inventory;
 use file_action::host::ActionHost;
 use histories::{Hear, Tell};
 use memory_store::map_shelves::MapShelves;
-use orders::{Listing, Order};
+use network::servers::Servers;
 use runner::file_checks::FileChecks;
 use runner::host::Host;
 use runner::older_files::OlderFiles;
@@ -17,8 +17,7 @@ use store_files::refusal::StoreRefusal;
 use world::entry::Right;
 use world::shelves::Shelves;
 
-/// A system that carries out registry commands, prints inventories, and neither extracts nor migrates. No `serve`
-/// copies or answers.
+/// A system that carries out registry commands, prints inventories, and neither extracts nor migrates.
 #[derive(Drop)]
 pub struct MemoryHost<'a> {
     pub rt: &'a HostRuntime,
@@ -108,47 +107,14 @@ impl<'a> Host<MapShelves, MapShelves> for MemoryHost<'a> {
         Err(CommandRefusal::NotEmpty)
     }
 
-    fn copy(&mut self, _control: &str, to: &str) -> Result<(), CommandRefusal> {
-        if Order::Copy(to).has_line() {
-            Err(CommandRefusal::Device)
-        } else {
-            Err(CommandRefusal::Name)
-        }
-    }
-
-    fn order_new<O: Tell>(
+    fn order_new<R: Hear, U: Tell, V: Servers<R, U>, O: Tell>(
         &mut self,
+        _servers: &mut V,
         _control: &str,
         _shelf: &str,
         _right: Right,
         _output: &mut O,
     ) -> Result<(), CommandRefusal> {
         Err(CommandRefusal::Io)
-    }
-
-    fn list<O: Tell>(
-        &mut self,
-        _control: &str,
-        _listing: Listing,
-        _output: &mut O,
-    ) -> Result<bool, CommandRefusal> {
-        Err(CommandRefusal::Device)
-    }
-
-    fn catalog<O: Tell>(
-        &mut self,
-        _control: &str,
-        key: &str,
-        _output: &mut O,
-    ) -> Result<bool, CommandRefusal> {
-        if Order::Catalog(key).has_line() {
-            Err(CommandRefusal::Device)
-        } else {
-            Err(CommandRefusal::NoKey)
-        }
-    }
-
-    fn ping<O: Tell>(&mut self, _control: &str, _output: &mut O) -> Result<bool, CommandRefusal> {
-        Err(CommandRefusal::Device)
     }
 }

@@ -41,9 +41,13 @@ migrate | shelves.db | | | not-empty
 order | shelves.db | alpha | | device
 order | serve.socket | alpha | | taken
 copy | shelves.db | | | device
+copy | serve.socket | | | io
 ping | shelves.db | | | device
+ping | serve.socket | | | io
 list | shelves.db | | | device
+list | serve.socket | | | io
 catalog | shelves.db | | alphakey00000001 | device
+catalog | serve.socket | | alphakey00000001 | io
 stop | shelves.db | | | device
 stop | serve.socket | | | io
 inventory | shelves.db | | alphakey00000001 | done

@@ -25,7 +25,7 @@ returns-in-OrderNamed g c = ran _ _ _ _ _ _ _ _ _ _ _ _ _ _ _ _ c.in-OrderNamed.
 
 pub returns-in-Copy : goal.returns-in-Copy
 returns-in-Copy g c = ran _ _ _ _ _ _ _ _ _ _ _ _ _ _ _ _ c.in-Copy.is
-    (alone _ _ _ _ c.copy.result c.copy.ensures c.acceptance-in-Copy.ensures, (refl, refl, refl))
+    (alone _ _ _ _ c.copy_at.result c.copy_at.ensures c.acceptance-in-Copy.ensures, (refl, refl, refl))
 
 pub returns-in-Stop : goal.returns-in-Stop
 returns-in-Stop g c = ran _ _ _ _ _ _ _ _ _ _ _ _ _ _ _ _ c.in-Stop.is
@@ -33,13 +33,13 @@ returns-in-Stop g c = ran _ _ _ _ _ _ _ _ _ _ _ _ _ _ _ _ c.in-Stop.is
 
 pub returns-in-Ping : goal.returns-in-Ping
 returns-in-Ping g c = ran _ _ _ _ _ _ _ _ _ _ _ _ _ _ _ _ c.in-Ping.is
-    (record { pings = c.ping.ensures; input = refl }, (refl, refl, refl))
+    (record { does = c.ping_at.ensures; input = refl }, (refl, refl, refl))
 
 pub returns-in-OrderNew : goal.returns-in-OrderNew
 returns-in-OrderNew g c = ran _ _ _ _ _ _ _ _ _ _ _ _ _ _ _ _ c.in-OrderNew.is (
   record {
     ended = c.order_new.result;
-    orders = c.order_new.ensures;
+    does = c.order_new.ensures;
     tells = c.acceptance-in-OrderNew.ensures;
     input = refl;
   },
@@ -48,11 +48,11 @@ returns-in-OrderNew g c = ran _ _ _ _ _ _ _ _ _ _ _ _ _ _ _ _ c.in-OrderNew.is (
 
 pub returns-in-List : goal.returns-in-List
 returns-in-List g c = ran _ _ _ _ _ _ _ _ _ _ _ _ _ _ _ _ c.in-List.is
-    (record { lists = c.list.ensures; input = refl }, (refl, refl, refl))
+    (record { does = c.list_at.ensures; input = refl }, (refl, refl, refl))
 
 pub returns-in-Catalog : goal.returns-in-Catalog
 returns-in-Catalog g c = ran _ _ _ _ _ _ _ _ _ _ _ _ _ _ _ _ c.in-Catalog.is
-    (record { catalogs = c.catalog.ensures; input = refl }, (refl, refl, refl))
+    (record { does = c.catalog_at.ensures; input = refl }, (refl, refl, refl))
 
 pub returns-in_ok-answer_in_memory-in-AnswerInMemory : goal.returns-in_ok-answer_in_memory-in-AnswerInMemory
 returns-in_ok-answer_in_memory-in-AnswerInMemory g c = ran _ _ _ _ _ _ _ _ _ _ _ _ _ _ _ _ c.in-AnswerInMemory.is (

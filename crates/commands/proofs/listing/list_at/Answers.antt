@@ -1,5 +1,11 @@
-use Rattle.std.proofs.Common.{inl}
+use Rattle.std.proofs.Common.{ap, inl}
+use Rattle.histories.specs.Calls.{Writes}
+use Rattle.network.proofs.HistoryLemmas.{called}
+use Rattle.commands.proofs.Connections.{lists_by}
 use Rattle.commands.proofs.listing.list_at.Goals as goal
 
 pub returns-in-Ok : goal.returns-in-Ok
-returns-in-Ok g c = inl (_, _, _, _, c.list_over.ensures.lists)
+returns-in-Ok g c = inl (called _ _ _ _ _ _
+    (lists_by _ _ _ _ _ _ c.in-Ok.ensures.fresh (ap (λ (w : Writes). w.failed) c.in-Ok.ensures.uncalled.1) _ _ _ _
+    c.list_over-ended.ensures.heard)
+    c.in-Ok.ensures.connected c.end.ensures)

@@ -1,4 +1,5 @@
-use Rattle.control.proofs.SendingLemmas.{asks_by, asks_heard}
+use Rattle.control.specs.Asking.{HearsOutcome}
+use Rattle.control.proofs.SendingLemmas.{asks_by, order_gets}
 use Rattle.control.proofs.client.ask.Goals as goal
 
 pub returns-clause-asks : goal.returns-clause-asks
@@ -7,4 +8,4 @@ returns-clause-asks g c =
 
 pub returns-clause-heard : goal.returns-clause-heard
 returns-clause-heard g c =
-    asks_heard _ _ _ _ _ _ _ _ _ c.in_ok-line.ensures.ok (rw c.as_bytes.ensures.value at c.send.ensures.heard)
+    order_gets HearsOutcome _ _ _ _ _ _ _ _ _ c.in_ok-line.ensures.ok (rw c.as_bytes.ensures.value at c.send.ensures.heard)

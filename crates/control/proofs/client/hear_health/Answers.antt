@@ -1,10 +1,17 @@
 use Rattle.control.proofs.AskingLemmas.{line_consumed}
+use Rattle.control.proofs.SendingLemmas.{line_heard}
 use Rattle.control.proofs.client.hear_health.Goals as goal
 
-pub returns-in-Some : goal.returns-in-Some
-returns-in-Some g c =
+pub returns-in-Some-clause-tells : goal.returns-in-Some-clause-tells
+returns-in-Some-clause-tells g c =
     let laws = g.met.R.Hear in (
       c.in-Some.ensures.told,
       line_consumed _ _ _ _ _ _ (laws.left_is c.args.reader.now) (laws.left_is c.read_all.new.reader)
           c.in-Ok.ensures (rw c.deref.ensures.value at c.in-Some.ensures.line),
     )
+
+pub returns-in-Some-clause-heard : goal.returns-in-Some-clause-heard
+returns-in-Some-clause-heard g c = (
+  c.in-Some.ensures.told,
+  line_heard _ _ _ _ (rw c.deref.ensures.value at c.in-Some.ensures.line) c.in-Ok.ensures,
+)

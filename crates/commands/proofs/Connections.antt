@@ -214,7 +214,7 @@ module _ (a b : Account) (w w' : Option (List ℕ)) (f f' : ℕ) (unused : IsUnu
       → StopsHeard a b w w' f f' result → (p : Passed) × IsAll b w' f' p × StopsBy result p
   stops_by result heard =
       let sent = order_gets HearsOutcome a b w w' f f' (line_for orders.Stop) orders.Stop heard.told stop_is_a_line
-          heard.asks in
+      heard.asks in
       let all = asks orders.Stop heard.told sent in (
         all.0,
         all.1,
@@ -242,7 +242,7 @@ module _ (a b : Account) (w w' : Option (List ℕ)) (f f' : ℕ) (unused : IsUnu
   lists_by listing printed printed_new result heard =
       let o = orders.ListOf listing in
       let all = passes HearsList TellsBytes (λ told hears. (hears.0, hears.2, hears.1)) o heard.told
-          (order_gets HearsList a b w w' f f' (line_for o) o heard.told (list_is_a_line listing) heard.asks) in (
+      (order_gets HearsList a b w w' f f' (line_for o) o heard.told (list_is_a_line listing) heard.asks) in (
         all.0,
         all.1,
         record { told = heard.told; exchanges = all.2; prints = heard.prints },

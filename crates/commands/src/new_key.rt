@@ -87,14 +87,14 @@ pub fn order_new<B: RandomBytes, R: Hear, W: Tell, V: Servers<R, W>, O: Tell>(
 ) -> Result<(), CommandRefusal>
     ensures orders { spec.OrdersDrawn
         (λ (link : Link R W) passed. IsAll
-            (R.account link.reader) (W.contents link.writer) (W.writes link.writer).failed passed)
+        (R.account link.reader) (W.contents link.writer) (W.writes link.writer).failed passed)
         path.now (V.history servers.old) (V.history servers.new) (B.drawn random.old) (B.drawn random.new)
         shelf.entry right (O.contents output.old) (O.contents output.new) result }
     // It ends with `Io` only if there are no random bytes, they make no key, a call of the output failed, or an order
     // ended so.
     ensures cause { spec.HasCause result (spec.HasNoKeyOrOrder
         (λ (link : Link R W) passed. IsAll
-            (R.account link.reader) (W.contents link.writer) (W.writes link.writer).failed passed)
+        (R.account link.reader) (W.contents link.writer) (W.writes link.writer).failed passed)
         path.now (B.drawn random.old) (B.drawn random.new) (O.writes output.old) (O.writes output.new)) }
     // What was printed is flushed.
     ensures flushed { OnOk result ((O.writes output.new).unflushed ≡ []) }
@@ -149,21 +149,31 @@ fn order_key<R: Hear, W: Tell, V: Servers<R, W>, O: Tell>(
 ) -> Result<(), CommandRefusal>
     ensures orders { spec.AddsKey (spec.Ordered
         (λ (link : Link R W) passed. IsAll
-            (R.account link.reader) (W.contents link.writer) (W.writes link.writer).failed passed)
+        (R.account link.reader) (W.contents link.writer) (W.writes link.writer).failed passed)
         path.now) shelf.entry right key.entry (V.history servers.old) (V.history servers.new)
         (O.contents output.old) (O.contents output.new) result }
     ensures cause { spec.HasCause result (spec.FailsOr (spec.EndsWithIo (spec.Ordered
         (λ (link : Link R W) passed. IsAll
-            (R.account link.reader) (W.contents link.writer) (W.writes link.writer).failed passed)
+        (R.account link.reader) (W.contents link.writer) (W.writes link.writer).failed passed)
         path.now)) (O.writes output.old) (O.writes output.new)) }
     ensures flushed { OnOk result ((O.writes output.new).unflushed ≡ []) }
 {
-    if let Err(refusal) = order_at(alloc, servers, path, &RegistryCommand::KeyAdd { shelf, key, right }) {
+    if let Err(refusal) = order_at(
+        alloc,
+        servers,
+        path,
+        &RegistryCommand::KeyAdd { shelf, key, right },
+    ) {
         return Err(refusal);
     }
     match print_both(key.as_bytes(), b"\n", output) {
         Ok(()) => Ok(()),
-        Err(_) => Err(unprinted(order_at(alloc, servers, path, &RegistryCommand::KeyRevoke { key }))),
+        Err(_) => Err(unprinted(order_at(
+            alloc,
+            servers,
+            path,
+            &RegistryCommand::KeyRevoke { key },
+        ))),
     }
 }
 

@@ -121,8 +121,8 @@ pub enum Came {
     Line,
     /// More has to be read.
     Part,
-    /// Nothing came in time, or the read was interrupted: Linux interrupts a read whose wait is bounded once its process
-    /// was stopped and goes on.
+    /// Nothing came in time, or the read was interrupted: Linux interrupts a read whose wait is bounded once its
+    /// process was stopped and goes on.
     Nothing,
 }
 
@@ -137,7 +137,11 @@ pub fn hear_on<R: Hear>(reader: &mut R, got: &mut Vec<u8>) -> Result<Came, Unrea
         Ok(0) => Ok(Came::Line),
         Ok(n) => {
             got.extend_from_slice(&chunk[..n])?;
-            Ok(if is_enough(got, LONGEST_LINE) { Came::Line } else { Came::Part })
+            Ok(if is_enough(got, LONGEST_LINE) {
+                Came::Line
+            } else {
+                Came::Part
+            })
         }
         Err(e) if is_late(&e) => Ok(Came::Nothing),
         Err(_) => Err(Unread::Io),

@@ -34,8 +34,8 @@ pub trait Servers<R: Hear, W: Tell> {
     /// What was done so far, the oldest first.
     ghost history: { Self → List (Done (Link R W)) };
 
-    /// Connects to the server that listens at a path. Each read from it waits so long. Fails if nobody listens there, or
-    /// if the system refuses the connection.
+    /// Connects to the server that listens at a path. Each read from it waits so long. Fails if nobody listens there,
+    /// or if the system refuses the connection.
     fn connect(&mut self, path: &str, wait: Wait) -> io::Result<Link<R, W>>
         ensures connected { IfOk result (λ _. history self.new ≡ history self.old ++ (path.now, Connected) ∷ []) }
         // Nothing has passed over it.

@@ -26,7 +26,7 @@ WORD = re.compile(r"[A-Za-z0-9._~/-]+")
 
 
 def versions_page(place, shelf, module, lines, read):
-    """The versions, the highest first. `read` has what was read of some."""
+    """The versions, the highest first. `read` returns what was read of a version."""
     told = [
         version_section(place, shelf, it, before_of(at, lines), read) for at, it in enumerate(lines[:VERSIONS_MOST])
     ]
@@ -47,11 +47,11 @@ def version_section(place, shelf, line, before, read):
     facts += [" · ", zip_link(place, line), " "]
     facts += [size(line.size), " · ", gomod_link(place, line.path, line.version)]
     get = html('<pre tabindex="0"><code>go get {}@{}</code></pre>\n', line.path, line.version)
-    found = read.get(line.version, {})
+    found = read(line.version)
     body = [html('<p class="facts">{}</p>\n', facts), get]
     if before:
         body.append(html("<h3>Changed since {}</h3>\n", before.version))
-        body.append(changes(place, shelf, line, before, found, read.get(before.version, {})))
+        body.append(changes(place, shelf, line, before, found, read(before.version)))
     if found.get("gomod"):
         body.append(gomod_of(place, shelf, line, found["gomod"]))
     return section(line.version, [line.version, marks], body)

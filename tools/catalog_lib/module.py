@@ -36,8 +36,9 @@ STATES = {
 }
 
 
-# the pages that are made of the zip of the latest version alone
-OF_ZIP = ("readme.html", "packages.html", "files.html")
+# what each page of a module is made of: the zip of its latest version, its versions and which modules are there, or also
+# what is to be said of these modules
+MADE_OF = {"readme.html": 0, "packages.html": 0, "files.html": 0, "versions.html": 1, "index.html": 2}
 
 
 def folder_of(module):
@@ -59,14 +60,14 @@ def files_of(module):
 
 
 def module_pages(place, shelf, module, names, read, files):
-    """Yields the pages of a module: the name of the file of each, and its content. `read` has what was read, by
-    versions, and `files` are those that are made."""
-    found = read.get(module.latest or module.highest, {})
+    """Yields the pages of a module: the name of the file of each, and its content. `read` returns what was read of a
+    version, and `files` are those that are made."""
+    shown = module.latest or module.highest
     bodies = {
         "index.html": lambda: overview(place, shelf, module, names, reasons_of(module, read)),
-        "readme.html": lambda: documents.readme_of(found),
-        "packages.html": lambda: documents.packages_of(module.path, found),
-        "files.html": lambda: documents.files_of(found),
+        "readme.html": lambda: documents.readme_of(read(shown)),
+        "packages.html": lambda: documents.packages_of(module.path, read(shown)),
+        "files.html": lambda: documents.files_of(read(shown)),
         "versions.html": lambda: changes.versions_page(place, shelf, module, shelf.lines(module)[::-1], read),
     }
     tabs = tuple((name, words) for name, words in TABS if name in files_of(module))
@@ -112,7 +113,7 @@ def reasons_of(module, read):
     """Why versions are retracted, by the go.mod of the highest: of each the first reason, as the go command says it."""
     if not module.retracted:
         return {}
-    ruling = gomod.read(read.get(module.highest, {}).get("gomod", ""))
+    ruling = gomod.read(read(module.highest).get("gomod", ""))
     found = {
         it: [why for why in ruling.reasons_of(it) if why]
         for it, is_retracted in module.versions.items()

@@ -96,14 +96,16 @@ class Sums:
         return self.taken.get(path, "")
 
     def of(self, module):
-        """Returns the sum of what the pages of its zip are made of, and that of its other pages."""
+        """Returns the sums of what its pages are made of, by `MADE_OF`: a zip, also its versions, and also others."""
         path, modules = module.path, self.shelf.modules
         marks = self.readings.marks_of(path)
-        own = f"{self.common}\n{path}\n{module.latest}\n{[(it, marks[it]) for it in module.about]}"
-        named = [face(modules[it]) if it in modules else it for it in sorted({*module.needs, *module.named.split(" ")})]
+        of_zip = f"{self.common}\n{path}\n{module.latest}\n{[(it, marks[it]) for it in module.about]}"
+        named = sorted({*module.needs, *module.named.split(" ")})
+        links = [it for it in named if it in modules]
+        of_versions = f"{of_zip}\n{module.sum}\n{links}\n{self.taken_of(path)}"
+        faces = [face(modules[it]) if it in modules else it for it in named]
         users = [f"{user.path} {user.latest} {user.needs[path]}" for user in self.shelf.requiring(path)]
-        rest = f"{own}\n{module.sum}\n{named}\n{users}\n{self.taken_of(path)}"
-        return sum_of(own), sum_of(rest)
+        return [sum_of(it) for it in (of_zip, of_versions, f"{of_versions}\n{faces}\n{users}")]
 
 
 def face(module):

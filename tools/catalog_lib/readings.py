@@ -1,6 +1,7 @@
 """Reads what the pages need of the modules of a shelf: the zips of a few versions of each."""
 import re
 from collections import namedtuple
+from functools import cache
 
 from catalog_lib import changes, godoc, gomod, reading
 from catalog_lib.checks import REPLACES_MOST
@@ -79,8 +80,9 @@ class Readings:
         return self.kept.marks_of(path) if self.kept else {}
 
     def of(self, module):
-        """What was read of a module, by its versions."""
-        return {version: self.kept.get(module.path, version) for version in module.about} if self.kept else {}
+        """A function that returns what was read of a version of a module, or {} if nothing was."""
+        versions = module.about
+        return cache(lambda it: self.kept.get(module.path, it) if it in versions else {})
 
     def words_of(self, module):
         """The words of the README of a module."""

@@ -3,7 +3,9 @@
 It is a module of JavaScript, so a page of another site that names it as a script gets an error, and none of its words.
 """
 import json
-from itertools import zip_longest
+from bisect import bisect_right
+from collections import Counter
+from itertools import chain
 
 from catalog_lib.text import shortened
 
@@ -68,29 +70,39 @@ def literal(text):
 
 def lines_of(modules):
     """The lines of the modules, with as much of what they are for, and of the names of packages, as fits."""
+    begins = begins_of(modules)
+    left = LINES_MOST - sum(map(len, begins))
     for cut in CUTS:
-        if cut == CUTS[-1] or least_length(modules, *cut) <= LINES_MOST:
-            made = joined(modules, *cut)
+        if cut == CUTS[-1] or least_length(modules, *cut) <= left:
+            made = joined(modules, begins, *cut)
             if len(literal(made)) <= LINES_MOST:
                 break
     return made
 
 
+def begins_of(modules):
+    """What each line begins with: the path, as far as it differs from the one before, and the latest version."""
+    found, before = [], ""
+    for module in modules:
+        shared = shared_by(before, module.path)
+        found.append(f"{base36(shared)}{module.path[shared:]}|{module.latest or ''}")
+        before = module.path
+    return found
+
+
 def least_length(modules, synopsis, packages):
-    """Returns a number of bytes that the lines exceed with these cuts."""
+    """Returns a number of bytes that the rest of the lines exceeds with these cuts."""
     return sum(min(len(it.synopsis), synopsis) + min(len(it.packages), packages) for it in modules)
 
 
-def joined(modules, synopsis, packages):
+def joined(modules, begins, synopsis, packages):
     """The lines, with synopses and names of packages of at most these letters. A synopsis, which may have any letter,
     stands last."""
-    lines, before = [], ""
-    for module in modules:
-        shared = shared_by(before, module.path)
+    lines = []
+    for begin, module in zip(begins, modules):
         words = shortened(module.synopsis, synopsis) if synopsis else ""
-        fields = base36(shared) + module.path[shared:], module.latest or "", module.packages[:packages], words
-        lines.append("|".join(fields) if words else "|".join(fields).rstrip("|"))
-        before = module.path
+        line = f"{begin}|{module.packages[:packages]}|{words}"
+        lines.append(line if words else line.rstrip("|"))
     return "\n".join(lines)
 
 
@@ -114,18 +126,16 @@ def base36(number):
 def rounds_that_fit(ranked, counts, left):
     """Returns how many words of each README fit into these bytes, as far as that is known before they are written."""
     lengths = {it: length_of(len(ranked), count) for it, count in counts.items()}
-    if sum(len(it) + 1 + count * lengths[it] for it, count in counts.items()) <= left:
-        return max(map(len, ranked), default=0)
-    known, rounds = {""}, 0
-    for found in zip_longest(*ranked, fillvalue=""):
-        fresh = set(found) - known
-        known |= fresh
+    longest = max(map(len, ranked), default=0)
+
+    def is_too_long(rounds):
+        found = counts if rounds == longest else Counter(chain.from_iterable(words[:rounds] for words in ranked))
         # (a word shares some letters with the one before)
-        left -= sum(map(len, fresh)) + len(fresh) + sum(map(lengths.get, filter(None, found)))
-        if left < 0:
-            break
-        rounds += 1
-    return rounds
+        return sum(len(it) + 1 + count * lengths[it] for it, count in found.items()) > left
+
+    if not is_too_long(longest):
+        return longest
+    return bisect_right(range(1, longest), False, key=is_too_long)
 
 
 def length_of(modules, count):

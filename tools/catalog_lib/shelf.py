@@ -12,7 +12,7 @@ RECENT, WEEK = timedelta(days=30), timedelta(days=7)
 # what the next run takes of a module as it is, and what it reads only if it makes a page of it
 KEPT = (
     *("path", "sum", "length", "count", "retracted", "latest", "newest", "named", "deprecated", "is_read", "taken"),
-    *("of_zip", "of_rest", "files", "row", "found", "synopsis", "packages", "words"),
+    *("made_of", "files", "row", "found", "synopsis", "packages", "words"),
 )
 DETAILS = ("versions", "time", "shelf", "requires", "needs", "times", "zips")
 
@@ -23,8 +23,8 @@ class Module:
     `sum` is that of its lines, which stand at `place` and have `length` bytes. It has `count` versions, of which some
     are `retracted`, and `newest` is the latest time of one. `named` has the paths that its go.mods name. `is_read` says
     whether each zip was there, and `deprecated` is what its go.mod says of that, or None. `taken` is the sum of what
-    the log says of it, `of_zip` and `of_rest` are those of what its pages are made of, and `files` are the pages. The
-    last five are what the pages of all modules show.
+    the log says of it, `made_of` has those of what its pages are made of, and `files` are the pages. The last five are
+    what the pages of all modules show.
 
     `versions` has each version, the lowest first, with whether it is retracted. `needs` has for each path that it
     requires a text: `REQUIRED VERSION OTHERS` for each required version, the highest version that requires it and how

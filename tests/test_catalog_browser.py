@@ -10,9 +10,11 @@ from urllib.parse import quote
 
 import pytest
 
+from catalog_lib import search
 from lib.browser import Page
-from lib.catalog_front import USERS, Visitors
+from lib.catalog_front import AT, USERS, Visitors
 from lib.catalog_store import EVIL
+from lib.catalog_words import modules_of
 from lib.catalog_zips import published
 from lib.peers import exchanged
 from lib.program import columns
@@ -70,7 +72,7 @@ class TestSearch:
         [
             ("lo", [LOG], "1 of 5 modules."),
             ("log exa", [LOG], "1 of 5 modules."),
-            ("log exax", [], "No module has all of these words."),
+            ("log exax", [LOG], "No module has all of these words; 1 of 5 modules has 1 of them."),
         ],
     )
     def test_what_is_typed_is_found(self, page: Page, typed: str, paths: list[str], sentence: str) -> None:
@@ -115,12 +117,21 @@ example.com/dbpool@v1.0.0 | example.com/dbpool | This is example.com/dbpool, ask
 go get example.com/DBPOOL@v1.0.0 | example.com/dbpool | This is example.com/dbpool, asked for at v1.0.0.
 "example.com/dbpool/nosuch" | example.com/dbpool | nosuch is below the path of example.com/dbpool.
 https://github.com/acme/web-middleware | github.com/acme/web-middleware | This is github.com/acme/web-middleware.
+keeps the connections | example.com/dbpool | 1 of 6 modules. Too common to count: the.
+“The walrus is in the README alone.” | github.com/acme/web-middleware | \
+1 of 6 modules. Too common to count: the, is, in, readme.
+connections walrus | example.com/dbpool github.com/acme/web-middleware | \
+No module has all of these words; 2 of 6 modules have 1 of them.
+ostrich | example.com/dbpool | 1 of 6 modules.
+github.com/acme/web-midleware | github.com/acme/web-middleware | \
+No module has “midleware”; 1 of 6 modules has a word like it.
+the | | No module has “the”, and READMEs are not searched for so common a word.
 <script>alert(1)</script> | | No module has “<script>alert(1)</script>”.
 """
 DBPOOL = {
     "README.md": "# Pool\n\nIt keeps connections.\n",
     "pool.go": "// Package dbpool keeps connections.\npackage dbpool\n",
-    "pooldriver/d.go": "package pooldriver\n",
+    "pooldriver/d.go": "// Package pooldriver speaks Ostrich.\npackage pooldriver\n",
 }
 WEB = {
     "README.md": "# Web\n\nThe walrus is in the README alone.\n\n<img src=x onerror=alert(1)>\n",
@@ -151,6 +162,7 @@ class TestWords:
         page.until("document.querySelector('#found').innerText !== '6 modules'")
         assert page.shown(FOUND)[: len(paths.split())] == paths.split()
         assert (page.shown("#found"), page.faults) == ([sentence], [])
+        assert (page.shown("#unlisted") == []) == bool(paths), "who finds nothing reads what is not listed"
 
     def test_result_leads_to_readme_packages_and_files(self, visitors: Visitors) -> None:
         page = visitors.visit("dee")
@@ -171,6 +183,48 @@ class TestWords:
             "document.body.append(Object.assign(document.createElement('script'), {src: 'parts/modules.js'})); })"
         )
         assert "Unexpected token 'export'" in error
+
+
+# types a word, letter by letter, and notes how many milliseconds each takes until what it finds is laid out
+PRESSES = """(async (word) => {
+    const [input, found, times] = [document.querySelector("#search"), document.querySelector("#found"), []];
+    for (let end = 1; end <= word.length; end += 1) {
+        const told = new Promise((done) => new MutationObserver(done).observe(found, {childList: true}));
+        const begin = performance.now();
+        input.value = word.slice(0, end);
+        input.dispatchEvent(new Event("input"));
+        await told;
+        document.body.getBoundingClientRect();
+        times.push(performance.now() - begin);
+    }
+    return times;
+})"""
+
+
+class TestLargeSearch:
+    """The search knows 10,000 modules, with as many words of READMEs as fit."""
+
+    @pytest.fixture(scope="class")
+    def page(self, visitors: Visitors) -> Iterator[Page]:
+        """The first page of delta, whose search knows these modules."""
+        name = f"{visitors.reader.machine.folder}/{AT}/delta/parts/modules.js"
+        os.rename(name, f"{name}.before")
+        with open(name, "wb") as file:
+            file.write(search.script(*modules_of(10_000, 60))[0])
+        try:
+            page = visitors.visit("dee", "/?q=example.com")
+            page.until("document.querySelector('#found').innerText.startsWith('10,000 of 10,000 modules')")
+            yield page
+        finally:
+            os.replace(f"{name}.before", name)
+
+    @pytest.mark.parametrize("word", ["zebraak", "team3/m00", "serverabc", "own270fq"])
+    def test_key_press_takes_less_than_50_ms(self, page: Page, word: str) -> None:
+        # (the least of some rounds, because other tests run beside this one)
+        rounds = [page.value(f"{PRESSES}({word!r})") for _ in range(5)]
+        assert max(map(min, zip(*rounds, strict=True))) < 50
+        assert page.shown(FOUND) or word == "serverabc"
+        assert page.faults == []
 
 
 class TestLinks:
@@ -223,12 +277,13 @@ def test_keys_alone_lead_to_a_module(visitors: Visitors) -> None:
     page.press("Enter", "\r")
     assert page.value("document.activeElement.id") == "main"
     page.press("Tab")
+    assert page.value("document.activeElement.id") == "search"
+    page.press("Tab")
     assert page.value("document.activeElement.tagName") == "SUMMARY", "the box that sets a machine up"
     page.press("Enter", "\r")
     page.until("!document.querySelector('details.setup').open")
-    for _ in range(2):
-        page.press("Tab")
-    # (the search, and the table, which may be wider than the window)
+    page.press("Tab")
+    # (the table, which may be wider than the window)
     assert page.value("document.activeElement.className") == "wide"
     page.press("Tab")
     page.loaded(lambda: page.press("Enter", "\r"))

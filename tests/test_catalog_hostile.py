@@ -307,8 +307,8 @@ def test_no_page_has_a_letter_that_hides_others(pages: dict[str, Page]) -> None:
 
 def test_words_of_the_search_are_one_literal() -> None:
     script = read_pages("pages")["parts/modules.js"].decode()
-    literal = re.fullmatch(r"export const MODULES = (\".*\");\n", script, re.S)
-    assert literal and isinstance(json.loads(literal[1]), str)
+    literals = re.fullmatch(r'export const COMMON = "[a-z ]*";\nexport const MODULES = (".*");\n', script, re.S)
+    assert literals and isinstance(json.loads(literals[1]), str)
     assert HIDDEN.findall(script) == []
 
 

@@ -4,7 +4,6 @@ Browsers search in test_catalog_browser.py.
 """
 
 import json
-import random
 from collections import Counter
 
 import pytest
@@ -14,28 +13,9 @@ from catalog_lib.listing import search as box
 from catalog_lib.markup import Place
 from catalog_lib.readings import words_of
 from catalog_lib.shelf import Module, Shelf
+from lib.catalog_words import SELDOM, modules_of
 
-# words that many READMEs have, and such as few have, some of them with letters that UTF-16 writes as two
-OFTEN = [f"{a}{b}" for a in ("server", "client", "option", "error", "table") for b in "abcdefghijklmnopqrst"]
-SELDOM = [f"{a}{b}{c}" for a in ("zebra", "öffnen", "\U0001d4b3qx") for b in "abcdefghij" for c in "klmnopqrstuvwxyz"]
 PLAIN = '"' + "".join(chr(it) for it in range(32, 127) if chr(it) not in '"\\') + '"'
-
-
-def modules_of(count: int, words: int) -> tuple[list[Module], dict[str, int]]:
-    """Returns modules with words of READMEs, which are ranked, and in how many of them each word is."""
-    chance, found = random.Random(count), []
-    counts = search.Counts({})
-    for number in range(count):
-        module = Module((f"example.com/team{number % 7}/m{number:05}", "", 0, 1, 0, "v1.0.0"))
-        module.synopsis, module.packages = f"Says {chance.choice(SELDOM)} | what it is for.", "m sub"
-        own = chance.sample(OFTEN, words) + [f"own{number:x}q", chance.choice(SELDOM)]
-        module.words = " ".join(own)
-        counts.add(module.words, 1)
-        found.append(module)
-    assert counts.moved() == {word for module in found for word in module.words.split()}
-    for module in found:
-        module.words = counts.ranked(module.words)
-    return found, counts.counts
 
 
 def utf16(text: str) -> list[bytes]:
@@ -46,7 +26,8 @@ def utf16(text: str) -> list[bytes]:
 
 def found_by(script: bytes) -> dict[str, list[int]]:
     """Returns the words of a script, each with the numbers of its modules, as a browser reads them."""
-    text = json.loads(script.decode().removeprefix("export const MODULES = ").removesuffix(";\n"))
+    line = script.decode().splitlines()[-1]
+    text = json.loads(line.removeprefix("export const MODULES = ").removesuffix(";"))
     parts = text.partition("\n\n")[2].split(" ")
     found, before = {}, ""
     for first, numbers in zip(parts[::2], parts[1::2], strict=True):

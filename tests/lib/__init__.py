@@ -8,8 +8,8 @@
 - The pages of the repository: `pages` finds their blocks of code.
 - The go command: `modules`, `repositories`, `go_command` and `go_sessions`.
 - goshelf-publish: `publishing` and `publish_sentences`; jobs of CI that run it: `ci_services`.
-- The pages of a shelf: `catalog_lines`, `catalog_store`, `catalog_example`, `catalog_zips`, `catalog_pages`,
-  `catalog_front`, `catalog_looks` and `browser`, from their lines to those who look at them.
+- The pages of a shelf: `catalog_lines`, `catalog_store`, `catalog_example`, `catalog_zips`, `catalog_words`,
+  `catalog_pages`, `catalog_front`, `catalog_looks` and `browser`, from their lines to those who look at them.
 - Machines and hosts behind nginx: `machine`, `systemd`, `front`, `behind_nginx`, `shards`, `operating`, `hosts`,
   `company`, `warm` and `outside`, and `releases` and `packages`, which are installed there.
 - Those who use them: `logins`, `developers`, `own_keys` and `keys_unit`; `leaks` has keys in requests, and a search.

@@ -31,7 +31,7 @@ def head(shelf):
 
 def first(place, shelf, words):
     """What the first page has above the list."""
-    return [box(place, shelf), fresh(place, shelf), search(place, shelf, words) if shelf.modules else ""]
+    return [search(place, shelf, words) if shelf.modules else "", box(place, shelf), fresh(place, shelf)]
 
 
 def fresh(place, shelf):

@@ -1,7 +1,7 @@
 // The search of the first page: finds modules by words, best match first. Without scripts the list is there alone.
 
 // as many results are shown
-const MOST = 100;
+const MOST = 50;
 // How well a word matches, best first. The rest of an import path, or a version, names the module by itself.
 const EXACT = 100;
 const LAST = 90;
@@ -25,14 +25,17 @@ const VALUES = new Uint8Array(128);
 DIGITS.forEach((it, at) => (VALUES[it.charCodeAt(0)] = at));
 const BASE = DIGITS.length / 2;
 
-// The modules of the lines, each with its path, its latest version, the names of its packages and what it is for.
+// The modules of the lines, each with its path, its latest version, whether it is deprecated, the names of its packages
+// and what it is for.
 function modulesOf(text) {
   const found = [];
   let before = "";
   for (const line of text === "" ? [] : text.split("\n")) {
-    const [first, latest = "", packages = "", ...synopsis] = line.split("|");
+    const [first, mark = "", packages = "", ...synopsis] = line.split("|");
     before = before.slice(0, parseInt(first[0], 36)) + first.slice(1);
-    found.push({ path: before, lower: before.toLowerCase(), latest, packages, synopsis: synopsis.join("|") });
+    const [latest, isDeprecated] = [mark.replace("!", ""), mark.endsWith("!")];
+    const lower = before.toLowerCase();
+    found.push({ path: before, lower, latest, isDeprecated, packages, synopsis: synopsis.join("|") });
   }
   return found;
 }
@@ -46,7 +49,22 @@ function readmesOf(text) {
     before = before.slice(0, parseInt(parts[at][0], 36)) + parts[at].slice(1);
     found.push({ word: before, numbers: parts[at + 1] });
   }
-  return found;
+  return inOrder(found);
+}
+
+// Entries by their words, in the order that `<` has.
+const inOrder = (entries) => entries.sort((one, other) => (one.word < other.word ? -1 : 1));
+
+// Calls a function with each entry whose word begins so.
+function forBeginning(entries, word, does) {
+  let [low, high] = [0, entries.length];
+  while (low < high) {
+    const half = (low + high) >> 1;
+    [low, high] = entries[half].word < word ? [half + 1, high] : [low, half];
+  }
+  for (; low < entries.length && entries[low].word.startsWith(word); low += 1) {
+    does(entries[low]);
+  }
 }
 
 // Calls a function with each number in a text. A digit below BASE is the last one of a number, which says how much it is
@@ -68,8 +86,7 @@ function forNumbers(text, does) {
 
 const wordsOf = (text) => text.toLowerCase().match(/[\p{L}\p{N}]+/gu) ?? [];
 
-// What each word says of which modules: a map from words to the numbers of modules, each with how well it matches whole
-// and by its beginning.
+// What each word says of which modules: the numbers of modules, each with how well it matches whole and by its beginning.
 function indexOf(modules) {
   const index = new Map();
   function add(word, number, whole, begins) {
@@ -88,14 +105,14 @@ function indexOf(modules) {
     );
     new Set(wordsOf(synopsis)).forEach((it) => add(it, number, SAID, SAID_BEGINS));
   });
-  return index;
+  return inOrder([...index].map(([word, said]) => ({ word, said })));
 }
 
-// All that the search knows, of the text of the script.
-function knownOf(text) {
+// All that the search knows, of the texts of the script.
+function knownOf(text, common) {
   const [lines, words = ""] = text.split("\n\n");
   const modules = modulesOf(lines);
-  return { modules, index: indexOf(modules), readmes: readmesOf(words) };
+  return { modules, index: indexOf(modules), readmes: readmesOf(words), common: new Set(common.split(" ")) };
 }
 
 // Whether one letter more, less, another or two that changed places make one word of the other.
@@ -116,46 +133,56 @@ function isNear(one, other) {
   return long.length > short.length ? left === 0 : left <= 1 || isSwapped;
 }
 
-// The modules that a word finds, each with how well. Only a word that finds none finds those that are like it.
-function foundBy(word, { modules, index, readmes }) {
-  const scores = new Map();
-  const add = (number, score) => score > (scores.get(number) ?? 0) && scores.set(number, score);
-  const addAll = (numbers, score) => forNumbers(numbers, (number) => add(number, score));
-  for (const [token, entries] of index) {
-    if (token.startsWith(word)) {
-      for (let at = 0; at < entries.length; at += 3) {
-        add(entries[at], entries[at + (token === word ? 1 : 2)]);
-      }
+// How well each module matches a word, or 0, by its number; and the words in whose place others like them were taken.
+// Only a word that finds none itself finds those that are like it, and those that have its parts, unless it is common.
+function foundBy(word, known) {
+  const { modules, index, readmes } = known;
+  const scores = new Float32Array(modules.length);
+  const add = (number, score) => {
+    scores[number] = Math.max(scores[number], score);
+  };
+  const addSaid = ({ said }, scoreOf) => {
+    for (let at = 0; at < said.length; at += 3) {
+      add(said[at], scoreOf(at, said));
     }
-  }
-  for (const it of readmes) {
-    if (it.word.startsWith(word)) {
-      addAll(it.numbers, it.word === word ? README : README_BEGINS);
-    }
-  }
+  };
+  forBeginning(index, word, (it) => addSaid(it, (at, said) => said[at + (it.word === word ? 1 : 2)]));
+  forBeginning(readmes, word, (it) =>
+    forNumbers(it.numbers, (number) => add(number, it.word === word ? README : README_BEGINS)),
+  );
   modules.forEach(({ lower }, number) => {
-    if (lower === word) {
-      add(number, EXACT);
-    } else if (lower.includes(word)) {
-      add(number, PART);
+    if (lower.includes(word)) {
+      add(number, lower === word ? EXACT : PART);
     }
   });
-  if (scores.size > 0 || word.length < TYPO_LEAST) {
-    return { scores, isNear: false };
+  if (scores.some(Boolean) || word.length < TYPO_LEAST || known.common.has(word)) {
+    return { scores, near: [] };
   }
-  for (const [token, entries] of index) {
-    if (isNear(word, token)) {
-      for (let at = 0; at < entries.length; at += 3) {
-        add(entries[at], TYPO + entries[at + 1] / 100);
-      }
-    }
+  index.filter((it) => isNear(word, it.word)).forEach((it) => addSaid(it, (at, said) => TYPO + said[at + 1] / 100));
+  readmes
+    .filter((it) => isNear(word, it.word))
+    .forEach((it) => forNumbers(it.numbers, (number) => add(number, TYPO + README / 100)));
+  if (scores.some(Boolean)) {
+    return { scores, near: [word] };
   }
-  for (const it of readmes) {
-    if (isNear(word, it.word)) {
-      addAll(it.numbers, TYPO + README / 100);
-    }
-  }
-  return { scores, isNear: scores.size > 0 };
+  const parts = wordsOf(word);
+  return parts.length > 1 ? joined(parts.map((it) => foundBy(it, known))) : { scores, near: [] };
+}
+
+// What several words find together.
+function joined(parts) {
+  const scores = parts[0].scores.map((_, number) => Math.min(...parts.map((it) => it.scores[number])));
+  return { scores, near: parts.flatMap((it) => it.near) };
+}
+
+// The numbers of the modules that the most of these words find, and how many words that are.
+function inMost(parts) {
+  const counts = new Uint16Array(parts[0]?.scores.length ?? 0);
+  parts.forEach((it) => it.scores.forEach((score, number) => (counts[number] += score > 0 ? 1 : 0)));
+  const most = counts.reduce((one, other) => Math.max(one, other), 0);
+  const numbers = [];
+  counts.forEach((count, number) => most > 0 && count === most && numbers.push(number));
+  return { most, numbers };
 }
 
 // What is asked for: of a pasted import path or a line of a go.mod or a shell, the path and the version.
@@ -189,36 +216,64 @@ function search(text, known) {
   if (owner) {
     const below = path.slice(owner.lower.length + 1);
     const others = modules.filter((it) => it !== owner && it.lower.includes(path));
-    return { found: [owner, ...others], owner, below, version, near: [] };
+    return { found: [owner, ...others], owner, below, version };
   }
-  const words = path.split(/\s+/).filter(Boolean);
-  const parts = words.map((word) => foundBy(word, known));
-  const [first, ...rest] = parts.map((it) => it.scores);
-  const numbers = [...(first?.keys() ?? [])].filter((number) => rest.every((it) => it.has(number)));
-  const score = (number) => parts.reduce((sum, it) => sum + it.scores.get(number), 0);
-  const ranked = numbers.map((number) => [score(number), number]).sort((a, b) => b[0] - a[0] || a[1] - b[1]);
-  const near = words.filter((_, at) => parts[at].isNear);
-  return { found: ranked.map(([, number]) => modules[number]), near };
+  // (a word that most READMEs have is not in their index: it ranks what the others find)
+  const words = path.split(/\s+/).map(trimmed).filter(Boolean);
+  const [common, rare] = [true, false].map((is) => words.filter((it) => isCommon(it, known) === is));
+  const parts = (rare.length > 0 ? rare : words).map((it) => foundBy(it, known));
+  const { most, numbers } = inMost(parts);
+  const sums = new Float32Array(modules.length);
+  const ranks = rare.length > 0 ? [...parts, ...common.map((it) => foundBy(it, known))] : parts;
+  ranks.forEach((it) => it.scores.forEach((score, number) => (sums[number] += score)));
+  const found = numbers.sort((one, other) => sums[other] - sums[one]).map((number) => modules[number]);
+  const isWhole = most === parts.length;
+  const near = isWhole ? parts.flatMap((it) => it.near) : [];
+  return { found, near, most, isWhole, common, isCommon: rare.length === 0 };
+}
+
+const isCommon = (word, { common }) => common.has(word) || word.length < 3 || /^[0-9]+$/.test(word);
+
+// A word without the marks of a sentence around it.
+function trimmed(word) {
+  return word.replace(/^[^\p{L}\p{N}]+|[^\p{L}\p{N}]+$/gu, "") || word;
 }
 
 const inEnglish = (number) => number.toLocaleString("en");
 
+const has = (number) => (number === 1 ? "has" : "have");
+
 // What was found, in a sentence.
-function told({ found, owner, below, version, near }, text, count) {
+function told(answer, text, count) {
+  const { found, owner, near, most, isWhole, common, isCommon: isAllCommon } = answer;
   const shown = found.length > MOST ? `, the first ${MOST} are shown` : "";
   if (owner) {
-    const isKnown = owner.packages.toLowerCase().split(" ").includes(below);
-    const what = isKnown ? `${below} is a package of ${owner.path}` : `${below} is below the path of ${owner.path}`;
-    const others = found.length > 1 ? ` ${inEnglish(found.length - 1)} more have such a path${shown}.` : "";
-    return `${below ? what : `This is ${owner.path}`}${version ? `, asked for at ${version}` : ""}.${others}`;
+    return ofOwner(answer, shown);
   }
   if (found.length === 0) {
-    return `No module has ${text.trim().split(/\s+/).length > 1 ? "all of these words" : `“${text.trim()}”`}.`;
+    const isOne = text.trim().split(/\s+/).length === 1;
+    const rest = isOne && isAllCommon ? ", and READMEs are not searched for so common a word" : "";
+    return `No module has ${isOne ? `“${text.trim()}”` : "any of these words"}${rest}.`;
   }
   const some = `${inEnglish(found.length)} of ${inEnglish(count)} modules`;
-  const like = near.map((it) => `“${it}”`).join(" or ");
-  const verb = found.length === 1 ? "has" : "have";
-  return near.length > 0 ? `No module has ${like}; ${some} ${verb} a word like it${shown}.` : `${some}${shown}.`;
+  if (!isWhole) {
+    return `No module has all of these words; ${some} ${has(found.length)} ${most} of them${shown}.`;
+  }
+  if (near.length > 0) {
+    const like = near.map((it) => `“${it}”`).join(" or ");
+    return `No module has ${like}; ${some} ${has(found.length)} a word like it${shown}.`;
+  }
+  const rest = common.length > 0 && !isAllCommon ? ` Too common to count: ${[...new Set(common)].join(", ")}.` : "";
+  return `${some}${shown}.${rest}`;
+}
+
+// The same of a path that names a module, or a package of it.
+function ofOwner({ found, owner, below, version }, shown) {
+  const isKnown = owner.packages.toLowerCase().split(" ").includes(below);
+  const what = isKnown ? `${below} is a package of ${owner.path}` : `${below} is below the path of ${owner.path}`;
+  const more = found.length - 1;
+  const others = more > 0 ? ` ${inEnglish(more)} more ${has(more)} such a path${shown}.` : "";
+  return `${below ? what : `This is ${owner.path}`}${version ? `, asked for at ${version}` : ""}.${others}`;
 }
 
 // A row of the results.
@@ -229,6 +284,12 @@ function rowOf(module, target) {
   const link = head.appendChild(document.createElement("a"));
   link.href = `m/${module.path.replace(PAGES, "$1!$2")}/${target}`;
   module.path.split("/").forEach((it, at) => link.append(...(at ? ["/", document.createElement("wbr"), it] : [it])));
+  if (module.isDeprecated) {
+    const chip = document.createElement("span");
+    chip.className = "chip deprecated";
+    chip.textContent = "deprecated";
+    head.append(" ", chip);
+  }
   if (module.synopsis) {
     const below = head.appendChild(document.createElement("span"));
     below.className = "below";
@@ -259,15 +320,15 @@ function table(rows) {
 function searching(form) {
   const input = form.querySelector("input");
   const status = form.querySelector("[role=status]");
-  const [results, list] = ["results", "list"].map((it) => document.getElementById(it));
-  // (the box and what is new stand above the search, and would fill a window)
-  const above = document.querySelectorAll("details.setup, section[aria-labelledby=fresh]");
+  const [results, unlisted, list] = ["results", "unlisted", "list"].map((it) => document.getElementById(it));
+  // (what else is on the page)
+  const others = [...document.querySelectorAll("details.setup, section[aria-labelledby=fresh]"), list];
   const whole = status.textContent;
   let known = null;
 
   async function load() {
-    const { MODULES } = await import("./modules.js");
-    known ??= knownOf(MODULES);
+    const { MODULES, COMMON } = await import("./modules.js");
+    known ??= knownOf(MODULES, COMMON);
   }
 
   function show() {
@@ -278,8 +339,8 @@ function searching(form) {
     const rows = answer.found.slice(0, MOST).map((it) => rowOf(it, target(it)));
     results.replaceChildren(...(rows.length > 0 ? [table(rows)] : []));
     results.hidden = rows.length === 0;
-    list.hidden = isAsked;
-    above.forEach((it) => (it.hidden = isAsked));
+    unlisted.hidden = !isAsked || rows.length > 0;
+    others.forEach((it) => (it.hidden = isAsked));
     history.replaceState(null, "", isAsked ? `?q=${encodeURIComponent(text)}` : location.pathname);
     status.textContent = isAsked ? told(answer, text, known.modules.length) : whole;
   }

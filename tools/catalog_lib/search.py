@@ -7,7 +7,7 @@ from bisect import bisect_right
 from collections import Counter
 from itertools import chain
 
-from catalog_lib.text import shortened
+from catalog_lib.text import COMMON, shortened
 
 # The whole file has at most as many bytes, if the paths leave room, and the lines of modules at most as many of them
 BYTES_MOST, LINES_MOST = 1_000_000, 650_000
@@ -20,6 +20,8 @@ README_CUTS, READMES_MOST = (3_000, 2_000, 1_500, 1_000, 750, 500, 350, 250, 150
 DIGITS = "".join(chr(it) for it in range(33, 127) if chr(it) not in '"\\')
 BASE = len(DIGITS) // 2
 LAST, MORE = DIGITS[:BASE], DIGITS[BASE:]
+# the words that the index of READMEs leaves out
+COMMON_LINE = f'export const COMMON = "{" ".join(sorted(COMMON))}";\n'
 
 
 def words_most(count):
@@ -65,7 +67,7 @@ def script(modules, counts):
 
 
 def literal(text):
-    return f"export const MODULES = {json.dumps(text, ensure_ascii=False)};\n".encode()
+    return f"{COMMON_LINE}export const MODULES = {json.dumps(text, ensure_ascii=False)};\n".encode()
 
 
 def lines_of(modules):
@@ -81,11 +83,13 @@ def lines_of(modules):
 
 
 def begins_of(modules):
-    """What each line begins with: the path, as far as it differs from the one before, and the latest version."""
+    """What each line begins with: the path, as far as it differs from the one before, and the latest version, with a
+    mark if the module is deprecated."""
     found, before = [], ""
     for module in modules:
         shared = shared_by(before, module.path)
-        found.append(f"{base36(shared)}{module.path[shared:]}|{module.latest or ''}")
+        mark = "" if module.deprecated is None else "!"
+        found.append(f"{base36(shared)}{module.path[shared:]}|{module.latest or ''}{mark}")
         before = module.path
     return found
 

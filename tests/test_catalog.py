@@ -18,7 +18,7 @@ import pytest
 
 from lib import catalog_lines
 from lib.catalog_pages import Page, pages_in
-from lib.catalog_store import HOST, SHELF_KEYS, STORE, line_of, make, make_store, rows_of, tool, write_lines
+from lib.catalog_store import HOST, OWNERS, SHELF_KEYS, STORE, line_of, make, make_store, rows_of, tool, write_lines
 from lib.keys import KEYS, SHELVES
 from lib.messages import get, put
 from lib.modules import escaped
@@ -332,8 +332,28 @@ class TestSetUp:
         assert texts["setup-run"] == self.RUN.format("MODULE")
 
     @pytest.mark.parametrize("shelf", NAMED)
-    def test_publish_of_a_module(self, shelf: str) -> None:
-        assert Page(f"{shelf}/m/example.com/log/index.html").pre["setup-run"] == self.RUN.format("example.com/log")
+    def test_module_to_try(self, shelf: str) -> None:
+        text = Page(f"{shelf}/index.html").pre["setup-try"]
+        rows = [row.split("|") for row in Page(f"{shelf}/index.html").table_of("modules")]
+        first = next(path for path, latest, *_ in rows if latest != "all retracted")
+        assert text == f"go list -m -versions {first}"
+
+    @pytest.mark.parametrize("shelf", NAMED)
+    def test_paths_at_which_the_shelf_publishes(self, shelf: str) -> None:
+        owned = "".join(f"<code>{path}</code>" for path, who in OWNERS.items() if shelf in who)
+        rest = f"publishes at and below: {owned}, but not below" if owned else "has no path yet to publish at"
+        assert f"<p>The shelf {shelf} {rest}" in Page(f"{shelf}/index.html").text
+
+    @pytest.mark.parametrize(("shelf", "path"), [("common", "log"), ("gamma", "gamma/app"), ("platform", "rpc")])
+    def test_publish_of_a_module(self, shelf: str, path: str) -> None:
+        whole = f"example.com/{path}"
+        assert Page(f"{shelf}/m/{whole}/index.html").pre["setup-run"] == self.RUN.format(whole)
+
+    @pytest.mark.parametrize(("shelf", "path", "above"), [("gamma", "log", "common"), ("gamma", "rpc", "platform")])
+    def test_module_of_a_shelf_above_says_who_publishes_it(self, shelf: str, path: str, above: str) -> None:
+        page = Page(f"{shelf}/m/example.com/{path}/index.html")
+        assert "setup-run" not in page.pre
+        assert f"This module is on the shelf <b>{above}</b>" in page.text
 
     @pytest.mark.parametrize("shelf", NAMED)
     def test_explained_answers(self, shelf: str) -> None:

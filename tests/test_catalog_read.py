@@ -109,7 +109,7 @@ HTML = {
         "<h3>Limits</h3>",
         f'see <a href="https://example.org/limits" rel="{OUTWARD}">https://example.org/limits</a>.</li>',
         '<pre tabindex="0"><code>pool.New(1 &lt; 2)</code></pre>',
-        "<code>go run example.com/pool/cmd/pooler</code>",
+        "<code>go run example.com/pool/cmd/pooler@v1.1.0</code>",
         "<code>import &quot;example.com/pool/driver&quot;</code>",
     ),
     "index.html": (
@@ -118,12 +118,20 @@ HTML = {
         f'<a href="https://example.com/pool" rel="{OUTWARD}">',
     ),
 }
+# a module that is a command
+LINT = {
+    "README.md": "# lint\n\n    go install example.com/lint/cmd/vets@latest\n\nOur vet checks.\n",
+    "cmd/vets/main.go": "// Vets checks.\npackage main\n",
+    "internal/x.go": "package x\n",
+}
 # modules, each by the letter of a key, the path, the version, and its files without a go.mod
 OTHERS = (
     ("A", "example.com/pool", "v1.0.0", {"old.go": "package pool\n", "README": "older"}),
     ("A", "example.com/plain", "v1.0.0", {"README": "Plain <b>text</b>\n\tas it is\n", "COPYING": "Own terms."}),
     ("A", "github.com/acme/thing/v2", "v2.0.0", {"a.go": "package thing\n"}),
+    ("A", "github.com/acme/thing", "v1.0.0", {}),
     ("A", "example.com/empty", "v1.0.0", {}),
+    ("A", "example.com/lint", "v0.2.0", LINT),
     ("C", "example.com/shared", "v1.0.0", {"README.md": "Shared by all, which is a sentence.\n"}),
     (
         "B",
@@ -135,13 +143,14 @@ OTHERS = (
 )
 TEXTS = {
     "example.com/plain/readme.html": '<pre class="readme">Plain &lt;b&gt;text&lt;/b&gt;\n    as it is\n</pre>',
-    "example.com/plain/index.html": 'licence <span title="by the file COPYING">COPYING</span>',
+    "example.com/plain/index.html": 'licence <span title="by the file COPYING">see COPYING</span>',
     "github.com/acme/thing/v2/index.html": '<a href="https://github.com/acme/thing" rel="noopener noreferrer">',
     "example.com/shared/index.html": "Shared by all, which is a sentence.",
+    "example.com/lint/index.html": "<code>go install example.com/lint/cmd/vets@v0.2.0</code>",
 }
 
 STORE = "--store", "store.db"
-MADE, SAME = "22 pages, 22 new or changed\n", "22 pages, 0 new or changed\n"
+MADE, SAME = "30 pages, 30 new or changed\n", "30 pages, 0 new or changed\n"
 LOADED = ["catalog.css", "catalog.js", "icon.svg", "made.css", "narrow.css", "prose.css", "search.js"]
 ROWS = TABLES["packages.html packages"]
 
@@ -181,6 +190,21 @@ def test_page_has_the_text(page: str, text: str) -> None:
 @pytest.mark.parametrize(("page", "text"), TEXTS.items(), ids=TEXTS)
 def test_page_of_another_module_has_the_text(page: str, text: str) -> None:
     assert text in Page(f"alpha/m/{page}").text
+
+
+@pytest.mark.parametrize(("path", "other"), [("thing", "thing/v2"), ("thing/v2", "thing")])
+def test_page_leads_to_the_other_major_version(path: str, other: str) -> None:
+    page = Page(f"alpha/m/github.com/acme/{path}/index.html")
+    assert "Other major versions: <a " in page.text
+    assert any(link.endswith(f"m/github.com/acme/{other}/") for link in page.links)
+
+
+def test_synopsis_is_a_sentence_of_the_readme_and_no_code() -> None:
+    assert '<p class="synopsis" dir="auto">Our vet checks.</p>' in Page("alpha/m/example.com/lint/index.html").text
+
+
+def test_cell_of_a_table_has_the_name_of_its_column() -> None:
+    assert '<td data-is="what">at most</td>' in Page(f"alpha/m/{POOL}/readme.html").text
 
 
 def test_module_with_a_gomod_alone_has_three_pages() -> None:

@@ -7,6 +7,7 @@ environment the tests also write there what they see, as PNG files of 1280 and 3
 import base64
 import contextlib
 import hashlib
+import json
 import os
 import re
 import subprocess
@@ -175,11 +176,11 @@ class TestBox:
     def test_module_has_its_own_box_with_a_link(self, readers: Readers, page: Page) -> None:
         page.click(f"{BOX} summary")
         page.until("localStorage.getItem('setup') !== null")
-        page.go(f"{readers.url}/m/{LOG}/")
+        page.go(f"{readers.url}/m/{NEW}/")
         assert not is_open(page)
         page.click(f"{BOX} summary")
         page.until(f"document.querySelector('{BOX}').open")
-        run = f"goshelf-publish --to https://localhost --netrc --repository . {LOG} TAG"
+        run = f"goshelf-publish --to https://localhost --netrc --repository . {NEW} TAG"
         assert page.shown("#setup-run") == [run]
         page.follow(f"{BOX} a[href$='#setup-undo']")
         assert (is_open(page), page.value("location.hash")) == (True, "#setup-undo")
@@ -195,7 +196,8 @@ def test_go_obeys_the_box(readers: Readers, folder: str) -> None:
     """The real go command, told by the lines of the box alone, gets a module; and the box undoes them."""
     page = readers.visit("gus")
     text = {
-        name: page.value(f"document.getElementById('setup-{name}').textContent") for name in ("netrc", "go", "unset")
+        name: page.value(f"document.getElementById('setup-{name}').textContent")
+        for name in ("netrc", "go", "try", "unset")
     }
     write({".netrc": text["netrc"].replace("YOUR-KEY", readers.reader.passwords["gus"]) + "\n"})
     env = go_command.settings(
@@ -209,6 +211,8 @@ def test_go_obeys_the_box(readers: Readers, folder: str) -> None:
 
     ran = sh(text["go"] + "go env GOPROXY GONOSUMDB GONOPROXY")
     assert (ran.returncode, ran.stdout) == (0, f"{readers.url}\nexample.com\nnone\n"), ran.stderr
+    ran = sh(text["try"])
+    assert (ran.returncode, ran.stdout) == (0, "example.com/both v1.0.0 v1.0.1\n"), ran.stderr
     ran = sh(f"go list -m -f '{{{{.Version}}}}' {NEW}@latest")
     assert (ran.returncode, ran.stdout) == (0, "v1.0.0\n"), ran.stderr
     ran = sh(f"mkdir app && cd app && go mod init my.example/app 2> /dev/null && go get {NEW}@v1.0.0 && cat go.sum")
@@ -334,7 +338,9 @@ class TestRefusals:
         readers.machine.does("systemctl stop goshelf")
         try:
             check_refusal(readers, "gus", Refusal(*LATER["goshelf is away"]))
-            page = readers.visit("gus", f"/{LOG}/@v/list")
+            for width, is_dark in LOOKS:
+                page = readers.visit("gus", f"/{LOG}/@v/list", width=width, height=740, is_dark=is_dark)
+                check_looks(page, "goshelf is away", width, is_dark)
             assert page.shown("h1") == ["goshelf does not answer"]
             page.follow("nav a[href='/']")
             assert page.shown("h1") == ["Modules of gamma"], "the pages stay"
@@ -354,12 +360,18 @@ class TestTooOften:
             )
 
     @pytest.mark.parametrize("accept", ["*/*", HTML], ids=["the go command", "a browser"])
-    def test_answer(self, until_often: Callable[[str], tuple[int, str, str, Message] | None], accept: str) -> None:
+    def test_answer(
+        self, readers: Readers, until_often: Callable[[str], tuple[int, str, str, Message] | None], accept: str
+    ) -> None:
         _, status, title, text = Refusal(*LATER["too often"])
         answer = until_often(accept)
         assert answer and answer[0] == status
         if accept == HTML:
             assert answer[1] == "text/html; charset=utf-8" and f"<title>{title}</title>" in answer[2]
+            for width, is_dark in LOOKS:
+                page = readers.browser.page(width=width, height=740, is_dark=is_dark)
+                page.value(f"(document.write({json.dumps(answer[2])}), document.close())")
+                check_looks(page, "too often", width, is_dark)
         else:
             assert answer[1:3] == ("text/plain; charset=utf-8", text)
 
@@ -380,6 +392,14 @@ class TestLooks:
         draw(page, f"{user}{target}", width, is_dark)
 
 
+def check_looks(page: Page, name: str, width: int, is_dark: bool) -> None:
+    """A page can be read, and a phone cuts nothing off."""
+    bad, count = page.value(CONTRASTS)
+    assert bad == [] and count > 3
+    assert width > 360 or page.value(CUT) == []
+    draw(page, name, width, is_dark)
+
+
 def draw(page: Page, name: str, width: int, is_dark: bool) -> None:
     """Writes a picture of a page if PICTURES says where."""
     if folder := os.environ.get("PICTURES"):
@@ -392,10 +412,7 @@ def draw(page: Page, name: str, width: int, is_dark: bool) -> None:
 def test_refusal_can_be_read(readers: Readers, name: str, width: int, is_dark: bool) -> None:
     user = None if name == "not logged in" else "gus"
     page = readers.visit(user, ERRORS[name][0] if user else "/", width=width, height=740, is_dark=is_dark)
-    bad, count = page.value(CONTRASTS)
-    assert bad == [] and count > 3
-    assert width > 360 or page.value(CUT) == []
-    draw(page, name, width, is_dark)
+    check_looks(page, name, width, is_dark)
 
 
 def test_phone_shows_all_of_a_row(readers: Readers) -> None:
@@ -425,6 +442,8 @@ def test_keys_open_and_shut_the_box(readers: Readers) -> None:
     assert page.shown(".skip:focus") == ["Skip to the content"]
     page.press("Enter", "\r")
     assert page.value("document.activeElement.id") == "main"
+    page.press("Tab")
+    assert page.value("document.activeElement.id") == "search"
     page.press("Tab")
     assert page.value("document.activeElement.tagName") == "SUMMARY"
     page.press("Enter", "\r")

@@ -28,7 +28,10 @@ from lib.scratch import write
 from lib.stores import add_platform, new_store
 
 STORE, COPY = "store.db", "copy.db"
-PATHS = [f"example.com/{it}" for it in ("app", "App/v2", "base", "cmd/tool", "data", "edge", "flow", "index.html", "x")]
+PATHS = [
+    f"example.com/{it}"
+    for it in ("app", "App", "App/v2", "base", "cmd/tool", "data", "edge", "flow", "index.html", "x")
+]
 WORDS = [f"{a}{b}" for a in ("read", "write", "open", "close", "keep") for b in ("er", "ing", "able", "s")]
 STEPS = 9
 # a company whose shelf has few pages and words, and one whose pages have a spare and whose search leaves words out

@@ -22,7 +22,7 @@ from lib.stores import add_platform, new_store
 
 pytestmark = pytest.mark.needs("go")
 
-TOLD, OLD, USER = "example.com/told", "example.com/old", "example.com/user"
+TOLD, OLD, USER, MANY = "example.com/told", "example.com/old", "example.com/user", "example.com/many"
 A, B = "package told\n", "package told // other\n"
 # the versions of a module, each with its go.mod behind the first line, and its files
 VERSIONS = (
@@ -42,6 +42,7 @@ OTHERS = (
         "example.com/y => example.com/z v1.0.0\nexample.com/z => example.com/x v1.0.0\n)\n",
     ),
     ("example.com/longest", "v1.0.0", "// Deprecated: " + "long " * 120 + "\nmodule example.com/longest\n"),
+    *((MANY, f"v1.{at}.0", f"module {MANY}\ngo 1.{max(12, 11 + at)}\n") for at in range(5)),
 )
 TABLES = {
     f"m/{TOLD}/versions.html v1.2.0": [f"{OLD}|v1.1.0|v1.0.0", f"{USER}|v1.0.0|–"],
@@ -122,6 +123,26 @@ def test_section_shows_which_files_changed(page: Page, version: str, files: str)
     assert re.sub(r"Go 1\.\d+ in place of 1\.\d+\.\|", "", section) == files
 
 
+def test_section_says_that_files_of_older_zips_are_not_compared() -> None:
+    found = read_sections(Page(f"alpha/m/{MANY}/versions.html").text)
+    assert found["v1.4.0"] == "Changed since v1.3.0|Go 1.15 in place of 1.14.|1 file changed go.mod"
+    assert found["v1.2.0"].startswith("Changed since v1.1.0|Go 1.13 in place of 1.12.|Files are not compared")
+    assert found["v1.1.0"].startswith("Changed since v1.0.0|Nothing that is required.|Files are not compared")
+
+
+def test_first_release_and_first_version_are_called_so(page: Page) -> None:
+    parts = page.text.split("<section ")
+    first = [re.search('id="([^"]*)"', part)[1] for part in parts if "<p>The first release on this shelf.</p>" in part]
+    assert first == ["v1.0.0"]
+
+
+def test_section_has_the_reason_of_a_retraction(page: Page) -> None:
+    assert re.findall('<p>Retracted: <span dir="auto">(.*)</span></p>', page.text) == [
+        "by mistake",
+        "loses &lt;b&gt;lines",
+    ]
+
+
 def test_section_shows_the_go_version_that_changed(page: Page) -> None:
     assert "Go 1.19 in place of 1.18." in read_sections(page.text)["v1.2.0"]
 
@@ -132,7 +153,7 @@ def test_section_links_to_its_files(page: Page, kind: str) -> None:
 
 
 def test_section_says_how_to_get_the_version(page: Page) -> None:
-    assert f"go get {TOLD}@v1.1.0" in page.text
+    assert page.pre["get-v1.1.0"] == f"go get {TOLD}@v1.1.0"
 
 
 def test_gomod_has_links(page: Page) -> None:

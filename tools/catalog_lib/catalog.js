@@ -28,5 +28,18 @@ function remembering(box) {
   }
 }
 
+// A link to a version that is not on the page of versions: it says so.
+function missing(notice) {
+  const name = location.hash.slice(1);
+  notice.hidden = !/^v[0-9]/.test(name) || document.getElementById(name) !== null;
+  if (!notice.hidden) {
+    notice.textContent = `${name} is not on this page. The overview lists all versions that this shelf sees.`;
+  }
+}
+
+document.querySelectorAll("#absent").forEach((it) => {
+  missing(it);
+  addEventListener("hashchange", () => missing(it));
+});
 document.querySelectorAll("details[data-opens]").forEach(remembering);
 document.querySelectorAll("button.copy").forEach(copying);

@@ -1,7 +1,7 @@
 """The page of a module's versions: how to get each, and what changed against the one before."""
 import re
 
-from catalog_lib.lines import is_before
+from catalog_lib.lines import is_before, kind
 from catalog_lib.markup import (
     Html,
     broken,
@@ -17,6 +17,7 @@ from catalog_lib.markup import (
     table,
 )
 from catalog_lib.markup import zip_link
+from catalog_lib.setup import COPIED
 from catalog_lib.taken import when
 
 # so many versions are on the page, the highest first, and so many files are named of each
@@ -25,14 +26,21 @@ VERSIONS_MOST, FILES_MOST = 50, 100
 WORD = re.compile(r"[A-Za-z0-9._~/-]+")
 
 
-def versions_page(place, shelf, module, lines, read):
-    """The versions, the highest first. `read` returns what was read of a version."""
+def versions_page(place, shelf, module, lines, read, reasons):
+    """The versions, the highest first. `read` returns what was read of a version, and `reasons` has why some are
+    retracted."""
     told = [
-        version_section(place, shelf, it, before_of(at, lines), read) for at, it in enumerate(lines[:VERSIONS_MOST])
+        version_section(place, shelf, it, before_of(at, lines), read, reasons.get(it.version))
+        for at, it in enumerate(lines[:VERSIONS_MOST])
     ]
     rest = len(lines) - VERSIONS_MOST
     more = html('<p>Of {} older ones the <a href="./#versions">list of versions</a> tells.</p>\n', f"{rest:,}")
-    return [told, more if rest > 0 else ""]
+    return [ABSENT, told, more if rest > 0 else ""]
+
+
+FIRST = "<p>The first {} on this shelf.</p>\n"
+# (catalog.js shows it where a link, such as one of the search, names a version that is not on the page)
+ABSENT = Html('<p id="absent" class="notice" hidden>The version that was asked for is not on this page.</p>\n')
 
 
 def before_of(at, lines):
@@ -40,18 +48,23 @@ def before_of(at, lines):
     return next((it for it in lines[at + 1 :] if is_before(it, lines[at])), None)
 
 
-def version_section(place, shelf, line, before, read):
-    """The section of a version."""
+def version_section(place, shelf, line, before, read, reason):
+    """The section of a version. `reason` is why it is retracted, or None."""
     marks = [[" ", chip(it)] for it, holds in (("latest", line.is_latest), ("retracted", line.is_retracted)) if holds]
     facts = [when(line.time, shelf.taken_at(line)), html(" · Go {}", line.go) if line.go else ""]
     facts += [" · ", zip_link(place, line), " "]
     facts += [size(line.size), " · ", gomod_link(place, line.path, line.version)]
-    get = html('<pre tabindex="0"><code>go get {}@{}</code></pre>\n', line.path, line.version)
     found = read(line.version)
-    body = [html('<p class="facts">{}</p>\n', facts), get]
+    body = [html('<p class="facts">{}</p>\n', facts)]
+    if reason:
+        body.append(html('<p>Retracted: <span dir="auto">{}</span></p>\n', reason))
+    name = f"get-{line.version}"
+    body.append(html(COPIED, name, f"go get {line.path}@{line.version}", name))
     if before:
         body.append(html("<h3>Changed since {}</h3>\n", before.version))
         body.append(changes(place, shelf, line, before, found, read(before.version)))
+    else:
+        body.append(html(FIRST, "release" if kind(line.version) == "release" else "version"))
     if found.get("gomod"):
         body.append(gomod_of(place, shelf, line, found["gomod"]))
     return section(line.version, [line.version, marks], body)
@@ -65,10 +78,12 @@ def changes(place, shelf, line, before, found, earlier):
     if rows := required_rows(place, shelf, dict(line.requires), dict(before.requires)):
         told.append(table(line.version, ("Requires", "Now", "Before"), rows))
     if "files" in found and "files" in earlier and "bad" not in found and "bad" not in earlier:
-        told.append(files_changed(found["files"], earlier["files"]))
-    elif not told:
-        told.append(Html("<p>Nothing that is required.</p>\n"))
-    return told
+        return [told, files_changed(found["files"], earlier["files"])]
+    return [told or NOTHING, NOT_COMPARED]
+
+
+NOTHING = Html("<p>Nothing that is required.</p>\n")
+NOT_COMPARED = Html('<p class="quiet">Files are not compared: these pages read few zips of older versions.</p>\n')
 
 
 def required_rows(place, shelf, now, before):

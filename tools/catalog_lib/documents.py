@@ -19,12 +19,12 @@ def readme_of(found):
     return html('<h2 id="readme">{}</h2>\n<div class="prose" dir="auto">\n{}</div>\n{}', name, body, rest)
 
 
-def packages_of(path, found):
-    """The packages: a table of them, and the comment of each."""
+def packages_of(path, version, found):
+    """The packages of a version: a table of them, and the comment of each."""
     rows = [package_row(path, *it) for it in found["packages"]]
     title = '<h2 id="packages">{}</h2>\n'
     told = [html(title, count(len(rows), "package")), table("packages", ("Package", "What it is for"), rows)]
-    return [*told, *(package_section(path, *it) for it in found["packages"])]
+    return [*told, *(package_section(path, version, *it) for it in found["packages"])]
 
 
 def package_row(path, folder, name, doc):
@@ -40,10 +40,10 @@ def anchor(folder):
     return f"pkg/{folder}".rstrip("/")
 
 
-def package_section(path, folder, name, doc):
-    """The section of a package: how it is imported, and its comment."""
+def package_section(path, version, folder, name, doc):
+    """The section of a package: how it is imported or run, and its comment."""
     whole = f"{path}/{folder}".rstrip("/")
-    how = f"go run {whole}" if name == "main" else f'import "{whole}"'
+    how = f"go run {whole}@{version}" if name == "main" else f'import "{whole}"'
     body = html('<pre tabindex="0"><code>{}</code></pre>\n', how)
     text = [block(*it) for it in godoc.blocks(doc)] if doc else Html('<p class="quiet">It has no comment.</p>\n')
     return section(

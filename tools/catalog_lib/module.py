@@ -66,15 +66,20 @@ def module_pages(place, shelf, module, names, read, files):
     bodies = {
         "index.html": lambda: overview(place, shelf, module, names, reasons_of(module, read)),
         "readme.html": lambda: documents.readme_of(read(shown)),
-        "packages.html": lambda: documents.packages_of(module.path, read(shown)),
+        "packages.html": lambda: documents.packages_of(module.path, shown, read(shown)),
         "files.html": lambda: documents.files_of(read(shown)),
-        "versions.html": lambda: changes.versions_page(place, shelf, module, shelf.lines(module)[::-1], read),
+        "versions.html": lambda: versions_of(place, shelf, module, read),
     }
     tabs = tuple((name, words) for name, words in TABS if name in files_of(module))
     for name, words in tabs:
         if name in files:
             title = module.path if name == "index.html" else f"{module.path}: {words}"
             yield name, page(place, f"{title} · {shelf.name}", [head(module, tabs, name), bodies[name]()])
+
+
+def versions_of(place, shelf, module, read):
+    """The page of a module's versions."""
+    return changes.versions_page(place, shelf, module, shelf.lines(module)[::-1], read, reasons_of(module, read))
 
 
 def head(module, tabs, here):
@@ -137,14 +142,14 @@ def overview(place, shelf, module, names, reasons):
         for it, name, number, _ in parts
     ]
     return [
-        about(shelf, module, shown, names),
-        box(place, shelf, module),
+        about(place, shelf, module, shown, names),
+        box(place, shelf, module, names),
         html('<nav class="jumps" aria-label="On this page"><ul>\n{}</ul></nav>\n', jumps),
         [section(it, name, body) for it, name, _, body in parts],
     ]
 
 
-def about(shelf, module, shown, names):
+def about(place, shelf, module, shown, names):
     """What a module is at its latest version, and how to get it."""
     if module.latest is None:
         return Html('<p class="facts">All versions are retracted, so there is no latest version.</p>\n')
@@ -152,18 +157,27 @@ def about(shelf, module, shown, names):
     if shown.go:
         facts.append(html(" · Go {}", shown.go))
     if licence := module.told.get("licence"):
-        facts.append(html(' · licence <span title="by the file {}">{}</span>', licence[0], licence[1] or licence[0]))
-    get = f"go get {module.path}@{shown.version}"
+        name = licence[1] or ["see ", licence[0]]
+        facts.append(html(' · licence <span title="by the file {}">{}</span>', licence[0], name))
+    command = module.told.get("command")
+    get = f"go get {module.path}" if command is None else f"go install {f'{module.path}/{command}'.rstrip('/')}"
+    where = chip(shown.shelf, names[shown.shelf])
     return [
-        html('<p class="facts">{} {}</p>\n{}', facts, chip(shown.shelf, names[shown.shelf]), repository(module.path)),
+        html('<p class="facts">{} {}</p>\n{}{}', facts, where, majors(place, shelf, module), repository(module.path)),
         html(
             (
                 '<div class="get"><pre id="get" tabindex="0"><code>{}</code></pre>\n'
                 '<button type="button" class="copy" data-from="get" hidden>Copy</button></div>\n'
             ),
-            get,
+            f"{get}@{shown.version}",
         ),
     ]
+
+
+def majors(place, shelf, module):
+    """Links to the other major versions of a module, which are modules of their own."""
+    links = [[", " if at else "", link(place, it)] for at, it in enumerate(shelf.majors_of(module.path))]
+    return html('<p class="facts">Other major versions: {}</p>\n', links) if links else ""
 
 
 # hosts whose paths name a repository by two elements
@@ -178,7 +192,9 @@ def repository(path):
     short = "/".join([host, *rest[:2]]) if host in HOSTS else re.sub("/v[0-9]+$", "", path)
     url = f"https://{short}"
     return html(
-        '<p class="facts">Its path leads to <a href="{}" rel="noopener noreferrer">{}</a></p>\n', url, broken(url)
+        '<p class="facts">Its repository, if its path leads to it: <a href="{}" rel="noopener noreferrer">{}</a></p>\n',
+        url,
+        broken(url),
     )
 
 

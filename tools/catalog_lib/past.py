@@ -75,8 +75,8 @@ class Sums:
 
     def others_of(self, before):
         """Returns the paths of the modules of whose pages some may be others than in the last run: those that changed,
-        those that name one of them, and those that it requires, or required. Without a last run that made its pages of
-        the same these are all."""
+        those that name one of them, those that it requires, or required, and their other major versions. Without a last
+        run that made its pages of the same these are all."""
         shelf = self.shelf
         changed = {
             path for path, it in shelf.modules.items() if path in shelf.changed or it.taken != self.taken_of(path)
@@ -86,7 +86,7 @@ class Sums:
         near = set(changed)
         for path in shelf.changed:
             found = before.modules.get(path), shelf.modules.get(path)
-            near.update(*(it.needs for it in found if it))
+            near.update(*(it.needs for it in found if it), shelf.majors_of(path))
         changed |= shelf.changed
         return {
             path for path, it in shelf.modules.items() if path in near or not changed.isdisjoint(it.named.split(" "))
@@ -105,7 +105,8 @@ class Sums:
         of_versions = f"{of_zip}\n{module.sum}\n{links}\n{self.taken_of(path)}"
         faces = [face(modules[it]) if it in modules else it for it in named]
         users = [f"{user.path} {user.latest} {user.needs[path]}" for user in self.shelf.requiring(path)]
-        return [sum_of(it) for it in (of_zip, of_versions, f"{of_versions}\n{faces}\n{users}")]
+        of_rest = f"{of_versions}\n{faces}\n{users}\n{self.shelf.majors_of(path)}"
+        return [sum_of(it) for it in (of_zip, of_versions, of_rest)]
 
 
 def face(module):

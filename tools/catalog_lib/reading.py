@@ -7,7 +7,7 @@ from catalog_lib import godoc, licence, text
 from catalog_lib.zips import BadZip, Unread, Zip
 
 # a change of what is read: what was kept of an older reading is read again
-FORM = 3
+FORM = 4
 # bytes that are read of a README, a licence, a go.mod, the head of a Go file, and all of them of a zip
 README_MOST, LICENCE_MOST, GOMOD_MOST, HEAD_MOST, ALL_MOST = 64 << 10, 64 << 10, 1 << 20, 64 << 10, 16 << 20
 # as many packages and Go files are read, and bytes of a package's comment kept

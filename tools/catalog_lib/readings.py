@@ -7,7 +7,7 @@ from catalog_lib import changes, godoc, gomod, reading
 from catalog_lib.checks import REPLACES_MOST
 from catalog_lib.kept import is_mark_of, mark_of
 from catalog_lib.shelf import sum_in
-from catalog_lib.text import shortened
+from catalog_lib.text import COMMON, shortened
 
 SYNOPSIS_MOST = 200
 # as many bytes of the names of its packages are searched
@@ -66,8 +66,7 @@ class Readings:
         if content is not None:
             served = lambda: self.source.get(path, version, "mod") or b""  # noqa: E731
             found = reading.read(content, wanted, served, is_whole)
-            words = words_of(found["readme"][1]) if "readme" in found else ""
-            self.kept.put(path, version, mark, found, about_of(found), words)
+            self.kept.put(path, version, mark, found, about_of(found), words_of(texts_of(found)))
         return content is not None
 
     def about_of(self, module):
@@ -99,6 +98,7 @@ def about_of(found):
     about["has_readme"], about["has_files"] = "readme" in found, bool(found.get("files"))
     about["names"] = sorted(set(changes.WORD.findall(found["gomod"])))
     about["licence"] = found.get("licence")
+    about["command"] = command_of(packages)
     if told.deprecated is not None:
         about["deprecated"] = gomod.message(told.deprecated, "")
     if replaces := [[old, new] for old, _, new, version in told.replacements if version]:
@@ -109,27 +109,27 @@ def about_of(found):
     return about
 
 
-# words that say little, since most READMEs have them
-COMMON = frozenset(
-    """a about above add after all also always an and another any are as at back be because been before being below
-    between both but by call can cannot case com could current default different do does done don each either else
-    even every example examples file files first following for from get github go golang had has have here how http
-    https if import in install into is it its just last like line lines list ll made make makes many may might module
-    more most must name need needed needs new next no not now of off on once one only or org other our out over
-    package packages part please possible read readme same see set should simple since so some source such sure take
-    than that the their them then there these they this those three through time to too two type under until up us
-    use used useful user uses using value values version very via want was way we well were what when where whether
-    which while who why will with within without work works would www you your""".split()
-)
+def command_of(packages):
+    """The folder of the command that a module is, or None if it is several, or has packages that others import."""
+    shown = [(folder, name) for folder, name, _ in packages if "internal" not in folder.split("/")]
+    return shown[0][0] if len(shown) == 1 and shown[0][1] == "main" else None
+
+
+def texts_of(found):
+    """What the search reads: the README, and the comments of the packages."""
+    readme = found["readme"][1] if "readme" in found else ""
+    return "\n".join([readme, *(doc for *_, doc in found.get("packages", []))])
+
+
 # what is none of a README's words: the targets of links, addresses and tags
 NO_WORDS = re.compile(r"\]\([^()]{0,1000}\)|https?://[^\s)>\"']{1,1000}|<[^<>]{1,1000}>")
 WORD = re.compile(r"[^\W_]{3,30}")
 
 
-def words_of(readme):
-    """The words of a README that say something, each once, as long as they fit."""
-    has_others = "](" in readme or "<" in readme or "://" in readme
-    plain = (NO_WORDS.sub(" ", readme) if has_others else readme).lower()
+def words_of(text):
+    """The words of a text that say something, each once, as long as they fit."""
+    has_others = "](" in text or "<" in text or "://" in text
+    plain = (NO_WORDS.sub(" ", text) if has_others else text).lower()
     found, length = [], 0
     for word in dict.fromkeys(WORD.findall(plain)):
         if word not in COMMON and not word.isdigit():
@@ -150,10 +150,11 @@ def synopsis_of(found):
 
 
 def first_words(readme):
-    """The first sentence of a README that is no heading, picture or list."""
+    """The first sentence of a README that is no heading, picture, list or code."""
     for part in readme.split("\n\n"):
         line = MARKS.sub(r"\1", " ".join(part.split()))
-        if line[:1].isalnum() and len(line) > 20 and not line.endswith(("==", "--")):
+        is_code = part.strip("\n").startswith("    ")
+        if line[:1].isalnum() and line.count(" ") > 1 and not is_code and not line.endswith(("==", "--")):
             return godoc.first_sentence(line)
     return ""
 

@@ -4,12 +4,14 @@ It knows headings, lists, quotes, code, tables, rules, emphasis and links. An im
 lay out a text are left out, and all others are shown.
 """
 import re
+from html import unescape
 
 from catalog_lib.inline import inline
-from catalog_lib.markup import Html, html
+from catalog_lib.markup import Html, cell, html
+from catalog_lib.text import shortened
 
-# blocks in each other are read so deep, and a table has as many columns
-DEPTH_MOST, COLUMNS_MOST = 6, 30
+# blocks in each other are read so deep, a table has as many columns, and the name of one on a phone as many letters
+DEPTH_MOST, COLUMNS_MOST, NAME_MOST = 6, 30, 20
 HEADING = re.compile(r" {0,3}(#{1,6})[ \t]+(.*)")
 UNDERLINE = re.compile(r" {0,3}(?:=+|-+) *")
 RULE = re.compile(r" {0,3}([*_-])(?: *\1){2,} *")
@@ -114,15 +116,16 @@ class Blocks:
 
     def table(self, lines, at):
         """A table: its heads, and each row with as many cells."""
-        heads = cells_of(lines[at])
+        heads = [self.words(it) for it in cells_of(lines[at])]
         end = next((it for it in range(at + 2, len(lines)) if "|" not in lines[it]), len(lines))
-        top = [html('<th scope="col">{}</th>', self.words(it)) for it in heads]
-        rows = [self.row(cells_of(it), len(heads)) for it in lines[at + 2 : end]]
+        top, names = [html('<th scope="col">{}</th>', it) for it in heads], [name_of(it) for it in heads]
+        rows = [self.row(cells_of(it), names) for it in lines[at + 2 : end]]
         return html(TABLE, top, rows), end
 
-    def row(self, cells, count):
-        cells = (cells + [""] * count)[:count]
-        return html("<tr>{}</tr>\n", [html("<td>{}</td>", self.words(it)) for it in cells])
+    def row(self, cells, names):
+        """A row, in which each cell that has a text has the name of its column too, for a phone."""
+        cells = zip(cells + [""] * len(names), names)
+        return html("<tr>{}</tr>\n", [cell(self.words(it), name if it else "") for it, name in cells])
 
     def paragraph(self, lines, at, depth):
         """A paragraph, or the heading that a line below it makes of it."""
@@ -142,6 +145,11 @@ class Blocks:
         forms = [HEADING, RULE, FENCE]
         begins = depth < DEPTH_MOST and (line.lstrip(" ").startswith(">") or ITEM.match(line))
         return not line.strip() or begins or any(it.fullmatch(line) for it in forms)
+
+
+def name_of(head):
+    """The text of the head of a column."""
+    return shortened(unescape(re.sub("<[^<>]*>", "", html("{}", head))), NAME_MOST)
 
 
 TABLE = """<div class="wide" role="region" aria-labelledby="readme" tabindex="0">

@@ -1,10 +1,13 @@
 """What the pages say of a shelf: its modules, who requires whom, and what needs attention."""
 import json
+import re
 from dataclasses import dataclass
 from datetime import timedelta
 
 from catalog_lib.lines import Refused, chosen, kind, line_of, lines_in, parts, precedence, rank
 
+# a major version at the end of a path
+MAJOR = re.compile(r"[/.]v[0-9]+$")
 # how far back `changed` and `fresh` look
 RECENT, WEEK = timedelta(days=30), timedelta(days=7)
 
@@ -145,7 +148,7 @@ class Shelf:
 
     def __init__(self, file, name, today, ours):
         self.file, self.name, self.today, self.ours = file, name, today, ours
-        self.modules, self.recent, self.users = {}, {}, {}
+        self.modules, self.recent, self.users, self.majors = {}, {}, {}, None
         # the paths whose lines are not those of the last run, also of modules that are gone
         self.changed = set()
         self.held = None, []
@@ -185,6 +188,17 @@ class Shelf:
         if path not in self.users:
             self.note_users({path})
         return self.users[path]
+
+    def majors_of(self, path):
+        """The paths of the other major versions of a module."""
+        if self.majors is None:
+            self.majors = {}
+            for it in self.modules:
+                if (base := base_of(it)) != it:
+                    self.majors.setdefault(base, []).append(it)
+        base = base_of(path)
+        found = [base] if base in self.modules else []
+        return [it for it in found + sorted(self.majors.get(base, []), key=lambda it: (len(it), it)) if it != path]
 
     def note_recent(self):
         """Notes the versions of the last days."""
@@ -248,6 +262,11 @@ class Shelf:
     def latest_of(self, rows_of):
         found = [(self.modules[path], sorted(rows, reverse=True)) for path, rows in rows_of.items()]
         return sorted(sorted(found, key=lambda it: as_read(it[0].path)), key=lambda it: it[1][0][0], reverse=True)
+
+
+def base_of(path):
+    """A path without its major version."""
+    return MAJOR.sub("", path) if path[-1].isdigit() else path
 
 
 def as_read(path):

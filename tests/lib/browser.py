@@ -220,14 +220,15 @@ class Page:
         for it in text:
             self.press(it, it)
 
-    def picture(self) -> bytes:
-        """What the window shows, as a PNG."""
-        return base64.b64decode(self.call("Page.captureScreenshot")["data"])
+    def picture(self, **part: Any) -> bytes:
+        """What the window shows, or a part of the page, as a PNG."""
+        return base64.b64decode(self.call("Page.captureScreenshot", **part)["data"])
 
-    def draw(self, name: str, most: int = 2_400) -> None:
-        """Writes the whole page as a PNG, of which at most this height."""
-        height = min(most, self.value("document.documentElement.scrollHeight"))
-        size = {"width": self.width, "deviceScaleFactor": 1, "mobile": self.width < 600}
-        self.call("Emulation.setDeviceMetricsOverride", height=height, **size)
-        with open(name, "wb") as file:
-            file.write(self.picture())
+    def draw(self, name: str, most: int = 1_600) -> None:
+        """Writes the whole page as PNG files of at most this height, the second one as `NAME-2.png`."""
+        self.value("(document.activeElement.blur(), scrollTo(0, 0))")
+        height = self.value("document.documentElement.scrollHeight")
+        for number, top in enumerate(range(0, height, most), 1):
+            part = {"x": 0, "y": top, "width": self.width, "height": min(most, height - top), "scale": 1}
+            with open(name if number == 1 else f"{name.removesuffix('.png')}-{number}.png", "wb") as file:
+                file.write(self.picture(clip=part, captureBeyondViewport=True))

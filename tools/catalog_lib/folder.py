@@ -131,8 +131,7 @@ class Folder:
         if self.spare:
             replace(at, content)
         else:
-            with open(at, "wb") as file:
-                file.write(content)
+            write(at, content)
         return True
 
     def make(self, folder):
@@ -226,6 +225,16 @@ def files_below(folder):
         for name in names:
             if below != "." or name != MADE:
                 yield os.path.normpath(os.path.join(below, name))
+
+
+def write(at, content):
+    """Writes a new file, of which a large shelf has many."""
+    file = os.open(at, os.O_WRONLY | os.O_CREAT | os.O_TRUNC, 0o666)
+    try:
+        while content:
+            content = content[os.write(file, content) :]
+    finally:
+        os.close(file)
 
 
 def replace(at, content):

@@ -12,8 +12,8 @@ SEARCH = """<form class="search" role="search" hidden>
 aria-describedby="found">
 <p id="found" role="status">{}</p>
 </form>
-<p id="unlisted" class="quiet" hidden>Here is what this shelf sees. Public modules are not listed, though the go command \
-gets them; nor are modules of other teams, and those of the last minutes.</p>
+<p id="unlisted" class="quiet" hidden>Here is what this shelf sees. Public modules are not listed, though the go \
+command gets them; nor are modules of other teams, and those of the last minutes.</p>
 <div id="results" class="wide" role="region" aria-labelledby="found" tabindex="0" hidden></div>
 <script src="{}parts/search.js" type="module"></script>
 """

@@ -36,8 +36,8 @@ STATES = {
 }
 
 
-# what each page of a module is made of: the zip of its latest version, its versions and which modules are there, or also
-# what is to be said of these modules
+# what each page of a module is made of: the zip of its latest version, its versions and which modules are there, or
+# also what is to be said of these modules
 MADE_OF = {"readme.html": 0, "packages.html": 0, "files.html": 0, "versions.html": 1, "index.html": 2}
 
 

@@ -130,13 +130,15 @@ def words_of(text):
     """The words of a text that say something, each once, as long as they fit."""
     has_others = "](" in text or "<" in text or "://" in text
     plain = (NO_WORDS.sub(" ", text) if has_others else text).lower()
-    found, length = [], 0
-    for word in dict.fromkeys(WORD.findall(plain)):
-        if word not in COMMON and not word.isdigit():
+    # (most READMEs have more words than fit)
+    found, length = {}, 0
+    for match in WORD.finditer(plain):
+        word = match[0]
+        if word not in found and word not in COMMON and not word.isdigit():
             length += len(word) + 1
             if length > WORDS_MOST:
                 break
-            found.append(word)
+            found[word] = True
     return " ".join(found)
 
 

@@ -67,8 +67,8 @@ function forBeginning(entries, word, does) {
   }
 }
 
-// Calls a function with each number in a text. A digit below BASE is the last one of a number, which says how much it is
-// above the one before.
+// Calls a function with each number in a text. A digit below BASE is the last one of a number, which says how much it
+// is above the one before.
 function forNumbers(text, does) {
   let number = -1;
   let more = 0;
@@ -86,7 +86,7 @@ function forNumbers(text, does) {
 
 const wordsOf = (text) => text.toLowerCase().match(/[\p{L}\p{N}]+/gu) ?? [];
 
-// What each word says of which modules: the numbers of modules, each with how well it matches whole and by its beginning.
+// What each word says of which modules: their numbers, each with how well it matches whole and by its beginning.
 function indexOf(modules) {
   const index = new Map();
   function add(word, number, whole, begins) {

@@ -130,8 +130,8 @@ MORE = (
 
 # of a module of a shelf above
 ABOVE = (
-    "<p>This module is on the shelf <b>{}</b>, so ask those who publish there. With a key of {} you publish to {}: only "
-    "{} would see the version, in the place of theirs.</p>\n"
+    "<p>This module is on the shelf <b>{}</b>, so ask those who publish there. With a key of {} you publish to {}: "
+    "only {} would see the version, in the place of theirs.</p>\n"
 )
 
 
@@ -185,8 +185,8 @@ def publishing(it, shelf, path="MODULE"):
 
 
 NOT_OFFERED = (
-    "<p>It takes <code>goshelf-publish</code>, git and go. To install the first by the go command, ask an operator to run "
-    "<code>goshelf-offer</code>: this page then says how.</p>\n"
+    "<p>It takes <code>goshelf-publish</code>, git and go. To install the first by the go command, ask an operator to "
+    "run <code>goshelf-offer</code>: this page then says how.</p>\n"
 )
 TAG = (
     "<p>In a clone that has the tag (<code>git tag v1.2.3</code>), with a key that publishes. <code>TAG</code> is "
@@ -212,8 +212,8 @@ def undoing(it):
         (
             '<h2 id="setup-undo">Undo</h2>\n{}'
             "<p>The settings are then Go's own: put back what you noted. Take the line out of <code>~/.netrc</code>. "
-            "<code>go clean -modcache</code> removes all modules that were fetched. A version that was published stays: "
-            "<code>retract</code> it in the go.mod of the next one.</p>\n"
+            "<code>go clean -modcache</code> removes all modules that were fetched. A version that was published "
+            "stays: <code>retract</code> it in the go.mod of the next one.</p>\n"
         ),
         copied("setup-unset", f"go env -u {names}"),
     )

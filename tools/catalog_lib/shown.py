@@ -1,4 +1,7 @@
 """What the pages of all modules show of each: its row in the list, its findings, and what the search finds it by."""
+from collections import Counter
+from itertools import chain
+
 from catalog_lib import health, search
 from catalog_lib.listing import module_row
 from catalog_lib.module import files_of
@@ -32,15 +35,12 @@ def rank_words(shelf, readings, before, most):
     """Notes the words of READMEs that the search may find modules by, of each at most so many letters. Returns in how
     many modules each is. `before` has the modules of the last run, and in how many of them each word was."""
     is_known = before.mark.get("words") == most
-    counts = search.Counts(before.counts if is_known else {})
     changed = shelf.changed if is_known else shelf.modules.keys()
-    words = {}
-    for path in changed:
-        if is_known and path in before.modules:
-            counts.add(before.modules[path].words, -1)
-        if path in shelf.modules:
-            words[path] = cut_words(readings.words_of(shelf.modules[path]), most)
-            counts.add(words[path], 1)
+    words = {it: cut_words(readings.words_of(shelf.modules[it]), most) for it in changed if it in shelf.modules}
+    counts = search.Counts(before.counts if is_known else Counter(chain.from_iterable(map(str.split, words.values()))))
+    for path in changed if is_known else ():
+        counts.add(before.modules[path].words if path in before.modules else "", -1)
+        counts.add(words.get(path, ""), 1)
     moved = counts.moved()
     for path, module in shelf.modules.items():
         if path in words or not moved.isdisjoint(module.words.split()):

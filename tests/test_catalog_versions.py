@@ -46,7 +46,7 @@ OTHERS = (
 )
 TABLES = {
     f"m/{TOLD}/versions.html v1.2.0": [f"{OLD}|v1.1.0|v1.0.0", f"{USER}|v1.0.0|–"],
-    "health/index.html unusable": ["example.com/broken|v1.0.0|no zip"],
+    "health/index.html unusable": ["example.com/broken|v1.0.0|it is no zip"],
     "health/index.html gomods": ["example.com/other|v1.0.0"],
     "health/index.html deprecated": [
         f"{TOLD}|v1.2.0|{OLD}|use <i>example.com/told.",

@@ -50,8 +50,10 @@ def search(place, shelf, words):
 
 def listing(place, rows, here, pages):
     """A page of the list, and links to the others."""
+    # (on the first page other tables stand above it)
+    title = Html("<h2>All modules</h2>\n") if here == 1 else ""
     body = table("modules", HEADS, rows)
-    return html('<div id="list">\n{}{}</div>\n', body, pager(place, here, pages) if pages > 1 else "")
+    return html('<div id="list">\n{}{}{}</div>\n', title, body, pager(place, here, pages) if pages > 1 else "")
 
 
 def pager(place, here, pages):

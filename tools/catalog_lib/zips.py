@@ -93,7 +93,7 @@ def directory_of(content):
             count, length, begin, comment = struct.unpack_from("<HIIH", content, at + 10)
             if at + 22 + comment <= len(content):
                 return at, count, length, begin
-    raise BadZip("no zip")
+    raise BadZip("it is no zip")
 
 
 def text_of(raw):

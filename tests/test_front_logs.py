@@ -136,12 +136,12 @@ def test_key_is_in_the_url(ask: Ask, key: str, method: str, before: str) -> None
 # a path that has a key, and what the log has in its place
 PATHS = {
     "/KEY": "/...",
-    "/KEY/": "/.../",
-    f"/KEY{CORE}/list": f"/...{CORE}/list",
+    "/KEY/": "/...",
+    f"/KEY{CORE}/list": "/.../@v/list",
     f"{CORE}/KEY": f"{CORE}/...",
     "/example.com/KEY/@v/list": "/example.com/.../@v/list",
-    "/pub.example/KEY/@v/list": "/pub.example/.../@v/list",
-    "/ann:KEY@shelf.example.com/": "/ann:...@shelf.example.com/",
+    "/pub.example/KEY/@v/list": "/.../@v/list",
+    "/ann:KEY@shelf.example.com/": "/...",
     "/password%20KEY": "/...",
     "/HIDDEN": "/...",
     "/-/KEY": "/-/...",

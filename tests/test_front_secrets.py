@@ -330,9 +330,16 @@ def test_the_search_finds_a_key_in_each_form(company: Developers, keys: Keys) ->
             os.unlink(name)
 
 
-@pytest.mark.parametrize("words", ["add KEY alpha read", "add 'Ann KEY' alpha read", "add --machine KEY alpha read"])
+NAMES = ("KEY alpha read", "'Ann KEY' alpha read", "--machine KEY alpha read", "annKEYx alpha read", "UPPER alpha read")
+
+
+@pytest.mark.parametrize("words", [*NAMES, "'PARTED' alpha read"])
 def test_a_key_is_no_name(company: Developers, keys: Keys, words: str) -> None:
-    status, printed, errors = company.machine.sh(f"goshelf-front {words.replace('KEY', keys['known'])}")
+    key = keys["known"]
+    words = (
+        words.replace("KEY", key).replace("UPPER", key.upper()).replace("PARTED", f"{key[:9]} {key[9:15]}-{key[15:]}")
+    )
+    status, printed, errors = company.machine.sh(f"goshelf-front add {words}")
     assert (status, printed, errors) == (1, "", "goshelf-front: a key is in the name, and logs have names\n")
     assert find(company, keys) == []
 
@@ -353,17 +360,81 @@ def test_the_log_has_a_long_name_once_a_module_has_it(company: Developers) -> No
 
 
 def test_the_log_of_publishes_has_a_long_name_once_a_module_has_it(company: Developers) -> None:
-    path = f"{LONG}/again"
+    path, begun = f"{LONG}/again", len(read_publishes(company))
     assert company.publish("ann", path)[0] == 403
     assert company.publish("pat", path)[0] == 201
     assert company.publish("pat", path, files={"b.go": "package b\n"})[0] == 409
-    lines = [line.split("\t") for line in company.machine.does("goshelf-front log").splitlines()]
-    found = [line[4:] for line in lines if line[4].endswith("/again")]
-    assert found == [
-        ["example.com/alpha/.../again", "v1.0.0", "403"],
+    assert read_publishes(company)[begun:] == [
+        ["example.com/alpha/...", "v1.0.0", "403"],
         [path, "v1.0.0", "201"],
         [path, "v1.0.0", "409"],
     ]
+
+
+def read_publishes(company: Developers) -> list[list[str]]:
+    """Returns the path, the version and the status of each publish in the log."""
+    company.log()
+    return [line.split("\t")[4:] for line in company.machine.does("goshelf-front log").splitlines()]
+
+
+# what is asked for and not found, and what the log has in its place. A key has 16 letters and digits or more.
+SHOWN = {
+    "/": "/",
+    "/login": "/login",
+    "/-/modules": "/-/modules",
+    "/-/modules?a": "/-/modules?...",
+    "/m/example.com/nothing/": "/m/...",
+    f"{CORE}/v7.7.7.mod": f"{CORE}/v7.7.7.mod",
+    "/example.com/alpha/@v/v1.0.0.info": "/example.com/alpha/@v/v1.0.0.info",
+    "/example.com/alpha/core-sub/pkg/@v/list": "/example.com/alpha/core-sub/pkg/@v/list",
+    "/example.com/abcdefgh/ijklmno/@latest": "/example.com/abcdefgh/ijklmno/@latest",
+    "/example.com/abcdefgh/ijklmnop/@latest": "/example.com/.../@latest",
+    "/example.com/abc.def_ghi~jkl-mno+p/@v/list": "/example.com/.../@v/list",
+    "/example.com/a/b/c/d/e/f/g/h/i/j/k/l/m/n/o/p/@v/v1.0.0.mod": "/example.com/.../@v/v1.0.0.mod",
+    "/example.com/abcdefgh/@v/v2345678.zip": "/example.com/abcdefgh/@v/....zip",
+    "/example.com/abcdefgh/@v/v234567.zip": "/example.com/abcdefgh/@v/v234567.zip",
+    "/example.com/abcdefghijklmnop/@v/v234567.zip": "/example.com/.../@v/v234567.zip",
+    f"{CORE}/v1.0.0-20240131120000-abcdefabcdef.info": f"{CORE}/....info",
+    "/example.com/!alpha!beta!gamma/@v/list": "/example.com/!alpha!beta!gamma/@v/list",
+    "/example.com/!alpha!beta!gamma!d/@v/list": "/example.com/!alpha!beta!gamma!d/@v/list",
+    "/example.com/!alpha!beta!gamma!de/@v/list": "/example.com/.../@v/list",
+    "/example.com/a%62c/@v/list": "/example.com/.../@v/list",
+    "/example.com/a:b@c/@v/list": "/example.com/a:b@c/@v/list",
+    "/pub.example/other/@v/list": "/pub.example/other/@v/list",
+    "/pub.example/others/@v/list": "/.../@v/list",
+    "/sumdb/sum.golang.org/lookup/pub.example/none@v1.0.0": "/sumdb/...",
+    "/-/gosum/example.com/alpha/core/@v/v9.9.9": "/.../@v/v9.9.9",
+    "/k/short": "/k/...",
+}
+
+
+@pytest.mark.parametrize("target", SHOWN)
+def test_the_log_has_fewer_letters_than_a_key_of_what_nobody_has(company: Developers, target: str) -> None:
+    begun = len(company.log())
+    company.ask(target)
+    assert [line.split()[5] for line in company.log(begun)] == [SHOWN[target]]
+
+
+# of refused publishes the path and the version, and what the log has
+REFUSED = {
+    ("example.com/beta", "v1.0.0"): ("example.com/beta", "v1.0.0"),
+    ("example.com/beta/abcdefg", "v1.0.0"): ("example.com/beta/abcdefg", "v1.0.0"),
+    ("example.com/beta/abcdefgh", "v1.0.0"): ("example.com/beta/abcdefgh", "..."),
+    ("example.com/beta/abc.def-ghij_k~l", "v1.0.0"): ("example.com/...", "v1.0.0"),
+    ("example.com/beta", "v1.0.0-20240131120000"): ("example.com/beta", "..."),
+    ("pub.example/a/b/c", "v1.0.0"): ("pub.example/a/b/c", "..."),
+    ("pub.example/a/b/c/def", "v1.0.0"): ("...", "v1.0.0"),
+    ("pub.example", "v1.2.3"): ("pub.example", "v1.2.3"),
+}
+
+
+@pytest.mark.parametrize(("path", "version"), REFUSED, ids=" ".join)
+def test_the_log_of_publishes_has_fewer_letters_than_a_key_of_what_was_refused(
+    company: Developers, path: str, version: str
+) -> None:
+    begun = len(read_publishes(company))
+    assert company.publish("ann", path, version) == (403, b"not your path\n")
+    assert read_publishes(company)[begun:] == [[*REFUSED[path, version], "403"]]
 
 
 def test_the_log_of_errors_has_the_target_of_a_plain_request(company: Developers) -> None:

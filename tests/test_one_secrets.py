@@ -138,13 +138,17 @@ def wait_until_logged(company: Company, *targets: str) -> None:
 @pytest.mark.parametrize(
     ("target", "logged"),
     [
-        ("/example.com/alpha/core/@v/list?a=b", "/example.com/alpha/core/@v/list?..."),
-        ("/example.com/alpha/0123456789abcdef/@v/list", "/example.com/alpha/.../@v/list"),
-        ("/example.com/!alpha!beta!gamma!delta/@v/v1.0.0.mod", "/example.com/.../@v/v1.0.0.mod"),
-        ("/example.com/0123456789ABCDEF/x/0123456789abcdef/@v/list", "/..."),
+        ("/example.com/alpha/core/@v/list?a=b", "/.../@v/list?..."),
+        ("/example.com/alpha/0123456789abcdef/@v/list", "/.../@v/list"),
+        ("/example.com/!alpha!beta!gamma!delta/@v/v1.0.0.mod", "/.../@v/....mod"),
+        ("/example.com/0123456789ABCDEF/x/0123456789abcdef/@latest", "/.../@latest"),
         ("/k/short/example.com/alpha/core/@v/list", "/k/..."),
-        ("/example.com/%6cib/@v/list", "/..."),
-        ("/example.com/alpha/core/@v/v1.0.0-20240131120000-abcdefabcdef.mod",) * 2,
+        ("/example.com/%6cib/@v/list", "/.../@v/list"),
+        ("/example.com/alpha/core/@v/v1.0.0-20240131120000-abcdefabcdef.mod", "/.../@v/....mod"),
+        ("/-/gosum/example.com/alpha/core/@v/v9.9.9", "/.../@v/..."),
+        ("/-/modules?a", "/-/modules?..."),
+        ("/01-23.45_67~89+abcd@e", "/01-23.45_67~89+abcd@e"),
+        ("/01-23.45_67~89+abcd@ef", "/..."),
     ],
 )
 def test_the_log_of_a_site_has_no_word_that_may_be_a_key(company: Company, target: str, logged: str) -> None:
@@ -157,4 +161,4 @@ def test_the_log_of_a_site_has_a_long_name_once_a_module_has_it(company: Company
     assert company.desk.status(SITE, "ann", target) == 404
     assert company.put("pub", LONG, "v1.0.0")[0] == 201
     assert [company.desk.status(SITE, "ann", target) for _ in range(2)] == [200] * 2
-    wait_until_logged(company, "/example.com/.../@v/v1.0.0.mod", "/example.com/.../@v/v1.0.0", target, target)
+    wait_until_logged(company, "/.../@v/....mod", "/.../@v/...", target, target)

@@ -12,6 +12,7 @@ from collections.abc import Iterator
 
 import pytest
 
+from lib.leaks import holders
 from lib.front import FOLDER, Client, Reply, fingerprint, trust_own
 from lib.machine import Machine
 from lib.pages import block
@@ -188,6 +189,15 @@ def test_check_says_who_still_comes_by_a_password(front: NewFront) -> None:
         return {line.split()[0] for line in lines if "still logs in by a password of before" in line}
 
     wait_until(lambda: find_users() == {"ann"})
+
+
+def test_no_log_of_the_old_front_has_a_key(front: NewFront) -> None:
+    key, log = "mistypedkey0123456789abcdef", "var/log/nginx/goshelf-before.log"
+    lines = len(front.machine.read(log).splitlines())
+    for target in (f"/{key}", f"/pub.example/{key}/@v/list", f"/example.com/{key}/@v/v1.0.0.mod?{key}", f"/k/{key}/x"):
+        assert front.ask("GET", target, f"Basic {old_login(key)}")[0] in (401, 404, 429)
+    wait_until(lambda: len(front.machine.read(log).splitlines()) > lines)
+    assert holders(front.machine.folder, ["var/log"], {"a key": key}) == []
 
 
 def test_user_is_removed_from_both_and_then_the_old_front_is() -> None:

@@ -19,7 +19,9 @@ EDITS = (
     ("/etc/nginx/goshelf/", "/etc/nginx/goshelf/before/"),
     ("/var/cache/nginx/goshelf", "/var/cache/nginx/goshelf-before"),
     ("/var/log/nginx/goshelf.log", LOG),
-    ("/var/log/nginx/goshelf-errors.log", "/var/log/nginx/goshelf-before-errors.log"),
+    # (nginx writes the request there as it was sent, and a key may be in it)
+    ("error_log /var/log/nginx/goshelf-errors.log crit;", "error_log /dev/null emerg;"),
+    ("$request_method $goshelf_target ", "... ... "),
     ("listen 443 ssl;", "listen 127.0.0.1:8446 ssl;"),
 )
 NGINX = """# nginx of the front with passwords, to which the new front passes logins that are no key of its own

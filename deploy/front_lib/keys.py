@@ -66,9 +66,10 @@ class Keys:
         return key, line
 
     def has_key(self, text: str) -> bool:
-        """Whether a text has a key of goshelf as a word."""
-        words = orders.KEY.findall(text)
-        return any(hashlib.sha256(word.encode()).hexdigest()[:16] in self.known for word in words)
+        """Whether a text has a key of goshelf, also in capitals, inside a word, or in parts."""
+        text = re.sub("[^a-z0-9]", "", text.lower())
+        parts = (text[at:end] for at in range(len(text)) for end in range(at + 16, min(at + 64, len(text)) + 1))
+        return any(hashlib.sha256(part.encode()).hexdigest()[:16] in self.known for part in parts)
 
     def put(self, generation: int | None = None) -> None:
         """Writes names and goshelf.json, and has nginx read it if it is another. A wrong owners.json is refused at the

@@ -37,7 +37,16 @@ TARGETS = (
 )
 # of these, where each form of a key stands
 FORMED = ("/example.com/{}/@v/list", "/pub.example/{}/@v/v1.0.0.mod")
-HEADERS = ("Referer: https://x.example/{}", "User-Agent: {}", "Cookie: key={}", "Range: {}", "Host: {}.example.com")
+HEADERS = (
+    "Referer: https://x.example/{}",
+    "Referer: |localhost|localhost|few|GET /{} HTTP/1.1",
+    "User-Agent: {}",
+    "Cookie: key={}",
+    "Range: {}",
+    "Host: {}.example.com",
+    "Host: localhost:{}",
+    "Host: localhost|few|GET /{}",
+)
 # heads that nginx cannot read, or does not want
 BAD = (
     "GET {} HTTP/1.1\r\nHost: localhost",
@@ -55,6 +64,8 @@ BAD = (
     "CONNECT {}:443 HTTP/1.1\r\nHost: localhost",
     "GET /{}",
 )
+# what may part the words of a path, and so a key
+MARKS = "-._~+@:/"
 # the letters of a key as a method, which has no digit
 LETTERS = str.maketrans("0123456789", "ABCDEFGHIJ")
 
@@ -67,8 +78,16 @@ def forms(key: str) -> list[str]:
     first = f"%{ord(key[0]):02X}{key[1:]}"
     forms = [key, key * 2, key.upper(), marked, marked.replace("!", "%21"), escaped, escaped.replace("%", "%25"), first]
     # with a space of no width, as a text on a page may have it
-    parted = f"{key[:13]}\xc2\xa0{key[13:]}"
-    return [*forms, login, key.encode().hex(), f"{key}x", f"x-{key}.x", parted]
+    spaced = f"{key[:13]}\xc2\xa0{key[13:]}"
+    return [*forms, login, key.encode().hex(), f"{key}x", f"x-{key}.x", spaced, *parted(key)]
+
+
+def parted(key: str) -> list[str]:
+    """Returns a key in parts of fewer letters and digits than any key has."""
+    halves = [f"{key[:13]}{mark}{key[13:]}" for mark in MARKS]
+    many = [mark.join(key[at : at + 4] for at in range(0, len(key), 4)) for mark in "-./"]
+    one_by_one = "".join(letter + MARKS[at % 7] for at, letter in enumerate(key))
+    return [*halves, *many, one_by_one, f"{key[:11]}/@v/{key[11:]}", f"{key[:9].upper()}-!{key[9:]}"]
 
 
 def heads(key: str, login: str) -> Iterator[str]:
@@ -77,9 +96,14 @@ def heads(key: str, login: str) -> Iterator[str]:
     own = f"Host: localhost\r\nAuthorization: {login}"
     for target in (*TARGETS, *(f.replace("{}", form) for f in FORMED for form in forms(key))):
         yield f"GET {target.replace('{}', key)} HTTP/1.1\r\n{own}"
-    for method, target in (("HEAD", FORMED[0]), ("PUT", "/example.com/alpha/{}/@v/v1.0.0"), ("PUT", FORMED[1])):
-        yield f"{method} {target.replace('{}', key)} HTTP/1.1\r\n{own}"
+    for form in (key, *parted(key)):
+        for method, target in (("HEAD", FORMED[0]), ("PUT", "/example.com/alpha/{}/@v/v1.0.0"), ("PUT", FORMED[1])):
+            yield f"{method} {target.replace('{}', form)} HTTP/1.1\r\n{own}"
+    for at in (12, 13, 14):
+        yield f"PUT /example.com/alpha/{key[:at]}/@v/{key[at:]} HTTP/1.1\r\n{own}"
+        yield f"GET /example.com/alpha/{key[:at]}/@v/{key[at:]}.mod HTTP/1.1\r\n{own}"
     yield f"{key.upper().translate(LETTERS)} /example.com/alpha/core/@v/v1.0.0 HTTP/1.1\r\n{own}"
+    yield f"{key[:13].upper().translate(LETTERS)} /{key[13:]} HTTP/1.1\r\n{own}"
     for header in HEADERS:
         header = header.replace("{}", key)
         lines = header if header.startswith("Host") else f"Host: localhost\r\n{header}"
@@ -185,13 +209,14 @@ def read_below(places: Iterable[str]) -> Iterator[tuple[str, bytes]]:
 
 
 def holds(text: bytes, key: str) -> bool:
-    """Whether a text has a key: as it is, in capitals, with their marks, percent-encoded, in base64 or in
-    hexadecimal."""
+    """Whether a text has a key: as it is, in capitals, with their marks, percent-encoded, in base64, in hexadecimal, or
+    parted by what is neither a letter nor a digit."""
     texts = [re.sub(rb"[\x80-\xff]|\\x[0-9a-f]{2}", b"", text.lower())]
     for _ in range(3):
         texts.append(urllib.parse.unquote_to_bytes(texts[-1]).lower())
-    words = (key.encode(), key.encode().hex().encode(), key.translate(LETTERS).lower().encode())
-    if any(word in one.replace(b"!", b"") for one in texts for word in words):
+    words = [key, key.encode().hex(), key.translate(LETTERS).lower(), key[:13].translate(LETTERS).lower() + key[13:]]
+    joined = [re.sub(rb"/@v/|[^a-z0-9]", b"", one) for one in texts]
+    if any(word.encode() in one for one in joined for word in words):
         return True
     return any(word in text for word in in_base64(key))
 

@@ -275,6 +275,14 @@ def test_log_for_all_to_read(front: Front) -> None:
     os.chmod(log, 0o640)
 
 
+def test_key_of_the_certificate_for_all_to_read(front: Front) -> None:
+    name = f"{front.machine.folder}/etc/ssl/goshelf.key"
+    mode = os.stat(name).st_mode & 0o777
+    os.chmod(name, 0o644)
+    assert_named(front, f"anybody on this host may read {name}: chmod 600 {name}")
+    os.chmod(name, mode)
+
+
 def test_clock_that_was_set_back(front: Front) -> None:
     front.machine.does(f"sed -i 's/: 1[0-9]*,/: 9&/; s/: 9: /: 9/' /{FOLDER}/goshelf.json")
     assert_named(front, "clock")

@@ -65,6 +65,8 @@ MISUSES = [
     ("rotate ann --days soon", 2, "soon"),
     ("remove eve", 1, "there is no 'eve'"),
     ("remove ''", 2, "a word is empty"),
+    ("remove ann 0123456789abcdef", 1, "'ann' has no key '0123456789abcdef': goshelf-front list"),
+    ("remove ann one two", 2, "two"),
     ("remove ann --yes", 2, "--yes"),
     ("", 2, "usage"),
     ("add eve", 2, "usage"),
@@ -86,6 +88,7 @@ MISUSES = [
     ("set-up local_host", 1, "'local_host' is not the name of a host"),
     ("set-up localhost example=alpha", 1, "example is not a module path"),
     ("set-up localhost example.com=Alpha", 1, "'Alpha' is no shelf"),
+    ("set-up localhost forgotten.example=alpha", 1, "owners.json is kept, and lacks forgotten.example: add a line"),
     ("drop ann", 2, "drop"),
     ("--yes", 2, "--yes"),
 ]
@@ -211,6 +214,29 @@ def test_rotate_asks_for_the_shelf(front: Front) -> None:
     status, printed, errors = front.machine.sh("goshelf-front rotate 'Jane Roe' --shelf beta")
     assert (status, errors) == (0, "") and "login Jane-Roe password " in printed, printed
     front.order("remove 'Jane Roe'")
+
+
+def test_one_key_of_a_name_is_removed(front: Front) -> None:
+    old, new = front.give("add Ned alpha read"), front.give("rotate Ned")
+    assert (front.status_of(old), front.status_of(new)) == (204, 204)
+    assert front.order(f"remove Ned {fingerprint(old)}") == f"removed\tNed\talpha\t{fingerprint(old)}\n"
+    assert (front.status_of(old), {front.status_of(new) for _ in range(5)}) == (401, {204})
+    assert (fingerprint(old) in front.keys(), fingerprint(new) in front.keys()) == (False, True)
+    front.order("remove Ned")
+    assert front.status_of(new) == 401
+
+
+def test_removal_while_goshelf_is_stopped_says_what_was_done(front: Front) -> None:
+    digits = fingerprint(front.give("add Ivy alpha read"))
+    with stopped_goshelf(front.machine):
+        status, printed, errors = front.machine.sh("goshelf-front remove Ivy")
+        assert (status, printed) == (1, f"removed at nginx\tIvy\talpha\t{digits}\n")
+        why = f"but the key {digits} of Ivy is not revoked: goshelf is stopped"
+        assert errors.endswith(
+            f"goshelf-front: nginx answers it with a 401 from now on, {why}\n"
+            "goshelf-front: goshelf itself takes it until goshelf-front sync revokes it\n"
+        )
+    assert front.order("sync") == f"revoked\tIvy\talpha\t{digits}\n"
 
 
 def test_name_that_does_not_show_is_named_and_removed(front: Front) -> None:

@@ -105,12 +105,17 @@ class Keys:
             elif line in self.waiting and line.fingerprint in self.known:
                 self.note_revoked(line)
             if why:
-                key = f"the key {line.fingerprint} of {line.name}"
-                wrong.append(f"nginx takes it no longer, but {key} is not revoked: {why}")
+                key, why = (
+                    f"the key {line.fingerprint} of {line.name}",
+                    "goshelf is stopped" if why == "device" else why,
+                )
+                wrong.append(f"nginx answers it with a 401 from now on, but {key} is not revoked: {why}")
         self.lines = left
         files.put_names(left)
         if wrong:
-            raise Refused("\ngoshelf-front: ".join([*wrong, "goshelf-front sync tries again"]))
+            raise Refused(
+                "\ngoshelf-front: ".join([*wrong, "goshelf itself takes it until goshelf-front sync revokes it"])
+            )
 
     def note_revoked(self, line: Name) -> None:
         """Notes that a key that waited for it was revoked."""

@@ -108,6 +108,13 @@ def certificate_faults(text: str) -> list[str]:
     return found + ([f"{named[1]} is not for {host()}"] if "NOT match" in matches else [])
 
 
+def key_faults(text: str) -> Iterator[str]:
+    """Yields that others than root and its group may read the key of the certificate."""
+    for name in re.findall(r"^\s*ssl_certificate_key\s+([^;\s]+);", text, re.M):
+        if os.path.exists(name) and os.stat(name).st_mode & 0o7:
+            yield f"anybody on this host may read {name}: chmod 600 {name}"
+
+
 def x509(name: str, *words: str) -> str:
     """Returns what openssl says of a certificate."""
     return subprocess.run(["openssl", "x509", "-noout", "-in", name, *words], capture_output=True, text=True).stdout
@@ -157,7 +164,8 @@ def name_faults(text: str) -> Iterator[str]:
         return
     for server in sorted({*re.findall(r"^\s*resolver (\S+) ", f"{text}\n{stream}", re.M)}):
         if why := doctor_nginx.unknown(server, found[1]):
-            yield f"the name server {server}, which nginx asks, {why} {found[1]}"
+            second = "docs/NGINX.md has a second way, which asks none"
+            yield f"the name server {server}, which nginx asks, {why} {found[1]}: {second}"
 
 
 def clock_faults(settings: Mapping[str, Any]) -> list[str]:
@@ -197,7 +205,7 @@ def faults() -> list[str]:
         text = conf()
     except Refused as why:
         return [str(why)]
-    found = [*certificate_faults(text), *folder_faults(text), *page_faults(), *other_faults()]
+    found = [*certificate_faults(text), *key_faults(text), *folder_faults(text), *page_faults(), *other_faults()]
     found += clock_faults(files.front())
     found += name_faults(text)
     if said():

@@ -66,6 +66,14 @@ def owners(words: Iterable[str]) -> str:
     return text
 
 
+def refuse_others(words: Iterable[str]) -> None:
+    """Refuses words PATH=SHELF whose path is not in owners.json: that is kept as it is."""
+    known = files.owners()
+    if other := [path for path, _, _ in (word.partition("=") for word in words) if path.lower() not in known]:
+        place = f"{FOLDER}/owners.json"
+        raise Refused(f"{place} is kept, and lacks {other[0]}: add a line there, then run goshelf-front uncache")
+
+
 def folders() -> None:
     """Makes nginx's caches and logs, before nginx makes the logs for all to read."""
     user, _ = logs.owner()
@@ -85,6 +93,8 @@ def set_up(words: argparse.Namespace) -> None:
         if not HOST.fullmatch(host):
             raise Refused(f"{host!r} is not the name of a host")
     text = owners(words.paths) if words.paths else ""
+    if text and os.path.exists(f"{FOLDER}/owners.json"):
+        refuse_others(words.paths)
     if before.is_there():
         before.set_aside()
     if not words.warm and not text and not os.path.exists(f"{FOLDER}/owners.json"):

@@ -18,6 +18,7 @@ import urllib.parse
 
 from lib.modules import escaped, sums, zipped
 from lib.peers import Quiet, fetched
+from lib.ports import free_port, wait_until
 from lib.program import ROOT
 
 NAME, STORE = "proxy.golang.org", "storage.googleapis.com"
@@ -178,9 +179,17 @@ class Outside:
         return status, kind or TEXT, body
 
     def listen(self, certificate, port=0):
-        server = Listener(self, certificate, port)
-        self.servers[server.server_address[1]] = server
-        return server.server_address[1]
+        port, found = port or free_port(), []
+
+        def listens():
+            # (somebody may have the port for a moment)
+            with contextlib.suppress(OSError):
+                found.append(Listener(self, certificate, port))
+            return found
+
+        wait_until(listens)
+        self.servers[port] = found[0]
+        return port
 
     def stop(self, port):
         self.servers.pop(port).stop()

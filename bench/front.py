@@ -106,7 +106,14 @@ class Front:
 
     def ask(self, target, count):
         """Microseconds of the worker for each of so many requests."""
-        head = f"GET {target} HTTP/1.1\r\nHost: localhost\r\nAuthorization: Basic {logged_in('ann')}\r\n\r\n".encode()
+        lines = (
+            f"GET {target} HTTP/1.1",
+            "Host: shelf.example.com",
+            f"Authorization: Basic {logged_in('ann')}",
+            "",
+            "",
+        )
+        head = "\r\n".join(lines).encode()
         # (nginx ends a connection on which nothing is asked for ten seconds)
         with socket.create_connection(("127.0.0.1", self.listens)) as held:
             held.sendall(head)

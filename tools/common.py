@@ -1,9 +1,10 @@
-"""What the tools of contributors share: the top of the clone, the sources of its crates, and how they take their words.
+"""What the tools of contributors share: the top of the clone, its crates with their sources, and how they take words.
 
 `take` and `wrong` are those of the scripts that are installed.
 """
 import glob
 import os
+import re
 import sys
 from collections.abc import Iterator
 
@@ -12,7 +13,26 @@ sys.path.append(os.path.join(ROOT, "deploy"))
 
 from words import take, wrong  # noqa: E402
 
-__all__ = ["ROOT", "crate_lines", "is_of_tests", "read", "sources_of", "take", "wrong"]
+__all__ = [
+    "ROOT",
+    "code_of",
+    "crate_lines",
+    "end_of",
+    "functions_of",
+    "is_of_tests",
+    "read",
+    "sources_of",
+    "take",
+    "wrong",
+]
+
+# comments, texts, characters, and what only the prover reads
+SILENT = re.compile(r"//[^\n]*|b?\"(?:\\.|[^\"\\])*\"|b?'(?:\\(?:x..|u\{\w+\}|.)|[^'\\])'|\bghost use [^;]+;", re.S)
+CLAUSE = re.compile(r"\b(?:(?:ensures|requires)(?: \w+)?|ghost \w+ =) (?=\{)")
+# the type or the trait of a qualified path, and the type arguments of a call
+QUALIFIED = re.compile(r"<[^<>;]* as [^;{}()]*?>(?=::)")
+ARGUMENTS = re.compile(r"::<[^;{}()]*?>(?=\(|::)")
+FUNCTION = re.compile(r"(\bpub )?(?:\bconst )?\bfn (\w+)")
 
 
 def read(name: str) -> str:
@@ -38,3 +58,39 @@ def sources_of(crate: str) -> Iterator[tuple[str, tuple[str, ...]]]:
     for path in sorted(glob.glob(os.path.join(top, "**", "*.rt"), recursive=True)):
         below = os.path.relpath(path, top)[: -len(".rt")].split(os.sep)
         yield os.path.relpath(path, ROOT), tuple(part for part in below if part not in ("lib", "main"))
+
+
+def end_of(text: str, at: int) -> int:
+    """The index behind the block that begins with the brace at `at`."""
+    depth = 0
+    for brace in re.finditer(r"[{}]", text[at:]):
+        depth += 1 if brace.group() == "{" else -1
+        if depth == 0:
+            return at + brace.end()
+    return len(text)
+
+
+def code_of(text: str) -> str:
+    """What runs of a source."""
+    text = SILENT.sub(" ", text)
+    while clause := CLAUSE.search(text):
+        text = text[: clause.start()] + text[end_of(text, clause.end()) :]
+    return ARGUMENTS.sub("", QUALIFIED.sub("Qualified", text))
+
+
+def functions_of(code: str) -> Iterator[tuple[re.Match[str], int, int]]:
+    """Yields each function of a source that `code_of` returned: the match of its name, where its body begins, and where
+    it ends. For a function without a body, as a trait has, both are the index of its semicolon."""
+    for found in FUNCTION.finditer(code):
+        begin = found.end() + length_of_head(code[found.end() :])
+        yield found, begin, end_of(code, begin) if code[begin : begin + 1] == "{" else begin
+
+
+def length_of_head(text: str) -> int:
+    """Returns how long the head of a function is: up to its brace, or to its semicolon if it has no body."""
+    depth = 0
+    for found in re.finditer(r"[][(){;]", text):
+        depth += {"(": 1, "[": 1, ")": -1, "]": -1}.get(found.group(), 0)
+        if depth == 0 and found.group() in "{;":
+            return found.start()
+    return len(text)

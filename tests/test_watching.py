@@ -68,9 +68,10 @@ class Health(Quiet):
 def make_certificate(days: int) -> dict[str, bytes]:
     """Makes a certificate that expires in some days, and returns its files by their names."""
     with tempfile.TemporaryDirectory(prefix="goshelf-") as folder:
-        words = f"openssl req -x509 -newkey rsa:2048 -nodes -days {days} -subj /CN=localhost".split()
+        made = "openssl req -x509 -newkey ec -pkeyopt ec_paramgen_curve:P-256 -nodes -subj /CN=localhost"
         files = [f"{folder}/{name}" for name in ("goshelf.pem", "goshelf.key")]
-        subprocess.run([*words, "-out", files[0], "-keyout", files[1]], check=True, capture_output=True)
+        words = [*made.split(), "-days", str(days), "-out", files[0], "-keyout", files[1]]
+        subprocess.run(words, check=True, capture_output=True)
         return {os.path.basename(file): read(file) for file in files}
 
 

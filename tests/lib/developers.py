@@ -163,7 +163,6 @@ class Developers:
             write({f"{home}/.netrc": f"machine localhost login {user} password {self.client.passwords[user]}\n"})
         own = {
             "GOMODCACHE": cache or f"{home}/cache",
-            "GOCACHE": self.outside.build_cache,
             "GOPROXY": self.url,
             "GONOSUMDB": "example.com,forge.example/corp",
             "GOSUMDB": self.outside.verifies,

@@ -33,6 +33,9 @@ USERS = [
 ]
 PATHS = {"example.com": ["alpha", "beta", LONG]}
 FOLDER = "etc/nginx/goshelf"
+# makes the certificate of the machine
+CERTIFICATE = """openssl req -x509 -newkey ec -pkeyopt ec_paramgen_curve:P-256 -nodes -days 2 -subj /CN=localhost \\
+    -addext subjectAltName=DNS:localhost -out /etc/ssl/goshelf.pem -keyout /etc/ssl/goshelf.key"""
 Reply = tuple[int, bytes]
 
 
@@ -173,8 +176,7 @@ def start(
     """Starts goshelf and nginx by the page's commands. `paths` has the company's, each with the shelves that publish
     there, and `change` changes files before nginx starts."""
     machine.does("systemctl start goshelf")
-    made = "openssl req -x509 -newkey rsa:2048 -nodes -days 2 -subj /CN=localhost -addext subjectAltName=DNS:localhost"
-    machine.does(f"{made} -out /etc/ssl/goshelf.pem -keyout /etc/ssl/goshelf.key")
+    machine.does(CERTIFICATE)
     trust_own(machine)
     machine.check_out()
     set_up_front(machine, "localhost", paths)

@@ -26,8 +26,8 @@ goshelf team-add --db /var/lib/goshelf/shelves.db --team alpha
 goshelf key-add --db /var/lib/goshelf/shelves.db --shelf alpha --new > /dev/null
 systemctl start goshelf
 rm -rf /etc/nginx/sites-enabled /etc/nginx/goshelf /etc/nginx/conf.d/goshelf.conf
-openssl req -x509 -newkey rsa:2048 -nodes -days 2 -subj /CN=localhost -addext subjectAltName=DNS:localhost \
-    -out /etc/ssl/goshelf.pem -keyout /etc/ssl/goshelf.key 2> /dev/null
+openssl req -x509 -newkey ec -pkeyopt ec_paramgen_curve:P-256 -nodes -days 2 -subj /CN=localhost \
+    -addext subjectAltName=DNS:localhost -out /etc/ssl/goshelf.pem -keyout /etc/ssl/goshelf.key 2> /dev/null
 goshelf-front set-up localhost example.com=alpha > /dev/null
 systemctl restart nginx
 goshelf-front add ann alpha read 2> /dev/null

@@ -4,7 +4,9 @@ The public proxy notes what it is asked, and misbehaves as it is told. It has ce
 authorities that stand three deep, of which `Outside.authority` is the first.
 """
 
+import atexit
 import contextlib
+import functools
 import http.client
 import http.server
 import os
@@ -13,6 +15,7 @@ import socket
 import ssl
 import struct
 import subprocess
+import tempfile
 import threading
 import urllib.parse
 
@@ -28,18 +31,19 @@ XMOD = "/usr/share/gocode/src/golang.org/x/mod"
 TIME = "2024-01-31T12:00:00Z"
 TEXT, JSON, ZIP = "text/plain; charset=UTF-8", "application/json", "application/zip"
 CERTIFICATES = """
+new="-newkey ec -pkeyopt ec_paramgen_curve:P-256 -nodes"
 authority() {
     printf 'basicConstraints=critical,CA:TRUE\\nkeyUsage=keyCertSign\\n' > ext
-    openssl req -newkey rsa:2048 -nodes -subj /CN=$1 -keyout $1.key -out csr
+    openssl req $new -subj /CN=$1 -keyout $1.key -out csr
     openssl x509 -req -in csr -CA $2.pem -CAkey $2.key -CAcreateserial -days 2 -extfile ext -out $1.pem
 }
 leaf() {
     printf "subjectAltName=$2\\n" > ext
-    openssl req -newkey rsa:2048 -nodes -subj /CN=$1 -keyout $1.key -out csr
+    openssl req $new -subj /CN=$1 -keyout $1.key -out csr
     openssl x509 -req -in csr -CA lower.pem -CAkey lower.key -CAcreateserial -days 2 -extfile ext -out leaf
     cat leaf lower.pem middle.pem > $1.pem
 }
-openssl req -x509 -newkey rsa:2048 -nodes -days 2 -subj /CN=root -keyout root.key -out root.pem \
+openssl req -x509 $new -days 2 -subj /CN=root -keyout root.key -out root.pem \
     -addext keyUsage=keyCertSign
 authority middle root
 authority lower middle
@@ -47,7 +51,7 @@ leaf public DNS:$PUBLIC
 leaf store DNS:$STORE
 leaf wrong DNS:wrong.example
 leaf local IP:127.0.0.1
-openssl req -x509 -newkey rsa:2048 -nodes -days 2 -subj /CN=self -keyout self.key -out self.pem \
+openssl req -x509 $new -days 2 -subj /CN=self -keyout self.key -out self.pem \
     -addext subjectAltName=DNS:$PUBLIC
 """
 
@@ -58,6 +62,17 @@ def module(path, version, gomod=None, files=None):
     whole = zipped(path, version, {"go.mod": gomod, **files})
     of_gomod, of_zip = sums(gomod.encode(), whole)
     return gomod.encode(), whole, f"{path} {version} {of_zip}\n{path} {version}/go.mod {of_gomod}\n"
+
+
+@functools.cache
+def build_database():
+    """Builds the checksum database of Debian's package into a folder that goes with this process, and returns that."""
+    folder = tempfile.TemporaryDirectory(prefix="goshelf-")
+    atexit.register(folder.cleanup)
+    settings = {"GO111MODULE": "off", "GOPATH": "/usr/share/gocode", "GOFLAGS": ""}
+    words = ["go", "build", "-o", f"{folder.name}/checksums", os.path.join(ROOT, "tests", "checksums.go")]
+    subprocess.run(words, check=True, env={**os.environ, **settings})
+    return folder
 
 
 class NameServer(threading.Thread):
@@ -161,11 +176,8 @@ class Outside:
         self.port, self.store_port = self.listen("public"), self.listen("store")
 
     def start_database(self):
-        """Builds the checksum database of Debian's package, and starts it."""
-        program, source = f"{self.folder}/checksums", os.path.join(ROOT, "tests", "checksums.go")
-        self.build_cache = f"{self.folder}/build"
-        settings = {"GO111MODULE": "off", "GOPATH": "/usr/share/gocode", "GOFLAGS": "", "GOCACHE": self.build_cache}
-        subprocess.run(["go", "build", "-o", program, source], check=True, env={**os.environ, **settings})
+        """Starts the checksum database."""
+        program = f"{build_database().name}/checksums"
         quiet = {"stdout": subprocess.PIPE, "stderr": subprocess.DEVNULL, "text": True}
         self.database = subprocess.Popen([program, self.sums], **quiet)
         port, self.verifies = self.database.stdout.readline().split()

@@ -11,6 +11,15 @@ from lib.program import PROGRAM
 from lib.scratch import entered_folder
 from lib.servers import Server
 
+# The files that take longest, the longest first: they begin first, so that no process is left with one in the end. The
+# first builds a program, the second compiles Go's library for six systems.
+LONGEST = """
+test_readme test_publish_go test_scripts test_catalog_control test_catalog_hostile test_front_page test_kills
+test_hostile test_slow_peers test_users test_largest test_refused_allocation test_front test_package_upgrades
+test_migrate test_behind_nginx_users test_beside_store test_front_page_logins test_warm_lost test_tables test_shards
+test_catalog test_package
+""".split()
+
 
 def pytest_addoption(parser: pytest.Parser) -> None:
     parser.addoption("--long", action="store_true", help="runs whole what takes up to an hour")
@@ -27,6 +36,8 @@ def pytest_report_header() -> str:
 
 
 def pytest_collection_modifyitems(config: pytest.Config, items: list[pytest.Item]) -> None:
+    places = {name: place for place, name in enumerate(LONGEST)}
+    items.sort(key=lambda item: places.get(item.path.stem, len(places)))
     for item in items:
         if why := find_reason_to_skip(config, item):
             item.add_marker(pytest.mark.skip(reason=why))

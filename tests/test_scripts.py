@@ -15,6 +15,7 @@ import sys
 from collections.abc import Iterator
 
 import pytest
+from conftest import LONGEST
 
 from lib.machine import Machine
 from lib.program import ROOT
@@ -270,6 +271,9 @@ class TestTests:
     def test_the_table_of_subjects_has_each_file_once(self, names: list[str]) -> None:
         table = read("docs/TESTING.md").partition("| subject | files |\n")[2].partition("\n\n")[0]
         assert sorted(re.findall(r"`(\w+)`", table)) == names
+
+    def test_the_files_that_begin_first_are_there(self, names: list[str]) -> None:
+        assert [name for name in LONGEST if name not in names] == []
 
     def test_no_file_of_tests_is_imported(self, names: list[str]) -> None:
         files = [f"tests/{name}.py" for name in names] + [f"tests/lib/{name}" for name in list_tests("tests/lib")]

@@ -13,6 +13,7 @@ from typing import Any
 
 from lib.developers import Developers
 from lib.front import Answer, fingerprint, list_keys
+from lib.machine import Machine
 from lib.pages import block
 from lib.ports import wait_until
 
@@ -88,6 +89,11 @@ class OwnKeys(Developers):
         os.chown(f"{self.at}/socket", 0, grp.getgrnam("www-data").gr_gid)
         self.serve()
 
+    def change(self, machine: Machine) -> None:
+        super().change(machine)
+        # (who asks for a page has no key, and tests ask more often than a person)
+        self.conf(("rate=5r/s", "rate=500r/s"))
+
     def serve(self) -> None:
         """Starts goshelf-keys as its unit does, anew if it runs."""
         self.end()
@@ -118,15 +124,9 @@ class OwnKeys(Developers):
     def ask_page(
         self, method: str, target: str, cookie: str, body: bytes | str | None, headers: Mapping[str, str]
     ) -> Page:
-        """Returns the status and the text of an answer, once nginx does not answer that strangers ask too often. The
-        answer is `last`."""
+        """Returns the status and the text of an answer, which is `last`."""
         sent = {**({"Cookie": cookie} if cookie else {}), **headers}
-
-        def is_answered() -> bool:
-            self.last = self.client.reply(method, target, None, body, sent)
-            return self.last.body != b"too many requests at once\n"
-
-        wait_until(is_answered)
+        self.last = self.client.reply(method, target, None, body, sent)
         return self.last.status, self.last.body.decode()
 
     def fields(self, cookie: str, action: str, **wanted: str) -> Fields:

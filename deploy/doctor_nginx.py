@@ -137,7 +137,7 @@ def refused(errors: str) -> Cause:
     if host := re.search(r"host not found in upstream \"([^\"]*)\"", lines[0]):
         return f"nginx does not start while {host[1]} has no address", f"getent hosts {host[1].split(':')[0]}", REFUSED
     if "key values mismatch" in lines[0]:
-        named = re.search(r'file?\("([^"]*)"', lines[0])
+        named = re.search(r'\("([^"]*)"', lines[0])
         said = f"the key {named[1] if named else ''} does not fit its certificate"
         return said, f"put both files of one certificate in their places; {RELOAD}", CERTIFICATE
     return f"nginx does not take its files: {lines[0]}", f"mend that line; {RELOAD}", REFUSED

@@ -70,7 +70,8 @@ class WithPublic(Company):
         lines: list[str] = []
 
         def is_logged() -> bool:
-            lines[:] = [line for line in self.lines(SITE, begun) if f" {target} " in line]
+            # (the log hides what may be a key in a target that found nothing)
+            lines[:] = [line for line in self.lines(SITE, begun) if f" {target} " in line or "..." in line]
             return bool(lines)
 
         wait_until(is_logged)

@@ -25,13 +25,13 @@ use Rattle.control.specs.declared.client.Untold.{Untold}
 use Rattle.control.specs.declared.client.Untold.TheVariants as untold
 use Rattle.control.specs.declared.told.Told.{Told}
 use Rattle.control.proofs.SendingLemmas.{order_gets}
-use Rattle.commands.specs.Connection.{Exchanges, IsAll, IsHealthIn, IsOutcomeIn, Passed, Pings, PingsBetween, PrintsBy}
+use Rattle.commands.specs.Connection.{Exchanges, IsAll, IsHealthIn, IsOutcomeIn, OnlyPings, Passed, PingsBetween, PrintsBy}
 use Rattle.commands.specs.Listing.{ListsHeard, list_ending}
 use Rattle.commands.specs.Order.{CopiesBy, CopiesHeard, IsSentFor, OrdersBy, OrdersHeard, RevokesBy}
 use Rattle.commands.specs.Order.{RevokesHeard, StopsBy, StopsHeard, unsayable}
 use Rattle.commands.specs.Ping.{PingsHeard, health_ending}
 use Rattle.commands.specs.SentOrder.{order_ending}
-use Rattle.commands.specs.ServedCatalog.{CatalogsBy, CatalogsHeard, HearsAsked, HearsCatalog, Sends}
+use Rattle.commands.specs.ServedCatalog.{CatalogsBy, CatalogsHeard, HearsAsked, HearsCatalog, IsSentIn}
 use Rattle.commands.specs.declared.refusal.CommandRefusal.{CommandRefusal}
 use Rattle.commands.specs.declared.refusal.CommandRefusal.TheVariants.{NoKey}
 use Rattle.commands.specs.declared.sent_order.SentOrder.TheVariants as which
@@ -232,7 +232,7 @@ module _ (a b : Account) (w w' : Option (List ℕ)) (f f' : ℕ) (unused : IsUnu
       )
 
   pub pings_only : (told : Result Told Untold) → LineGets HearsHealth a b w w' f f' (line_for orders.Ping) told
-      → (p : Passed) × IsAll b w' f' p × Pings p
+      → (p : Passed) × IsAll b w' f' p × OnlyPings p
   pings_only told gets = let all = asks_health told gets in (all.0, all.1, (told, all.2))
 
   pub lists_by : (listing : Listing) (printed printed_new : Option (List ℕ)) (result : Result Bool CommandRefusal)
@@ -251,7 +251,7 @@ module _ (a b : Account) (w w' : Option (List ℕ)) (f f' : ℕ) (unused : IsUnu
   -- what was sent of the line of an order whose reply was still to be read
   sends : (o : Ordered) (asked : Result (Unit {0}) Untold) → IsSent w w' f f' o asked
       → (sent : List ℕ) × (w' ≡ Some sent)
-      × Sends o (record { sent = sent; came = b.heard; failed = f' }) asked
+      × IsSentIn o (record { sent = sent; came = b.heard; failed = f' }) asked
   sends o (Ok u) (sent, is, appends) = (sent, appended w w' sent unused.1 appends, is)
   sends o (Err untold.Words) (never, same) = ([], same ∙ unused.1, (never, refl))
   sends o (Err untold.Memory) same = ([], same ∙ unused.1, refl)
@@ -329,7 +329,7 @@ module _ {L : Type 0} (all : L → Passed → Type 0) (path : List ℕ) where
 
   -- it could not be connected to, or was only asked for its health
   abbrev IsPing : Option L → Type 0
-  IsPing asked = IfSome asked (λ link. (passed : Passed) × all link passed × Pings passed)
+  IsPing asked = IfSome asked (λ link. (passed : Passed) × all link passed × OnlyPings passed)
 
   pub no_ping : (h : List (Done L)) → PingsBetween all h h path
   no_ping h = ([], All-nil IsPing, sym (append-nil h))
@@ -338,7 +338,7 @@ module _ {L : Type 0} (all : L → Passed → Type 0) (path : List ℕ) where
   lost_ping h i lost = (None ∷ [], All-cons IsPing None [] tt (All-nil IsPing), lost)
 
   pub one_ping : (h i j : List (Done L)) (link : L) → i ≡ h ++ (path, Connected) ∷ []
-      → j ≡ i ++ ([], Ended link) ∷ [] → (passed : Passed) × all link passed × Pings passed
+      → j ≡ i ++ ([], Ended link) ∷ [] → (passed : Passed) × all link passed × OnlyPings passed
       → PingsBetween all h j path
   one_ping h i j link connected ended pings = (
     Some link ∷ [],

@@ -49,7 +49,7 @@ Exchanges IsIn o p (Err untold.Io) =
     × ((IsBeginning p.sent line × (0 < p.failed) × (p.came ≡ [])) ⊎ (p.sent ≡ line))
 
 -- The line of the order was sent, and what came decides how the command ends.
-pub record EndsBy (sent : SentOrder) (unsaid : CommandRefusal) (o : Ordered) (result : Result (Unit {0}) CommandRefusal)
+pub record EndsByOutcome (sent : SentOrder) (unsaid : CommandRefusal) (o : Ordered) (result : Result (Unit {0}) CommandRefusal)
     (passed : Passed) : Type 0 where
   pub told : Result Outcome Untold
   pub exchanges : Exchanges IsOutcomeIn o passed told
@@ -64,8 +64,8 @@ pub record PrintsBy {T : Type 0} (IsIn : T → List ℕ → Type 0)
   pub prints : Prints printed printed_new result (ending told)
 
 -- the server was asked for its health
-abbrev pub Pings : Passed → Type 0
-Pings passed = (told : Result Told Untold) × Exchanges IsHealthIn Ping passed told
+abbrev pub OnlyPings : Passed → Type 0
+OnlyPings passed = (told : Result Told Untold) × Exchanges IsHealthIn Ping passed told
 
 -- ---- which server is asked
 
@@ -82,12 +82,12 @@ module _ {L : Type 0} (all : L → Passed → Type 0) (before after : List (Done
   abbrev pub PingsBetween : Type 0
   PingsBetween =
       (between : List (Option L))
-      × All (λ asked. IfSome asked (λ link. (passed : Passed) × all link passed × Pings passed)) between
+      × All (λ asked. IfSome asked (λ link. (passed : Passed) × all link passed × OnlyPings passed)) between
       × (after ≡ before ++ deeds_between path between)
 
   -- So it was; meanwhile the server was only asked for its health, over connections of their own.
   abbrev pub AsksServerAndPings : (Passed → Type 0) → Type 0 → Type 0
   AsksServerAndPings By Unserved =
       CallsMeanwhile before after path (λ link. (passed : Passed) × all link passed × By passed)
-      (λ link. (passed : Passed) × all link passed × Pings passed)
+      (λ link. (passed : Passed) × all link passed × OnlyPings passed)
       ⊎ (Fails before after path × Unserved)

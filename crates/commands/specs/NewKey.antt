@@ -93,13 +93,13 @@ AddsNew shown drawn drawn_new old new shelf right written written_new result =
 
 -- so it is of a `serve` that is asked: each order was sent to the server of this path, and to no other
 module _ {L : Type 0} (all : L → Passed → Type 0) (path : List ℕ) where
-  abbrev pub Ordered : List (Done L) → List (Done L) → RegistryCommand → Result (Unit {0}) CommandRefusal → Type 0
-  Ordered before after order ended = OrdersTo all before after path order ended
+  abbrev pub OrdersAt : List (Done L) → List (Done L) → RegistryCommand → Result (Unit {0}) CommandRefusal → Type 0
+  OrdersAt before after order ended = OrdersTo all before after path order ended
 
   abbrev pub OrdersDrawn : List (Done L) → List (Done L) → Drawn → Drawn → Bor (List ℕ) → Right
       → Option (List ℕ) → Option (List ℕ) → Result (Unit {0}) CommandRefusal → Type 0
   OrdersDrawn before after drawn drawn_new shelf right written written_new result =
-      AddsDrawn Ordered shelf right drawn drawn_new before after written written_new result
+      AddsDrawn OrdersAt shelf right drawn drawn_new before after written written_new result
 
   -- so it is where nothing was drawn before
   abbrev pub OrdersNew : List (Done L) → List (Done L) → Bor (List ℕ) → Right → Option (List ℕ) → Option (List ℕ)
@@ -133,7 +133,7 @@ HasNoKey drawn drawn_new writes writes_new = HasNoKeyOr ⊥ drawn drawn_new writ
 
 -- an order may
 abbrev pub HasNoKeyOrOrder : {L : Type 0} → (L → Passed → Type 0) → List ℕ → Drawn → Drawn → Writes → Writes → Type 0
-HasNoKeyOrOrder all path = HasNoKeyOr (EndsWithIo (Ordered all path))
+HasNoKeyOrOrder all path = HasNoKeyOr (EndsWithIo (OrdersAt all path))
 
 -- a command that ended with `Io` did so because of this
 abbrev pub HasCause : Result (Unit {0}) CommandRefusal → Type 0 → Type 0

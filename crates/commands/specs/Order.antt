@@ -17,7 +17,7 @@ use Rattle.control.specs.RegistryCommand.{event_of, outcome_in}
 use Rattle.orders.specs.Order as orders
 use Rattle.orders.specs.Order.{HasLine, HasNoLine, commanded, line_for}
 use Rattle.orders.specs.declared.outcome.Outcome.{Outcome}
-use Rattle.commands.specs.Connection.{AsksServer, AsksServerAndPings, EndsBy, Exchanges, IsOutcomeIn, Passed}
+use Rattle.commands.specs.Connection.{AsksServer, AsksServerAndPings, EndsByOutcome, Exchanges, IsOutcomeIn, Passed}
 use Rattle.commands.specs.Ending.{ending}
 use Rattle.commands.specs.SentOrder.{order_ending}
 use Rattle.commands.specs.declared.refusal.CommandRefusal.{CommandRefusal}
@@ -158,11 +158,11 @@ pub record RevokesBy (f : List ℕ) (result : Result (Unit {0}) CommandRefusal) 
 
 -- so it was with the order to make a copy in the file of a path
 abbrev pub CopiesBy : List ℕ → Result (Unit {0}) CommandRefusal → Passed → Type 0
-CopiesBy path = EndsBy Copy Name (orders.Copy path)
+CopiesBy path = EndsByOutcome Copy Name (orders.Copy path)
 
 -- so it was with the line that ends a server
 abbrev pub StopsBy : Result (Unit {0}) CommandRefusal → Passed → Type 0
-StopsBy = EndsBy Stop Io orders.Stop
+StopsBy = EndsByOutcome Stop Io orders.Stop
 
 -- ---- what is connected to
 

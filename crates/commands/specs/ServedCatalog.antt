@@ -72,17 +72,17 @@ CatalogsHeard came came_new written written_new failed failed_new key =
 
 -- The line of the order was sent. Or nothing was sent, because no bytes are such a line or memory ran out. Or a beginning
 -- of the line was sent, and a write failed.
-abbrev pub Sends : Ordered → Passed → Result (Unit {0}) Untold → Type 0
-Sends o passed (Ok u) = IsLineOf passed.sent o
-Sends o passed (Err untold.Words) = HasNoLine o × (passed.sent ≡ [])
-Sends o passed (Err untold.Memory) = passed.sent ≡ []
-Sends o passed (Err untold.Io) =
+abbrev pub IsSentIn : Ordered → Passed → Result (Unit {0}) Untold → Type 0
+IsSentIn o passed (Ok u) = IsLineOf passed.sent o
+IsSentIn o passed (Err untold.Words) = HasNoLine o × (passed.sent ≡ [])
+IsSentIn o passed (Err untold.Memory) = passed.sent ≡ []
+IsSentIn o passed (Err untold.Io) =
     (line : List ℕ) × IsLineOf line o × IsBeginning passed.sent line × (0 < passed.failed)
 
 -- so it was by all that passed over a connection
 abbrev pub CatalogsBy : List ℕ → Option (List ℕ) → Option (List ℕ) → Result Bool CommandRefusal → Passed → Type 0
 CatalogsBy key printed printed_new result passed =
-    Catalogs (λ got. passed.came ≡ got) (passed.came ≡ []) (Sends (orders.Catalog key) passed)
+    Catalogs (λ got. passed.came ≡ got) (passed.came ≡ []) (IsSentIn (orders.Catalog key) passed)
     printed printed_new result
 
 -- The server of this path, and no other, was asked for the catalog of the key. Or it could not be connected to, or no line

@@ -147,12 +147,12 @@ fn order_key<R: Hear, W: Tell, V: Servers<R, W>, O: Tell>(
     key: &str,
     output: &mut O,
 ) -> Result<(), CommandRefusal>
-    ensures orders { spec.AddsKey (spec.Ordered
+    ensures orders { spec.AddsKey (spec.OrdersAt
         (λ (link : Link R W) passed. IsAll
         (R.account link.reader) (W.contents link.writer) (W.writes link.writer).failed passed)
         path.now) shelf.entry right key.entry (V.history servers.old) (V.history servers.new)
         (O.contents output.old) (O.contents output.new) result }
-    ensures cause { spec.HasCause result (spec.FailsOr (spec.EndsWithIo (spec.Ordered
+    ensures cause { spec.HasCause result (spec.FailsOr (spec.EndsWithIo (spec.OrdersAt
         (λ (link : Link R W) passed. IsAll
         (R.account link.reader) (W.contents link.writer) (W.writes link.writer).failed passed)
         path.now)) (O.writes output.old) (O.writes output.new)) }

@@ -8,7 +8,7 @@ use Rattle.std.specs.Option.{option_or}
 use Rattle.std.proofs.lemmas.Bool.{true≢false, false_from_ne_true, and_parts}
 use Rattle.std.proofs.lemmas.List.Elements.{Contains-append_cases, Contains-append_left, Contains-append_right}
 use Rattle.std.proofs.lemmas.List.Folds.{Any-from_list_any, list_any-from_Any}
-use Rattle.meanwhile.specs.Meanwhile.{IsNamed}
+use Rattle.interleave.specs.Interleave.{IsNamed}
 use Rattle.modver.specs.SemanticVersion.{SemanticVersion, version_text}
 use Rattle.outline.specs.Outline.{outline_of}
 use Rattle.world.proofs.Members.{first_member, in_order_of, in_set_of, later_member, member_cases, no_member}

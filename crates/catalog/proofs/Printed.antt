@@ -16,11 +16,11 @@ use Rattle.world.specs.declared.registry.StoreFault.{StoreFault}
 use Rattle.world.specs.declared.registry.StoreFault.TheVariants as fault
 use Rattle.catalog.specs.Catalog.{lines_seen}
 use Rattle.catalog.specs.Printing.{Prints, PrintsCatalog, Puts, lines_of_key, unread}
-use Rattle.catalog.specs.declared.print.Unprinted.{Unprinted}
-use Rattle.catalog.specs.declared.print.Unprinted.TheVariants as why
+use Rattle.catalog.specs.declared.print.PrintError.{PrintError}
+use Rattle.catalog.specs.declared.print.PrintError.TheVariants as why
 
 -- a failure of the output is none of a device
-not_device : {U : Type 0} (e : Unprinted) → e ≡ why.Output → IsErrOf {T = U} (Err e) why.Device → ⊥
+not_device : {U : Type 0} (e : PrintError) → e ≡ why.Output → IsErrOf {T = U} (Err e) why.Device → ⊥
 not_device e is failed = cc
 
 -- a fault of a device is told as one
@@ -31,7 +31,7 @@ told_device fault.Memory failed = cc
 
 -- lines that were read and then put were printed
 pub put_prints : (a b : Shown) (got : List ℕ) (value : World → List ℕ) (written written_new : Option (List ℕ))
-    (result : Result (Unit {0}) Unprinted) → Reads a b (Ok got) value → Puts written written_new got result
+    (result : Result (Unit {0}) PrintError) → Reads a b (Ok got) value → Puts written written_new got result
     → Prints a b written written_new result value
 put_prints a b got value written written_new (Ok u) read put = record {
   printed = got;
@@ -134,7 +134,7 @@ module _ {X : Type 0} (f : World → X → List ℕ) (goal : World → List ℕ)
     }
 
     -- if a failure came in between, a beginning was printed
-    pub streams_failed : (e : Unprinted) (result : Result (Unit {0}) Unprinted) → IsErrAnd result (λ it. it ≡ e)
+    pub streams_failed : (e : PrintError) (result : Result (Unit {0}) PrintError) → IsErrAnd result (λ it. it ≡ e)
         → Prints {T = Unit {0}} b c mid now (Err e) (λ w. f w x) → Prints a c written now result goal
     streams_failed e (Ok u) is it = absurd is
     streams_failed e (Err other) is it = record {
@@ -230,7 +230,7 @@ module _ (a b : Shown) (key : List ℕ) (written : Option (List ℕ)) where
     same w is = ap (λ o. lines_of_key o w) (sym some ∙ is)
 
     -- a failure while its lines are printed
-    pub cut_prints : (e : Unprinted) → Prints {T = Unit {0}} b c written now (Err e) (λ w. lines_seen w holder.shelf)
+    pub cut_prints : (e : PrintError) → Prints {T = Unit {0}} b c written now (Err e) (λ w. lines_seen w holder.shelf)
         → PrintsCatalog a c key written now (Err e)
     cut_prints e it = record {
       prints = record {
@@ -253,7 +253,7 @@ module _ (a b : Shown) (key : List ℕ) (written : Option (List ℕ)) where
     }
 
     -- all of its lines were printed, and then flushed or not
-    pub whole_prints : (last : Option (List ℕ)) (result : Result Bool Unprinted)
+    pub whole_prints : (last : Option (List ℕ)) (result : Result Bool PrintError)
         → Prints {T = Unit {0}} b c written now (Ok tt) (λ w. lines_seen w holder.shelf)
         → Keeps now last → MatchResult result (λ is. is ≡ true) (λ e. e ≡ why.Output)
         → PrintsCatalog a c key written last result

@@ -4,7 +4,7 @@ use Rattle.world.proofs.Causes.{answers, in_turn}
 use Rattle.world.specs.Store.{Shown, Reads}
 use Rattle.world.specs.World.{World}
 use Rattle.world.specs.declared.registry.StoreFault.{StoreFault}
-use Rattle.meanwhile.specs.Meanwhile.{IsAsItWas}
+use Rattle.interleave.specs.Interleave.{IsAsItWas}
 
 -- a store that was read is as it was, but for failures
 pub only_read : {T : Type 0} (a b : Shown) (result : Result T StoreFault) (of : World → T) → Reads a b result of

@@ -6,7 +6,7 @@ use Rattle.std.specs.FinMap as map
 use Rattle.std.specs.FinSet as set
 use Rattle.std.specs.Option.{option_or}
 use Rattle.std.proofs.lemmas.Bool.{true≢false}
-use Rattle.meanwhile.specs.Meanwhile.{IsSince}
+use Rattle.interleave.specs.Interleave.{IsSince}
 use Rattle.modver.specs.SemanticVersion.{SemanticVersion, version_text}
 use Rattle.world.proofs.Orders.{places_exact, places_total}
 use Rattle.world.specs.Latest.{highest, highest_left, latest_by, latest_of, module_of}

@@ -7,7 +7,7 @@ use Rattle.std.specs.FinSet as set
 use Rattle.std.specs.Io.KnownBytes.{Appends, Keeps}
 use Rattle.std.specs.List.{flat_map}
 use Rattle.std.specs.Prelude.{Bool, true, false, cond, IsErrAnd, IsErrOf, MatchResult, OnOk}
-use Rattle.meanwhile.specs.Meanwhile.{IsSince, Notes, StandsForOne}
+use Rattle.interleave.specs.Interleave.{IsSince, Notes, StandsForOne}
 use Rattle.world.proofs.Causes.{grown_before}
 use Rattle.world.specs.Store.{Shown, Reads}
 use Rattle.world.specs.World.{World, IsWorld, place_cmp}
@@ -29,14 +29,14 @@ use Rattle.catalog.specs.Meanwhile.{
 use Rattle.catalog.specs.Printing.{FailsBy, Puts, lines_of_key}
 use Rattle.catalog.specs.declared.between.CatalogEnd.{CatalogEnd}
 use Rattle.catalog.specs.declared.between.CatalogEnd.TheVariants as end
-use Rattle.catalog.specs.declared.print.Unprinted.{Unprinted}
-use Rattle.catalog.specs.declared.print.Unprinted.TheVariants as why
+use Rattle.catalog.specs.declared.print.PrintError.{PrintError}
+use Rattle.catalog.specs.declared.print.PrintError.TheVariants as why
 use Rattle.catalog.proofs.Printed.{Appends-Keeps, Streams}
 
 -- ---- faults
 
 -- a fault of a device is told as one
-told_on : {T U : Type 0} (f : StoreFault) → IsErrOf {T = U} (Err (unread_on f)) (end.Unprinted why.Device)
+told_on : {T U : Type 0} (f : StoreFault) → IsErrOf {T = U} (Err (unread_on f)) (end.PrintError why.Device)
     → IsErrOf {T = T} (Err f) fault.Device
 told_on fault.Device failed = refl
 told_on fault.Memory failed = cc
@@ -89,7 +89,7 @@ module _ (a b c : Shown) (before after : set.FinSet place_cmp) (s : List ℕ) (r
   }
 
   -- a turn may end it, or memory runs out for it
-  pub turn_halts : (e : CatalogEnd) → (IsErrOf {T = Unit {0}} (Err e) (end.Unprinted why.Device) → ⊥)
+  pub turn_halts : (e : CatalogEnd) → (IsErrOf {T = Unit {0}} (Err e) (end.PrintError why.Device) → ⊥)
       → StaysOn {T = Unit {0}} (past a before s) (past c after s) (Err e)
   turn_halts e never = record {
     honest = λ h. read.honest (honest h);
@@ -121,8 +121,8 @@ line_on a b line written now result put stays = record {
     all (Err e) = tt
 
 -- or the output failed
-pub line_cut : (a : Shown) (line : List ℕ) (written now : Option (List ℕ)) (e : Unprinted)
-    → Puts written now line (Err e) → PrintsOn {T = Unit {0}} a a written now (Err (end.Unprinted e)) (λ _. line)
+pub line_cut : (a : Shown) (line : List ℕ) (written now : Option (List ℕ)) (e : PrintError)
+    → Puts written now line (Err e) → PrintsOn {T = Unit {0}} a a written now (Err (end.PrintError e)) (λ _. line)
 line_cut a line written now e put = record {
   printed = put.1.0;
   appends = put.1.2;
@@ -132,8 +132,8 @@ line_cut a line written now e put = record {
   device = λ failed. absurd (not_device e put.0 failed);
 }
   where
-    not_device : (u : Unprinted) → u ≡ why.Output
-        → IsErrOf {T = Unit {0}} (Err (end.Unprinted u)) (end.Unprinted why.Device) → ⊥
+    not_device : (u : PrintError) → u ≡ why.Output
+        → IsErrOf {T = Unit {0}} (Err (end.PrintError u)) (end.PrintError why.Device) → ⊥
     not_device u is failed = cc
 
 -- nothing was to be printed
@@ -150,7 +150,7 @@ none_on a written lines none = record {
 
 -- nothing was printed, since memory ran out
 pub memory_on : (a : Shown) (written : Option (List ℕ)) (lines : World → List ℕ)
-    → PrintsOn {T = Unit {0}} a a written written (Err (end.Unprinted why.Memory)) lines
+    → PrintsOn {T = Unit {0}} a a written written (Err (end.PrintError why.Memory)) lines
 memory_on a written lines = record {
   printed = [];
   appends = Appends-nil written;
@@ -262,7 +262,7 @@ module _ {X : Type 0} (f : World → X → List ℕ) (goal : World → List ℕ)
           };
       no_fewer = let one = far.holds.no_fewer in let two = it.no_fewer in omega (arith, one, two);
       device = λ failed. grown_before _ _ _ far.holds.no_fewer
-          (it.device (subst (λ k. IsErrOf {T = Unit {0}} (Err k) (end.Unprinted why.Device)) is failed));
+          (it.device (subst (λ k. IsErrOf {T = Unit {0}} (Err k) (end.PrintError why.Device)) is failed));
     }
 
   -- with no piece left all lines were printed
@@ -296,7 +296,7 @@ module _ {X : Type 0} (f : World → X → List ℕ) (goal : World → List ℕ)
 -- ---- failures of the output
 
 -- a fault of the store is none of the output
-pub never_output : (f : StoreFault) → unread_on f ≡ end.Unprinted why.Output → ⊥
+pub never_output : (f : StoreFault) → unread_on f ≡ end.PrintError why.Output → ⊥
 never_output fault.Device is = cc
 never_output fault.Memory is = cc
 
@@ -310,11 +310,11 @@ module _ (writes writes_new : Writes) where
   }
 
   -- where the output failed it is told
-  pub fails_cut : {T U : Type 0} (e : Unprinted) → FailsBy {T = T} writes writes_new (Err e)
-      → FailsOn {T = U} writes writes_new (Err (end.Unprinted e))
+  pub fails_cut : {T U : Type 0} (e : PrintError) → FailsBy {T = T} writes writes_new (Err e)
+      → FailsOn {T = U} writes writes_new (Err (end.PrintError e))
   fails_cut e by = record { no_fewer = by.no_fewer; output = λ failed. by.output (same_why failed) }
     where
-      same_why : {V : Type 0} → IsErrOf {T = V} (Err (end.Unprinted e)) (end.Unprinted why.Output) → e ≡ why.Output
+      same_why : {V : Type 0} → IsErrOf {T = V} (Err (end.PrintError e)) (end.PrintError why.Output) → e ≡ why.Output
       same_why failed = cc
 
 -- a fault of the store is not told as one of the output
@@ -324,7 +324,7 @@ fails_fault writes f = record {
   output = λ failed. absurd (told f failed);
 }
   where
-    told : (f : StoreFault) → IsErrOf {T = Unit {0}} (Err (unread_on f)) (end.Unprinted why.Output) → ⊥
+    told : (f : StoreFault) → IsErrOf {T = Unit {0}} (Err (unread_on f)) (end.PrintError why.Output) → ⊥
     told fault.Device failed = cc
     told fault.Memory failed = cc
 
@@ -336,7 +336,7 @@ fails_later first mid last e (Ok u) is less by = absurd is
 fails_later first mid last e (Err other) is less by = record {
   no_fewer = let more = by.no_fewer in omega (arith, less, more);
   output = λ failed.
-      let grew = by.output (subst (λ k. IsErrOf {T = Unit {0}} (Err k) (end.Unprinted why.Output)) is failed) in
+      let grew = by.output (subst (λ k. IsErrOf {T = Unit {0}} (Err k) (end.PrintError why.Output)) is failed) in
       omega (arith, less, grew);
 }
 
@@ -438,7 +438,7 @@ module _ (a b : Shown) (key : List ℕ) (written : Option (List ℕ)) where
       pub whole_keyed : (last : Option (List ℕ)) (result : Result Bool CatalogEnd)
           → PrintsOn {T = Unit {0}} (there b holder.shelf) (past c news holder.shelf) written now (Ok tt)
           (λ w. lines_seen w holder.shelf)
-          → Keeps now last → MatchResult result (λ is. is ≡ true) (λ e. e ≡ end.Unprinted why.Output)
+          → Keeps now last → MatchResult result (λ is. is ≡ true) (λ e. e ≡ end.PrintError why.Output)
           → PrintsCatalogOn a c key written last result
       whole_keyed last (Ok false) it kept is = absurd (let e = is in cc)
       whole_keyed last (Ok true) it kept is = record {

@@ -5,7 +5,7 @@ use Rattle.std.specs.FinMap as map
 use Rattle.std.specs.FinSet as set
 use Rattle.std.specs.Io.KnownBytes.{Appends}
 use Rattle.histories.specs.Calls.{Writes}
-use Rattle.meanwhile.specs.Meanwhile.{IsSince}
+use Rattle.interleave.specs.Interleave.{IsSince}
 use Rattle.world.specs.Store.{Shown, GrewOrFull}
 use Rattle.world.specs.World.{World, IsWorld, place_cmp}
 use Rattle.world.specs.declared.entry.Holder.{Holder}
@@ -13,7 +13,7 @@ use Rattle.world.specs.declared.registry.StoreFault.{StoreFault}
 use Rattle.catalog.specs.Printing.{IsFront, lines_of_key, unread}
 use Rattle.catalog.specs.declared.between.CatalogEnd.{CatalogEnd}
 use Rattle.catalog.specs.declared.between.CatalogEnd.TheVariants as end
-use Rattle.catalog.specs.declared.print.Unprinted.TheVariants as why
+use Rattle.catalog.specs.declared.print.PrintError.TheVariants as why
 
 -- ---- the past of a store
 
@@ -63,7 +63,7 @@ pub record PrintsOn {T : Type 0} (old new : Shown) (written written_new : Option
   pub honest : new.is_honest → old.is_honest
   pub at : new.is_honest → (w : World) → old.stands w → PrintsOnAt new w result (lines w) printed
   pub no_fewer : old.failures ≤ new.failures
-  pub device : IsErrOf result (end.Unprinted why.Device) → GrewOrFull old.failures new.failures
+  pub device : IsErrOf result (end.PrintError why.Device) → GrewOrFull old.failures new.failures
 
 -- If the disks are honest, then after Ok the store stands for each world that it stood for. Honest or not, a fault of a
 -- device has a cause.
@@ -71,20 +71,20 @@ pub record StaysOn {T : Type 0} (old new : Shown) (result : Result T CatalogEnd)
   pub honest : new.is_honest → old.is_honest
   pub at : new.is_honest → (w : World) → old.stands w → OnOk result (new.stands w)
   pub no_fewer : old.failures ≤ new.failures
-  pub device : IsErrOf result (end.Unprinted why.Device) → GrewOrFull old.failures new.failures
+  pub device : IsErrOf result (end.PrintError why.Device) → GrewOrFull old.failures new.failures
 
 -- the calls to the output that failed did not become fewer, and a failure of the output has one
 pub record FailsOn {T : Type 0} (writes writes_new : Writes) (result : Result T CatalogEnd) : Type 0 where
   pub no_fewer : writes.failed ≤ writes_new.failed
-  pub output : IsErrOf result (end.Unprinted why.Output) → writes.failed < writes_new.failed
+  pub output : IsErrOf result (end.PrintError why.Output) → writes.failed < writes_new.failed
 
 -- the output did not fail
 abbrev pub IsNotOutput : {T : Type 0} → Result T CatalogEnd → Type 0
-IsNotOutput result = IfErr result (λ e. e ≡ end.Unprinted why.Output → ⊥)
+IsNotOutput result = IfErr result (λ e. e ≡ end.PrintError why.Output → ⊥)
 
 -- the failure of a fault of the store
 abbrev pub unread_on : StoreFault → CatalogEnd
-unread_on fault = end.Unprinted (unread fault)
+unread_on fault = end.PrintError (unread fault)
 
 -- ---- of a key
 
@@ -111,4 +111,4 @@ pub record PrintsCatalogOn (old new : Shown) (key : List ℕ) (written written_n
   pub honest : new.is_honest → old.is_honest
   pub at : new.is_honest → (w : World) → old.stands w → PrintsKeyAt w (map.get w.keys key) result printed
   pub no_fewer : old.failures ≤ new.failures
-  pub device : IsErrOf result (end.Unprinted why.Device) → GrewOrFull old.failures new.failures
+  pub device : IsErrOf result (end.PrintError why.Device) → GrewOrFull old.failures new.failures

@@ -5,20 +5,20 @@ ghost use Rattle.std.specs.Io.KnownBytes.{Keeps};
 ghost use Rattle.gomod.specs.Module.{GoModule};
 ghost use Rattle.world.specs.Store.{Reads};
 ghost use Rattle.world.specs.World.{place_cmp};
-ghost use Rattle.meanwhile.specs.Meanwhile.{IsAsItWas};
+ghost use Rattle.interleave.specs.Interleave.{IsAsItWas};
 ghost use Rattle.catalog.specs.Catalog.{is_retracted_by, line_at, lines_by, lines_of_path, lines_of_text, lines_seen};
 ghost use Rattle.catalog.specs.Meanwhile as spec;
 ghost use Rattle.catalog.specs.Sight.{facts_in, facts_of};
 
 use crate::line::Marks;
 use crate::path::{Account, account_of, add_version, marks};
-use crate::print::{Unprinted, finish, put, unread};
+use crate::print::{PrintError, finish, put, unread};
 use crate::sight::Then;
-use histories::{Restart, Tell};
+use histories::{ResetDeadline, Tell};
+use interleave::between::{Between, TurnEnd};
+use interleave::definite::Definite;
+use interleave::newcomers::Newcomers;
 use keyring::Keyring;
-use meanwhile::between::{Between, Halt};
-use meanwhile::definite::Definite;
-use meanwhile::newcomers::Newcomers;
 use modpath::ModulePath;
 use modver::Version;
 use outline::outlines::Outlines;
@@ -31,7 +31,7 @@ use world::registry::StoreFault;
 #[derive(Clone, Copy, Debug, Drop, PartialEq, Eq)]
 pub enum CatalogEnd {
     /// It failed as one without turns.
-    Unprinted(Unprinted),
+    PrintError(PrintError),
     /// A turn ended it.
     Ended,
 }
@@ -40,7 +40,7 @@ pub enum CatalogEnd {
 /// the shelf of the key sees then, as `print_catalog` does. After each line `between` takes a turn, and the time of the
 /// output begins anew. What a turn publishes, adds or takes away changes no line. Returns false if there is no such
 /// key. If it fails or is ended, a beginning of the lines is printed.
-pub fn print_between<S: Outlines + Keyring + Definite, O: Restart, B: Between<S>>(
+pub fn print_between<S: Outlines + Keyring + Definite, O: ResetDeadline, B: Between<S>>(
     alloc: Global,
     shelves: &mut S,
     key: &str,
@@ -69,7 +69,7 @@ pub fn print_between<S: Outlines + Keyring + Definite, O: Restart, B: Between<S>
 }
 
 /// Prints the lines of all versions that a shelf sees at the call.
-fn print_all<S: Outlines + Keyring + Definite, O: Restart, B: Between<S>>(
+fn print_all<S: Outlines + Keyring + Definite, O: ResetDeadline, B: Between<S>>(
     alloc: Global,
     shelves: &mut S,
     shelf: &str,
@@ -103,7 +103,7 @@ fn print_all<S: Outlines + Keyring + Definite, O: Restart, B: Between<S>>(
 }
 
 /// Prints the lines of the path that a text is, or none if it is no path.
-fn print_text<S: Outlines + Keyring + Definite, O: Restart, B: Between<S>>(
+fn print_text<S: Outlines + Keyring + Definite, O: ResetDeadline, B: Between<S>>(
     alloc: Global,
     shelves: &mut S,
     shelf: &str,
@@ -122,12 +122,12 @@ fn print_text<S: Outlines + Keyring + Definite, O: Restart, B: Between<S>>(
     match path_of(alloc, text) {
         Ok(Some(path)) => print_path(alloc, shelves, shelf, &path, output, news, between),
         Ok(None) => Ok(()),
-        Err(_) => Err(CatalogEnd::Unprinted(Unprinted::Memory)),
+        Err(_) => Err(CatalogEnd::PrintError(PrintError::Memory)),
     }
 }
 
 /// Prints the lines of a path.
-fn print_path<S: Outlines + Keyring + Definite, O: Restart, B: Between<S>>(
+fn print_path<S: Outlines + Keyring + Definite, O: ResetDeadline, B: Between<S>>(
     alloc: Global,
     shelves: &mut S,
     shelf: &str,
@@ -155,7 +155,7 @@ fn print_path<S: Outlines + Keyring + Definite, O: Restart, B: Between<S>>(
 }
 
 /// Has a turn taken, and then prints the lines of the versions of a path.
-fn print_account<S: Outlines + Keyring + Definite, O: Restart, B: Between<S>>(
+fn print_account<S: Outlines + Keyring + Definite, O: ResetDeadline, B: Between<S>>(
     alloc: Global,
     shelves: &mut S,
     shelf: &str,
@@ -183,7 +183,7 @@ fn print_account<S: Outlines + Keyring + Definite, O: Restart, B: Between<S>>(
 }
 
 /// Prints the lines of the versions of a path.
-fn print_versions<S: Outlines + Keyring + Definite, O: Restart, B: Between<S>>(
+fn print_versions<S: Outlines + Keyring + Definite, O: ResetDeadline, B: Between<S>>(
     alloc: Global,
     shelves: &mut S,
     shelf: &str,
@@ -214,7 +214,7 @@ fn print_versions<S: Outlines + Keyring + Definite, O: Restart, B: Between<S>>(
 }
 
 /// Prints the line of a version, if the shelf saw it, and has a turn taken.
-fn print_version<S: Outlines + Keyring + Definite, O: Restart, B: Between<S>>(
+fn print_version<S: Outlines + Keyring + Definite, O: ResetDeadline, B: Between<S>>(
     alloc: Global,
     shelves: &mut S,
     shelf: &str,
@@ -239,7 +239,7 @@ fn print_version<S: Outlines + Keyring + Definite, O: Restart, B: Between<S>>(
 }
 
 /// Prints a text, begins the time of the next one, and has a turn taken.
-fn print_line<S: Definite, O: Restart, B: Between<S>>(
+fn print_line<S: Definite, O: ResetDeadline, B: Between<S>>(
     shelves: &mut S,
     line: &[u8],
     output: &mut O,
@@ -258,7 +258,7 @@ fn print_line<S: Definite, O: Restart, B: Between<S>>(
             output.restart();
             take_turn(shelves, news, between)
         }
-        Err(why) => Err(CatalogEnd::Unprinted(why)),
+        Err(why) => Err(CatalogEnd::PrintError(why)),
     }
 }
 
@@ -277,8 +277,8 @@ fn take_turn<S: Definite, B: Between<S>>(
     match shelves.settle() {
         Ok(()) => match between.turn(shelves, news) {
             Ok(()) => Ok(()),
-            Err(Halt::Ended) => Err(CatalogEnd::Ended),
-            Err(Halt::Memory) => Err(CatalogEnd::Unprinted(Unprinted::Memory)),
+            Err(TurnEnd::Ended) => Err(CatalogEnd::Ended),
+            Err(TurnEnd::Memory) => Err(CatalogEnd::PrintError(PrintError::Memory)),
         },
         Err(fault) => Err(unread_on(fault)),
     }
@@ -338,12 +338,12 @@ fn read_line<S: Outlines + Keyring>(
 fn finish_on<O: Tell>(output: &mut O) -> Result<bool, CatalogEnd>
     ensures bytes { Keeps (O.contents output.old) (O.contents output.new) }
     ensures fails { spec.FailsOn (O.writes output.old) (O.writes output.new) result }
-    ensures which { MatchResult result (λ is. is ≡ true) (λ e. e ≡ CatalogEnd.Unprinted Unprinted.Output) }
+    ensures which { MatchResult result (λ is. is ≡ true) (λ e. e ≡ CatalogEnd.PrintError PrintError.Output) }
     ensures flushed { OnOk result ((O.writes output.new).unflushed ≡ []) }
 {
     match finish(output) {
         Ok(is) => Ok(is),
-        Err(why) => Err(CatalogEnd::Unprinted(why)),
+        Err(why) => Err(CatalogEnd::PrintError(why)),
     }
 }
 
@@ -351,5 +351,5 @@ fn finish_on<O: Tell>(output: &mut O) -> Result<bool, CatalogEnd>
 fn unread_on(fault: StoreFault) -> CatalogEnd
     ensures { result ≡ spec.unread_on fault }
 {
-    CatalogEnd::Unprinted(unread(fault))
+    CatalogEnd::PrintError(unread(fault))
 }

@@ -13,4 +13,4 @@ mod path;
 mod print;
 mod sight;
 
-pub use crate::print::{Unprinted, print_catalog};
+pub use crate::print::{PrintError, print_catalog};

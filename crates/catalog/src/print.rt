@@ -14,7 +14,7 @@ use world::registry::StoreFault;
 
 /// Why not all of a catalog was printed.
 #[derive(Clone, Copy, Debug, Drop, PartialEq, Eq)]
-pub enum Unprinted {
+pub enum PrintError {
     /// A device failed.
     Device,
     /// Memory ran out.
@@ -31,7 +31,7 @@ pub fn print_catalog<S: Outlines, O: Tell>(
     shelves: &mut S,
     key: &str,
     output: &mut O,
-) -> Result<bool, Unprinted>
+) -> Result<bool, PrintError>
     ensures prints { spec.PrintsCatalog (S.shown shelves.old) (S.shown shelves.new) key.now
         (O.contents output.old) (O.contents output.new) result }
     ensures fails { spec.FailsBy (O.writes output.old) (O.writes output.new) result }
@@ -55,7 +55,7 @@ fn print_lines<S: Outlines, O: Tell>(
     shelves: &mut S,
     shelf: &str,
     output: &mut O,
-) -> Result<(), Unprinted>
+) -> Result<(), PrintError>
     ensures prints { spec.Prints (S.shown shelves.old) (S.shown shelves.new) (O.contents output.old)
         (O.contents output.new) result (λ w. lines_seen w shelf.now) }
     ensures fails { spec.FailsBy (O.writes output.old) (O.writes output.new) result }
@@ -77,7 +77,7 @@ fn print_path<S: Outlines, O: Tell>(
     shelf: &str,
     text: &str,
     output: &mut O,
-) -> Result<(), Unprinted>
+) -> Result<(), PrintError>
     ensures prints { spec.Prints (S.shown shelves.old) (S.shown shelves.new) (O.contents output.old)
         (O.contents output.new) result (λ w. lines_of_text w shelf.now text.now) }
     ensures fails { spec.FailsBy (O.writes output.old) (O.writes output.new) result }
@@ -89,35 +89,35 @@ fn print_path<S: Outlines, O: Tell>(
 }
 
 /// Prints a text.
-pub(crate) fn put<O: Tell>(output: &mut O, text: &[u8]) -> Result<(), Unprinted>
+pub(crate) fn put<O: Tell>(output: &mut O, text: &[u8]) -> Result<(), PrintError>
     ensures puts { spec.Puts (O.contents output.old) (O.contents output.new) text.now result }
     ensures fails { spec.FailsBy (O.writes output.old) (O.writes output.new) result }
 {
     match write_bytes(output, text) {
         Ok(()) => Ok(()),
-        Err(_) => Err(Unprinted::Output),
+        Err(_) => Err(PrintError::Output),
     }
 }
 
 /// Flushes what was printed, and returns true.
-pub(crate) fn finish<O: Tell>(output: &mut O) -> Result<bool, Unprinted>
+pub(crate) fn finish<O: Tell>(output: &mut O) -> Result<bool, PrintError>
     ensures bytes { Keeps (O.contents output.old) (O.contents output.new) }
     ensures fails { spec.FailsBy (O.writes output.old) (O.writes output.new) result }
-    ensures which { MatchResult result (λ is. is ≡ true) (λ e. e ≡ Unprinted.Output) }
+    ensures which { MatchResult result (λ is. is ≡ true) (λ e. e ≡ PrintError.Output) }
     ensures flushed { OnOk result ((O.writes output.new).unflushed ≡ []) }
 {
     match output.settle() {
         Ok(()) => Ok(true),
-        Err(_) => Err(Unprinted::Output),
+        Err(_) => Err(PrintError::Output),
     }
 }
 
 /// Returns the failure of a fault of the store.
-pub(crate) fn unread(fault: StoreFault) -> Unprinted
+pub(crate) fn unread(fault: StoreFault) -> PrintError
     ensures { result ≡ spec.unread fault }
 {
     match fault {
-        StoreFault::Device => Unprinted::Device,
-        StoreFault::Memory => Unprinted::Memory,
+        StoreFault::Device => PrintError::Device,
+        StoreFault::Memory => PrintError::Memory,
     }
 }

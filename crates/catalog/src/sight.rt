@@ -7,8 +7,8 @@ ghost use Rattle.world.specs.Store.{Reads};
 ghost use Rattle.world.specs.World.{group_of, place, seen_at, view};
 ghost use Rattle.catalog.specs.Sight as spec;
 
+use interleave::newcomers::Newcomers;
 use keyring::Keyring;
-use meanwhile::newcomers::Newcomers;
 use modpath::ModulePath;
 use modver::Version;
 use outline::outlines::{Outline, Outlines};

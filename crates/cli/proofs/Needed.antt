@@ -7,8 +7,8 @@ use Rattle.std.specs.Str.Parse.{IsNumeral, ParsesUnsigned, digits_value, without
 use Rattle.clap.specs.Words.{TriesOne, one_of}
 use Rattle.commands.specs.declared.action.Action.{Action}
 use Rattle.commands.specs.declared.action.Action.TheVariants as action
-use Rattle.commands.specs.declared.serve.Entrance.{Entrance}
-use Rattle.commands.specs.declared.serve.Entrance.TheVariants.{Input, Port}
+use Rattle.commands.specs.declared.serve.ListenOn.{ListenOn}
+use Rattle.commands.specs.declared.serve.ListenOn.TheVariants.{Input, Port}
 use Rattle.orders.specs.declared.listing.Listing.TheVariants.{Keys, Shelves}
 use Rattle.orders.specs.declared.command.RegistryCommand.{RegistryCommand}
 use Rattle.runner.specs.declared.Command.{Command}
@@ -87,11 +87,11 @@ no_connections rows o r none is h = rw is (go (rw none at h))
     go h n (inl number) = h.1 n number
     go h n (inr lacks) = h.0 lacks.0
 
-pub no_port : (rows : List Row) (o : Option (Option ℕ)) (r : Option Entrance) → o ≡ None → r ≡ None
+pub no_port : (rows : List Row) (o : Option (Option ℕ)) (r : Option ListenOn) → o ≡ None → r ≡ None
     → ReadsNumber rows (codes "port") 65535 o → Finds r (AsksEntrance rows)
 no_port rows o r none is h = rw is (go (rw none at h))
   where
-    go : ReadsNumber rows (codes "port") 65535 None → (e : Entrance) → AsksEntrance rows e → ⊥
+    go : ReadsNumber rows (codes "port") 65535 None → (e : ListenOn) → AsksEntrance rows e → ⊥
     go h (Port n) asks = h.1 n asks.0
     go h Input asks = h.0 asks.0
 
@@ -101,7 +101,7 @@ no_serve rows none action.Open asks = asks
 no_serve rows none (action.Register command) asks = asks
 no_serve rows none action.Answer asks = asks
 no_serve rows none (action.AddNew shelf right) asks = cc
-no_serve rows none (action.RevokeNamed fingerprint) asks = cc
+no_serve rows none (action.RevokeByFingerprint fingerprint) asks = cc
 no_serve rows none (action.Publish words files) asks = cc
 no_serve rows none (action.Import key list) asks = cc
 no_serve rows none (action.Inventory key) asks = cc
@@ -163,7 +163,8 @@ no_command rows word init answer extract migrate copy ping keys shelves catalog 
     on_store db (action.Register o) asks = order o asks.2
     on_store db action.Answer asks = answer asks.0
     on_store db (action.AddNew shelf right) asks = acts (command.OnStore db (action.AddNew shelf right)) asks
-    on_store db (action.RevokeNamed fingerprint) asks = acts (command.OnStore db (action.RevokeNamed fingerprint)) asks
+    on_store db (action.RevokeByFingerprint fingerprint) asks = acts (command.OnStore db
+        (action.RevokeByFingerprint fingerprint)) asks
     on_store db (action.Publish words files) asks = acts (command.OnStore db (action.Publish words files)) asks
     on_store db (action.Import key list) asks = acts (command.OnStore db (action.Import key list)) asks
     on_store db (action.Inventory key) asks = acts (command.OnStore db (action.Inventory key)) asks
@@ -199,7 +200,7 @@ is_command rows word (command.OnStore db action.KeyList) asks = absurd asks.1
 is_command rows word (command.OnStore db action.ShelfList) asks = absurd asks.1
 is_command rows word (command.OnStore db (action.Catalog key)) asks = absurd asks.1
 is_command rows word (command.OnStore db (action.AddNew shelf right)) asks = asks
-is_command rows word (command.OnStore db (action.RevokeNamed fingerprint)) asks = asks
+is_command rows word (command.OnStore db (action.RevokeByFingerprint fingerprint)) asks = asks
 is_command rows word (command.OnStore db (action.Publish words files)) asks = asks
 is_command rows word (command.OnStore db (action.Import key list)) asks = asks
 is_command rows word (command.OnStore db (action.Inventory key)) asks = asks

@@ -9,7 +9,7 @@ use Rattle.clap.specs.declared.error.kind.ErrorKind.TheVariants.{ArgumentConflic
 use Rattle.clap.specs.declared.error.kind.ErrorKind.TheVariants.{OutOfMemory}
 use Rattle.clap.specs.declared.parser.matches.ArgMatches.{ArgMatches}
 use Rattle.runner.specs.declared.Command.{Command}
-use Rattle.words.specs.Table.{faults, given}
+use Rattle.args.specs.Table.{faults, given}
 use Rattle.cli.specs.Asks.{Asks, Finds, GivenAsks, IsShownFor}
 
 kind_shown : (words : List Text) (k : ErrorKind) → (k ≡ OutOfMemory) ⊎ IsAmong k (faults words) → IsShownFor words k

@@ -12,8 +12,8 @@ use Rattle.clap.specs.declared.parser.matches.ValueSource.{ValueSource}
 use Rattle.clap.specs.declared.parser.matches.ValueSource.TheVariants.{CommandLine}
 use Rattle.commands.specs.declared.action.Action.{Action}
 use Rattle.commands.specs.declared.action.Action.TheVariants as action
-use Rattle.commands.specs.declared.serve.Entrance.{Entrance}
-use Rattle.commands.specs.declared.serve.Entrance.TheVariants.{Input, Port}
+use Rattle.commands.specs.declared.serve.ListenOn.{ListenOn}
+use Rattle.commands.specs.declared.serve.ListenOn.TheVariants.{Input, Port}
 use Rattle.orders.specs.declared.listing.Listing.{Listing}
 use Rattle.orders.specs.declared.listing.Listing.TheVariants.{Keys, Shelves}
 use Rattle.orders.specs.declared.command.RegistryCommand.{RegistryCommand}
@@ -21,7 +21,7 @@ use Rattle.orders.specs.declared.command.RegistryCommand.TheVariants.{GroupAdd, 
 use Rattle.orders.specs.declared.command.RegistryCommand.TheVariants.{KeysRevoke, TeamAdd}
 use Rattle.runner.specs.declared.Command.{Command}
 use Rattle.runner.specs.declared.Command.TheVariants as command
-use Rattle.words.specs.Table.{faults, given}
+use Rattle.args.specs.Table.{faults, given}
 use Rattle.world.specs.declared.entry.Right.TheVariants.{Publishes, Reads}
 
 -- the words themselves are the source
@@ -87,7 +87,7 @@ module _ (rows : List Row) where
       × Lacks (codes "fingerprint") × Is (codes "shelf") shelf.now × (is_flagged (codes "all") ≡ true)
 
   -- where the connections of `serve` come in: at the port, or at standard input in its place
-  abbrev pub AsksEntrance : Entrance → Type 0
+  abbrev pub AsksEntrance : ListenOn → Type 0
   AsksEntrance (Port port) = IsNumber (codes "port") 65535 port × (is_flagged (codes "stdin") ≡ false)
   AsksEntrance Input = LacksNumber (codes "port") × (is_flagged (codes "stdin") ≡ true)
 
@@ -107,7 +107,7 @@ module _ (rows : List Row) where
   AsksAction word (action.AddNew shelf right) = (word ≡ codes "key-add")
       × Is (codes "shelf") shelf.now × (is_flagged (codes "new") ≡ true) × Lacks (codes "key") × Lacks (codes "control")
       × (right ≡ (if is_flagged (codes "read-only") then Reads else Publishes))
-  AsksAction word (action.RevokeNamed fingerprint) = (word ≡ codes "key-revoke")
+  AsksAction word (action.RevokeByFingerprint fingerprint) = (word ≡ codes "key-revoke")
       × Is (codes "fingerprint") fingerprint.now × Lacks (codes "shelf") × (is_flagged (codes "all") ≡ false)
       × Lacks (codes "key") × Lacks (codes "control")
   AsksAction word (action.Publish words files) = (word ≡ codes "publish")

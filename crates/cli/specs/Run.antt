@@ -8,7 +8,7 @@ use Rattle.commands.specs.declared.refusal.CommandRefusal.TheVariants.{Io, Memor
 use Rattle.commands.specs.Exit.{exit_of, status_of, IsSilent, Says}
 use Rattle.commands.specs.ImportLine.{PrintsFront}
 use Rattle.commands.specs.declared.action.Action.TheVariants.{AddNew, Import, Publish, Register}
-use Rattle.commands.specs.declared.action.Action.TheVariants.{RevokeNamed, Serve}
+use Rattle.commands.specs.declared.action.Action.TheVariants.{RevokeByFingerprint, Serve}
 use Rattle.commands.specs.declared.exit.Exit.{Exit}
 use Rattle.commands.specs.declared.exit.Exit.TheVariants.{Done, Refused, BadUsage}
 use Rattle.runner.specs.declared.Command.{Command}
@@ -56,7 +56,7 @@ abbrev pub MayWarn : Option (List ℕ) → Option (List ℕ) → Command → Typ
 MayWarn errors errors_new (OnStore db (Serve entrance connections control)) = MayPrint errors errors_new new_store_line
 MayWarn errors errors_new (OnStore db (Register command)) = MayPrint errors errors_new new_file_line
 MayWarn errors errors_new (OnStore db (AddNew shelf right)) = MayPrint errors errors_new new_file_line
-MayWarn errors errors_new (OnStore db (RevokeNamed fingerprint)) = MayPrint errors errors_new new_file_line
+MayWarn errors errors_new (OnStore db (RevokeByFingerprint fingerprint)) = MayPrint errors errors_new new_file_line
 MayWarn errors errors_new (OnStore db (Publish words files)) = MayPrint errors errors_new new_file_line
 MayWarn errors errors_new (OnStore db (Import key list)) = MayPrint errors errors_new new_file_line
 MayWarn errors errors_new other = errors_new ≡ errors

@@ -12,7 +12,7 @@ use clap::parser::ValueSource;
 use commands::action::Action;
 use commands::publish::{Files, Words};
 use commands::report::Named;
-use commands::serve::Entrance;
+use commands::serve::ListenOn;
 use orders::{Listing, RegistryCommand};
 use runner::Command;
 use world::entry::Right;
@@ -333,7 +333,9 @@ fn revoke_named_of<'a>(options: &ArgMatches<'a>) -> Option<Action<'a>>
         text(options, "key"),
         text(options, "control"),
     ) {
-        (Some(fingerprint), None, false, None, None) => Some(Action::RevokeNamed { fingerprint }),
+        (Some(fingerprint), None, false, None, None) => Some(Action::RevokeByFingerprint {
+            fingerprint,
+        }),
         _ => None,
     }
 }
@@ -379,12 +381,12 @@ fn serve_of<'a>(options: &ArgMatches<'a>) -> Option<Action<'a>>
 }
 
 /// Returns where the connections of `serve` come in, or None if both places are named or neither.
-fn entrance_of<'a>(options: &ArgMatches<'a>) -> Option<Entrance>
+fn entrance_of<'a>(options: &ArgMatches<'a>) -> Option<ListenOn>
     ensures { Finds result (AsksEntrance (rows_of (found_of options.now))) }
 {
     match (port_of(options)?, is_flagged(options, "stdin")) {
-        (Some(port), false) => Some(Entrance::Port(port)),
-        (None, true) => Some(Entrance::Input),
+        (Some(port), false) => Some(ListenOn::Port(port)),
+        (None, true) => Some(ListenOn::Input),
         _ => None,
     }
 }

@@ -3,13 +3,14 @@ ghost use Rattle.std.specs.Prelude.{◌≡◌};
 ghost use Rattle.clap.specs.Values.{kind_of};
 ghost use Rattle.commands.specs.Exit.{IsSilent, Says, status_of};
 ghost use Rattle.commands.specs.ImportLine.{PrintsFront};
-ghost use Rattle.words.specs.Table.{texts};
+ghost use Rattle.args.specs.Table.{texts};
 ghost use Rattle.cli.specs.Run.{EndsShown, Exits, MayExplain, MayPrint, MayWarn, RefusesWords, SparesOutput};
 ghost use Rattle.cli.specs.Run.{lone_log_line, new_file_line, new_store_line};
 
 use crate::asked::command_of;
 use crate::system::{Runner, SystemStores};
 use crate::version::VERSION;
+use args::{matches_of, no_form};
 use clap::error::ErrorKind;
 use commands::action::Action;
 use commands::exit::Exit;
@@ -19,7 +20,6 @@ use histories::{Hear, Tell};
 use runner::Command;
 use std::alloc::Global;
 use std::io::{self, Write};
-use words::{matches_of, no_form};
 
 /// Runs the program by the words after its name and returns the exit status: 0 done, 1 refused or not accepted, 2 bad
 /// usage.
@@ -95,7 +95,7 @@ fn tell_new_store<P: Runner, E: Tell>(runner: &P, command: &Command, errors: &mu
             db,
             action: Action::Register { .. }
             | Action::AddNew { .. }
-            | Action::RevokeNamed { .. }
+            | Action::RevokeByFingerprint { .. }
             | Action::Publish { .. }
             | Action::Import { .. },
         } if runner.is_watched() && runner.is_new(db) => write_new_file(errors),

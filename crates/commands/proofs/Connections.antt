@@ -20,10 +20,10 @@ use Rattle.orders.proofs.OutcomeLemmas.{ascii}
 use Rattle.std.proofs.lemmas.Str.{IsUtf8-from_ascii}
 use Rattle.control.specs.Asking.{Asks, AsksHeard, HearsHealth, HearsList, HearsOrIo, HearsOutcome, IsSent, LineGets, OrderGets}
 use Rattle.control.specs.Asking.{TellsBytes, TellsOutcome}
-use Rattle.control.specs.Told.{bytes_told}
-use Rattle.control.specs.declared.client.Untold.{Untold}
-use Rattle.control.specs.declared.client.Untold.TheVariants as untold
-use Rattle.control.specs.declared.told.Told.{Told}
+use Rattle.control.specs.ControlReply.{bytes_told}
+use Rattle.control.specs.declared.client.SendError.{SendError}
+use Rattle.control.specs.declared.client.SendError.TheVariants as untold
+use Rattle.control.specs.declared.control_reply.ControlReply.{ControlReply}
 use Rattle.control.proofs.SendingLemmas.{order_gets}
 use Rattle.commands.specs.Connection.{Exchanges, IsAll, IsHealthIn, IsOutcomeIn, OnlyPings, Passed, PingsBetween, PrintsBy}
 use Rattle.commands.specs.Listing.{ListsHeard, list_ending}
@@ -42,7 +42,7 @@ use Rattle.commands.proofs.Sayable.{comes_to_the_same, unsent_ends}
 
 -- a command that sends the order for its own, and ends by the result, does as `OrdersHeard` says
 pub orders_heard : (a b : Account) (w w' : Option (List ℕ)) (f f' : ℕ) (order asked : RegistryCommand)
-    (told : Result Outcome Untold) (result : Result (Unit {0}) CommandRefusal)
+    (told : Result Outcome SendError) (result : Result (Unit {0}) CommandRefusal)
     → IsSentFor order asked → AsksHeard a b w w' f f' (orders.Registry (commanded asked)) told
     → result ≡ order_ending which.Registry (unsayable asked) told
     → OrdersHeard a b w w' f f' order result
@@ -58,8 +58,8 @@ orders_heard a b w w' f f' order asked told result sends asks ends = record {
 }
 
 pub revokes_heard : (a b : Account) (w w' : Option (List ℕ)) (f f' : ℕ) (named : List ℕ)
-    (told : Result Outcome Untold) (result : Result (Unit {0}) CommandRefusal)
-    → AsksHeard a b w w' f f' (orders.RevokeNamed named) told
+    (told : Result Outcome SendError) (result : Result (Unit {0}) CommandRefusal)
+    → AsksHeard a b w w' f f' (orders.RevokeByFingerprint named) told
     → result ≡ order_ending which.Registry NoKey told
     → RevokesHeard a b w w' f f' named result
 revokes_heard a b w w' f f' named told result asks ends = record {
@@ -67,7 +67,7 @@ revokes_heard a b w w' f f' named told result asks ends = record {
   asks = asks;
   ends = ends;
   unsent = λ is world.
-      let unsaid = (subst (AsksHeard a b w w' f f' (orders.RevokeNamed named)) is asks).0 in
+      let unsaid = (subst (AsksHeard a b w w' f f' (orders.RevokeByFingerprint named)) is asks).0 in
       ends ∙ ap (order_ending which.Registry NoKey) is ∙ none_revoked named unsaid world;
 }
 
@@ -133,7 +133,7 @@ module _ (a b : Account) (w w' : Option (List ℕ)) (f f' : ℕ) (unused : IsUnu
   -- `into` says of what was read which bytes came
   passes : {T : Type 0} (Hears : Account → Account → T → Type 0) (IsIn : T → List ℕ → Type 0)
       → ((told : T) → Hears a b told → (got : List ℕ) × Gives a b got × IsIn told got)
-      → (o : Ordered) (told : Result T Untold) → OrderGets Hears a b w w' f f' o told
+      → (o : Ordered) (told : Result T SendError) → OrderGets Hears a b w w' f f' o told
       → (p : Passed) × IsAll b w' f' p × Exchanges IsIn o p told
   passes Hears IsIn into o (Ok told) (sent, is, appends, hears) =
       let read = into told hears in (
@@ -166,11 +166,11 @@ module _ (a b : Account) (w w' : Option (List ℕ)) (f f' : ℕ) (unused : IsUnu
     (line, is, inr refl),
   )
 
-  asks : (o : Ordered) (told : Result Outcome Untold) → AsksHeard a b w w' f f' o told
+  asks : (o : Ordered) (told : Result Outcome SendError) → AsksHeard a b w w' f f' o told
       → (p : Passed) × IsAll b w' f' p × Exchanges IsOutcomeIn o p told
   asks = passes HearsOutcome IsOutcomeIn (λ told gives. (line_of told, gives, refl))
 
-  asks_health : (told : Result Told Untold) → LineGets HearsHealth a b w w' f f' (line_for orders.Ping) told
+  asks_health : (told : Result ControlReply SendError) → LineGets HearsHealth a b w w' f f' (line_for orders.Ping) told
       → (p : Passed) × IsAll b w' f' p × Exchanges IsHealthIn orders.Ping p told
   asks_health told gets =
       passes HearsHealth IsHealthIn (λ told hears. (bytes_told told, hears.1, (hears.0, refl))) orders.Ping told
@@ -195,7 +195,7 @@ module _ (a b : Account) (w w' : Option (List ℕ)) (f f' : ℕ) (unused : IsUnu
   pub revokes_by : (named : List ℕ) (result : Result (Unit {0}) CommandRefusal)
       → RevokesHeard a b w w' f f' named result → (p : Passed) × IsAll b w' f' p × RevokesBy named result p
   revokes_by named result heard =
-      let all = asks (orders.RevokeNamed named) heard.told heard.asks in (
+      let all = asks (orders.RevokeByFingerprint named) heard.told heard.asks in (
         all.0,
         all.1,
         record { told = heard.told; exchanges = all.2; ends = heard.ends; unsent = heard.unsent },
@@ -231,7 +231,8 @@ module _ (a b : Account) (w w' : Option (List ℕ)) (f f' : ℕ) (unused : IsUnu
         record { told = heard.told; exchanges = all.2; prints = heard.prints },
       )
 
-  pub pings_only : (told : Result Told Untold) → LineGets HearsHealth a b w w' f f' (line_for orders.Ping) told
+  pub pings_only : (told : Result ControlReply SendError)
+      → LineGets HearsHealth a b w w' f f' (line_for orders.Ping) told
       → (p : Passed) × IsAll b w' f' p × OnlyPings p
   pings_only told gets = let all = asks_health told gets in (all.0, all.1, (told, all.2))
 
@@ -249,7 +250,7 @@ module _ (a b : Account) (w w' : Option (List ℕ)) (f f' : ℕ) (unused : IsUnu
       )
 
   -- what was sent of the line of an order whose reply was still to be read
-  sends : (o : Ordered) (asked : Result (Unit {0}) Untold) → IsSent w w' f f' o asked
+  sends : (o : Ordered) (asked : Result (Unit {0}) SendError) → IsSent w w' f f' o asked
       → (sent : List ℕ) × (w' ≡ Some sent)
       × IsSentIn o (record { sent = sent; came = b.heard; failed = f' }) asked
   sends o (Ok u) (sent, is, appends) = (sent, appended w w' sent unused.1 appends, is)
@@ -258,7 +259,7 @@ module _ (a b : Account) (w w' : Option (List ℕ)) (f f' : ℕ) (unused : IsUnu
   sends o (Err untold.Io) (line, is, (front, begins, appends), fails) =
       (front, appended w w' front unused.1 appends, (line, is, begins, subst (λ n. n < f') uncalled fails))
 
-  asked_so : (heard : Result (List ℕ) CommandRefusal) (asked : Result (Unit {0}) Untold)
+  asked_so : (heard : Result (List ℕ) CommandRefusal) (asked : Result (Unit {0}) SendError)
       → HearsAsked (Gives a b) (b ≡ a) heard asked
       → HearsAsked (λ got. b.heard ≡ got) (b.heard ≡ []) heard asked
   asked_so heard (Ok u) hears =
@@ -284,14 +285,14 @@ module _ (a b : Account) (w w' : Option (List ℕ)) (f f' : ℕ) (unused : IsUnu
 -- ---- a reply that is awaited
 
 -- the line of an order was sent, and the line of an outcome came, or `Io` was returned
-pub asked_then : (a b : Account) (w w' : Option (List ℕ)) (f f' : ℕ) (o : Ordered) (told : Result Outcome Untold)
+pub asked_then : (a b : Account) (w w' : Option (List ℕ)) (f f' : ℕ) (o : Ordered) (told : Result Outcome SendError)
     → (sent : List ℕ) × IsLineOf sent o × Appends w w' sent → HearsOrIo a b told → AsksHeard a b w w' f f' o told
 asked_then a b w w' f f' o (Ok told) (sent, is, appends) hears = (sent, is, appends, hears)
 asked_then a b w w' f f' o (Err why) (sent, is, appends) is_io =
     subst (λ x. AsksHeard a b w w' f f' o (Err x)) (sym is_io) (sent, is, inr appends)
 
 -- the line was not sent, and nothing was read
-pub unasked : (a : Account) (w w' : Option (List ℕ)) (f f' : ℕ) (o : Ordered) (why : Untold)
+pub unasked : (a : Account) (w w' : Option (List ℕ)) (f f' : ℕ) (o : Ordered) (why : SendError)
     → IsSent w w' f f' o (Err why) → AsksHeard a a w w' f f' o (Err why)
 unasked a w w' f f' o untold.Words (never, same) = (never, same, refl)
 unasked a w w' f f' o untold.Memory same = (same, refl)
@@ -305,13 +306,13 @@ keeps_same : (w w' : Option (List ℕ)) → w' ≡ w → Keeps w w'
 keeps_same w w' same = subst (Keeps w) (sym same) (keeps_it w)
 
 -- so it is over a connection whose bytes are known before they are read
-pub asked_known : (u u' w w' : Option (List ℕ)) (o : Ordered) (told : Result Outcome Untold)
+pub asked_known : (u u' w w' : Option (List ℕ)) (o : Ordered) (told : Result Outcome SendError)
     → (sent : List ℕ) × IsLineOf sent o × Appends w w' sent → TellsOutcome u u' told → Asks u u' w w' o told
 asked_known u u' w w' o (Ok told) (sent, is, appends) tells = (sent, is, appends, tells)
 asked_known u u' w w' o (Err why) (sent, is, appends) is_io =
     subst (λ x. Asks u u' w w' o (Err x)) (sym is_io) (sent, is, inr appends)
 
-pub unasked_known : (u w w' : Option (List ℕ)) (f f' : ℕ) (o : Ordered) (why : Untold)
+pub unasked_known : (u w w' : Option (List ℕ)) (f f' : ℕ) (o : Ordered) (why : SendError)
     → IsSent w w' f f' o (Err why) → Asks u u w w' o (Err why)
 unasked_known u w w' f f' o untold.Words (never, same) = (never, keeps_same w w' same)
 unasked_known u w w' f f' o untold.Memory same = keeps_same w w' same

@@ -23,8 +23,8 @@ use Rattle.orders.specs.Order.{Commanded, Ordered, IsLineOf, commanded}
 use Rattle.control.specs.declared.health.Health.{Health}
 use Rattle.orders.specs.declared.outcome.Outcome.{Outcome}
 use Rattle.orders.specs.declared.outcome.Outcome.TheVariants as outcome
-use Rattle.control.specs.declared.told.Told.{Told}
-use Rattle.control.specs.declared.told.Told.TheVariants as spoken
+use Rattle.control.specs.declared.control_reply.ControlReply.{ControlReply}
+use Rattle.control.specs.declared.control_reply.ControlReply.TheVariants as spoken
 use Rattle.orders.specs.declared.command.RegistryCommand.{RegistryCommand}
 use Rattle.orders.specs.declared.command.RegistryCommand.TheVariants.{TeamAdd, GroupAdd, KeyAdd}
 use Rattle.orders.specs.declared.command.RegistryCommand.TheVariants.{KeyRevoke, KeysRevoke}
@@ -87,7 +87,7 @@ replied w (KeyAdd shelf key right) = refl
 replied w (KeyRevoke key) = refl
 replied w (KeysRevoke shelf) = refl
 
-abbrev pub outcome_in_told : Told → Outcome
+abbrev pub outcome_in_told : ControlReply → Outcome
 outcome_in_told (spoken.Outcome outcome) = outcome
 outcome_in_told (spoken.Health line) = outcome.Bad
 outcome_in_told (spoken.List lines) = outcome.Bad
@@ -130,7 +130,7 @@ module _ (idle : Type 0) (meanwhile : Making → Type 0) (old new : Shown) (sent
   heard_so honest stands is same asks (Listed listing told) from outcome tells ends through =
       absurd (true≢false (alone sent (commanded asked) (orders.ListOf listing) asks from))
   heard_so honest stands is same asks (Named f naming) from outcome tells ends through =
-      absurd (true≢false (alone sent (commanded asked) (orders.RevokeNamed f) asks from))
+      absurd (true≢false (alone sent (commanded asked) (orders.RevokeByFingerprint f) asks from))
   heard_so honest stands is same asks Stop from outcome tells ends through =
       absurd (true≢false (alone sent (commanded asked) orders.Stop asks from))
   heard_so honest stands is same asks NoOrder from outcome tells ends through =

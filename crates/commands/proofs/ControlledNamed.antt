@@ -10,7 +10,7 @@ use Rattle.control.specs.Asking.{Asks}
 use Rattle.control.specs.Copying.{Making, OfKey, ToPath, GoesThroughSteps}
 use Rattle.control.specs.Hearing.{Heard, Carried, Made, Listed, Pinged, Named, Stop, NoOrder, NoMemory}
 use Rattle.control.specs.Hearing.{GoesAs, IsHeardIn, ListsBy, told_heard}
-use Rattle.control.specs.Naming.{Finds, Naming, NamesOne, NamesNone, Unread, named_result, named_steps}
+use Rattle.control.specs.Naming.{Finds, Naming, NamesOne, NamesNone, ReadError, named_result, named_steps}
 use Rattle.control.specs.Outcome.{outcome_of}
 use Rattle.orders.specs.Order as orders
 use Rattle.orders.specs.Order.{Ordered, IsLineOf, commanded}
@@ -18,7 +18,7 @@ use Rattle.orders.proofs.OrderLemmas.{one_order}
 use Rattle.control.specs.declared.health.Health.{Health}
 use Rattle.orders.specs.declared.command.RegistryCommand.TheVariants.{KeyRevoke}
 use Rattle.orders.specs.declared.outcome.Outcome.{Outcome}
-use Rattle.control.specs.declared.told.Told.TheVariants as spoken
+use Rattle.control.specs.declared.control_reply.ControlReply.TheVariants as spoken
 use Rattle.commands.specs.Controlled.{RevokesAt, RevokesAsOnTheStore}
 use Rattle.commands.specs.Ending.{ending}
 use Rattle.commands.specs.SentOrder.{order_ending}
@@ -30,15 +30,16 @@ use Rattle.commands.proofs.Controlled.{outcome_in_told, registered_in, replied}
 -- ---- a line that names a key orders nothing else
 
 abbrev is_named : Ordered → Bool
-is_named (orders.RevokeNamed f) = true
+is_named (orders.RevokeByFingerprint f) = true
 is_named other = false
 
 abbrev named_in : Ordered → List ℕ
-named_in (orders.RevokeNamed f) = f
+named_in (orders.RevokeByFingerprint f) = f
 named_in other = []
 
-alone : (sent f : List ℕ) (o : Ordered) → IsLineOf sent (orders.RevokeNamed f) → IsLineOf sent o → true ≡ is_named o
-alone sent f o is is_too = ap is_named (one_order sent (orders.RevokeNamed f) o is is_too)
+alone : (sent f : List ℕ) (o : Ordered) → IsLineOf sent (orders.RevokeByFingerprint f) → IsLineOf sent o
+    → true ≡ is_named o
+alone sent f o is is_too = ap is_named (one_order sent (orders.RevokeByFingerprint f) o is is_too)
 
 -- ---- how the command ends
 
@@ -67,15 +68,15 @@ module _ (idle : Type 0) (meanwhile : Making → Type 0) (old new : Shown) (f : 
         ends ∙ ap (λ o. ending (Ok (revoked w o))) found,
         subst new.stands (ap (after_revoke w) found) (through.runs.at honest w stands).ends,
       )
-  named honest stands (Unread fault) finds through ends = inr (fault, ends, (through.runs.at honest w stands).ends)
+  named honest stands (ReadError fault) finds through ends = inr (fault, ends, (through.runs.at honest w stands).ends)
 
-  heard_so : (sent : List ℕ) → new.is_honest → old.stands w → IsLineOf sent (orders.RevokeNamed f)
+  heard_so : (sent : List ℕ) → new.is_honest → old.stands w → IsLineOf sent (orders.RevokeByFingerprint f)
       → (heard : Heard) → IsHeardIn sent heard
       → (outcome : Outcome) → spoken.Outcome outcome ≡ told_heard heard
       → result ≡ order_ending which.Registry NoKey (Ok outcome)
       → GoesAs idle meanwhile old new heard → ListsBy old new heard → RevokesAt new w f result
   heard_so sent honest stands asks (Named g naming) from outcome tells ends through finds =
-      let same = ap named_in (one_order sent (orders.RevokeNamed g) (orders.RevokeNamed f) from asks) in
+      let same = ap named_in (one_order sent (orders.RevokeByFingerprint g) (orders.RevokeByFingerprint f) from asks) in
       let both = subst (λ (x : List ℕ). Finds old new x naming × GoesThroughSteps old new (named_steps x naming)) same
       (finds, through.1) in
       named honest stands naming both.0 both.1
@@ -93,16 +94,17 @@ module _ (idle : Type 0) (meanwhile : Making → Type 0) (old new : Shown) (f : 
   heard_so sent honest stands asks Stop from outcome tells ends through lists =
       absurd (true≢false (alone sent f orders.Stop asks from))
   heard_so sent honest stands asks NoOrder from outcome tells ends through lists =
-      absurd (from (orders.RevokeNamed f) asks)
+      absurd (from (orders.RevokeByFingerprint f) asks)
   heard_so sent honest stands asks NoMemory from outcome tells ends through lists = absurd from
 
 pub revokes_as_on_the_store : (made : Making → Type 0)
     (pinged : Result Health StoreFault → Type 0) (idle : Type 0) (meanwhile : Making → Type 0) (old new : Shown)
     → RevokesAsOnTheStore made pinged idle meanwhile old new
 revokes_as_on_the_store made pinged idle meanwhile old new f result w two honest stands =
-    let asks = subst (λ told. Asks two.unread two.unread_new (Some []) (Some two.sent) (orders.RevokeNamed f) told)
+    let asks = subst (λ told. Asks two.unread two.unread_new (Some []) (Some two.sent)
+        (orders.RevokeByFingerprint f) told)
     two.heard two.command.asks in
-    let sends : IsLineOf two.sent (orders.RevokeNamed f) =
-    subst (λ got. IsLineOf got (orders.RevokeNamed f)) (sym asks.2) asks.1 in
+    let sends : IsLineOf two.sent (orders.RevokeByFingerprint f) =
+    subst (λ got. IsLineOf got (orders.RevokeByFingerprint f)) (sym asks.2) asks.1 in
     heard_so idle meanwhile old new f result w two.sent honest stands sends two.server.heard two.server.from two.told
     two.server.tells (two.command.ends ∙ ap (order_ending which.Registry NoKey) two.heard) two.server.through two.server.lists

@@ -11,7 +11,7 @@ use Rattle.keyring.proofs.FingerprintLemmas.{hex_digest_ascii, hex_digest_few, h
 use Rattle.world.specs.Lines.{in_order}
 use Rattle.world.specs.World.{World}
 use Rattle.control.specs.Asking.{Asks}
-use Rattle.control.specs.declared.client.Untold.{Untold}
+use Rattle.control.specs.declared.client.SendError.{SendError}
 use Rattle.orders.specs.Order as orders
 use Rattle.orders.specs.Order.{HasLine, HasNoLine, IsLineOf}
 use Rattle.orders.specs.declared.outcome.Outcome.{Outcome}
@@ -24,9 +24,9 @@ use Rattle.commands.specs.declared.sent_order.SentOrder.TheVariants as which
 use Rattle.commands.proofs.Sayable.{Fits, carried, two_carried, word_fits}
 
 -- a word of at most 64 bytes of ASCII has a line
-has_line : (word : List ℕ) → Fits 64 word → HasLine (orders.RevokeNamed word)
+has_line : (word : List ℕ) → Fits 64 word → HasLine (orders.RevokeByFingerprint word)
 has_line word fits =
-    carried (orders.RevokeNamed word)
+    carried (orders.RevokeByFingerprint word)
     (two_carried 18 64 (codes "revoke-fingerprint") word
     (word_fits 18 (codes "revoke-fingerprint") refl refl refl) fits (omega arith)) refl
 
@@ -39,7 +39,7 @@ fingerprint_fits k =
 hex_digest_fits : (k : List ℕ) → Fits 64 (hex_digest k)
 hex_digest_fits k = record { says = hex_digest_word k; ascii = hex_digest_ascii k; few = hex_digest_few k }
 
-module _ (f : List ℕ) (unsaid : HasNoLine (orders.RevokeNamed f)) where
+module _ (f : List ℕ) (unsaid : HasNoLine (orders.RevokeByFingerprint f)) where
   -- a word that has a line is no word that has none
   differs : (word : List ℕ) → Fits 64 word → bytes_eq word f ≡ false
   differs word fits = go (bytes_eq word f) refl
@@ -48,7 +48,8 @@ module _ (f : List ℕ) (unsaid : HasNoLine (orders.RevokeNamed f)) where
       go false is = is
       go true is =
           let it = has_line word fits in
-          absurd (unsaid it.0 (subst (λ w. IsLineOf it.0 (orders.RevokeNamed w)) ((bytes_decides word f).0 is) it.1))
+          absurd (unsaid it.0 (subst (λ w. IsLineOf it.0 (orders.RevokeByFingerprint w))
+              ((bytes_decides word f).0 is) it.1))
 
   -- so no key has one that has none
   no_key_has : (k : List ℕ) → has k f ≡ false
@@ -65,9 +66,10 @@ module _ (f : List ℕ) (unsaid : HasNoLine (orders.RevokeNamed f)) where
   none_revoked w = ap (λ ks. ending (Ok (revoked w (only ks)))) (sym (none_of (in_order (keys_in w))))
 
 -- a command that sends the line of its fingerprint, and ends by the result, does as `RevokesOver` says
-pub revokes_over : (unread unread_new written written_new : Option (List ℕ)) (f : List ℕ) (told : Result Outcome Untold)
+pub revokes_over : (unread unread_new written written_new : Option (List ℕ)) (f : List ℕ)
+    (told : Result Outcome SendError)
     (result : Result (Unit {0}) CommandRefusal)
-    → Asks unread unread_new written written_new (orders.RevokeNamed f) told
+    → Asks unread unread_new written written_new (orders.RevokeByFingerprint f) told
     → result ≡ order_ending which.Registry NoKey told
     → RevokesOver unread unread_new written written_new f result
 revokes_over unread unread_new written written_new f told result asks ends = record {
@@ -75,6 +77,6 @@ revokes_over unread unread_new written written_new f told result asks ends = rec
   asks = asks;
   ends = ends;
   unsent = λ is w.
-      let unsaid = (subst (Asks unread unread_new written written_new (orders.RevokeNamed f)) is asks).0 in
+      let unsaid = (subst (Asks unread unread_new written written_new (orders.RevokeByFingerprint f)) is asks).0 in
       ends ∙ ap (order_ending which.Registry NoKey) is ∙ none_revoked f unsaid w;
 }

@@ -7,8 +7,8 @@ use Rattle.engine.specs.Written.{WritesBeginning}
 use Rattle.engine.specs.declared.fault.Io.{Io}
 use Rattle.commands.specs.Printed.{PrintsFront, PrintsText}
 use Rattle.commands.specs.Serve.{AnnouncesFront, PrintsPortFront, input_line, port_line}
-use Rattle.commands.specs.declared.serve.Entrance.{Entrance}
-use Rattle.commands.specs.declared.serve.Entrance.TheVariants.{Input, Port}
+use Rattle.commands.specs.declared.serve.ListenOn.{ListenOn}
+use Rattle.commands.specs.declared.serve.ListenOn.TheVariants.{Input, Port}
 
 -- a text that was printed after another was written is printed with it
 pub prints_after : (a b c : Option (List ℕ)) (first last : List ℕ) (result : Result (Unit {0}) Io) → Appends a b first
@@ -37,7 +37,7 @@ no_front a text = ([], (text, refl), Appends-nil a)
 pub no_port : (port : ℕ) (a : Option (List ℕ)) → PrintsPortFront port a a
 no_port port a = (port, λ _. refl, no_front a (port_line port))
 
-pub no_entrance : (entrance : Entrance) (a : Option (List ℕ)) → AnnouncesFront entrance a a
+pub no_entrance : (entrance : ListenOn) (a : Option (List ℕ)) → AnnouncesFront entrance a a
 no_entrance (Port port) a = no_port port a
 no_entrance Input a = no_front a input_line
 

@@ -351,7 +351,7 @@ whole_list text done_rows n closing.End (inl over) ends =
     (all_or_some (list_all spec.is_accepted done_rows) ends, over.1)
 whole_list text done_rows n closing.End (inr over) ends = absurd over.2
 whole_list text done_rows n closing.BadRow over ends = absurd (cc ends)
-whole_list text done_rows n closing.Unread over ends = absurd (cc ends)
+whole_list text done_rows n closing.ReadError over ends = absurd (cc ends)
 
 -- importing a list again that was imported whole changes nothing
 pub repeated_import_changes_nothing : RepeatedImportChangesNothing

@@ -29,7 +29,7 @@ use Rattle.orders.specs.Order as orders
 use Rattle.orders.specs.Order.{Ordered, HasLine, HasNoLine, add_word, added, commanded, line_for}
 use Rattle.orders.specs.Order.{longest, longest_of, said_in}
 use Rattle.orders.specs.Words.{Said, Two, Three, space, is_word, is_word_byte, are_words, text_of}
-use Rattle.control.specs.declared.client.Untold.{Untold}
+use Rattle.control.specs.declared.client.SendError.{SendError}
 use Rattle.orders.specs.declared.command.RegistryCommand.{RegistryCommand}
 use Rattle.orders.specs.declared.command.RegistryCommand.TheVariants.{TeamAdd, GroupAdd, KeyAdd}
 use Rattle.orders.specs.declared.command.RegistryCommand.TheVariants.{KeyRevoke, KeysRevoke}
@@ -365,7 +365,7 @@ unsent_ends (KeysRevoke shelf) sent is unsaid w world = ap (λ o. Err (unsayable
 
 -- a command that sends the order for its own, and ends by the result, does as `OrdersOver` says
 pub orders_over : (unread unread_new written written_new : Option (List ℕ)) (order asked : RegistryCommand)
-    (told : Result Outcome Untold) (result : Result (Unit {0}) CommandRefusal)
+    (told : Result Outcome SendError) (result : Result (Unit {0}) CommandRefusal)
     → IsSentFor order asked → Asks unread unread_new written written_new (orders.Registry (commanded asked)) told
     → result ≡ order_ending which.Registry (unsayable asked) told
     → OrdersOver unread unread_new written written_new order result

@@ -5,7 +5,7 @@ use Rattle.world.specs.Store.{Shown}
 use Rattle.world.specs.declared.registry.StoreFault.{StoreFault}
 use Rattle.control.specs.Copying.{Making, AllRead, Counted, GoesOnRead, IsOnlyRead, TellsSince}
 use Rattle.control.specs.Health.{tally_of}
-use Rattle.control.specs.declared.health.Figures.{Figures}
+use Rattle.control.specs.declared.health.Metrics.{Metrics}
 use Rattle.control.specs.declared.health.Health.{Health}
 use Rattle.control.proofs.StepLemmas.{steps_more}
 use Rattle.control.proofs.TaskLemmas.{tasks_read}
@@ -32,7 +32,7 @@ module _ {S : Type 0} (shown : S → Shown) (made : S → S → Making → Type 
   pub counted_first : (told : Result ℕ StoreFault) → IfOk told (λ n. counted old mid n)
       → GoesOnRead shown made counted old new since most
   counted_first (Ok n) came =
-      let figures : Figures = record { bytes = None; log = None; copied = None; copying = None; traffic = None } in
+      let figures : Metrics = record { bytes = None; log = None; copied = None; copying = None; traffic = None } in
       let health : Health =
       record { tally = tally_of since []; store_failures = (shown mid).failures; versions = n; figures = figures } in
       behind (Ok health) (λ h w stands all. (

@@ -14,7 +14,7 @@ use Rattle.commands.specs.RandomBytes.{Drawn, no_draws}
 use Rattle.commands.specs.Report.{PrintsCatalogOf, PrintsInventory, PrintsKeys, PrintsRequirements, PrintsShelves}
 use Rattle.commands.specs.Serve.{Made, Counted, ListensAs}
 use Rattle.commands.specs.declared.refusal.CommandRefusal.{CommandRefusal}
-use Rattle.commands.specs.declared.serve.Entrance.{Entrance}
+use Rattle.commands.specs.declared.serve.ListenOn.{ListenOn}
 use Rattle.commands.specs.declared.action.Action.{Action}
 use Rattle.commands.specs.declared.action.Action.TheVariants as action
 
@@ -65,7 +65,7 @@ module _ {S : Type 0} (shown : S → Shown) (made : Made S) (counted : Counted S
 
   -- connections were served from the store, by these times of a calendar, and nothing was read from the input
   pub record ServesConnections
-      (entrance : Entrance) (connections : ℕ) (control : Option (List ℕ))
+      (entrance : ListenOn) (connections : ℕ) (control : Option (List ℕ))
       (result : Result Bool CommandRefusal) : Type 0 where
     pub times : List (List ℕ)
     pub ended : Result (Unit {0}) CommandRefusal
@@ -82,7 +82,7 @@ module _ {S : Type 0} (shown : S → Shown) (made : Made S) (counted : Counted S
   Acts result action.Open = (new ≡ old) × (result ≡ Ok true)
   Acts result (action.Register command) = RegistersAlone command result
   Acts result (action.AddNew shelf right) = AddsNewAlone shelf right result
-  Acts result (action.RevokeNamed fingerprint) = RevokesNamedAlone fingerprint.now result
+  Acts result (action.RevokeByFingerprint fingerprint) = RevokesNamedAlone fingerprint.now result
   Acts result (action.Publish words files) =
       PublishesFiles (λ name. None) files shown old.store new.store (asked_by words) old.written new.written result
       × (new.came ≡ old.came)

@@ -7,10 +7,10 @@ use Rattle.orders.specs.Order.{HasNoLine, IsLineOf, Ordered, Ping}
 use Rattle.orders.specs.Outcome.{line_of}
 use Rattle.orders.specs.declared.outcome.Outcome.{Outcome}
 use Rattle.control.specs.Asking.{IsTold}
-use Rattle.control.specs.Told.{bytes_told}
-use Rattle.control.specs.declared.told.Told.{Told}
-use Rattle.control.specs.declared.client.Untold.{Untold}
-use Rattle.control.specs.declared.client.Untold.TheVariants as untold
+use Rattle.control.specs.ControlReply.{bytes_told}
+use Rattle.control.specs.declared.control_reply.ControlReply.{ControlReply}
+use Rattle.control.specs.declared.client.SendError.{SendError}
+use Rattle.control.specs.declared.client.SendError.TheVariants as untold
 use Rattle.commands.specs.Report.{Prints}
 use Rattle.commands.specs.SentOrder.{order_ending}
 use Rattle.commands.specs.declared.refusal.CommandRefusal.{CommandRefusal}
@@ -34,13 +34,13 @@ abbrev pub IsOutcomeIn : Outcome → List ℕ → Type 0
 IsOutcomeIn told got = got ≡ line_of told
 
 -- the lines of a health, or the line of an outcome
-abbrev pub IsHealthIn : Told → List ℕ → Type 0
+abbrev pub IsHealthIn : ControlReply → List ℕ → Type 0
 IsHealthIn told got = IsTold told × (got ≡ bytes_told told)
 
 -- The line of the order was sent, and what came tells this, and nothing else came. Or nothing was sent and nothing came,
 -- because no bytes are such a line or memory ran out. Or a beginning of the line was sent, a write failed, and nothing
 -- came. Or the line was sent, whatever came.
-abbrev pub Exchanges : {T : Type 0} → (T → List ℕ → Type 0) → Ordered → Passed → Result T Untold → Type 0
+abbrev pub Exchanges : {T : Type 0} → (T → List ℕ → Type 0) → Ordered → Passed → Result T SendError → Type 0
 Exchanges IsIn o p (Ok told) = IsLineOf p.sent o × IsIn told p.came
 Exchanges IsIn o p (Err untold.Words) = HasNoLine o × (p.sent ≡ []) × (p.came ≡ [])
 Exchanges IsIn o p (Err untold.Memory) = (p.sent ≡ []) × (p.came ≡ [])
@@ -51,21 +51,21 @@ Exchanges IsIn o p (Err untold.Io) =
 -- The line of the order was sent, and what came decides how the command ends.
 pub record EndsByOutcome (sent : SentOrder) (unsaid : CommandRefusal) (o : Ordered) (result : Result (Unit {0}) CommandRefusal)
     (passed : Passed) : Type 0 where
-  pub told : Result Outcome Untold
+  pub told : Result Outcome SendError
   pub exchanges : Exchanges IsOutcomeIn o passed told
   pub ends : result ≡ order_ending sent unsaid told
 
 -- The line of the order was sent, and what came decides what is printed, and how the command ends.
 pub record PrintsBy {T : Type 0} (IsIn : T → List ℕ → Type 0)
-    (ending : Result T Untold → Result (List ℕ) CommandRefusal) (o : Ordered) (printed printed_new : Option (List ℕ))
+    (ending : Result T SendError → Result (List ℕ) CommandRefusal) (o : Ordered) (printed printed_new : Option (List ℕ))
     (result : Result Bool CommandRefusal) (passed : Passed) : Type 0 where
-  pub told : Result T Untold
+  pub told : Result T SendError
   pub exchanges : Exchanges IsIn o passed told
   pub prints : Prints printed printed_new result (ending told)
 
 -- the server was asked for its health
 abbrev pub OnlyPings : Passed → Type 0
-OnlyPings passed = (told : Result Told Untold) × Exchanges IsHealthIn Ping passed told
+OnlyPings passed = (told : Result ControlReply SendError) × Exchanges IsHealthIn Ping passed told
 
 -- ---- which server is asked
 

@@ -11,7 +11,7 @@ use Rattle.control.specs.RegistryCommand.{event_of, outcome_in}
 use Rattle.control.specs.declared.health.Health.{Health}
 use Rattle.orders.specs.declared.command.RegistryCommand.{RegistryCommand}
 use Rattle.orders.specs.declared.outcome.Outcome.{Outcome}
-use Rattle.control.specs.declared.told.Told.TheVariants as spoken
+use Rattle.control.specs.declared.control_reply.ControlReply.TheVariants as spoken
 use Rattle.commands.specs.Ending.{ending}
 use Rattle.commands.specs.Order.{OrdersOver, RevokesOver}
 use Rattle.commands.specs.declared.refusal.CommandRefusal.{CommandRefusal}

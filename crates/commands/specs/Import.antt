@@ -112,13 +112,13 @@ is_accepted t = accepts_outcome (outcome_of t.done)
 abbrev pub closing_line : ℕ → Closing → List ℕ
 closing_line n closing.End = []
 closing_line n closing.BadRow = numbered n (codes "bad row")
-closing_line n closing.Unread = numbered n (outcome_text (outcome.Answered Unavailable))
+closing_line n closing.ReadError = numbered n (outcome_text (outcome.Answered Unavailable))
 
 -- how an import ends, by whether all rows were accepted and why no further one is done
 abbrev pub ending_of : Bool → Closing → Ending
 ending_of accepted closing.End = if accepted then ending.AllIn else ending.SomeOut
 ending_of accepted closing.BadRow = ending.BadRow
-ending_of accepted closing.Unread = ending.SomeOut
+ending_of accepted closing.ReadError = ending.SomeOut
 
 -- ---- where the list ends
 
@@ -150,13 +150,13 @@ BadHeaderComes list =
 abbrev pub IsClosing : Option (List ℕ) → List (List (List ℕ)) → Closing → Type 0
 IsClosing list rows closing.End = Meets list rows IsNone
 IsClosing list rows closing.BadRow = BadRowComes list rows
-IsClosing list rows closing.Unread = Unit {0}
+IsClosing list rows closing.ReadError = Unit {0}
 
 -- why no row at all is done
 abbrev pub IsHeaderClosing : Option (List ℕ) → Closing → Type 0
 IsHeaderClosing list closing.End = ⊥
 IsHeaderClosing list closing.BadRow = BadHeaderComes list
-IsHeaderClosing list closing.Unread = Unit {0}
+IsHeaderClosing list closing.ReadError = Unit {0}
 
 -- no row is done after these, and the next one would have this number: 0 for the header
 abbrev pub IsOver : Option (List ℕ) → List DoneRow → ℕ → Closing → Type 0

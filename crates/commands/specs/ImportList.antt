@@ -73,8 +73,8 @@ IsNoText next = (record_next : Read) × (next ≡ Some record_next) × (¬ AllTe
 
 -- what comes if a read failed with this error
 abbrev pub next_of : ErrorKind → NextRow
-next_of (kind.Io e) = next.Unread
-next_of kind.OutOfMemory = next.Unread
+next_of (kind.Io e) = next.ReadError
+next_of kind.OutOfMemory = next.ReadError
 next_of other = next.NoText
 
 module _ {R : Type 0} (remaining : R → Option (List ℕ)) (list : Option (List ℕ)) where
@@ -91,4 +91,4 @@ module _ {R : Type 0} (remaining : R → Option (List ℕ)) (list : Option (List
   Comes rows reader fields next.Fields = HasRead (rows ++ fields ∷ []) reader
   Comes rows reader fields next.End = Meets list rows IsNone
   Comes rows reader fields next.NoText = Meets list rows IsNoText
-  Comes rows reader fields next.Unread = Unit {0}
+  Comes rows reader fields next.ReadError = Unit {0}

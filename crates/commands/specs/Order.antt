@@ -8,8 +8,8 @@ use Rattle.keyring.specs.Revoke.{revoked_with}
 use Rattle.histories.specs.Account.{Account}
 use Rattle.network.specs.History.{Done, IsIdle}
 use Rattle.control.specs.Asking.{Asks, AsksHeard, AsksToStop, SendsHeard}
-use Rattle.control.specs.declared.client.Untold.{Untold}
-use Rattle.control.specs.declared.client.Untold.TheVariants as untold
+use Rattle.control.specs.declared.client.SendError.{SendError}
+use Rattle.control.specs.declared.client.SendError.TheVariants as untold
 use Rattle.orders.specs.declared.command.RegistryCommand.{RegistryCommand}
 use Rattle.orders.specs.declared.command.RegistryCommand.TheVariants.{TeamAdd, GroupAdd, KeyAdd}
 use Rattle.orders.specs.declared.command.RegistryCommand.TheVariants.{KeyRevoke, KeysRevoke}
@@ -72,7 +72,7 @@ pub record OrdersOver
     (result : Result (Unit {0}) CommandRefusal) : Type 0 where
   pub asked : RegistryCommand
   pub same : ComeToTheSame asked order
-  pub told : Result Outcome Untold
+  pub told : Result Outcome SendError
   pub asks : Asks unread unread_new written written_new (orders.Registry (commanded asked)) told
   pub ends : result ≡ order_ending Registry (unsayable asked) told
   pub unsent : told ≡ Err untold.Words → EndsInEach order result
@@ -89,8 +89,8 @@ EndsNamedInEach f result = (w : World) → result ≡ ending (Ok (revoked_with w
 -- the result. If there is no such line, the command ends as the revocation does in each world.
 pub record RevokesOver (unread unread_new written written_new : Option (List ℕ)) (f : List ℕ)
     (result : Result (Unit {0}) CommandRefusal) : Type 0 where
-  pub told : Result Outcome Untold
-  pub asks : Asks unread unread_new written written_new (orders.RevokeNamed f) told
+  pub told : Result Outcome SendError
+  pub asks : Asks unread unread_new written written_new (orders.RevokeByFingerprint f) told
   pub ends : result ≡ order_ending Registry NoKey told
   pub unsent : told ≡ Err untold.Words → EndsNamedInEach f result
 
@@ -98,14 +98,14 @@ pub record RevokesOver (unread unread_new written written_new : Option (List ℕ
 -- no line can carry counts as a name that breaks its rule.
 pub record CopiesOver (unread unread_new written written_new : Option (List ℕ)) (path : List ℕ)
     (result : Result (Unit {0}) CommandRefusal) : Type 0 where
-  pub told : Result Outcome Untold
+  pub told : Result Outcome SendError
   pub asks : Asks unread unread_new written written_new (orders.Copy path) told
   pub ends : result ≡ order_ending Copy Name told
 
 -- the line that ends a server was sent as `AsksToStop` says, and the command ends by the result
 pub record StopsOver (unread unread_new written written_new : Option (List ℕ))
     (result : Result (Unit {0}) CommandRefusal) : Type 0 where
-  pub told : Result Outcome Untold
+  pub told : Result Outcome SendError
   pub asks : AsksToStop unread unread_new written written_new told
   pub ends : result ≡ order_ending Stop Io told
 
@@ -116,24 +116,24 @@ module _ (came came_new : Account) (written written_new : Option (List ℕ)) (fa
   pub record OrdersHeard (order : RegistryCommand) (result : Result (Unit {0}) CommandRefusal) : Type 0 where
     pub asked : RegistryCommand
     pub same : ComeToTheSame asked order
-    pub told : Result Outcome Untold
+    pub told : Result Outcome SendError
     pub asks : AsksHeard came came_new written written_new failed failed_new (orders.Registry (commanded asked)) told
     pub ends : result ≡ order_ending Registry (unsayable asked) told
     pub unsent : told ≡ Err untold.Words → EndsInEach order result
 
   pub record RevokesHeard (f : List ℕ) (result : Result (Unit {0}) CommandRefusal) : Type 0 where
-    pub told : Result Outcome Untold
-    pub asks : AsksHeard came came_new written written_new failed failed_new (orders.RevokeNamed f) told
+    pub told : Result Outcome SendError
+    pub asks : AsksHeard came came_new written written_new failed failed_new (orders.RevokeByFingerprint f) told
     pub ends : result ≡ order_ending Registry NoKey told
     pub unsent : told ≡ Err untold.Words → EndsNamedInEach f result
 
   pub record CopiesHeard (path : List ℕ) (result : Result (Unit {0}) CommandRefusal) : Type 0 where
-    pub told : Result Outcome Untold
+    pub told : Result Outcome SendError
     pub asks : AsksHeard came came_new written written_new failed failed_new (orders.Copy path) told
     pub ends : result ≡ order_ending Copy Name told
 
   pub record StopsHeard (result : Result (Unit {0}) CommandRefusal) : Type 0 where
-    pub told : Result Outcome Untold
+    pub told : Result Outcome SendError
     pub asks : SendsHeard came came_new written written_new failed failed_new (line_for orders.Stop) told
     pub ends : result ≡ order_ending Stop Io told
 
@@ -143,7 +143,7 @@ pub record OrdersBy (order : RegistryCommand) (result : Result (Unit {0}) Comman
   where
     pub asked : RegistryCommand
     pub same : ComeToTheSame asked order
-    pub told : Result Outcome Untold
+    pub told : Result Outcome SendError
     pub exchanges : Exchanges IsOutcomeIn (orders.Registry (commanded asked)) passed told
     pub ends : result ≡ order_ending Registry (unsayable asked) told
     pub unsent : told ≡ Err untold.Words → EndsInEach order result
@@ -151,8 +151,8 @@ pub record OrdersBy (order : RegistryCommand) (result : Result (Unit {0}) Comman
 -- The line that orders to revoke the key with this fingerprint was sent, and what came decides how the command ends. If
 -- there is no such line, the command ends as the revocation does in each world.
 pub record RevokesBy (f : List ℕ) (result : Result (Unit {0}) CommandRefusal) (passed : Passed) : Type 0 where
-  pub told : Result Outcome Untold
-  pub exchanges : Exchanges IsOutcomeIn (orders.RevokeNamed f) passed told
+  pub told : Result Outcome SendError
+  pub exchanges : Exchanges IsOutcomeIn (orders.RevokeByFingerprint f) passed told
   pub ends : result ≡ order_ending Registry NoKey told
   pub unsent : told ≡ Err untold.Words → EndsNamedInEach f result
 
@@ -183,8 +183,10 @@ module _ {L : Type 0} (all : L → Passed → Type 0) (before after : List (Done
   -- so it was with the order to revoke the key with this fingerprint
   abbrev pub RevokesTo : List ℕ → Result (Unit {0}) CommandRefusal → Type 0
   RevokesTo f result =
-      (HasLine (orders.RevokeNamed f) × AsksServer all before after path (RevokesBy f result) (result ≡ Err Device))
-      ⊎ (IsIdle before after × HasNoLine (orders.RevokeNamed f) × (result ≡ Err NoKey) × EndsNamedInEach f result)
+      (HasLine (orders.RevokeByFingerprint f)
+          × AsksServer all before after path (RevokesBy f result) (result ≡ Err Device))
+      ⊎ (IsIdle before after × HasNoLine (orders.RevokeByFingerprint f) × (result ≡ Err NoKey)
+          × EndsNamedInEach f result)
 
   -- the server of this path was told to end, and no other
   abbrev pub StopsTo : Result (Unit {0}) CommandRefusal → Type 0

@@ -5,13 +5,13 @@ use Rattle.histories.specs.Calls.{Writes}
 use Rattle.world.specs.declared.registry.StoreFault.TheVariants as fault
 use Rattle.network.specs.History.{Done}
 use Rattle.control.specs.Asking.{AsksForHealth, HearsHealth, LineGets}
-use Rattle.control.specs.declared.client.Untold.{Untold}
+use Rattle.control.specs.declared.client.SendError.{SendError}
 use Rattle.orders.specs.Order as orders
 use Rattle.orders.specs.Order.{line_for}
 use Rattle.orders.specs.declared.outcome.Outcome.{Outcome}
 use Rattle.orders.specs.declared.outcome.Outcome.TheVariants as outcome
-use Rattle.control.specs.declared.told.Told.{Told}
-use Rattle.control.specs.declared.told.Told.TheVariants as spoken
+use Rattle.control.specs.declared.control_reply.ControlReply.{ControlReply}
+use Rattle.control.specs.declared.control_reply.ControlReply.TheVariants as spoken
 use Rattle.commands.specs.Connection.{AsksServer, IsHealthIn, Passed, PrintsBy}
 use Rattle.commands.specs.Printed.{HasCause}
 use Rattle.commands.specs.Report.{Prints}
@@ -30,7 +30,7 @@ refusal_of outcome.Stopping = Io
 refusal_of outcome.Bad = Io
 
 -- the line of a health that was told, or why there is none
-abbrev pub health_ending : Result Told Untold → Result (List ℕ) CommandRefusal
+abbrev pub health_ending : Result ControlReply SendError → Result (List ℕ) CommandRefusal
 health_ending (Ok (spoken.Health line)) = Ok line
 health_ending (Ok (spoken.Outcome outcome)) = Err (refusal_of outcome)
 health_ending (Ok (spoken.List lines)) = Err Io
@@ -40,7 +40,7 @@ health_ending (Err why) = Err Io
 pub record PingsOver (unread unread_new written written_new printed printed_new : Option (List ℕ))
     (result : Result Bool CommandRefusal)
     : Type 0 where
-  pub told : Result Told Untold
+  pub told : Result ControlReply SendError
   pub asks : AsksForHealth unread unread_new written written_new told
   pub prints : Prints printed printed_new result (health_ending told)
 
@@ -49,14 +49,14 @@ pub record PingsOver (unread unread_new written written_new printed printed_new 
 pub record FailsOver (unread unread_new written written_new : Option (List ℕ)) (writes writes_new : Writes)
     (result : Result Bool CommandRefusal)
     : Type 0 where
-  pub told : Result Told Untold
+  pub told : Result ControlReply SendError
   pub asks : AsksForHealth unread unread_new written written_new told
   pub cause : HasCause writes writes_new result (health_ending told)
 
 -- so it was by what came, which need not be known before
 pub record PingsHeard (came came_new : Account) (written written_new : Option (List ℕ)) (failed failed_new : ℕ)
     (printed printed_new : Option (List ℕ)) (result : Result Bool CommandRefusal) : Type 0 where
-  pub told : Result Told Untold
+  pub told : Result ControlReply SendError
   pub asks : LineGets HearsHealth came came_new written written_new failed failed_new (line_for orders.Ping) told
   pub prints : Prints printed printed_new result (health_ending told)
 

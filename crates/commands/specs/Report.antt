@@ -3,8 +3,8 @@ use Rattle.std.specs.Prelude.{ℕ, ◌≡◌, List, Bool, true, false, Option, S
 use Rattle.std.specs.FinMap as map
 use Rattle.std.specs.Io.KnownBytes.{Appends}
 use Rattle.catalog.specs.Printing.{PrintsCatalog}
-use Rattle.catalog.specs.declared.print.Unprinted.{Unprinted}
-use Rattle.catalog.specs.declared.print.Unprinted.TheVariants as unprinted
+use Rattle.catalog.specs.declared.print.PrintError.{PrintError}
+use Rattle.catalog.specs.declared.print.PrintError.TheVariants as unprinted
 use Rattle.keyring.specs.KeyList.{ListsKeys}
 use Rattle.keyring.specs.ShelfList.{shelf_text}
 use Rattle.modver.specs.Reading.{version_of}
@@ -29,7 +29,7 @@ inventory_ending (Err why.Device) = Err Device
 inventory_ending (Err why.Memory) = Err Memory
 
 -- how a command ends that printed a catalog, or a beginning of it
-abbrev pub catalog_ending : Result Bool Unprinted → Result Bool CommandRefusal
+abbrev pub catalog_ending : Result Bool PrintError → Result Bool CommandRefusal
 catalog_ending (Ok true) = Ok true
 catalog_ending (Ok false) = Err NoKey
 catalog_ending (Err unprinted.Device) = Err Device
@@ -71,7 +71,7 @@ pub record PrintsInventory
 pub record PrintsCatalogOf
     (old new : Shown) (key : List ℕ) (written written_new : Option (List ℕ))
     (result : Result Bool CommandRefusal) : Type 0 where
-  pub told : Result Bool Unprinted
+  pub told : Result Bool PrintError
   pub prints : PrintsCatalog old new key written written_new told
   pub ends : result ≡ catalog_ending told
 

@@ -1,8 +1,8 @@
 -- How a command ends that sends an order to a running `serve`.
 use Rattle.std.specs.Prelude.{Bool, true, false, if◌then◌else◌, Result, Ok, Err}
 use Rattle.world.specs.declared.registry.RegistryReply.TheVariants as registered
-use Rattle.control.specs.declared.client.Untold.{Untold}
-use Rattle.control.specs.declared.client.Untold.TheVariants as untold
+use Rattle.control.specs.declared.client.SendError.{SendError}
+use Rattle.control.specs.declared.client.SendError.TheVariants as untold
 use Rattle.orders.specs.declared.outcome.Outcome.{Outcome}
 use Rattle.orders.specs.declared.outcome.Outcome.TheVariants as outcome
 use Rattle.commands.specs.Ending.{ending}
@@ -37,12 +37,12 @@ outcome_ending outcome.Stopping = Ok tt
 outcome_ending outcome.Bad = Err refusal.Io
 
 -- why a command is refused that was told no outcome, by why it is refused if no line can carry the order
-abbrev pub untold_ending : CommandRefusal → Untold → CommandRefusal
+abbrev pub untold_ending : CommandRefusal → SendError → CommandRefusal
 untold_ending unsaid untold.Words = unsaid
 untold_ending unsaid untold.Memory = refusal.Memory
 untold_ending unsaid untold.Io = refusal.Io
 
 -- how a command ends, by the order that it sends, by why it is refused if no line can carry that, and by what was told
-abbrev pub order_ending : SentOrder → CommandRefusal → Result Outcome Untold → Result (Unit {0}) CommandRefusal
+abbrev pub order_ending : SentOrder → CommandRefusal → Result Outcome SendError → Result (Unit {0}) CommandRefusal
 order_ending sent unsaid (Ok outcome) = if may_have sent outcome then outcome_ending outcome else Err refusal.Io
 order_ending sent unsaid (Err why) = Err (untold_ending unsaid why)

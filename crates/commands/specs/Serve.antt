@@ -3,13 +3,13 @@ use Rattle.std.specs.Prelude.{ℕ, ◌≡◌, ◌≢◌, ◌++◌, List, codes, 
 use Rattle.std.specs.Io.KnownBytes.{Appends}
 use Rattle.world.specs.Store.{Shown}
 use Rattle.socket.specs.Connections.{GoesThroughMost}
-use Rattle.control.specs.Calendar.{Shows}
+use Rattle.control.specs.WallClock.{Shows}
 use Rattle.control.specs.Copying.{Making, GoesOnRead}
 use Rattle.commands.specs.Printed.{PrintsFront}
 use Rattle.commands.specs.declared.refusal.CommandRefusal.{CommandRefusal}
 use Rattle.commands.specs.declared.refusal.CommandRefusal.TheVariants.{Io}
-use Rattle.commands.specs.declared.serve.Entrance.{Entrance}
-use Rattle.commands.specs.declared.serve.Entrance.TheVariants.{Port, Input}
+use Rattle.commands.specs.declared.serve.ListenOn.{ListenOn}
+use Rattle.commands.specs.declared.serve.ListenOn.TheVariants.{Port, Input}
 
 -- the line of a port
 abbrev pub port_line : ℕ → List ℕ
@@ -25,7 +25,7 @@ PrintsPort port written written_new = (bound : ℕ) × (port ≢ 0 → bound ≡
     × Appends written written_new (port_line bound)
 
 -- the entrance was printed
-abbrev pub Announces : Entrance → Option (List ℕ) → Option (List ℕ) → Type 0
+abbrev pub Announces : ListenOn → Option (List ℕ) → Option (List ℕ) → Type 0
 Announces (Port port) written written_new = PrintsPort port written written_new
 Announces Input written written_new = Appends written written_new input_line
 
@@ -35,7 +35,7 @@ PrintsPortFront port written written_new =
     (bound : ℕ) × (port ≢ 0 → bound ≡ port) × PrintsFront written written_new (port_line bound)
 
 -- a beginning of the line of the entrance was printed, or all of it
-abbrev pub AnnouncesFront : Entrance → Option (List ℕ) → Option (List ℕ) → Type 0
+abbrev pub AnnouncesFront : ListenOn → Option (List ℕ) → Option (List ℕ) → Type 0
 AnnouncesFront (Port port) written written_new = PrintsPortFront port written written_new
 AnnouncesFront Input written written_new = PrintsFront written written_new input_line
 
@@ -43,7 +43,7 @@ AnnouncesFront Input written written_new = PrintsFront written written_new input
 -- entrance can't be opened, or the output failed, and a beginning of the line was printed, and the store stays as it
 -- was.
 abbrev pub Listens :
-    {S : Type 0} → (S → Shown) → S → S → Entrance → ℕ → Option (List ℕ) → Option (List ℕ)
+    {S : Type 0} → (S → Shown) → S → S → ListenOn → ℕ → Option (List ℕ) → Option (List ℕ)
     → Result (Unit {0}) CommandRefusal → Type 0
 Listens shown old new entrance connections written written_new result =
     MatchResult result
@@ -71,7 +71,7 @@ pub record ServesSince {S : Type 0} (shown : S → Shown) (made : Made S) (count
 -- socket can't be opened, the clock can't be read, the output failed or memory ran out, and a beginning of the line was
 -- printed, and the store stays as it was.
 abbrev pub ListensToBoth :
-    {S : Type 0} → (S → Shown) → Made S → Counted S → List (List ℕ) → List (List ℕ) → S → S → Entrance → ℕ
+    {S : Type 0} → (S → Shown) → Made S → Counted S → List (List ℕ) → List (List ℕ) → S → S → ListenOn → ℕ
     → Option (List ℕ) → Option (List ℕ) → Result (Unit {0}) CommandRefusal → Type 0
 ListensToBoth shown made counted times times_new old new entrance connections written written_new result =
     MatchResult result
@@ -80,7 +80,7 @@ ListensToBoth shown made counted times times_new old new entrance connections wr
 
 -- serving without a socket of operators, or with one
 abbrev pub ListensAs :
-    {S : Type 0} → (S → Shown) → Made S → Counted S → List (List ℕ) → List (List ℕ) → S → S → Entrance → ℕ
+    {S : Type 0} → (S → Shown) → Made S → Counted S → List (List ℕ) → List (List ℕ) → S → S → ListenOn → ℕ
     → Option (List ℕ) → Option (List ℕ) → Option (List ℕ) → Result (Unit {0}) CommandRefusal → Type 0
 ListensAs shown made counted times times_new old new entrance connections None written written_new result =
     Listens shown old new entrance connections written written_new result

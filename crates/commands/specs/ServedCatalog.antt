@@ -11,8 +11,8 @@ use Rattle.control.specs.Listing.{AreLines}
 use Rattle.orders.specs.Order as orders
 use Rattle.orders.specs.Order.{HasLine, HasNoLine, IsLineOf, Ordered}
 use Rattle.orders.specs.Outcome.{line_of}
-use Rattle.control.specs.declared.client.Untold.{Untold}
-use Rattle.control.specs.declared.client.Untold.TheVariants as untold
+use Rattle.control.specs.declared.client.SendError.{SendError}
+use Rattle.control.specs.declared.client.SendError.TheVariants as untold
 use Rattle.orders.specs.declared.outcome.Outcome.{Outcome}
 use Rattle.orders.specs.declared.outcome.Outcome.TheVariants.{RegistryReply}
 use Rattle.commands.specs.Connection.{AsksServer, Passed}
@@ -42,19 +42,19 @@ module _ (Came : List ℕ → Type 0) where
   HearsCatalog (Ok lines) = HearsLines lines (RegistryReply Done)
   HearsCatalog (Err why) = HearsWhy why ⊎ (why ≡ Memory) ⊎ (why ≡ Io)
 
-  -- so it was if the catalog was asked for; otherwise nothing was read, as `Unread` says
-  abbrev pub HearsAsked : Type 0 → Result (List ℕ) CommandRefusal → Result (Unit {0}) Untold → Type 0
-  HearsAsked Unread heard (Ok u) = HearsCatalog heard
-  HearsAsked Unread heard (Err why) = (heard ≡ Err (untold_ending NoKey why)) × Unread
+  -- so it was if the catalog was asked for; otherwise nothing was read, as `ReadError` says
+  abbrev pub HearsAsked : Type 0 → Result (List ℕ) CommandRefusal → Result (Unit {0}) SendError → Type 0
+  HearsAsked ReadError heard (Ok u) = HearsCatalog heard
+  HearsAsked ReadError heard (Err why) = (heard ≡ Err (untold_ending NoKey why)) × ReadError
 
 -- The catalog of the key was asked for, and what came was read. If it is a whole catalog, its lines were printed, and
 -- otherwise nothing was. A key that no line can carry is nobody's.
-pub record Catalogs (Came : List ℕ → Type 0) (Unread : Type 0) (Sent : Result (Unit {0}) Untold → Type 0)
+pub record Catalogs (Came : List ℕ → Type 0) (ReadError : Type 0) (Sent : Result (Unit {0}) SendError → Type 0)
     (printed printed_new : Option (List ℕ)) (result : Result Bool CommandRefusal) : Type 0 where
-  pub asked : Result (Unit {0}) Untold
+  pub asked : Result (Unit {0}) SendError
   pub asks : Sent asked
   pub heard : Result (List ℕ) CommandRefusal
-  pub hears : HearsAsked Came Unread heard asked
+  pub hears : HearsAsked Came ReadError heard asked
   pub prints : Prints printed printed_new result heard
 
 -- so it was over a connection whose bytes are known before they are read
@@ -72,7 +72,7 @@ CatalogsHeard came came_new written written_new failed failed_new key =
 
 -- The line of the order was sent. Or nothing was sent, because no bytes are such a line or memory ran out. Or a beginning
 -- of the line was sent, and a write failed.
-abbrev pub IsSentIn : Ordered → Passed → Result (Unit {0}) Untold → Type 0
+abbrev pub IsSentIn : Ordered → Passed → Result (Unit {0}) SendError → Type 0
 IsSentIn o passed (Ok u) = IsLineOf passed.sent o
 IsSentIn o passed (Err untold.Words) = HasNoLine o × (passed.sent ≡ [])
 IsSentIn o passed (Err untold.Memory) = passed.sent ≡ []

@@ -4,16 +4,16 @@ ghost use Rattle.commands.specs.Action as spec;
 
 use crate::answer::answer_input;
 use crate::import_file::import_file;
-use crate::moment::SystemCalendar;
+use crate::moment::SystemWallClock;
 use crate::new_key::add_new;
 use crate::publish::{Files, Words, publish};
 use crate::random_bytes::SystemRandomBytes;
 use crate::refusal::CommandRefusal;
-use crate::registry::{register, revoke_named};
+use crate::registry::{register, revoke_by_fingerprint};
 use crate::report::{
     Named, print_catalog, print_inventory, print_keys, print_requirements, print_shelves,
 };
-use crate::serve::{Entrance, serve};
+use crate::serve::{ListenOn, serve};
 use crate::sources::SystemFiles;
 use control::Copies;
 use histories::{Hear, Tell, Telling};
@@ -38,7 +38,7 @@ pub enum Action<'a> {
         right: Right,
     },
     /// `key-revoke --fingerprint X`: revokes the key that has a fingerprint or a SHA-256.
-    RevokeNamed {
+    RevokeByFingerprint {
         fingerprint: &'a str,
     },
     /// `publish`: publishes a version from files.
@@ -72,7 +72,7 @@ pub enum Action<'a> {
     /// `serve`: answers one request on each of this many connections, and between them carries out the orders that come
     /// over a socket, if one is named, copies among them.
     Serve {
-        entrance: Entrance,
+        entrance: ListenOn,
         connections: u32,
         control: Option<&'a str>,
     },
@@ -106,8 +106,8 @@ pub fn act_on<S: Outlines + Keyring, K: Copies<S>, I: Hear, O: Tell>(
             *right,
             output,
         )),
-        Action::RevokeNamed { fingerprint } => {
-            acceptance(revoke_named(rt.alloc(), shelves, fingerprint))
+        Action::RevokeByFingerprint { fingerprint } => {
+            acceptance(revoke_by_fingerprint(rt.alloc(), shelves, fingerprint))
         }
         Action::Publish { words, files } => {
             publish(
@@ -132,7 +132,7 @@ pub fn act_on<S: Outlines + Keyring, K: Copies<S>, I: Hear, O: Tell>(
             control,
         } => acceptance(serve(
             rt,
-            &mut SystemCalendar::new(rt),
+            &mut SystemWallClock::new(rt),
             shelves,
             copies,
             *entrance,

@@ -10,7 +10,7 @@ use crate::copy_progress::copy_progress;
 use crate::progress::{Progress, StderrLine};
 use crate::refusal::CommandRefusal;
 use crate::sent_order::{SentOrder, order_ending};
-use control::{Came, Told, Unread, Untold, ask_for_health, hear_on, send_order};
+use control::{Came, ControlReply, ReadError, SendError, ask_for_health, hear_on, send_order};
 use histories::{Hear, Tell};
 use network::servers::{Servers, Wait};
 use orders::{Order, Outcome, read_outcome};
@@ -95,7 +95,7 @@ fn order_copy<R: Hear, W: Tell, V: Servers<R, W>>(
     reader: &mut R,
     writer: &mut W,
     path: &str,
-) -> Result<Outcome, Untold>
+) -> Result<Outcome, SendError>
     ensures asks { Asks (R.remaining reader.old) (R.remaining reader.new)
         (W.contents writer.old) (W.contents writer.new) (Copy path.now) result }
     ensures heard { AsksHeard (R.account reader.old) (R.account reader.new) (W.contents writer.old)
@@ -110,15 +110,15 @@ fn order_copy<R: Hear, W: Tell, V: Servers<R, W>>(
     }
 }
 
-/// Reads the line of an outcome, however long that takes. Fails only with `Untold::Io`: a read failed, memory ran out,
-/// or what came is no such line.
+/// Reads the line of an outcome, however long that takes. Fails only with `SendError::Io`: a read failed, memory ran
+/// out, or what came is no such line.
 fn hear_copied<R: Hear, W: Tell, V: Servers<R, W>>(
     alloc: Global,
     servers: &mut V,
     control: &str,
     line: &Option<StderrLine<'_>>,
     reader: &mut R,
-) -> Result<Outcome, Untold>
+) -> Result<Outcome, SendError>
     ensures tells { TellsOutcome (R.remaining reader.old) (R.remaining reader.new) result }
     ensures heard { HearsOrIo (R.account reader.old) (R.account reader.new) result }
     ensures between { PingsBetween
@@ -126,11 +126,11 @@ fn hear_copied<R: Hear, W: Tell, V: Servers<R, W>>(
         (V.history servers.old) (V.history servers.new) control.now }
 {
     let Ok(got) = await_line(alloc, servers, control, line, reader) else {
-        return Err(Untold::Io);
+        return Err(SendError::Io);
     };
     match read_outcome(&got) {
         Some(told) => Ok(told),
-        None => Err(Untold::Io),
+        None => Err(SendError::Io),
     }
 }
 
@@ -142,7 +142,7 @@ fn await_line<R: Hear, W: Tell, V: Servers<R, W>>(
     control: &str,
     line: &Option<StderrLine<'_>>,
     reader: &mut R,
-) -> Result<Vec<u8>, Unread>
+) -> Result<Vec<u8>, ReadError>
     ensures reads { IfOk result (λ got. Gives (R.account reader.old) (R.account reader.new) got.items) }
     ensures between { PingsBetween
         (λ link passed. IsAll (R.account link.reader) (W.contents link.writer) (W.writes link.writer).failed passed)
@@ -156,7 +156,7 @@ fn await_line<R: Hear, W: Tell, V: Servers<R, W>>(
         }
         show(alloc, servers, control, line, came);
     }
-    Err(Unread::Io)
+    Err(ReadError::Io)
 }
 
 /// Shows how far the copy is, if nothing came, there is a line, a second has passed since the last one, and the server
@@ -203,9 +203,9 @@ fn how_far<R: Hear, W: Tell, V: Servers<R, W>>(
 }
 
 /// How far a copy is, by what was told. None if that does not say it.
-fn progress_of(told: Result<Told, Untold>) -> Option<Progress> {
+fn progress_of(told: Result<ControlReply, SendError>) -> Option<Progress> {
     match told {
-        Ok(Told::Health(health)) => copy_progress(health.as_str()),
+        Ok(ControlReply::Health(health)) => copy_progress(health.as_str()),
         _ => None,
     }
 }

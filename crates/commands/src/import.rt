@@ -41,7 +41,7 @@ pub enum Closing {
     /// The next row is bad.
     BadRow,
     /// The rest of the list can't be read.
-    Unread,
+    ReadError,
 }
 
 /// One step of an import.
@@ -103,7 +103,7 @@ pub fn import<S: Shelves, L: Read + Drop, F: Sources, O: Tell>(
             Err(fault) => return Err(fault),
         }
     }
-    close(u64::MAX, Closing::Unread, accepted, output)
+    close(u64::MAX, Closing::ReadError, accepted, output)
 }
 
 /// Whether both hold.
@@ -128,7 +128,7 @@ fn read_header<R: Read>(reader: &mut Reader<R>, fields: &mut StringRecord) -> Op
         }
         NextRow::End => Some(Closing::BadRow),
         NextRow::NoText => Some(Closing::BadRow),
-        NextRow::Unread => Some(Closing::Unread),
+        NextRow::ReadError => Some(Closing::ReadError),
     }
 }
 
@@ -172,7 +172,7 @@ fn read_row<R: Read>(reader: &mut Reader<R>, fields: &mut StringRecord) -> Optio
         NextRow::Fields => None,
         NextRow::End => Some(Closing::End),
         NextRow::NoText => Some(Closing::BadRow),
-        NextRow::Unread => Some(Closing::Unread),
+        NextRow::ReadError => Some(Closing::ReadError),
     }
 }
 
@@ -259,7 +259,7 @@ fn close<O: Tell>(
             Ok(()) => Ok(Ending::BadRow),
             Err(fault) => Err(fault),
         },
-        Closing::Unread => {
+        Closing::ReadError => {
             match print_outcome(number, RowOutcome::Answered(Fixed::Unavailable), output) {
                 Ok(()) => Ok(Ending::SomeOut),
                 Err(fault) => Err(fault),

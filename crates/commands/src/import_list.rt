@@ -17,7 +17,7 @@ pub enum NextRow {
     /// Fields that are not UTF-8.
     NoText,
     /// The rest of the list can't be read: the reader failed, or memory ran out.
-    Unread,
+    ReadError,
 }
 
 /// A row of a list.
@@ -61,7 +61,7 @@ fn next_of(kind: &ErrorKind) -> NextRow
     ensures { result ≡ spec.next_of kind.now }
 {
     match kind {
-        ErrorKind::Io(_) | ErrorKind::OutOfMemory => NextRow::Unread,
+        ErrorKind::Io(_) | ErrorKind::OutOfMemory => NextRow::ReadError,
         _ => NextRow::NoText,
     }
 }

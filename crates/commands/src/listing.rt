@@ -6,7 +6,7 @@ ghost use Rattle.commands.specs.Listing as spec;
 use crate::ping::refusal_of;
 use crate::refusal::CommandRefusal;
 use crate::report::print;
-use control::{Untold, ask_for_list};
+use control::{SendError, ask_for_list};
 use histories::{Hear, Tell};
 use network::servers::{Servers, Wait};
 use orders::{Listing, Outcome};
@@ -63,7 +63,7 @@ pub fn list_over<R: Hear, W: Tell, O: Tell>(
 }
 
 /// The list that was told, or why there is none.
-fn list_ending(told: Result<Result<Bytes, Outcome>, Untold>) -> Result<Bytes, CommandRefusal>
+fn list_ending(told: Result<Result<Bytes, Outcome>, SendError>) -> Result<Bytes, CommandRefusal>
     ensures { result ≡ spec.list_ending told }
 {
     match told {

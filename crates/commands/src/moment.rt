@@ -2,31 +2,31 @@
 ghost use Rattle.std.specs.Prelude.{◌≡◌, []};
 
 use crate::ledger::Ledger;
-use control::Calendar;
+use control::WallClock;
 use jiff::Timestamp;
 use modver::{TimeText, read_time};
 use std::rt::HostRuntime;
 
 /// The clock of the system.
 #[derive(Drop)]
-pub struct SystemCalendar<'a> {
+pub struct SystemWallClock<'a> {
     rt: &'a HostRuntime,
     noted: Ledger,
 }
 
-impl<'a> SystemCalendar<'a> {
+impl<'a> SystemWallClock<'a> {
     /// Returns the clock of the system, which has shown no time so far.
-    pub fn new(rt: &'a HostRuntime) -> SystemCalendar<'a>
-        ensures { ⟦<SystemCalendar<'a> as Calendar>⟧.shown result ≡ [] }
+    pub fn new(rt: &'a HostRuntime) -> SystemWallClock<'a>
+        ensures { ⟦<SystemWallClock<'a> as WallClock>⟧.shown result ≡ [] }
     {
-        SystemCalendar {
+        SystemWallClock {
             rt,
             noted: Ledger::new(),
         }
     }
 }
 
-impl<'a> Calendar for SystemCalendar<'a> {
+impl<'a> WallClock for SystemWallClock<'a> {
     ghost shown = { λ c. c.noted.entries };
 
     fn time_now(&mut self) -> Option<TimeText> {

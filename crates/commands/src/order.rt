@@ -134,7 +134,7 @@ pub fn revoke_at<R: Hear, W: Tell, V: Servers<R, W>>(
         (λ link passed. IsAll (R.account link.reader) (W.contents link.writer) (W.writes link.writer).failed passed)
         (V.history servers.old) (V.history servers.new) path.now fingerprint.now result }
 {
-    if !Order::RevokeNamed(fingerprint).has_line() {
+    if !Order::RevokeByFingerprint(fingerprint).has_line() {
         return Err(CommandRefusal::NoKey);
     }
     match servers.connect(path, Wait::Minute) {
@@ -162,7 +162,12 @@ pub fn revoke_over<R: Hear, W: Tell>(
     ensures heard { spec.RevokesHeard (R.account reader.old) (R.account reader.new) (W.contents writer.old)
         (W.contents writer.new) (W.writes writer.old).failed (W.writes writer.new).failed fingerprint.now result }
 {
-    let told = ask(alloc, reader, writer, &Order::RevokeNamed(fingerprint));
+    let told = ask(
+        alloc,
+        reader,
+        writer,
+        &Order::RevokeByFingerprint(fingerprint),
+    );
     order_ending(SentOrder::Registry, CommandRefusal::NoKey, told)
 }
 

@@ -7,7 +7,7 @@ ghost use Rattle.commands.specs.Report.{Prints};
 
 use crate::refusal::CommandRefusal;
 use crate::report::print_text;
-use control::{Told, Untold, ask_for_health};
+use control::{ControlReply, SendError, ask_for_health};
 use histories::{Hear, Tell};
 use network::servers::{Servers, Wait};
 use orders::Outcome;
@@ -65,13 +65,13 @@ pub fn ping_over<R: Hear, W: Tell, O: Tell>(
 }
 
 /// The lines of the health that was told, or why there is none.
-fn health_ending(told: Result<Told, Untold>) -> Result<Text, CommandRefusal>
+fn health_ending(told: Result<ControlReply, SendError>) -> Result<Text, CommandRefusal>
     ensures { result ≡ spec.health_ending told }
 {
     match told {
-        Ok(Told::Health(line)) => Ok(line),
-        Ok(Told::Outcome(outcome)) => Err(refusal_of(outcome)),
-        Ok(Told::List(_)) | Err(_) => Err(CommandRefusal::Io),
+        Ok(ControlReply::Health(line)) => Ok(line),
+        Ok(ControlReply::Outcome(outcome)) => Err(refusal_of(outcome)),
+        Ok(ControlReply::List(_)) | Err(_) => Err(CommandRefusal::Io),
     }
 }
 

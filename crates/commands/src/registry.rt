@@ -24,7 +24,7 @@ pub fn register<S: Shelves>(
 
 /// Revokes the key that has a fingerprint or a SHA-256. Fails with `NoKey` if no key has it or several have, and with a
 /// fault of the store, and then changes nothing.
-pub fn revoke_named<S: Keyring>(
+pub fn revoke_by_fingerprint<S: Keyring>(
     alloc: Global,
     shelves: &mut S,
     fingerprint: &str,

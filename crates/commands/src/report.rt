@@ -7,7 +7,7 @@ use crate::inventory::{InventoryFault, inventory};
 use crate::printing::print_one;
 use crate::refusal::CommandRefusal;
 use crate::requirements::requirements;
-use catalog::Unprinted;
+use catalog::PrintError;
 use histories::Tell;
 use keyring::Keyring;
 use keyring::key_list::list_keys;
@@ -57,9 +57,9 @@ pub fn print_catalog<S: Outlines, O: Tell>(
     match catalog::print_catalog(alloc, shelves, key, output) {
         Ok(true) => Ok(true),
         Ok(false) => Err(CommandRefusal::NoKey),
-        Err(Unprinted::Device) => Err(CommandRefusal::Device),
-        Err(Unprinted::Memory) => Err(CommandRefusal::Memory),
-        Err(Unprinted::Output) => Err(CommandRefusal::Io),
+        Err(PrintError::Device) => Err(CommandRefusal::Device),
+        Err(PrintError::Memory) => Err(CommandRefusal::Memory),
+        Err(PrintError::Output) => Err(CommandRefusal::Io),
     }
 }
 

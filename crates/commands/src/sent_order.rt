@@ -3,7 +3,7 @@ ghost use Rattle.std.specs.Prelude.{◌≡◌};
 ghost use Rattle.commands.specs.SentOrder as spec;
 
 use crate::refusal::{CommandRefusal, ending};
-use control::Untold;
+use control::SendError;
 use orders::Outcome;
 use world::registry::RegistryReply;
 
@@ -46,7 +46,7 @@ impl SentOrder {
 pub(crate) fn order_ending(
     sent: SentOrder,
     unsayable: CommandRefusal,
-    told: Result<Outcome, Untold>,
+    told: Result<Outcome, SendError>,
 ) -> Result<(), CommandRefusal>
     ensures { result ≡ spec.order_ending sent unsayable told }
 {
@@ -64,13 +64,13 @@ pub(crate) fn order_ending(
 
 /// Returns why a command is refused that was told nothing of the order that it sent: `unsayable` if no line can carry
 /// that, `Memory` if memory ran out for the line, and otherwise `Io`.
-pub(crate) fn untold_ending(unsayable: CommandRefusal, why: Untold) -> CommandRefusal
+pub(crate) fn untold_ending(unsayable: CommandRefusal, why: SendError) -> CommandRefusal
     ensures { result ≡ spec.untold_ending unsayable why }
 {
     match why {
-        Untold::Words => unsayable,
-        Untold::Memory => CommandRefusal::Memory,
-        Untold::Io => CommandRefusal::Io,
+        SendError::Words => unsayable,
+        SendError::Memory => CommandRefusal::Memory,
+        SendError::Io => CommandRefusal::Io,
     }
 }
 

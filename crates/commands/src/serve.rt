@@ -6,11 +6,12 @@ ghost use Rattle.commands.specs.Printed.{PrintsText};
 ghost use Rattle.commands.specs.Serve.{Announces, AnnouncesFront, ListensToBoth, ListensAs};
 ghost use Rattle.commands.specs.Serve.{PrintsPort, PrintsPortFront, input_line, port_line};
 
-use crate::moment::SystemCalendar;
+use crate::moment::SystemWallClock;
 use crate::printing::{print_both, print_one};
 use crate::refusal::CommandRefusal;
 use control::{
-    Calendar, Copies, Doors, ended, opened, operators_at, remove_socket, reserved, serve_both, tell,
+    Copies, Listeners, WallClock, ended, opened, operators_at, remove_socket, reserved, serve_both,
+    tell,
 };
 use engine::Io;
 use engine::write::write_bytes;
@@ -31,7 +32,7 @@ use std::time::Duration;
 
 /// Where the connections of peers come in.
 #[derive(Clone, Copy, Debug, Drop, PartialEq, Eq)]
-pub enum Entrance {
+pub enum ListenOn {
     /// A port of 127.0.0.1; the system chooses one in the place of 0.
     Port(u16),
     /// Standard input, which is a socket that listens already.
@@ -46,12 +47,12 @@ pub enum Entrance {
 /// changes. `Io` if the entrance or the socket can't be opened, the clock can't be read for the start time, the output
 /// fails, or memory runs out before it serves: then nothing of the line is printed, a beginning or all of it, and the
 /// store stays as it was. A connection that fails only counts.
-pub fn serve<D: Calendar, S: Keyring, K: Copies<S>, O: Tell, E: Tell>(
+pub fn serve<D: WallClock, S: Keyring, K: Copies<S>, O: Tell, E: Tell>(
     rt: &HostRuntime,
     calendar: &mut D,
     shelves: &mut S,
     copies: &K,
-    entrance: Entrance,
+    entrance: ListenOn,
     connections: u32,
     control: Option<&str>,
     output: &mut O,
@@ -89,12 +90,12 @@ pub fn serve<D: Calendar, S: Keyring, K: Copies<S>, O: Tell, E: Tell>(
 }
 
 /// Serves the connections of peers, and the operators of a socket, which is made first and taken away at the end.
-fn serve_operators<D: Calendar, S: Keyring, K: Copies<S>, O: Tell, E: Tell>(
+fn serve_operators<D: WallClock, S: Keyring, K: Copies<S>, O: Tell, E: Tell>(
     rt: &HostRuntime,
     calendar: &mut D,
     shelves: &mut S,
     copies: &K,
-    entrance: Entrance,
+    entrance: ListenOn,
     connections: u32,
     path: &str,
     output: &mut O,
@@ -138,7 +139,7 @@ fn serve_operators<D: Calendar, S: Keyring, K: Copies<S>, O: Tell, E: Tell>(
 /// after it that it ended.
 fn serve_told<S: Keyring, K: Copies<S>, E: Tell>(
     rt: &HostRuntime,
-    doors: &mut Doors,
+    doors: &mut Listeners,
     shelves: &mut S,
     copies: &K,
     has_room: bool,
@@ -159,7 +160,7 @@ fn serve_told<S: Keyring, K: Copies<S>, E: Tell>(
         doors,
         shelves,
         copies,
-        SystemCalendar::new(rt),
+        SystemWallClock::new(rt),
         since,
         connections,
         errors,
@@ -179,22 +180,22 @@ fn tell_room<E: Tell>(alloc: Global, has_room: bool, errors: &mut E)
 /// What takes the connections of both.
 fn open_doors<O: Tell>(
     rt: &HostRuntime,
-    entrance: Entrance,
+    entrance: ListenOn,
     operators: UnixListener,
     output: &mut O,
-) -> Result<Doors, CommandRefusal>
+) -> Result<Listeners, CommandRefusal>
     ensures ok { OnOk result (Announces entrance (O.contents output.old) (O.contents output.new)) }
     ensures err { OnErr result (AnnouncesFront entrance (O.contents output.old) (O.contents output.new)) }
     ensures flushed { OnOk result ((O.writes output.new).unflushed ≡ []) }
 {
     let peers = listen(rt, entrance, output)?;
-    Ok(Doors::new(rt, peers, operators)?)
+    Ok(Listeners::new(rt, peers, operators)?)
 }
 
 /// Takes the entrance, and prints it. If the output fails, a beginning of the line is printed, or all of it.
 fn listen<O: Tell>(
     rt: &HostRuntime,
-    entrance: Entrance,
+    entrance: ListenOn,
     output: &mut O,
 ) -> Result<TcpListener, CommandRefusal>
     ensures ok { OnOk result (Announces entrance (O.contents output.old) (O.contents output.new)) }
@@ -202,8 +203,8 @@ fn listen<O: Tell>(
     ensures flushed { OnOk result ((O.writes output.new).unflushed ≡ []) }
 {
     match entrance {
-        Entrance::Port(port) => listen_at(rt, port, output),
-        Entrance::Input => {
+        ListenOn::Port(port) => listen_at(rt, port, output),
+        ListenOn::Input => {
             let listener = input_listener(rt)?;
             print_input(output)?;
             Ok(listener)

@@ -10,7 +10,7 @@ ghost use Rattle.commands.specs.ServedCatalog as spec;
 use crate::refusal::CommandRefusal;
 use crate::report::print;
 use crate::sent_order::{SentOrder, order_ending, untold_ending};
-use control::{Unread, Untold, read_all, send_order};
+use control::{ReadError, SendError, read_all, send_order};
 use histories::{Hear, Tell};
 use network::servers::{Servers, Wait};
 use orders::{Order, read_outcome};
@@ -80,7 +80,7 @@ pub fn catalog_over<R: Hear, W: Tell, O: Tell>(
 /// Returns the lines of the catalog that comes, if it was asked for. Otherwise fails with why it was not.
 fn hear_asked<R: Hear>(
     alloc: Global,
-    asked: Result<(), Untold>,
+    asked: Result<(), SendError>,
     reader: &mut R,
 ) -> Result<Bytes, CommandRefusal>
     ensures known { spec.HearsAsked (Consumes (R.remaining reader.old) (R.remaining reader.new))
@@ -102,8 +102,8 @@ fn hear_catalog<R: Hear>(alloc: Global, reader: &mut R) -> Result<Bytes, Command
 {
     match read_all(alloc, reader) {
         Ok(got) => catalog_in(got),
-        Err(Unread::Memory) => Err(CommandRefusal::Memory),
-        Err(Unread::Io) => Err(CommandRefusal::Io),
+        Err(ReadError::Memory) => Err(CommandRefusal::Memory),
+        Err(ReadError::Io) => Err(CommandRefusal::Io),
     }
 }
 

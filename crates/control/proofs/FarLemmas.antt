@@ -3,30 +3,31 @@ use Rattle.std.specs.Prelude.{◌||◌, IfOk}
 use Rattle.std.proofs.Common.{Bool, ℕ, ◌+◌, ◌≡◌, subst, List, Option, Result, Ok, Err}
 use Rattle.histories.specs.Account.{Account}
 use Rattle.histories.specs.Calls.{Reads, Writes}
-use Rattle.meanwhile.specs.declared.between.HowFar.{HowFar}
+use Rattle.interleave.specs.declared.between.CopyProgress.{CopyProgress}
 use Rattle.socket.specs.History.{Door, Ends}
 use Rattle.world.specs.Store.{Shown}
 use Rattle.world.specs.declared.registry.StoreFault.{StoreFault}
 use Rattle.engine.specs.declared.fault.Io.{Io}
 use Rattle.control.specs.Copying.{Making, IsBusy, IsOnlyRead}
-use Rattle.control.specs.Figures.{TellsKept}
+use Rattle.control.specs.Metrics.{TellsKept}
 use Rattle.control.specs.Health.{IsPinged}
 use Rattle.control.specs.Pinging.{TellsHowFar, TellsPing}
 use Rattle.control.specs.Serving.{ObeysMeanwhile}
 use Rattle.control.specs.Visits.{ObeysOne}
 use Rattle.control.specs.declared.callers.Caller.{Caller}
 use Rattle.control.specs.declared.callers.Caller.TheVariants.{Operator}
-use Rattle.control.specs.declared.health.Figures.{Figures}
+use Rattle.control.specs.declared.health.Metrics.{Metrics}
 use Rattle.control.specs.declared.health.Health.{Health}
 use Rattle.control.specs.declared.progress.Progress.{Progress}
 use Rattle.control.specs.declared.tally.Tally.{Tally}
-use Rattle.control.specs.declared.told.Told.{Told}
-use Rattle.control.specs.declared.told.Told.TheVariants as spoken
+use Rattle.control.specs.declared.control_reply.ControlReply.{ControlReply}
+use Rattle.control.specs.declared.control_reply.ControlReply.TheVariants as spoken
 use Rattle.control.specs.declared.traffic.Traffic.{Traffic}
 
 -- the lines of a health that are told tell how far the copy is, or of none, where this is known of its figures
-pub tells_how_far : (far : Option HowFar) (known : Figures → Type 0) (traffic : Traffic) (copied : Option (List ℕ))
-    (pinged : Result Health StoreFault → Type 0) (told : Result Told Io)
+pub tells_how_far : (far : Option CopyProgress) (known : Metrics → Type 0) (traffic : Traffic)
+    (copied : Option (List ℕ))
+    (pinged : Result Health StoreFault → Type 0) (told : Result ControlReply Io)
     → IfOk told (TellsPing (TellsKept known traffic copied far) pinged) → IfOk told (TellsHowFar far)
 tells_how_far far known traffic copied pinged (Ok (spoken.Health lines)) (h, came, is, same) = (h, is.how_far, same)
 tells_how_far far known traffic copied pinged (Ok (spoken.Outcome outcome)) tells = tt
@@ -42,7 +43,7 @@ module _ {O : Type 0} (heeded : O → Account × Reads) (told : O → Option (Li
       (λ making. IsOnlyRead (shown s) (shown t) × IsBusy making) operator gone stops (shown s) (shown t)
 
   -- an operator was obeyed while a copy is made, with a tally that is that of the moment, and ended
-  pub obeys_meanwhile : {P : Type 0} (far : Option HowFar) (tally : Tally) (operator gone : O) (stops : Bool)
+  pub obeys_meanwhile : {P : Type 0} (far : Option CopyProgress) (tally : Tally) (operator gone : O) (stops : Bool)
       (door end : Door (Caller P O)) (p q : Progress) (s t : S)
       → (o : Obeyed tally operator gone stops s t) → IfOk o.audience.told (TellsHowFar far) → tally ≡ p.tally
       → Ends door end (Operator gone) → q.tally ≡ p.tally → q.left ≡ p.left → q.taken ≡ p.taken + 1 → q.stops ≡ (p.stops || stops)

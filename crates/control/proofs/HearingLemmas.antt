@@ -9,18 +9,19 @@ use Rattle.world.specs.declared.registry.StoreFault.{StoreFault}
 use Rattle.engine.specs.declared.fault.Io.{Io}
 use Rattle.engine.specs.declared.fault.Io.TheVariants as io
 use Rattle.control.specs.Copying.{Making, OfKey, GoesThroughSteps}
-use Rattle.control.specs.Hearing.{Heard, Made, NoMemory, IsHeard, IsHeardIn, Heeds, Hears, Obeys, WritesSome, told_heard}
+use Rattle.control.specs.Hearing.{Heard, Made, NoMemory, IsHeard, IsHeardIn, Handles, Hears, Obeys, WritesSome}
+use Rattle.control.specs.Hearing.{told_heard}
 use Rattle.orders.specs.Order.{IsLineOf, Catalog}
 use Rattle.control.specs.Line.{ReadsLine}
 use Rattle.control.specs.Outcome.{outcome_of_catalog}
 use Rattle.orders.specs.Outcome.{line_of, word_of}
-use Rattle.control.specs.Told.{bytes_told}
+use Rattle.control.specs.ControlReply.{bytes_told}
 use Rattle.orders.specs.Words.{line_end}
 use Rattle.control.specs.declared.copies.CatalogRefusal.{CatalogRefusal}
 use Rattle.control.specs.declared.health.Health.{Health}
 use Rattle.orders.specs.declared.outcome.Outcome.{Outcome}
-use Rattle.control.specs.declared.told.Told.{Told}
-use Rattle.control.specs.declared.told.Told.TheVariants as spoken
+use Rattle.control.specs.declared.control_reply.ControlReply.{ControlReply}
+use Rattle.control.specs.declared.control_reply.ControlReply.TheVariants as spoken
 
 -- a line with its end has bytes
 has_end : (word : List ℕ) → word ++ line_end ∷ [] ≢ []
@@ -34,8 +35,8 @@ module _ (made : Making → Type 0) (pinged : Result Health StoreFault → Type 
   was_heard got reads heard from = (got, reads, from)
 
   -- the line that was read
-  pub hears_line : (got printed : List ℕ) (told : Told) → ReadsLine u u' got
-      → Heeds made pinged idle meanwhile old new got printed told
+  pub hears_line : (got printed : List ℕ) (told : ControlReply) → ReadsLine u u' got
+      → Handles made pinged idle meanwhile old new got printed told
       → Hears made pinged idle meanwhile old new u u' printed told
   hears_line got printed told reads heeds = record {
     heard = heeds.heard;
@@ -99,7 +100,7 @@ module _ (made : Making → Type 0) (pinged : Result Health StoreFault → Type 
 
   module _ (w v w' : Option (List ℕ)) (printed : List ℕ) (first : Appends w v printed) where
     -- behind what was printed it was told, or a write or the flush failed
-    pub obeys_told : (told : Told) (result : Result Told Io)
+    pub obeys_told : (told : ControlReply) (result : Result ControlReply Io)
         → Hears made pinged idle meanwhile old new u u' printed told
         → IfOk result (λ said. said ≡ told)
         → MatchResult result (λ _. Appends v w' (bytes_told told))

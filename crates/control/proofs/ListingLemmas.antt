@@ -9,7 +9,7 @@ use Rattle.control.specs.Copying.{IsOnlyRead}
 use Rattle.control.specs.Listing.{IsList, IsReplyFor, Lists, ReadsList}
 use Rattle.orders.specs.declared.listing.Listing.{Listing}
 use Rattle.orders.specs.declared.listing.Listing.TheVariants.{Keys, Shelves}
-use Rattle.control.specs.declared.told.Told.{Told}
+use Rattle.control.specs.declared.control_reply.ControlReply.{ControlReply}
 
 -- a read changes nothing
 pub only_read : {T : Type 0} (old new : Shown) (result : Result T StoreFault) (value : World → T)
@@ -70,7 +70,7 @@ list_lost old new Keys text lists = keys_lost old new text lists
 list_lost old new Shelves text reads = read_lost old new text _ reads
 
 -- a list was read, and told if there was memory for it
-pub lists_told : (old new : Shown) (listing : Listing) (text : List ℕ) (told : Told)
+pub lists_told : (old new : Shown) (listing : Listing) (text : List ℕ) (told : ControlReply)
     → ReadsList old new listing (Ok text) → IsReplyFor text told → Lists old new listing told
 lists_told old new listing text told reads reply = elim reply [
   | inl is ↦ record { heard = Ok text; reads = reads; tells = is }

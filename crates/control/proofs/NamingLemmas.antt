@@ -8,7 +8,7 @@ use Rattle.world.specs.Store.{Shown, Does, Reads}
 use Rattle.world.specs.declared.registry.RegistryReply.{RegistryReply}
 use Rattle.world.specs.declared.registry.RegistryReply.TheVariants.{NoKey}
 use Rattle.world.specs.declared.registry.StoreFault.{StoreFault}
-use Rattle.control.specs.Naming.{NamesOne, NamesNone, Unread, RevokesNamed}
+use Rattle.control.specs.Naming.{NamesOne, NamesNone, ReadError, RevokesNamed}
 use Rattle.control.specs.RegistryCommand.{event_of, outcome_in}
 use Rattle.control.specs.Outcome.{outcome_of}
 use Rattle.control.specs.Tasks.{Ordered}
@@ -46,7 +46,7 @@ module _ (old new : Shown) (f : List ℕ) where
   pub unread_named : (fault : StoreFault) → Reads old new (Err fault) (λ w. only_with (keys_in w) f)
       → RevokesNamed old new f (outcome_of (Err fault))
   unread_named fault reads = record {
-    naming = Unread fault;
+    naming = ReadError fault;
     through = tasks_read old new (only_read old new _ _ reads);
     finds = tt;
     tells = refl;

@@ -20,8 +20,8 @@ use Rattle.control.specs.Notices.{has_group, has_shelf, joined, line_of, name_if
 use Rattle.control.specs.Outcome.{outcome_of, outcome_of_catalog, outcome_of_copy}
 use Rattle.orders.specs.Outcome as outcome
 use Rattle.orders.specs.Words.{line_end}
-use Rattle.control.specs.declared.errand.Errand.{Errand}
-use Rattle.control.specs.declared.errand.Errand.TheVariants as errand
+use Rattle.control.specs.declared.store_call.StoreCall.{StoreCall}
+use Rattle.control.specs.declared.store_call.StoreCall.TheVariants as errand
 use Rattle.orders.specs.declared.outcome.Outcome.{Outcome}
 use Rattle.orders.specs.declared.outcome.Outcome.TheVariants as case
 use Rattle.orders.specs.declared.command.RegistryCommand.{RegistryCommand}
@@ -172,7 +172,7 @@ no_end_version verb path version is =
     (no_end_both (plain path) (codes " " ++ plain version) (plain_text path)
     (no_end_both (codes " ") (plain version) refl (plain_text version)))
 
-no_end_errand : (asked : Errand) → list_all is_no_end (errand_words asked) ≡ true
+no_end_errand : (asked : StoreCall) → list_all is_no_end (errand_words asked) ≡ true
 no_end_errand errand.Key = refl
 no_end_errand (errand.Fetch path) = no_end_both (codes "fetch ") (plain path.now) refl (plain_text path.now)
 no_end_errand (errand.FetchVersion path version) =

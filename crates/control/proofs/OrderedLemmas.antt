@@ -6,7 +6,7 @@ use Rattle.histories.specs.Account.{Account}
 use Rattle.histories.specs.Calls.{Reads, Writes}
 use Rattle.world.specs.Store.{Shown}
 use Rattle.world.specs.declared.registry.StoreFault.{StoreFault}
-use Rattle.meanwhile.specs.Meanwhile.{IsAsItWas}
+use Rattle.interleave.specs.Interleave.{IsAsItWas}
 use Rattle.engine.specs.declared.fault.Io.{Io}
 use Rattle.control.specs.Copying.{Making, OfKey, ToPath, GoesThroughSteps, IsBusy, IsOnlyRead}
 use Rattle.control.specs.Hearing.{Heard, Carried, Pinged, Listed, Named, Stop, NoOrder, NoMemory}
@@ -19,8 +19,8 @@ use Rattle.control.specs.declared.copies.CatalogRefusal.TheVariants as unprinted
 use Rattle.control.specs.declared.copies.CopyRefusal.TheVariants as refusal
 use Rattle.control.specs.declared.health.Health.{Health}
 use Rattle.orders.specs.declared.outcome.Outcome.TheVariants.{Stopping}
-use Rattle.control.specs.declared.told.Told.{Told}
-use Rattle.control.specs.declared.told.Told.TheVariants as spoken
+use Rattle.control.specs.declared.control_reply.ControlReply.{ControlReply}
+use Rattle.control.specs.declared.control_reply.ControlReply.TheVariants as spoken
 use Rattle.control.proofs.TaskLemmas.{tasks_read}
 
 -- an order was carried out that has nothing made, or one that has this made
@@ -74,7 +74,7 @@ no_stopping (OfKey key printed (Err unprinted.Busy)) e = cc
 no_stopping (OfKey key printed (Err unprinted.Ended)) e = cc
 no_stopping (OfKey key printed (Err unprinted.Output)) e = cc
 
-abbrev pub ok_in : Result Told Io → Told → Told
+abbrev pub ok_in : Result ControlReply Io → ControlReply → ControlReply
 ok_in (Ok told) other = told
 ok_in (Err e) other = other
 

@@ -20,16 +20,16 @@ use Rattle.control.specs.Health.{Answered}
 use Rattle.control.specs.Hearing.{Heard, Carried, Made, Listed, Pinged, Named, Stop, NoOrder, NoMemory}
 use Rattle.control.specs.Hearing.{Obeys, WritesSome, bytes_heard, printed_heard, told_heard}
 use Rattle.control.specs.Line.{most_tries}
-use Rattle.control.specs.Naming.{NamesOne, NamesNone, Unread}
-use Rattle.control.specs.Told.{bytes_told}
+use Rattle.control.specs.Naming.{NamesOne, NamesNone, ReadError}
+use Rattle.control.specs.ControlReply.{bytes_told}
 use Rattle.control.specs.Tasks.{Asked, messages, GoesOn}
 use Rattle.control.specs.Visits.{Call, OfPeer, OfOperator, Untaken, steps_if}
 use Rattle.control.specs.Visits.{steps_with, peers, AnswersOne, ObeysOne}
 use Rattle.control.specs.Visits.{ReadsEach}
 use Rattle.control.specs.declared.callers.Caller.{Caller}
 use Rattle.control.specs.declared.health.Health.{Health}
-use Rattle.control.specs.declared.told.Told.{Told}
-use Rattle.control.specs.declared.told.Told.TheVariants as spoken
+use Rattle.control.specs.declared.control_reply.ControlReply.{ControlReply}
+use Rattle.control.specs.declared.control_reply.ControlReply.TheVariants as spoken
 use Rattle.orders.specs.declared.outcome.Outcome.TheVariants.{Stopping}
 use Rattle.control.proofs.StepLemmas.{messages_both}
 use Rattle.control.proofs.TallyLemmas.{since_told}
@@ -57,23 +57,24 @@ no_message (Some (Pinged told)) = refl
 no_message (Some (Listed listing told)) = refl
 no_message (Some (Named f (NamesOne key told))) = refl
 no_message (Some (Named f NamesNone)) = refl
-no_message (Some (Named f (Unread fault))) = refl
+no_message (Some (Named f (ReadError fault))) = refl
 no_message (Some Stop) = refl
 no_message (Some NoOrder) = refl
 no_message (Some NoMemory) = refl
 
 -- the lines that were printed and what was told are all that was written
-written_so : (writes : List ℕ → Type 0) (printed : List ℕ) (told : Told) (heard : Heard) → printed ≡ printed_heard heard
+written_so : (writes : List ℕ → Type 0) (printed : List ℕ) (told : ControlReply) (heard : Heard)
+    → printed ≡ printed_heard heard
     → told ≡ told_heard heard → writes (printed ++ bytes_told told) → writes (bytes_heard heard)
 written_so writes printed told heard prints tells so =
     subst (λ (p : List ℕ). writes (p ++ bytes_told (told_heard heard))) prints
-    (subst (λ (o : Told). writes (printed ++ bytes_told o)) tells so)
+    (subst (λ (o : ControlReply). writes (printed ++ bytes_told o)) tells so)
 
 module _ {O : Type 0} (heeded : O → Account × Reads) (told : O → Option (List ℕ) × Writes)
     (made : Making → Type 0)
     (pinged : Result Health StoreFault → Type 0) (idle : Type 0) (meanwhile : Making → Type 0) (old new : Shown) where
   -- an operator was obeyed, where a failure has its cause
-  pub obeyed_one : (operator after : O) (stops : Bool) (result : Result Told Io)
+  pub obeyed_one : (operator after : O) (stops : Bool) (result : Result ControlReply Io)
       → Obeys made pinged idle meanwhile old new (heeded operator).0 (heeded after).0 (told operator).0
       (told after).0 result
       → IfErr result (IsCausedIn most_tries (heeded operator).1 (heeded after).1 (told operator).1 (told after).1)
@@ -122,7 +123,7 @@ module _ {O : Type 0} (heeded : O → Account × Reads) (told : O → Option (Li
   }
 
   -- this was told
-  pub obeyed_told : (operator after : O) (stops : Bool) (result : Result Told Io)
+  pub obeyed_told : (operator after : O) (stops : Bool) (result : Result ControlReply Io)
       → (obeys : Obeys made pinged idle meanwhile old new (heeded operator).0 (heeded after).0 (told operator).0
       (told after).0 result)
       → (cause : IfErr result (IsCausedIn most_tries (heeded operator).1 (heeded after).1 (told operator).1

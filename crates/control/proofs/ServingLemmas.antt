@@ -10,7 +10,7 @@ use Rattle.histories.specs.Account.{Account}
 use Rattle.histories.specs.Calls.{Reads, Writes}
 use Rattle.world.specs.Store.{Shown}
 use Rattle.world.specs.World.{World}
-use Rattle.meanwhile.specs.declared.between.HowFar.{HowFar}
+use Rattle.interleave.specs.declared.between.CopyProgress.{CopyProgress}
 use Rattle.engine.specs.declared.fault.Io.{Io}
 use Rattle.socket.specs.Connections.{Come, Visit, exchanges_of}
 use Rattle.socket.specs.History.{Door, Ends, Takes, TakesNone}
@@ -30,8 +30,8 @@ use Rattle.control.specs.declared.callers.Caller.TheVariants.{Peer, Operator}
 use Rattle.orders.specs.declared.outcome.Outcome.TheVariants.{Stopping}
 use Rattle.control.specs.declared.progress.Progress.{Progress}
 use Rattle.control.specs.declared.tally.Tally.{Tally}
-use Rattle.control.specs.declared.told.Told.{Told}
-use Rattle.control.specs.declared.told.Told.TheVariants as spoken
+use Rattle.control.specs.declared.control_reply.ControlReply.{ControlReply}
+use Rattle.control.specs.declared.control_reply.ControlReply.TheVariants as spoken
 use Rattle.control.proofs.HappensLemmas.{happened_around, happened_none, happened_operator, happened_peer}
 use Rattle.control.proofs.HappensLemmas.{happened_then, happened_untaken}
 use Rattle.control.proofs.NoticeLemmas.{notices_more, notices_none}
@@ -214,7 +214,7 @@ module _ {P O : Type 0} (heeded : O → Account × Reads) (told : O → Option (
           (may_end p.stops stops q.stops (OfOperator x) going is next.stopped.0
           (λ on stop. false≢true (sym on ∙ next.stopped.1 stop)))
 
-    no_stop_told : (before after : O) (making : Making) (said : Result Told Io)
+    no_stop_told : (before after : O) (making : Making) (said : Result ControlReply Io)
         → IsToldThere heeded told before after (Some (hearing.Made making)) said
         → said ≡ Ok (spoken.Outcome Stopping) → ⊥
     no_stop_told before after making (Ok outcome) there is =
@@ -223,7 +223,7 @@ module _ {P O : Type 0} (heeded : O → Account × Reads) (told : O → Option (
 
     -- an operator who had something made, with the callers who were served meanwhile
     pub serves_made : (door mid last end : Door (Caller P O)) (p q r o : Progress) (s m t : S)
-        (before after : O) (making : Making) (said : Result Told Io)
+        (before after : O) (making : Making) (said : Result ControlReply Io)
         → Takes door mid (Operator before) → is_new (Operator before) → p.stops ≡ false
         → IsToldThere heeded told before after (Some (hearing.Made making)) said
         → (said ≡ Ok (spoken.Outcome Stopping) → ⊥)
@@ -327,7 +327,7 @@ module _ {P O : Type 0} (heeded : O → Account × Reads) (told : O → Option (
 
     -- an operator, for whom no copy was made
     pub serves_told : (door mid end : Door (Caller P O)) (p q : Progress) (s t : S) (operator : O)
-        (far : Option HowFar)
+        (far : Option CopyProgress)
         → Takes door mid (Operator operator) → is_new (Operator operator) → p.stops ≡ false
         → ObeysMeanwhile heeded told shown made counted operator far mid end p q s t → From true door end p q s t
     unfolding serves_operator

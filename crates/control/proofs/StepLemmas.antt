@@ -10,7 +10,7 @@ use Rattle.control.specs.Copying.{GoesThroughSteps}
 use Rattle.control.specs.Health.{IsPinged}
 use Rattle.control.specs.Hearing.{Heard, Carried, Pinged, Named, Stop, NoOrder, NoMemory}
 use Rattle.control.specs.Hearing as hearing
-use Rattle.control.specs.Naming.{NamesOne, NamesNone, Unread}
+use Rattle.control.specs.Naming.{NamesOne, NamesNone, ReadError}
 use Rattle.control.specs.Tasks.{Asked, messages, world_at}
 use Rattle.control.specs.Visits.{Call, CameIf, ListsIf, steps_if, steps_of, steps_with}
 use Rattle.control.specs.declared.tally.Tally.{Tally}
@@ -99,7 +99,7 @@ module _ {S : Type 0} (shown : S → Shown) (made : S → S → Making → Type 
   read_heard tally old new h w stands (Some (hearing.Listed listing (Err fault))) came lists = tt
   read_heard tally old new h w stands (Some (Named f (NamesOne key told))) came lists = (lists h w stands, tt)
   read_heard tally old new h w stands (Some (Named f NamesNone)) came lists = (lists h w stands, tt)
-  read_heard tally old new h w stands (Some (Named f (Unread fault))) came lists = tt
+  read_heard tally old new h w stands (Some (Named f (ReadError fault))) came lists = tt
   read_heard tally old new h w stands (Some Stop) came lists = tt
   read_heard tally old new h w stands (Some NoOrder) came lists = tt
   read_heard tally old new h w stands (Some NoMemory) came lists = tt

@@ -11,7 +11,7 @@ use Rattle.control.specs.Copying.{Making, Step, OfTask, Counted, LookedUp, Tells
 use Rattle.control.specs.Health.{Answered, AreBelow, IsPinged, is_of_class, is_unanswered, one_if, tally_of, with_one}
 use Rattle.control.specs.Hearing.{Heard, Carried, Made, Listed, Pinged, Named, Stop, NoOrder, NoMemory}
 use Rattle.control.specs.Visits.{Call, OfPeer, OfOperator, Untaken, AllTallied, CameIf, IsTallied, TellsTally}
-use Rattle.control.specs.Naming.{NamesOne, NamesNone, Unread}
+use Rattle.control.specs.Naming.{NamesOne, NamesNone, ReadError}
 use Rattle.control.specs.Tasks.{Asked, Ordered}
 use Rattle.control.specs.Visits.{answered_with, peers, steps_if, steps_with}
 use Rattle.orders.specs.declared.command.RegistryCommand.TheVariants.{KeyRevoke}
@@ -112,7 +112,7 @@ since_if since tally (Some (Named f (NamesOne key done))) is told =
     All-cons (TellsSince since) (LookedUp f (Ok (Some key.now))) (OfTask (Ordered (KeyRevoke key) done) ∷ []) tt
     (one_step since (OfTask (Ordered (KeyRevoke key) done)) tt)
 since_if since tally (Some (Named f NamesNone)) is told = one_step since _ tt
-since_if since tally (Some (Named f (Unread fault))) is told = one_step since _ tt
+since_if since tally (Some (Named f (ReadError fault))) is told = one_step since _ tt
 since_if since tally (Some Stop) is told = All-nil (TellsSince since)
 since_if since tally (Some NoOrder) is told = All-nil (TellsSince since)
 since_if since tally (Some NoMemory) is told = All-nil (TellsSince since)

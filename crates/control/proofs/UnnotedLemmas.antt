@@ -7,8 +7,8 @@ use Rattle.histories.specs.Account.{Account}
 use Rattle.histories.specs.Calls.{Reads, Writes}
 use Rattle.world.specs.Store.{Shown}
 use Rattle.world.specs.World.{World, place_cmp}
-use Rattle.meanwhile.specs.Meanwhile.{IsSince, Notes}
-use Rattle.meanwhile.specs.Noted.{IsNoted, with_said}
+use Rattle.interleave.specs.Interleave.{IsSince, Notes}
+use Rattle.interleave.specs.Noted.{IsNoted, with_said}
 use Rattle.socket.specs.History.{Door}
 use Rattle.control.specs.Copying.{Making, Step, OfTask, Made, Counted, Listed, LookedUp, AllRead}
 use Rattle.control.specs.Serving.{Serves}

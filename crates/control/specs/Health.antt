@@ -7,9 +7,9 @@ use Rattle.world.specs.Store.{GrewOrFull}
 use Rattle.world.specs.declared.registry.StoreFault.{StoreFault}
 use Rattle.world.specs.declared.registry.StoreFault.TheVariants.{Device}
 use Rattle.engine.specs.declared.fault.Io.{Io}
-use Rattle.meanwhile.specs.declared.between.HowFar.{HowFar}
+use Rattle.interleave.specs.declared.between.CopyProgress.{CopyProgress}
 use Rattle.control.specs.Traffic as traffic
-use Rattle.control.specs.declared.health.Figures.{Figures}
+use Rattle.control.specs.declared.health.Metrics.{Metrics}
 use Rattle.control.specs.declared.health.Health.{Health}
 use Rattle.control.specs.declared.tally.Tally.{Tally}
 use Rattle.control.specs.declared.traffic.Traffic.{Traffic}
@@ -83,7 +83,7 @@ time_word name None = []
 time_word name (Some time) = name ++ time
 
 -- a word that tells under a name how many entries of how many a copy has, or none
-abbrev pub how_far_word : List ℕ → Option HowFar → List ℕ
+abbrev pub how_far_word : List ℕ → Option CopyProgress → List ℕ
 how_far_word name None = []
 how_far_word name (Some far) = name ++ (decimal far.done ++ (codes "/" ++ decimal far.all))
 
@@ -98,14 +98,14 @@ lines_in None = []
 lines_in (Some t) = traffic.lines_of t
 
 -- the words that tell what is known of the file and of copies
-abbrev pub words_of : Figures → List ℕ
+abbrev pub words_of : Metrics → List ℕ
 words_of f =
     number_word (codes " bytes=") f.bytes
     ++ (number_word (codes " log=") f.log
     ++ (time_word (codes " copied=") f.copied ++ how_far_word (codes " copying=") f.copying))
 
 -- how many shelves have counts, the end of the line, and their lines
-abbrev pub shelves_text : Figures → List ℕ
+abbrev pub shelves_text : Metrics → List ℕ
 shelves_text f =
     codes " shelves=" ++ decimal (shelves_in (option_copied f.traffic)) ++ codes "\n"
     ++ lines_in (option_copied f.traffic)

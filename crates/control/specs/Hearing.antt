@@ -20,15 +20,15 @@ use Rattle.orders.specs.declared.order.Order.{Order}
 use Rattle.orders.specs.declared.order.Order.TheVariants as order
 use Rattle.control.specs.Naming.{Finds, Naming, named_result, named_steps}
 use Rattle.control.specs.Outcome.{outcome_of, outcome_of_catalog, outcome_of_copy}
-use Rattle.control.specs.Told.{bytes_told}
+use Rattle.control.specs.ControlReply.{bytes_told}
 use Rattle.control.specs.Tasks.{Ordered}
 use Rattle.control.specs.declared.health.Health.{Health}
 use Rattle.orders.specs.declared.listing.Listing.{Listing}
 use Rattle.orders.specs.declared.command.RegistryCommand.{RegistryCommand}
 use Rattle.orders.specs.declared.outcome.Outcome.TheVariants.{Failed, Stopping, Bad}
 use Rattle.control.specs.declared.tally.Tally.{Tally}
-use Rattle.control.specs.declared.told.Told.{Told}
-use Rattle.control.specs.declared.told.Told.TheVariants as spoken
+use Rattle.control.specs.declared.control_reply.ControlReply.{ControlReply}
+use Rattle.control.specs.declared.control_reply.ControlReply.TheVariants as spoken
 
 -- what a line ordered, and the result
 pub data Heard : Type 0 where
@@ -50,16 +50,16 @@ pub data Heard : Type 0 where
   NoMemory : Heard
 
 -- what is told of a ping
-abbrev pub told_of_ping : Result Health StoreFault → Told
+abbrev pub told_of_ping : Result Health StoreFault → ControlReply
 told_of_ping (Ok health) = spoken.Health (line_of health)
 told_of_ping (Err fault) = spoken.Outcome (Failed fault)
 
 -- what is told of what was to be made
-abbrev pub told_of_making : Making → Told
+abbrev pub told_of_making : Making → ControlReply
 told_of_making (ToPath path told) = spoken.Outcome (outcome_of_copy told)
 told_of_making (OfKey key printed told) = spoken.Outcome (outcome_of_catalog told)
 
-abbrev pub told_heard : Heard → Told
+abbrev pub told_heard : Heard → ControlReply
 told_heard (Carried command told) = spoken.Outcome (outcome_of told)
 told_heard (Made making) = told_of_making making
 told_heard (Pinged told) = told_of_ping told
@@ -120,7 +120,7 @@ IsHeardIn got (Carried command told) = IsLineOf got (orders.Registry (commanded 
 IsHeardIn got (Made making) = IsMakingIn got making
 IsHeardIn got (Pinged told) = IsLineOf got orders.Ping
 IsHeardIn got (Listed listing told) = IsLineOf got (orders.ListOf listing)
-IsHeardIn got (Named f naming) = IsLineOf got (orders.RevokeNamed f)
+IsHeardIn got (Named f naming) = IsLineOf got (orders.RevokeByFingerprint f)
 IsHeardIn got Stop = IsLineOf got orders.Stop
 IsHeardIn got NoOrder = IsNoOrder got
 IsHeardIn got NoMemory = ⊥
@@ -166,7 +166,8 @@ module _ (made : Making → Type 0) (pinged : Result Health StoreFault → Type 
   module _ (idle : Type 0) (meanwhile : Making → Type 0) where
     -- What was ordered was done, these lines of a catalog were printed, and this came of it. `is_from` says where the
     -- order came from.
-    pub record Follows (is_from : Heard → Type 0) (old new : Shown) (printed : List ℕ) (told : Told) : Type 0 where
+    pub record Follows (is_from : Heard → Type 0) (old new : Shown) (printed : List ℕ)
+        (told : ControlReply) : Type 0 where
       pub heard : Heard
       pub from : is_from heard
       pub prints : printed ≡ printed_heard heard
@@ -176,44 +177,44 @@ module _ (made : Making → Type 0) (pinged : Result Health StoreFault → Type 
       pub lists : ListsBy old new heard
 
     -- what the bytes order was done, and this came of it
-    abbrev pub Heeds : Shown → Shown → List ℕ → List ℕ → Told → Type 0
-    Heeds old new got printed told = Follows (IsHeardIn got) old new printed told
+    abbrev pub Handles : Shown → Shown → List ℕ → List ℕ → ControlReply → Type 0
+    Handles old new got printed told = Follows (IsHeardIn got) old new printed told
 
     -- A line was read, what it orders was done, and this came of it.
-    abbrev pub Hears : Shown → Shown → Account → Account → List ℕ → Told → Type 0
+    abbrev pub Hears : Shown → Shown → Account → Account → List ℕ → ControlReply → Type 0
     Hears old new came came_new printed told = Follows (IsHeard came came_new) old new printed told
 
     -- so it was, or a read failed, and nothing was done
-    abbrev pub HearsOrFails : Shown → Shown → Account → Account → Result Told Io → Type 0
+    abbrev pub HearsOrFails : Shown → Shown → Account → Account → Result ControlReply Io → Type 0
     HearsOrFails old new came came_new (Ok told) = Hears old new came came_new [] told
     HearsOrFails old new came came_new (Err e) = (e ≡ io.Read) × idle × GoesThroughSteps old new []
 
     -- A line was read, what it orders was done, and what came of it was written; where a write or the flush failed, a
     -- beginning of that or all of it. Or a read failed, and nothing was done, and nothing written.
     abbrev pub Obeys :
-        Shown → Shown → Account → Account → Option (List ℕ) → Option (List ℕ) → Result Told Io → Type 0
+        Shown → Shown → Account → Account → Option (List ℕ) → Option (List ℕ) → Result ControlReply Io → Type 0
     Obeys old new came came_new written written_new (Ok told) =
         (printed : List ℕ) × Hears old new came came_new printed told
         × Appends written written_new (printed ++ bytes_told told)
     Obeys old new came came_new written written_new (Err io.Read) =
         idle × GoesThroughSteps old new [] × Keeps written written_new
     Obeys old new came came_new written written_new (Err io.Write) =
-        (printed : List ℕ) × (told : Told) × Hears old new came came_new printed told
+        (printed : List ℕ) × (told : ControlReply) × Hears old new came came_new printed told
         × WritesSome written written_new (printed ++ bytes_told told)
 
 -- So it was between two stores, by what is known of copies and counts, with the tally of the moment.
 module _ {S K : Type 0} (shown : S → Shown) (made : S → S → Making → Type 0)
     (counted : S → S → ℕ → Type 0) (meanwhile : K → K → S → S → Making → Type 0) (tally : Tally) (copies copies_new : K)
     (old new : S) where
-  abbrev pub HeedsBy : List ℕ → List ℕ → Told → Type 0
-  HeedsBy = Heeds (made old new) (IsPinged tally (shown old).failures (shown new).failures (counted old new))
+  abbrev pub HandlesBy : List ℕ → List ℕ → ControlReply → Type 0
+  HandlesBy = Handles (made old new) (IsPinged tally (shown old).failures (shown new).failures (counted old new))
       (copies_new ≡ copies) (meanwhile copies copies_new old new) (shown old) (shown new)
 
-  abbrev pub HearsBy : Account → Account → Result Told Io → Type 0
+  abbrev pub HearsBy : Account → Account → Result ControlReply Io → Type 0
   HearsBy =
       HearsOrFails (made old new) (IsPinged tally (shown old).failures (shown new).failures (counted old new))
       (copies_new ≡ copies) (meanwhile copies copies_new old new) (shown old) (shown new)
 
-  abbrev pub ObeysBy : Account → Account → Option (List ℕ) → Option (List ℕ) → Result Told Io → Type 0
+  abbrev pub ObeysBy : Account → Account → Option (List ℕ) → Option (List ℕ) → Result ControlReply Io → Type 0
   ObeysBy = Obeys (made old new) (IsPinged tally (shown old).failures (shown new).failures (counted old new))
       (copies_new ≡ copies) (meanwhile copies copies_new old new) (shown old) (shown new)

@@ -1,7 +1,7 @@
 pub mod Asking
-pub mod Calendar
+pub mod WallClock
 pub mod Copying
-pub mod Figures
+pub mod Metrics
 pub mod Health
 pub mod Hearing
 pub mod Isolated
@@ -17,7 +17,7 @@ pub mod Pace
 pub mod Pinging
 pub mod Progress
 pub mod Serving
-pub mod Told
+pub mod ControlReply
 pub mod Traffic
 pub mod Tasks
 pub mod Visits

@@ -10,8 +10,8 @@ use Rattle.orders.specs.Words.{line_end}
 use Rattle.orders.specs.declared.listing.Listing.{Listing}
 use Rattle.orders.specs.declared.listing.Listing.TheVariants.{Keys, Shelves}
 use Rattle.orders.specs.declared.outcome.Outcome.TheVariants.{Failed}
-use Rattle.control.specs.declared.told.Told.{Told}
-use Rattle.control.specs.declared.told.Told.TheVariants as spoken
+use Rattle.control.specs.declared.control_reply.ControlReply.{ControlReply}
+use Rattle.control.specs.declared.control_reply.ControlReply.TheVariants as spoken
 
 -- a list, and the line that ends it
 abbrev pub whole : List ℕ → List ℕ
@@ -37,16 +37,16 @@ IsList Keys w text = IsInOrder (key_lines w) text
 IsList Shelves w text = text ≡ shelf_text w
 
 -- what is told of a list
-abbrev pub told_of_list : Result (List ℕ) StoreFault → Told
+abbrev pub told_of_list : Result (List ℕ) StoreFault → ControlReply
 told_of_list (Ok text) = spoken.List (whole text)
 told_of_list (Err fault) = spoken.Outcome (Failed fault)
 
 -- this list is told, or that there was no memory for it
-abbrev pub IsReplyFor : List ℕ → Told → Type 0
+abbrev pub IsReplyFor : List ℕ → ControlReply → Type 0
 IsReplyFor text told = (told ≡ told_of_list (Ok text)) ⊎ (told ≡ told_of_list (Err Memory))
 
 -- A list was read, and this was told.
-pub record Lists (old new : Shown) (listing : Listing) (told : Told) : Type 0 where
+pub record Lists (old new : Shown) (listing : Listing) (told : ControlReply) : Type 0 where
   pub heard : Result (List ℕ) StoreFault
   pub reads : ReadsList old new listing heard
   pub tells : told ≡ told_of_list heard

@@ -21,19 +21,19 @@ pub data Naming : Type 0 where
   -- no key has it, or several have
   NamesNone : Naming
   -- the look for the key met a fault
-  Unread : StoreFault → Naming
+  ReadError : StoreFault → Naming
 
 -- the result of the whole
 abbrev pub named_result : Naming → Result RegistryReply StoreFault
 named_result (NamesOne key told) = told
 named_result NamesNone = Ok NoKey
-named_result (Unread fault) = Err fault
+named_result (ReadError fault) = Err fault
 
 -- the steps of it: the look, which only reads, and the registry command if one key was found
 abbrev pub named_steps : List ℕ → Naming → List Step
 named_steps f (NamesOne key told) = LookedUp f (Ok (Some key.now)) ∷ OfTask (Ordered (KeyRevoke key) told) ∷ []
 named_steps f NamesNone = LookedUp f (Ok None) ∷ []
-named_steps f (Unread fault) = LookedUp f (Err fault) ∷ []
+named_steps f (ReadError fault) = LookedUp f (Err fault) ∷ []
 
 -- on an honest disk this was found of the keys of each world that the store stood for
 abbrev pub IsFound : Shown → Shown → List ℕ → Option (List ℕ) → Type 0
@@ -43,7 +43,7 @@ IsFound old new f found = new.is_honest → (w : World) → old.stands w → fou
 abbrev pub Finds : Shown → Shown → List ℕ → Naming → Type 0
 Finds old new f (NamesOne key told) = IsFound old new f (Some key.now)
 Finds old new f NamesNone = IsFound old new f None
-Finds old new f (Unread fault) = Unit {0}
+Finds old new f (ReadError fault) = Unit {0}
 
 -- From old to new the key with this fingerprint was looked up, and revoked if it was found, and this came of it.
 pub record RevokesNamed (old new : Shown) (f : List ℕ) (outcome : Outcome) : Type 0 where

@@ -25,8 +25,8 @@ use Rattle.control.specs.RegistryCommand.{event_of, outcome_in}
 use Rattle.orders.specs.Words.{line_end}
 use Rattle.control.specs.declared.copies.CatalogRefusal.{CatalogRefusal}
 use Rattle.control.specs.declared.copies.CopyRefusal.{CopyRefusal}
-use Rattle.control.specs.declared.errand.Errand.{Errand}
-use Rattle.control.specs.declared.errand.Errand.TheVariants as errand
+use Rattle.control.specs.declared.store_call.StoreCall.{StoreCall}
+use Rattle.control.specs.declared.store_call.StoreCall.TheVariants as errand
 use Rattle.orders.specs.declared.command.RegistryCommand.{RegistryCommand}
 use Rattle.orders.specs.declared.command.RegistryCommand.TheVariants.{TeamAdd, GroupAdd, KeyAdd}
 use Rattle.orders.specs.declared.command.RegistryCommand.TheVariants.{KeyRevoke, KeysRevoke}
@@ -106,7 +106,7 @@ abbrev pub version_words : List ℕ → List ℕ → List ℕ → List ℕ
 version_words verb path version = verb ++ (plain path ++ (codes " " ++ plain version))
 
 -- what a store was asked for a request
-abbrev pub errand_words : Errand → List ℕ
+abbrev pub errand_words : StoreCall → List ℕ
 errand_words errand.Key = codes "key"
 errand_words (errand.Fetch path) = path_words (codes "fetch ") path.now
 errand_words (errand.FetchVersion path version) =
@@ -135,7 +135,7 @@ pub data Occasion : Type 0 where
   -- room on the disk is kept for orders, and this came of it
   Reserved : Outcome → Occasion
   -- the store met a fault
-  Met : Errand → StoreFault → Occasion
+  Met : StoreCall → StoreFault → Occasion
   -- the store of this file is no longer served
   Ended : List ℕ → Occasion
 

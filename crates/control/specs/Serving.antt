@@ -8,8 +8,8 @@ use Rattle.world.specs.Store.{Shown}
 use Rattle.world.specs.World.{World}
 use Rattle.socket.specs.Connections.{Come}
 use Rattle.socket.specs.History.{Door, Ends}
-use Rattle.meanwhile.specs.Meanwhile.{IsAsItWas}
-use Rattle.meanwhile.specs.declared.between.HowFar.{HowFar}
+use Rattle.interleave.specs.Interleave.{IsAsItWas}
+use Rattle.interleave.specs.declared.between.CopyProgress.{CopyProgress}
 use Rattle.control.specs.Copying.{Making, AllRead, IsBusy, IsOnlyRead, tasks_in, has_read}
 use Rattle.control.specs.Health.{Answered, IsPinged, with_one}
 use Rattle.control.specs.Notices.{WritesNotices}
@@ -47,7 +47,7 @@ EndsBy false false calls = All IsNoStop calls
 -- for it, and a ping was told how far the one is, or of none. Then it was ended.
 pub record ObeysMeanwhile {P O : Type 0} (heeded : O → Account × Reads) (told : O → Option (List ℕ) × Writes)
     {S : Type 0} (shown : S → Shown) (made : S → S → Making → Type 0)
-    (counted : S → S → ℕ → Type 0) (operator : O) (far : Option HowFar) (door end : Door (Caller P O))
+    (counted : S → S → ℕ → Type 0) (operator : O) (far : Option CopyProgress) (door end : Door (Caller P O))
     (before after : Progress) (old new : S) : Type 0
   where
     pub stops : Bool

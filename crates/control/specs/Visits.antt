@@ -26,8 +26,8 @@ use Rattle.control.specs.declared.callers.Caller.TheVariants.{Peer, Operator}
 use Rattle.control.specs.declared.health.Health.{Health}
 use Rattle.orders.specs.declared.outcome.Outcome.TheVariants.{Stopping}
 use Rattle.control.specs.declared.tally.Tally.{Tally}
-use Rattle.control.specs.declared.told.Told.{Told}
-use Rattle.control.specs.declared.told.Told.TheVariants as spoken
+use Rattle.control.specs.declared.control_reply.ControlReply.{ControlReply}
+use Rattle.control.specs.declared.control_reply.ControlReply.TheVariants as spoken
 
 -- An operator before and after it was obeyed, what its line ordered, unless a read failed before that was whole, and
 -- the result: what was told to it.
@@ -35,7 +35,7 @@ pub record Audience (O : Type 0) : Type 0 where
   pub before : O
   pub after : O
   pub heard : Option Heard
-  pub told : Result Told Io
+  pub told : Result ControlReply Io
 
 -- one who came, and what came of it; a peer with what its connection counts as; or a connection that could not be taken
 pub data Call (P O : Type 0) : Type 0 where
@@ -187,7 +187,7 @@ pub record AnswersOne {P : Type 0} (heard : P → Account × Reads) (written : P
 module _ {O : Type 0} (heeded : O → Account × Reads) (told : O → Option (List ℕ) × Writes) where
   -- What was read came from this operator, and what came of it went to this operator: the whole line, or where a write
   -- or the flush failed a beginning of it or all. Where a read failed, or none was left, nothing was written.
-  abbrev pub IsToldThere : O → O → Option Heard → Result Told Io → Type 0
+  abbrev pub IsToldThere : O → O → Option Heard → Result ControlReply Io → Type 0
   IsToldThere before after None result =
       (result ≡ Err io.Read) × Keeps (told before).0 (told after).0
       × IsUnreadable most_tries (heeded before).1 (heeded after).1

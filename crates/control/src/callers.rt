@@ -10,18 +10,18 @@ ghost use Rattle.orders.specs.Order.{IsLineOf, Catalog};
 ghost use Rattle.control.specs.Line.{ReadsLine, most_tries};
 ghost use Rattle.control.specs.Pace.{WritesInTime, time_for_order};
 ghost use Rattle.control.specs.Pinging.{TellsPing};
-ghost use Rattle.control.specs.Told.{bytes_told};
+ghost use Rattle.control.specs.ControlReply.{bytes_told};
 
+use crate::control_reply::ControlReply;
 use crate::copies::CopyOrders;
-use crate::line::{Unread, read_line};
+use crate::line::{ReadError, read_line};
 use crate::obeying::{answer, print_for, tell};
 use crate::patience::ForOrder;
 use crate::tally::Tally;
-use crate::told::Told;
 use engine::Io;
 use histories::{
-    BoundRead, BoundWrite, Connection, HasCalls, Hear, Hearing, HearingInTime, Start, Tell,
-    Telling, TellingInStretches, TellingInTime,
+    BoundRead, BoundWrite, Connection, DeadlineReader, DeadlineWriter, HasCalls, Hear, Hearing,
+    RollingDeadlineWriter, Start, Tell, Telling,
 };
 use keyring::Keyring;
 use orders::{Order, Outcome, read_order};
@@ -44,7 +44,7 @@ pub enum Caller<P, O> {
 #[derive(Drop)]
 pub struct Obeyed<O> {
     pub operator: O,
-    pub told: Result<Told, Io>,
+    pub told: Result<ControlReply, Io>,
 }
 
 /// An operator who has connected.
@@ -82,10 +82,10 @@ pub trait Operator {
     /// Reads its line, does what that orders, writes what came of it, flushes that, and returns it; `copies` makes
     /// copies.
     ///
-    /// `Outcome::Stopping`: the server is to end. `Told::Health`: the line is a ping, which gets the tally, the
-    /// failures of the store, and the versions and the figures that `copies` has of it. `Told::List`: the line asks for
-    /// a list. `Outcome::Failed` with `StoreFault::Memory` also means that memory ran out for the line, and that
-    /// nothing was done.
+    /// `Outcome::Stopping`: the server is to end. `ControlReply::Health`: the line is a ping, which gets the tally, the
+    /// failures of the store, and the versions and the figures that `copies` has of it. `ControlReply::List`: the line
+    /// asks for a list. `Outcome::Failed` with `StoreFault::Memory` also means that memory ran out for the line, and
+    /// that nothing was done.
     ///
     /// `Io::Read`: nothing was done, and nothing written. `Io::Write`: a write or the flush failed; a beginning of the
     /// line was written or all of it, and the shelves are as after the order.
@@ -181,16 +181,16 @@ fn obey_since<
         J.calls (⟦<Telling<W> as HasCalls>⟧.calls result.operator.writer) }
 {
     let Connection { reader, writer } = operator;
-    let mut line: HearingInTime<'_, C, ForOrder, I, R> = HearingInTime::new(reader, clock);
+    let mut line: DeadlineReader<'_, C, ForOrder, I, R> = DeadlineReader::new(reader, clock);
     let got = read_line(alloc, &mut line);
     let reader = line.into_inner();
     let (writer, told) = match got {
         Ok(got) => answer_since::<C, J, W, S, K>(
             alloc, clock, writer, &got, tally, shelves, copies,
         ),
-        Err(Unread::Io) => (writer, Err(Io::Read)),
-        Err(Unread::Memory) => {
-            let told = Told::Outcome(Outcome::Failed(StoreFault::Memory));
+        Err(ReadError::Io) => (writer, Err(Io::Read)),
+        Err(ReadError::Memory) => {
+            let told = ControlReply::Outcome(Outcome::Failed(StoreFault::Memory));
             tell_since::<C, J, W>(clock, writer, told)
         }
     };
@@ -210,7 +210,7 @@ fn answer_since<C: Clock, J: Start, W: BoundWrite + Drop, S: Keyring, K: CopyOrd
     tally: &Tally,
     shelves: &mut S,
     copies: &mut K,
-) -> (Telling<W>, Result<Told, Io>)
+) -> (Telling<W>, Result<ControlReply, Io>)
     requires { ⟦<Telling<W> as HasCalls>⟧.calls writer ≡ J.calls }
     ensures obeys { (came came_new : Account) → ReadsLine came came_new got.now
         → ObeysBy S.shown K.made K.counted K.meanwhile tally.now copies.old copies.new
@@ -229,13 +229,13 @@ fn answer_since<C: Clock, J: Start, W: BoundWrite + Drop, S: Keyring, K: CopyOrd
 {
     let order = read_order(got);
     if let Some(Order::Catalog(key)) = order {
-        let mut output: TellingInStretches<'_, C, ForOrder, J, W> = TellingInStretches::new(
+        let mut output: RollingDeadlineWriter<'_, C, ForOrder, J, W> = RollingDeadlineWriter::new(
             writer, clock,
         );
         let told = print_for(alloc, key, &mut output, shelves, copies);
         return (output.into_inner(), told);
     }
-    let mut outcome: TellingInTime<'_, C, ForOrder, J, W> = TellingInTime::new(writer, clock);
+    let mut outcome: DeadlineWriter<'_, C, ForOrder, J, W> = DeadlineWriter::new(writer, clock);
     let told = answer(alloc, order, &mut outcome, tally, shelves, copies);
     (outcome.into_inner(), told)
 }
@@ -244,8 +244,8 @@ fn answer_since<C: Clock, J: Start, W: BoundWrite + Drop, S: Keyring, K: CopyOrd
 fn tell_since<C: Clock, J: Start, W: BoundWrite + Drop>(
     clock: &C,
     writer: Telling<W>,
-    told: Told,
-) -> (Telling<W>, Result<Told, Io>)
+    told: ControlReply,
+) -> (Telling<W>, Result<ControlReply, Io>)
     requires { ⟦<Telling<W> as HasCalls>⟧.calls writer ≡ J.calls }
     ensures same { IfOk result.1 (λ said. said ≡ told) }
     ensures tells { MatchResult result.1
@@ -258,7 +258,7 @@ fn tell_since<C: Clock, J: Start, W: BoundWrite + Drop>(
     ensures flushed { IfOk result.1 (λ _. (⟦<Telling<W> as Tell>⟧.writes result.0).unflushed ≡ []) }
     ensures in_time { KeepsTime time_for_order J.calls (⟦<Telling<W> as HasCalls>⟧.calls result.0) }
 {
-    let mut outcome: TellingInTime<'_, C, ForOrder, J, W> = TellingInTime::new(writer, clock);
+    let mut outcome: DeadlineWriter<'_, C, ForOrder, J, W> = DeadlineWriter::new(writer, clock);
     let told = tell(&mut outcome, told);
     (outcome.into_inner(), told)
 }

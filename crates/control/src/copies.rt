@@ -1,8 +1,8 @@
 //! What reads a store that is served: copies of it, the catalogs of its keys, and how much it keeps.
-use crate::health::Figures;
+use crate::health::Metrics;
 use crate::reserve::KeepsRoom;
-use histories::Restart;
-use meanwhile::between::Between;
+use histories::ResetDeadline;
+use interleave::between::Between;
 use std::alloc::Global;
 use world::registry::StoreFault;
 use world::shelves::Shelves;
@@ -48,7 +48,7 @@ pub trait Copies<S: Shelves>: KeepsRoom {
     ghost use Rattle.control.specs.Reserve.{LeavesOthers};
     ghost use Rattle.control.specs.declared.copies.CatalogRefusal.TheVariants as catalog;
     ghost use Rattle.control.specs.declared.copies.CopyRefusal.TheVariants.{Busy, Ended};
-    ghost use Rattle.control.specs.declared.health.Figures.{Figures};
+    ghost use Rattle.control.specs.declared.health.Metrics.{Metrics};
     ghost use Rattle.world.specs.Store.{HasCause};
 
     /// What is made of the served store: relates it before and after that, and what was made.
@@ -58,7 +58,7 @@ pub trait Copies<S: Shelves>: KeepsRoom {
     ghost counted: { S → S → ℕ → Type 0 };
 
     /// What is known of the figures of a served store, by the store.
-    ghost figured: { S → Figures → Type 0 };
+    ghost figured: { S → Metrics → Type 0 };
 
     /// Returns the name of the file of the served store, for those who read it.
     fn served(&self) -> &str;
@@ -88,7 +88,7 @@ pub trait Copies<S: Shelves>: KeepsRoom {
     /// Fails with `NoKey` if there is no such key; with `Device` if a disk failed; with `Memory` if memory ran out;
     /// with `Ended` if `between` ended it; and with `Output` if the output failed. Then a beginning of the lines is
     /// printed.
-    fn catalog<O: Restart, B: Between<S>>(
+    fn catalog<O: ResetDeadline, B: Between<S>>(
         &self,
         alloc: Global,
         shelves: &mut S,
@@ -114,7 +114,7 @@ pub trait Copies<S: Shelves>: KeepsRoom {
         ensures counted { IfOk result (λ n. counted shelves.old shelves.new n) };
 
     /// Returns what is known of the served store beside its versions. Does not open its file.
-    fn figures<'s>(&self, shelves: &'s S) -> Figures<'s>
+    fn figures<'s>(&self, shelves: &'s S) -> Metrics<'s>
         ensures { figured shelves.now result };
 
     /// Has room kept on the disk of the served store from now on, so that an order can be carried out once the disk is
@@ -140,7 +140,7 @@ pub trait CopyOrders<S: Shelves>: KeepsRoom {
     ghost use Rattle.control.specs.Copying.{IsOnlyRead, Making, OfKey, ToPath};
     ghost use Rattle.control.specs.Reserve.{LeavesOthers};
     ghost use Rattle.control.specs.declared.copies.CatalogRefusal.TheVariants as catalog;
-    ghost use Rattle.control.specs.declared.health.Figures.{Figures};
+    ghost use Rattle.control.specs.declared.health.Metrics.{Metrics};
     ghost use Rattle.world.specs.Store.{HasCause};
 
     /// What is made of the store: relates it before and after that, and what was made.
@@ -150,7 +150,7 @@ pub trait CopyOrders<S: Shelves>: KeepsRoom {
     ghost counted: { S → S → ℕ → Type 0 };
 
     /// What is known of the figures of a store, by this value and the store.
-    ghost figured: { Self → S → Figures → Type 0 };
+    ghost figured: { Self → S → Metrics → Type 0 };
 
     /// What happens while an order to copy or to print a catalog is carried out: relates this value before and after
     /// it to the store before and after it, and to what was made.
@@ -165,7 +165,7 @@ pub trait CopyOrders<S: Shelves>: KeepsRoom {
 
     /// Prints the catalog of a key, as the store is at this moment. Fails as `Copies::catalog` does, and with `Busy` if
     /// a copy is being made or another catalog is printed.
-    fn catalog_to<O: Restart>(
+    fn catalog_to<O: ResetDeadline>(
         &mut self,
         alloc: Global,
         shelves: &mut S,
@@ -187,7 +187,7 @@ pub trait CopyOrders<S: Shelves>: KeepsRoom {
         ensures counted { IfOk result (λ n. counted shelves.old shelves.new n) };
 
     /// Returns what is known of the store beside its versions. Does not open its file.
-    fn figures<'s>(&self, shelves: &'s S) -> Figures<'s>
+    fn figures<'s>(&self, shelves: &'s S) -> Metrics<'s>
         ensures { figured self.now shelves.now result };
 
     /// Gives up the room that is kept on the disk of the store, and returns whether there was some. Only a store that

@@ -5,7 +5,7 @@ ghost use Rattle.control.specs.Health.{IsHealthLine, HasNamesIf, line_of};
 
 use crate::tally::Tally;
 use crate::traffic::{ShelfTraffic, Traffic};
-use meanwhile::between::HowFar;
+use interleave::between::CopyProgress;
 use modver::{TimeText, read_time};
 use std::alloc::{AllocError, Global};
 use std::str;
@@ -19,12 +19,12 @@ pub struct Health<'a> {
     pub store_failures: u64,
     /// How many versions the store keeps.
     pub versions: u64,
-    pub figures: Figures<'a>,
+    pub figures: Metrics<'a>,
 }
 
 /// What is known of a served store beside its versions.
 #[derive(Clone, Copy, Drop)]
-pub struct Figures<'a> {
+pub struct Metrics<'a> {
     /// The bytes of its file, if the system tells them.
     pub bytes: Option<u64>,
     /// The bytes of the log beside the file, if the system tells them.
@@ -32,7 +32,7 @@ pub struct Figures<'a> {
     /// When the last copy of it was made, if one was and the clock could be read then.
     pub copied: Option<TimeText>,
     /// How far the copy of it is that is being made, if one is.
-    pub copying: Option<HowFar>,
+    pub copying: Option<CopyProgress>,
     /// The counts of its shelves, if they are kept.
     pub traffic: Option<&'a Traffic>,
 }
@@ -65,7 +65,7 @@ impl<'a> Health<'a> {
     }
 }
 
-impl<'a> Figures<'a> {
+impl<'a> Metrics<'a> {
     /// Adds the words that tell what is known of the file and of copies. Fails only if memory runs out.
     fn add_words(&self, alloc: Global, line: &mut String) -> Result<(), AllocError>
         ensures { OnOk result (string_bytes line.new ≡ string_bytes line.old ++ spec.words_of self.now) }
@@ -134,7 +134,7 @@ fn add_how_far(
     alloc: Global,
     line: &mut String,
     name: &str,
-    how_far: Option<HowFar>,
+    how_far: Option<CopyProgress>,
 ) -> Result<(), AllocError>
     ensures { OnOk result (string_bytes line.new ≡ string_bytes line.old ++ spec.how_far_word name.now how_far) }
 {
@@ -230,7 +230,7 @@ fn line_with(alloc: Global, first: &str, traffic: &Traffic, got: &[u8]) -> Optio
         },
         store_failures,
         versions,
-        figures: Figures {
+        figures: Metrics {
             bytes: number_in(first, "bytes="),
             log: number_in(first, "log="),
             copied: time_in(first, "copied="),
@@ -262,7 +262,7 @@ fn time_in(line: &str, name: &str) -> Option<TimeText> {
 }
 
 /// How far a word of a line tells under a name that a copy is, if one does.
-fn how_far_in(line: &str, name: &str) -> Option<HowFar> {
+fn how_far_in(line: &str, name: &str) -> Option<CopyProgress> {
     for word in line.split(' ') {
         if let Some(found) = how_far(word, name) {
             return Some(found);
@@ -289,9 +289,9 @@ fn number(word: Option<&str>, name: &str) -> Option<u64> {
 }
 
 /// How far a word tells under a name that a copy is.
-fn how_far(word: &str, name: &str) -> Option<HowFar> {
+fn how_far(word: &str, name: &str) -> Option<CopyProgress> {
     let (done, all) = word.strip_prefix(name)?.split_once('/')?;
-    Some(HowFar {
+    Some(CopyProgress {
         done: done.parse().ok()?,
         all: all.parse().ok()?,
     })

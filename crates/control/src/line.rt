@@ -14,29 +14,29 @@ const TRIES: u32 = 1_000;
 
 /// Why no line was read, or not all to the end of a stream.
 #[derive(Clone, Copy, Debug, Drop, PartialEq, Eq)]
-pub enum Unread {
+pub enum ReadError {
     /// A read failed, or `TRIES` reads did not end a line.
     Io,
     /// Memory ran out.
     Memory,
 }
 
-impl From<AllocError> for Unread {
-    ghost use Rattle.control.specs.declared.line.Unread.TheVariants.{Memory};
+impl From<AllocError> for ReadError {
+    ghost use Rattle.control.specs.declared.line.ReadError.TheVariants.{Memory};
 
     ghost from_gives = { λ _ unread. unread ≡ Memory };
 
-    fn from(_error: AllocError) -> Unread {
-        Unread::Memory
+    fn from(_error: AllocError) -> ReadError {
+        ReadError::Memory
     }
 }
 
 /// Reads a line of at most `LONGEST_LINE` bytes, with what comes after its end in the same read, and returns the bytes.
 /// They may have no end of a line if the stream ends, or if the line is longer. Fails with `Io` if a read fails or
 /// `TRIES` reads do not end the line, and with `Memory` if memory runs out.
-pub(crate) fn read_line<R: Hear>(alloc: Global, reader: &mut R) -> Result<Vec<u8>, Unread>
+pub(crate) fn read_line<R: Hear>(alloc: Global, reader: &mut R) -> Result<Vec<u8>, ReadError>
     ensures reads { IfOk result (λ got. spec.ReadsLine (R.account reader.old) (R.account reader.new) got.items) }
-    ensures cause { IfErr result (λ why. why ≡ Unread.Io
+    ensures cause { IfErr result (λ why. why ≡ ReadError.Io
         → IsUnreadable spec.most_tries (R.reads reader.old) (R.reads reader.new)) }
 {
     read_to(alloc, reader, LONGEST_LINE)
@@ -48,10 +48,10 @@ pub(crate) fn read_to<R: Hear>(
     alloc: Global,
     reader: &mut R,
     most: usize,
-) -> Result<Vec<u8>, Unread>
+) -> Result<Vec<u8>, ReadError>
     ensures reads { IfOk result (λ got. spec.ReadsTo most (R.account reader.old) (R.account reader.new) got.items) }
     // Where memory did not run out, a read failed, or all that there are began.
-    ensures cause { IfErr result (λ why. why ≡ Unread.Io
+    ensures cause { IfErr result (λ why. why ≡ ReadError.Io
         → IsUnreadable spec.most_tries (R.reads reader.old) (R.reads reader.new)) }
 {
     let mut got = Vec::with_capacity(alloc, most.saturating_add(1))?;
@@ -60,16 +60,17 @@ pub(crate) fn read_to<R: Hear>(
             return Ok(got);
         }
     }
-    Err(Unread::Io)
+    Err(ReadError::Io)
 }
 
 /// Reads once, after what was read, and returns whether no more has to be read. A read that is interrupted reads
 /// nothing.
-fn read_on<R: Hear>(reader: &mut R, got: &mut Vec<u8>, most: usize) -> Result<bool, Unread>
+fn read_on<R: Hear>(reader: &mut R, got: &mut Vec<u8>, most: usize) -> Result<bool, ReadError>
     ensures on { IfOk result (λ done.
         spec.ReadsOn most (R.account reader.old) (R.account reader.new) got.old.items got.new.items done) }
     ensures tried { IfOk result (λ _. spec.HasTried 1 (R.reads reader.old) (R.reads reader.new)) }
-    ensures fails { IfErr result (λ why. why ≡ Unread.Io → (R.reads reader.old).failed < (R.reads reader.new).failed) }
+    ensures fails { IfErr result (λ why. why ≡ ReadError.Io
+        → (R.reads reader.old).failed < (R.reads reader.new).failed) }
 {
     let mut chunk = [0; LONGEST_LINE + 1];
     match reader.hear(&mut chunk) {
@@ -79,13 +80,13 @@ fn read_on<R: Hear>(reader: &mut R, got: &mut Vec<u8>, most: usize) -> Result<bo
             Ok(is_enough(got, most))
         }
         Err(e) if e.kind() == ErrorKind::Interrupted => Ok(false),
-        Err(_) => Err(Unread::Io),
+        Err(_) => Err(ReadError::Io),
     }
 }
 
 /// Reads to the end of the stream, and returns the bytes. Fails with `Io` if a read fails or `u64::MAX` reads are not
 /// enough, and with `Memory` if memory runs out.
-pub fn read_all<R: Hear>(alloc: Global, reader: &mut R) -> Result<Vec<u8>, Unread>
+pub fn read_all<R: Hear>(alloc: Global, reader: &mut R) -> Result<Vec<u8>, ReadError>
     ensures { IfOk result (λ got. Gives (R.account reader.old) (R.account reader.new) got.items) }
 {
     let mut got = Vec::new(alloc);
@@ -94,11 +95,11 @@ pub fn read_all<R: Hear>(alloc: Global, reader: &mut R) -> Result<Vec<u8>, Unrea
             return Ok(got);
         }
     }
-    Err(Unread::Io)
+    Err(ReadError::Io)
 }
 
 /// Reads once, after what was read, and returns whether the stream has ended. A read that is interrupted reads nothing.
-fn read_more<R: Hear>(reader: &mut R, got: &mut Vec<u8>) -> Result<bool, Unread>
+fn read_more<R: Hear>(reader: &mut R, got: &mut Vec<u8>) -> Result<bool, ReadError>
     ensures { IfOk result (λ _.
         spec.ReadsMore (R.account reader.old) (R.account reader.new) got.old.items got.new.items) }
 {
@@ -110,7 +111,7 @@ fn read_more<R: Hear>(reader: &mut R, got: &mut Vec<u8>) -> Result<bool, Unread>
             Ok(false)
         }
         Err(e) if e.kind() == ErrorKind::Interrupted => Ok(false),
-        Err(_) => Err(Unread::Io),
+        Err(_) => Err(ReadError::Io),
     }
 }
 
@@ -128,7 +129,7 @@ pub enum Came {
 
 /// Reads once, after what was read. Fails with `Io` if the read fails otherwise than for want of time, and with
 /// `Memory` if memory runs out.
-pub fn hear_on<R: Hear>(reader: &mut R, got: &mut Vec<u8>) -> Result<Came, Unread>
+pub fn hear_on<R: Hear>(reader: &mut R, got: &mut Vec<u8>) -> Result<Came, ReadError>
     ensures { IfOk result (λ _.
         spec.ReadsMore (R.account reader.old) (R.account reader.new) got.old.items got.new.items) }
 {
@@ -144,7 +145,7 @@ pub fn hear_on<R: Hear>(reader: &mut R, got: &mut Vec<u8>) -> Result<Came, Unrea
             })
         }
         Err(e) if is_late(&e) => Ok(Came::Nothing),
-        Err(_) => Err(Unread::Io),
+        Err(_) => Err(ReadError::Io),
     }
 }
 

@@ -2,7 +2,7 @@
 ghost use Rattle.std.specs.Prelude.{◌≡◌, IfOk, IfSome, IsTrue};
 ghost use Rattle.control.specs.Listing as spec;
 
-use crate::told::Told;
+use crate::control_reply::ControlReply;
 use keyring::Keyring;
 use keyring::key_list::list_keys;
 use keyring::shelf_list::list_shelves;
@@ -16,12 +16,12 @@ pub(crate) const LAST_LINE: &[u8] = b"done\n";
 
 /// Reads a list of the store, and returns what the operator gets: the list and its last line. Returns `Outcome::Failed`
 /// if the store meets a fault or memory runs out.
-pub(crate) fn list<S: Keyring>(alloc: Global, shelves: &mut S, listing: Listing) -> Told
+pub(crate) fn list<S: Keyring>(alloc: Global, shelves: &mut S, listing: Listing) -> ControlReply
     ensures { spec.Lists (S.shown shelves.old) (S.shown shelves.new) listing result }
 {
     match read_list(alloc, shelves, listing) {
         Ok(text) => tell(alloc, text.as_slice()),
-        Err(fault) => Told::Outcome(Outcome::Failed(fault)),
+        Err(fault) => ControlReply::Outcome(Outcome::Failed(fault)),
     }
 }
 
@@ -40,12 +40,12 @@ fn read_list<S: Keyring>(
 }
 
 /// Returns a list with its last line, or `Outcome::Failed(StoreFault::Memory)` if memory runs out for it.
-fn tell(alloc: Global, text: &[u8]) -> Told
+fn tell(alloc: Global, text: &[u8]) -> ControlReply
     ensures { spec.IsReplyFor text.now result }
 {
     match whole(alloc, text) {
-        Ok(reply) => Told::List(reply),
-        Err(_) => Told::Outcome(Outcome::Failed(StoreFault::Memory)),
+        Ok(reply) => ControlReply::List(reply),
+        Err(_) => ControlReply::Outcome(Outcome::Failed(StoreFault::Memory)),
     }
 }
 

@@ -13,7 +13,7 @@ use world::registry::RegistryReply;
 /// Looks up the key that has a fingerprint or a SHA-256, carries out the registry command that revokes it, with the
 /// reserve if that needs room, and returns the outcome: that of `RegistryReply::NoKey` if no key has it or several
 /// have, and `Outcome::Failed` if the store meets a fault or memory runs out.
-pub(crate) fn revoke_named<S: Keyring, R: Reserve<S>>(
+pub(crate) fn revoke_by_fingerprint<S: Keyring, R: Reserve<S>>(
     alloc: Global,
     shelves: &mut S,
     reserve: &mut R,

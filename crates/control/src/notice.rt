@@ -5,9 +5,9 @@ ghost use Rattle.control.specs.Notices.{Answered, Catalogued, Copied, Ended, Met
 ghost use Rattle.keyring.specs.KeyList as keys;
 
 use crate::copies::{CatalogRefusal, CopyRefusal};
-use crate::errand::{Errand, two};
 use crate::outcome::{outcome_of, outcome_of_catalog, outcome_of_copy};
 use crate::plain::{UNTOLD, plain};
+use crate::store_call::{StoreCall, two};
 use keyring::key_list::fingerprint;
 use orders::{Outcome, RegistryCommand};
 use std::alloc::{AllocError, Global};
@@ -161,7 +161,11 @@ fn room_told(has_room: bool) -> Outcome
 }
 
 /// Says which fault a store met, and at what. Fails only if memory runs out.
-pub(crate) fn met(alloc: Global, errand: &Errand, fault: StoreFault) -> Result<Notice, AllocError>
+pub(crate) fn met(
+    alloc: Global,
+    errand: &StoreCall,
+    fault: StoreFault,
+) -> Result<Notice, AllocError>
     ensures { IfOk result (λ notice. notice.text ≡ spec.line_of (Met errand.now fault)) }
 {
     let words = errand.words(alloc)?;

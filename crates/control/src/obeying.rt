@@ -5,36 +5,36 @@ ghost use Rattle.histories.specs.Account.{Account};
 ghost use Rattle.engine.specs.Causes.{FailsWith};
 ghost use Rattle.orders.specs.Order.{IsLineOf, Catalog};
 ghost use Rattle.control.specs.Health.{IsPinged};
-ghost use Rattle.control.specs.Hearing.{HeedsBy, IsAnsweredAtOnce, IsOrderIn, ObeysBy, TellsLine, WritesSome};
+ghost use Rattle.control.specs.Hearing.{HandlesBy, IsAnsweredAtOnce, IsOrderIn, ObeysBy, TellsLine, WritesSome};
 ghost use Rattle.control.specs.Line.{ReadsLine};
 ghost use Rattle.control.specs.Pinging.{TellsPing};
-ghost use Rattle.control.specs.Told.{IsOutcome, bytes_told};
+ghost use Rattle.control.specs.ControlReply.{IsOutcome, bytes_told};
 
 use crate::carry::carry_out_in;
+use crate::control_reply::ControlReply;
 use crate::copies::{CatalogRefusal, CopyOrders};
 use crate::listing::list;
-use crate::naming::revoke_named;
+use crate::naming::revoke_by_fingerprint;
 use crate::outcome::{outcome_of, outcome_of_catalog, outcome_of_copy};
 use crate::pinging::ping;
 use crate::reserve::KnownReserve;
 use crate::tally::Tally;
-use crate::told::Told;
 use engine::Io;
 use engine::write::write_bytes;
-use histories::{Restart, Tell};
+use histories::{ResetDeadline, Tell};
 use keyring::Keyring;
 use orders::{Order, Outcome};
 use std::alloc::Global;
 use world::shelves::Shelves;
 
 /// Prints the catalog of a key, writes what came of that, flushes it, and returns it.
-pub(crate) fn print_for<W: Restart, S: Shelves, K: CopyOrders<S>>(
+pub(crate) fn print_for<W: ResetDeadline, S: Shelves, K: CopyOrders<S>>(
     alloc: Global,
     key: &str,
     writer: &mut W,
     shelves: &mut S,
     copies: &mut K,
-) -> Result<Told, Io>
+) -> Result<ControlReply, Io>
     ensures obeys { (tally : Tally) (got : List ℕ) (came came_new : Account)
         → ReadsLine came came_new got → IsLineOf got (Catalog key.now)
         → ObeysBy S.shown K.made K.counted K.meanwhile tally copies.old copies.new
@@ -50,7 +50,7 @@ pub(crate) fn print_for<W: Restart, S: Shelves, K: CopyOrders<S>>(
         return Err(Io::Write);
     }
     writer.restart();
-    tell(writer, Told::Outcome(outcome_of_catalog(told)))
+    tell(writer, ControlReply::Outcome(outcome_of_catalog(told)))
 }
 
 /// Does what an order asks for, or nothing if the line is no order, writes what came of it, flushes that, and returns
@@ -62,7 +62,7 @@ pub(crate) fn answer<W: Tell, S: Keyring, K: CopyOrders<S>>(
     tally: &Tally,
     shelves: &mut S,
     copies: &mut K,
-) -> Result<Told, Io>
+) -> Result<ControlReply, Io>
     requires { IsAnsweredAtOnce order }
     ensures obeys { (got : List ℕ) (came came_new : Account) → IsOrderIn got order.entry → ReadsLine came came_new got
         → ObeysBy S.shown K.made K.counted K.meanwhile tally.now copies.old copies.new
@@ -74,12 +74,12 @@ pub(crate) fn answer<W: Tell, S: Keyring, K: CopyOrders<S>>(
     ensures fails { FailsWith (W.writes writer.old).failed (W.writes writer.new).failed result }
     ensures flushed { IfOk result (λ _. (W.writes writer.new).unflushed ≡ []) }
 {
-    let told = heed(alloc, order, tally, shelves, copies);
+    let told = handle(alloc, order, tally, shelves, copies);
     tell(writer, told)
 }
 
 /// Writes what an operator gets, flushes it, and returns it.
-pub(crate) fn tell<W: Tell>(writer: &mut W, told: Told) -> Result<Told, Io>
+pub(crate) fn tell<W: Tell>(writer: &mut W, told: ControlReply) -> Result<ControlReply, Io>
     ensures same { IfOk result (λ said. said ≡ told) }
     ensures tells { MatchResult result
         (λ _. Appends (W.contents writer.old) (W.contents writer.new) (bytes_told told))
@@ -106,36 +106,35 @@ fn tell_line<W: Tell>(writer: &mut W, line: &[u8]) -> Result<(), Io>
 }
 
 /// Does what an order asks for, and returns what the operator gets: `Outcome::Bad` if the line is no order.
-fn heed<S: Keyring, K: CopyOrders<S>>(
+fn handle<S: Keyring, K: CopyOrders<S>>(
     alloc: Global,
     order: Option<Order>,
     tally: &Tally,
     shelves: &mut S,
     copies: &mut K,
-) -> Told
+) -> ControlReply
     requires { IsAnsweredAtOnce order }
     ensures heeds { (got : List ℕ) → IsOrderIn got order.entry
-        → HeedsBy S.shown K.made K.counted K.meanwhile tally.now copies.old copies.new
+        → HandlesBy S.shown K.made K.counted K.meanwhile tally.now copies.old copies.new
         shelves.old shelves.new got [] result }
     ensures figures { TellsPing (K.figured copies.old shelves.new) (IsPinged tally.now (S.shown shelves.old).failures
         (S.shown shelves.new).failures (K.counted shelves.old shelves.new)) result }
 {
     match order {
-        Some(Order::Stop) => Told::Outcome(Outcome::Stopping),
+        Some(Order::Stop) => ControlReply::Outcome(Outcome::Stopping),
         Some(Order::Ping) => ping(alloc, tally, shelves, copies),
-        Some(Order::Copy(path)) => Told::Outcome(outcome_of_copy(copies.copy_to(shelves, path))),
+        Some(Order::Copy(path)) => ControlReply::Outcome(outcome_of_copy(copies.copy_to(
+            shelves, path,
+        ))),
         Some(Order::List(listing)) => list(alloc, shelves, listing),
-        Some(Order::RevokeNamed(fingerprint)) => Told::Outcome(revoke_named(
-            alloc,
-            shelves,
-            &mut KnownReserve::new(copies),
-            fingerprint,
-        )),
+        Some(Order::RevokeByFingerprint(fingerprint)) => ControlReply::Outcome(
+            revoke_by_fingerprint(alloc, shelves, &mut KnownReserve::new(copies), fingerprint),
+        ),
         Some(Order::Registry(command)) => {
             let told = carry_out_in(shelves, &mut KnownReserve::new(copies), &command);
-            Told::Outcome(outcome_of(told))
+            ControlReply::Outcome(outcome_of(told))
         }
         Some(Order::Catalog(_)) => unreachable!(),
-        None => Told::Outcome(Outcome::Bad),
+        None => ControlReply::Outcome(Outcome::Bad),
     }
 }

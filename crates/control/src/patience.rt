@@ -1,7 +1,7 @@
 //! How long an operator may take.
 ghost use Rattle.control.specs.Pace.{order_grows, time_for_order};
 
-use histories::Patience;
+use histories::Deadline;
 use std::time::Duration;
 
 /// The seconds for all reads of an operator's line, and again for all writes of the outcome. Peers wait meanwhile.
@@ -11,7 +11,7 @@ const PATIENCE: u64 = 2;
 #[derive(Drop)]
 pub(crate) struct ForOrder;
 
-impl Patience for ForOrder {
+impl Deadline for ForOrder {
     ghost allowed = { time_for_order };
 
     fn time_for(_moved: u64) -> Duration {

@@ -3,10 +3,10 @@ ghost use Rattle.std.specs.Prelude.{◌≡◌};
 ghost use Rattle.control.specs.Health.{IsPinged};
 ghost use Rattle.control.specs.Pinging.{Pings, IsLineFor, TellsPing};
 
+use crate::control_reply::ControlReply;
 use crate::copies::CopyOrders;
 use crate::health::Health;
 use crate::tally::Tally;
-use crate::told::Told;
 use orders::Outcome;
 use std::alloc::Global;
 use world::registry::StoreFault;
@@ -20,7 +20,7 @@ pub(crate) fn ping<S: Shelves, K: CopyOrders<S>>(
     tally: &Tally,
     shelves: &mut S,
     copies: &K,
-) -> Told
+) -> ControlReply
     ensures pings { Pings S.shown K.counted tally.now shelves.old shelves.new result }
     ensures figures { TellsPing (K.figured copies.now shelves.new) (IsPinged tally.now (S.shown shelves.old).failures
         (S.shown shelves.new).failures (K.counted shelves.old shelves.new)) result }
@@ -35,16 +35,16 @@ pub(crate) fn ping<S: Shelves, K: CopyOrders<S>>(
                 figures: copies.figures(shelves),
             },
         ),
-        Err(fault) => Told::Outcome(Outcome::Failed(fault)),
+        Err(fault) => ControlReply::Outcome(Outcome::Failed(fault)),
     }
 }
 
 /// Returns the lines of a health, or `Outcome::Failed(StoreFault::Memory)` if memory runs out for them.
-fn tell(alloc: Global, health: &Health) -> Told
+fn tell(alloc: Global, health: &Health) -> ControlReply
     ensures { IsLineFor health.now result }
 {
     match health.line(alloc) {
-        Ok(line) => Told::Health(line),
-        Err(_) => Told::Outcome(Outcome::Failed(StoreFault::Memory)),
+        Ok(line) => ControlReply::Health(line),
+        Err(_) => ControlReply::Outcome(Outcome::Failed(StoreFault::Memory)),
     }
 }

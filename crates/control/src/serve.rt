@@ -10,11 +10,11 @@ ghost use Rattle.control.specs.Visits.{EndsEach, ReadsEach, ServesEach};
 ghost use Rattle.control.specs.declared.callers.Caller.{Caller};
 ghost use Rattle.control.specs.declared.callers.Caller.TheVariants.{Operator};
 
-use crate::calendar::Calendar;
 use crate::callers::{Caller, Callers, Operator};
 use crate::copies::Copies;
+use crate::monitored_store::{Loan, MonitoredStore};
 use crate::serving::{Server, is_stopping};
-use crate::watched::{Loan, Watched};
+use crate::wall_clock::WallClock;
 use histories::Tell;
 use keyring::Keyring;
 use modver::TimeText;
@@ -42,7 +42,7 @@ pub fn serve_both<
     L: Callers<P, O>,
     S: Keyring,
     K: Copies<S>,
-    D: Calendar + Drop,
+    D: WallClock + Drop,
     E: Tell,
 >(
     alloc: Global,
@@ -108,7 +108,7 @@ fn serve_lent<
     L: Callers<P, O>,
     S: Keyring,
     K: Copies<S>,
-    D: Calendar + Drop,
+    D: WallClock + Drop,
     E: Tell,
     N: Loan,
 >(
@@ -151,7 +151,7 @@ fn serve_lent<
         since,
         connections,
     );
-    let mut watched: Watched<'a, N, S> = Watched::new(alloc, shelves);
+    let mut watched: MonitoredStore<'a, N, S> = MonitoredStore::new(alloc, shelves);
     server.serve_each(&mut watched);
     let (callers, errors) = server.into_parts();
     Lent {
@@ -169,11 +169,11 @@ impl<
     O: Operator + Drop,
     L: Callers<P, O>,
     K,
-    D: Calendar + Drop,
+    D: WallClock + Drop,
     E: Tell,
 > Server<'x, C, P, O, L, K, D, E> {
     /// Serves callers, one after another, until no more are to be taken.
-    fn serve_each<N: Loan, S: Keyring>(&mut self, watched: &mut Watched<'_, N, S>)
+    fn serve_each<N: Loan, S: Keyring>(&mut self, watched: &mut MonitoredStore<'_, N, S>)
     where
         K: Copies<S>,
         requires { self.old.progress.taken ≡ 0 }
@@ -200,7 +200,7 @@ impl<
 
     /// Carries out the order of an operator, and ends its connection. While a copy is made for it, others are served.
     /// Ignores failures of the connection.
-    fn obey_on<N: Loan, S: Keyring>(&mut self, operator: O, watched: &mut Watched<'_, N, S>)
+    fn obey_on<N: Loan, S: Keyring>(&mut self, operator: O, watched: &mut MonitoredStore<'_, N, S>)
     where
         K: Copies<S>,
         requires { IsGoing self.old.progress.stops self.old.progress.left self.old.progress.taken }

@@ -6,19 +6,19 @@ ghost use Rattle.control.specs.Notices.{WritesNotices};
 ghost use Rattle.control.specs.Progress.{IsGoing};
 ghost use Rattle.control.specs.Visits.{AnswersOne};
 
-use crate::calendar::Calendar;
 use crate::callers::{Callers, Operator};
+use crate::control_reply::ControlReply;
 use crate::faults::RecentFaults;
+use crate::monitored_store::{Loan, MonitoredStore};
 use crate::notice::reserved;
 use crate::progress::Progress;
 use crate::reserve::{KeepsRoom, Room};
 use crate::telling::{tell, tell_next};
-use crate::told::Told;
 use crate::traffic::Traffic;
-use crate::watched::{Loan, Watched};
+use crate::wall_clock::WallClock;
 use engine::Io;
 use histories::Tell;
-use meanwhile::between::HowFar;
+use interleave::between::CopyProgress;
 use modver::TimeText;
 use orders::Outcome;
 use socket::{After, Peer, written_status};
@@ -47,7 +47,7 @@ pub(crate) struct Server<'x, C, P, O, L, K, D, E> {
     /// When the last copy was made, for those who ask while the next one is.
     pub(crate) copied: Option<TimeText>,
     /// How far the copy is that is being made, for those who ask then; none while a catalog is printed.
-    pub(crate) how_far: Option<HowFar>,
+    pub(crate) how_far: Option<CopyProgress>,
     /// How much there was of the room that is kept on the disk for orders, when it was last looked for.
     room: Room,
     peers: PhantomData<P>,
@@ -61,7 +61,7 @@ impl<
     O: Operator + Drop,
     L: Callers<P, O>,
     K: KeepsRoom,
-    D: Calendar + Drop,
+    D: WallClock + Drop,
     E: Tell,
 > Server<'x, C, P, O, L, K, D, E> {
     ghost use Rattle.control.specs.Serving.{ServesPeer};
@@ -116,7 +116,11 @@ impl<
 
     /// Answers a peer, ends its connection and counts it. While not all of the room is there that an order needed, no
     /// version is published.
-    pub(crate) fn answer<N: Loan, S: Shelves>(&mut self, peer: P, watched: &mut Watched<'_, N, S>)
+    pub(crate) fn answer<N: Loan, S: Shelves>(
+        &mut self,
+        peer: P,
+        watched: &mut MonitoredStore<'_, N, S>,
+    )
         requires { IsGoing self.old.progress.stops self.old.progress.left self.old.progress.taken }
         ensures serves { ServesPeer (both P.came P.reads) (both P.written P.writes) peer
             (both L.waiting L.history self.old.callers.now) (both L.waiting L.history self.new.callers.now)
@@ -136,7 +140,7 @@ impl<
     }
 
     /// Writes what has to be said of the store after an order, and of the room on its disk.
-    pub(crate) fn tell<N: Loan, S: Shelves>(&mut self, watched: &mut Watched<'_, N, S>)
+    pub(crate) fn tell<N: Loan, S: Shelves>(&mut self, watched: &mut MonitoredStore<'_, N, S>)
         ensures same { self.new.callers ≡ self.old.callers }
         ensures progress { self.new.progress ≡ self.old.progress }
         ensures store { watched.new.inner ≡ watched.old.inner }
@@ -174,7 +178,7 @@ impl<
     }
 
     /// Writes what has to be said of the store.
-    fn tell_of<N: Loan, S: Shelves>(&mut self, watched: &mut Watched<'_, N, S>)
+    fn tell_of<N: Loan, S: Shelves>(&mut self, watched: &mut MonitoredStore<'_, N, S>)
         ensures same { self.new.callers ≡ self.old.callers }
         ensures progress { self.new.progress ≡ self.old.progress }
         ensures store { watched.new.inner ≡ watched.old.inner }
@@ -197,7 +201,7 @@ fn answer_on<C: Clock, P: Peer + Drop, N: Loan, S: Shelves>(
     clock: &C,
     routes: &mut RouteTable,
     peer: P,
-    watched: &mut Watched<'_, N, S>,
+    watched: &mut MonitoredStore<'_, N, S>,
 ) -> After<P>
     ensures { AnswersOne (both P.came P.reads) (both P.written P.writes) peer result.peer
         (S.shown watched.old.inner.now) (S.shown watched.new.inner.now) result.status }
@@ -206,8 +210,8 @@ fn answer_on<C: Clock, P: Peer + Drop, N: Loan, S: Shelves>(
 }
 
 /// Whether `Stopping` was written to an operator.
-pub(crate) fn is_stopping(told: Result<Told, Io>) -> bool
-    ensures { IsTrue result ↔ (told ≡ Ok (Told.Outcome Outcome.Stopping)) }
+pub(crate) fn is_stopping(told: Result<ControlReply, Io>) -> bool
+    ensures { IsTrue result ↔ (told ≡ Ok (ControlReply.Outcome Outcome.Stopping)) }
 {
-    matches!(told, Ok(Told::Outcome(Outcome::Stopping)))
+    matches!(told, Ok(ControlReply::Outcome(Outcome::Stopping)))
 }

@@ -3,8 +3,8 @@ ghost use Rattle.std.specs.Prelude.{◌≡◌};
 ghost use Rattle.control.specs.Notices.{WritesNotices};
 
 use crate::faults::RecentFaults;
+use crate::monitored_store::{Loan, MonitoredStore};
 use crate::notice::Notice;
-use crate::watched::{Loan, Watched};
 use engine::write::write_bytes;
 use histories::Tell;
 use std::alloc::{AllocError, Global};
@@ -24,7 +24,7 @@ pub fn tell<E: Tell>(notice: Result<Notice, AllocError>, errors: &mut E)
 pub(crate) fn tell_next<C: Clock, N: Loan, S: Shelves, E: Tell>(
     alloc: Global,
     clock: &C,
-    watched: &mut Watched<'_, N, S>,
+    watched: &mut MonitoredStore<'_, N, S>,
     faults: &mut RecentFaults,
     errors: &mut E,
 )

@@ -2,29 +2,29 @@
 ghost use Rattle.std.specs.Prelude.{◌≡◌, ◌⊎◌, IfOk, IsErrOf, OnOk, true, false};
 ghost use Rattle.socket.specs.Connections.{both};
 ghost use Rattle.socket.specs.History.{Door, TakesNext};
-ghost use Rattle.meanwhile.specs.Meanwhile.{Notes};
-ghost use Rattle.meanwhile.specs.Noted.{IsNoted, with_said};
+ghost use Rattle.interleave.specs.Interleave.{Notes};
+ghost use Rattle.interleave.specs.Noted.{IsNoted, with_said};
 ghost use Rattle.world.specs.Store.{HasCause};
 ghost use Rattle.world.specs.World.{World};
 ghost use Rattle.control.specs.Copying.{IsBegun, IsOnlyRead};
-ghost use Rattle.control.specs.Figures.{NotesTime};
+ghost use Rattle.control.specs.Metrics.{NotesTime};
 ghost use Rattle.control.specs.Notices.{WritesNotices};
 ghost use Rattle.control.specs.Progress.{IsGoing};
 ghost use Rattle.control.specs.Serving.{ObeysMeanwhile, Serves};
 ghost use Rattle.control.specs.declared.callers.Caller.{Caller};
 
-use crate::calendar::Calendar;
 use crate::callers::{Caller, Callers, Operator};
 use crate::copies::{CatalogRefusal, Copies, CopyOrders, CopyRefusal};
-use crate::health::Figures;
+use crate::health::Metrics;
+use crate::monitored_store::{Loan, MonitoredStore};
 use crate::reserve::{KeepsRoom, Room};
 use crate::serving::{Server, is_stopping};
-use crate::watched::{Loan, Watched};
-use histories::{Restart, Tell};
+use crate::wall_clock::WallClock;
+use histories::{ResetDeadline, Tell};
+use interleave::between::{Between, CopyProgress, TurnEnd};
+use interleave::insert_tracker::{InsertTracker, Moment};
+use interleave::newcomers::Newcomers;
 use keyring::Keyring;
-use meanwhile::between::{Between, Halt, HowFar};
-use meanwhile::newcomers::Newcomers;
-use meanwhile::noting::{Moment, Noting};
 use socket::Peer;
 use std::alloc::Global;
 use std::marker::Brand;
@@ -41,16 +41,16 @@ const MOST_SERVED: u32 = 16;
 struct BusyCopies<'b, K> {
     copies: &'b K,
     /// How far that one is, unless it is a catalog that is printed.
-    how_far: Option<HowFar>,
+    how_far: Option<CopyProgress>,
 }
 
 impl<'a, 'b, 'c, N: Loan, M: Moment, S: Shelves, K: Copies<S>> CopyOrders<
-    Watched<'a, N, Noting<'c, M, S>>,
+    MonitoredStore<'a, N, InsertTracker<'c, M, S>>,
 > for BusyCopies<'b, K> {
     ghost use Rattle.std.specs.Prelude.{Some};
-    ghost use Rattle.meanwhile.specs.Noted.{IsNoted, with_said};
+    ghost use Rattle.interleave.specs.Noted.{IsNoted, with_said};
     ghost use Rattle.control.specs.Copying.{IsBusy, IsOnlyRead};
-    ghost use Rattle.control.specs.Figures.{TellsKept};
+    ghost use Rattle.control.specs.Metrics.{TellsKept};
 
     ghost made = { λ old new making. K.made old.inner.now.inner.now new.inner.now.inner.now making };
 
@@ -69,7 +69,7 @@ impl<'a, 'b, 'c, N: Loan, M: Moment, S: Shelves, K: Copies<S>> CopyOrders<
     /// Makes no copy, and fails with `Busy`.
     fn copy_to(
         &mut self,
-        shelves: &mut Watched<'a, N, Noting<'c, M, S>>,
+        shelves: &mut MonitoredStore<'a, N, InsertTracker<'c, M, S>>,
         path: &str,
     ) -> Result<(), CopyRefusal> {
         let told = Err(CopyRefusal::Busy);
@@ -78,10 +78,10 @@ impl<'a, 'b, 'c, N: Loan, M: Moment, S: Shelves, K: Copies<S>> CopyOrders<
     }
 
     /// Prints nothing, and fails with `Busy`.
-    fn catalog_to<O: Restart>(
+    fn catalog_to<O: ResetDeadline>(
         &mut self,
         _alloc: Global,
-        shelves: &mut Watched<'a, N, Noting<'c, M, S>>,
+        shelves: &mut MonitoredStore<'a, N, InsertTracker<'c, M, S>>,
         key: &str,
         _output: &mut O,
     ) -> Result<(), CatalogRefusal> {
@@ -90,11 +90,17 @@ impl<'a, 'b, 'c, N: Loan, M: Moment, S: Shelves, K: Copies<S>> CopyOrders<
         told
     }
 
-    fn versions(&self, shelves: &mut Watched<'a, N, Noting<'c, M, S>>) -> Result<u64, StoreFault> {
+    fn versions(
+        &self,
+        shelves: &mut MonitoredStore<'a, N, InsertTracker<'c, M, S>>,
+    ) -> Result<u64, StoreFault> {
         count_in(self.copies, shelves.inner)
     }
 
-    fn figures<'s>(&self, shelves: &'s Watched<'a, N, Noting<'c, M, S>>) -> Figures<'s> {
+    fn figures<'s>(
+        &self,
+        shelves: &'s MonitoredStore<'a, N, InsertTracker<'c, M, S>>,
+    ) -> Metrics<'s> {
         shelves.figures_with(figures_in(self.copies, shelves.inner), self.how_far)
     }
 
@@ -112,7 +118,7 @@ impl<'b, K: KeepsRoom> KeepsRoom for BusyCopies<'b, K> {
 /// Returns how many versions the store keeps. Fails as `Copies::versions` does.
 fn count_in<M: Moment, S: Shelves, K: Copies<S>>(
     copies: &K,
-    noting: &mut Noting<'_, M, S>,
+    noting: &mut InsertTracker<'_, M, S>,
 ) -> Result<u64, StoreFault>
     ensures reads { IsOnlyRead
         (with_said (S.shown noting.old.inner.now) (IsNoted noting.old.lost M.was M.before noting.old.news))
@@ -128,8 +134,8 @@ fn count_in<M: Moment, S: Shelves, K: Copies<S>>(
 /// Returns what is known of the store beside its versions.
 fn figures_in<'s, M: Moment, S: Shelves, K: Copies<S>>(
     copies: &K,
-    noting: &'s Noting<'_, M, S>,
-) -> Figures<'s>
+    noting: &'s InsertTracker<'_, M, S>,
+) -> Metrics<'s>
     ensures { K.figured noting.now.inner.now result }
 {
     copies.figures(noting.inner)
@@ -150,7 +156,7 @@ impl<
     O: Operator + Drop,
     L: Callers<P, O>,
     K,
-    D: Calendar + Drop,
+    D: WallClock + Drop,
     E: Tell,
 > Server<'x, C, P, O, L, K, D, E> {
     /// Carries out the order of an operator who came while a copy is made, and ends its connection, whose failures it
@@ -158,13 +164,13 @@ impl<
     fn obey_meanwhile<'b, N: Loan, M: Moment, S: Keyring>(
         &mut self,
         operator: O,
-        watched: &mut Watched<'_, N, Noting<'b, M, S>>,
+        watched: &mut MonitoredStore<'_, N, InsertTracker<'b, M, S>>,
     )
     where
         K: Copies<S>,
         requires { IsGoing self.old.progress.stops self.old.progress.left self.old.progress.taken }
         ensures obeys { ObeysMeanwhile (both O.came O.reads) (both O.written O.writes)
-            ⟦<Noting<'b, M, S> as Shelves>⟧.shown
+            ⟦<InsertTracker<'b, M, S> as Shelves>⟧.shown
             (λ old new making. K.made old.inner.now new.inner.now making)
             (λ old new n. K.counted old.inner.now new.inner.now n)
             operator self.old.how_far
@@ -192,7 +198,7 @@ impl<
     fn serve_next<'b, N: Loan, M: Moment, S: Keyring>(
         &mut self,
         next: io::Result<Caller<P, O>>,
-        watched: &mut Watched<'_, N, Noting<'b, M, S>>,
+        watched: &mut MonitoredStore<'_, N, InsertTracker<'b, M, S>>,
     )
     where
         K: Copies<S>,
@@ -201,7 +207,7 @@ impl<
             → TakesNext door (both L.waiting L.history self.old.callers.now) next
             → IfOk next (λ caller. L.is_new caller)
             → Serves (both O.came O.reads) (both O.written O.writes)
-            (both P.came P.reads) (both P.written P.writes) L.is_new ⟦<Noting<'b, M, S> as Shelves>⟧.shown
+            (both P.came P.reads) (both P.written P.writes) L.is_new ⟦<InsertTracker<'b, M, S> as Shelves>⟧.shown
             (λ old new making. K.made old.inner.now new.inner.now making)
             (λ old new n. K.counted old.inner.now new.inner.now n) true
             door (both L.waiting L.history self.new.callers.now)
@@ -220,12 +226,12 @@ impl<
     /// Serves those who wait, at most `MOST_SERVED` of them, while a copy of the store is made.
     fn serve_waiting<'b, N: Loan, M: Moment, S: Keyring>(
         &mut self,
-        watched: &mut Watched<'_, N, Noting<'b, M, S>>,
+        watched: &mut MonitoredStore<'_, N, InsertTracker<'b, M, S>>,
     )
     where
         K: Copies<S>,
         ensures serves { Serves (both O.came O.reads) (both O.written O.writes)
-            (both P.came P.reads) (both P.written P.writes) L.is_new ⟦<Noting<'b, M, S> as Shelves>⟧.shown
+            (both P.came P.reads) (both P.written P.writes) L.is_new ⟦<InsertTracker<'b, M, S> as Shelves>⟧.shown
             (λ old new making. K.made old.inner.now new.inner.now making)
             (λ old new n. K.counted old.inner.now new.inner.now n) true
             (both L.waiting L.history self.old.callers.now) (both L.waiting L.history self.new.callers.now)
@@ -249,14 +255,14 @@ impl<
     /// store.
     fn serve_watched<'a, 'b, N: Loan, M: Moment, S: Keyring>(
         &mut self,
-        noting: &'a mut Noting<'b, M, S>,
-    ) -> &'a mut Noting<'b, M, S>
+        noting: &'a mut InsertTracker<'b, M, S>,
+    ) -> &'a mut InsertTracker<'b, M, S>
     where
         K: Copies<S>,
         requires { noting.ghost_name ≡ N.name }
         ensures same_store { result.ghost_name ≡ noting.entry.ghost_name }
         ensures serves { Serves (both O.came O.reads) (both O.written O.writes)
-            (both P.came P.reads) (both P.written P.writes) L.is_new ⟦<Noting<'b, M, S> as Shelves>⟧.shown
+            (both P.came P.reads) (both P.written P.writes) L.is_new ⟦<InsertTracker<'b, M, S> as Shelves>⟧.shown
             (λ old new making. K.made old.inner.now new.inner.now making)
             (λ old new n. K.counted old.inner.now new.inner.now n) true
             (both L.waiting L.history self.old.callers.now) (both L.waiting L.history self.new.callers.now)
@@ -265,7 +271,9 @@ impl<
         ensures same_errors { self.new.errors.ghost_name ≡ self.old.errors.ghost_name }
         ensures notes { WritesNotices (E.contents self.old.errors.now) (E.contents self.new.errors.now) }
     {
-        let mut watched: Watched<'a, N, Noting<'b, M, S>> = Watched::new(self.alloc, noting);
+        let mut watched: MonitoredStore<'a, N, InsertTracker<'b, M, S>> = MonitoredStore::new(
+            self.alloc, noting,
+        );
         watched.copied = self.copied;
         mem::swap(&mut watched.traffic, &mut self.traffic);
         self.serve_waiting(&mut watched);
@@ -297,9 +305,9 @@ impl<
         ensures notes { WritesNotices (E.contents self.old.errors.now) (E.contents self.new.errors.now) }
     {
         let before = mem::replace(news, Newcomers::new(self.alloc));
-        let mut noting: Noting<'a, M, S> = Noting::new(self.alloc, shelves, before);
+        let mut noting: InsertTracker<'a, M, S> = InsertTracker::new(self.alloc, shelves, before);
         let _lent = self.serve_watched::<Brand, M, S>(&mut noting);
-        let Noting {
+        let InsertTracker {
             inner,
             news: now,
             lost,
@@ -322,7 +330,7 @@ impl<
     L: Callers<P, O>,
     S: Keyring,
     K: Copies<S>,
-    D: Calendar + Drop,
+    D: WallClock + Drop,
     E: Tell,
 > Between<S> for Server<'x, C, P, O, L, K, D, E> {
     ghost use Rattle.socket.specs.Connections.{both};
@@ -349,27 +357,27 @@ impl<
     ghost ended = { λ s. (L.left s.callers.now ≡ true) ⊎ (s.progress.stops ≡ true) };
 
     /// Serves at most `MOST_SERVED` callers.
-    fn turn(&mut self, shelves: &mut S, news: &mut Newcomers) -> Result<(), Halt>
+    fn turn(&mut self, shelves: &mut S, news: &mut Newcomers) -> Result<(), TurnEnd>
         ensures went { ⟦<Server<'x, C, P, O, L, K, D, E> as Between<S>>⟧.went self.old self.new
             shelves.old shelves.new }
         ensures honest { (S.shown shelves.new).is_honest → (S.shown shelves.old).is_honest }
         ensures notes { OnOk result (Notes (S.shown shelves.old) (S.shown shelves.new) news.old news.new) }
-        ensures cause { IsErrOf result Halt.Ended
+        ensures cause { IsErrOf result TurnEnd.Ended
             → (L.left self.new.callers.now ≡ true) ⊎ (self.new.progress.stops ≡ true) }
         ensures stays { OnOk result (L.left self.new.callers.now ≡ false) }
         ensures goes { OnOk result (self.new.progress.stops ≡ false) }
     {
         let after = self.take_turn::<Brand, S>(shelves, news);
         if after.lost {
-            return Err(Halt::Memory);
+            return Err(TurnEnd::Memory);
         }
         if self.progress.stops || self.callers.has_left() {
-            return Err(Halt::Ended);
+            return Err(TurnEnd::Ended);
         }
         Ok(())
     }
 
-    fn note_how_far(&mut self, how_far: HowFar)
+    fn note_how_far(&mut self, how_far: CopyProgress)
         ensures same { (s : S) → ⟦<Server<'x, C, P, O, L, K, D, E> as Between<S>>⟧.went self.old self.new s s }
         ensures noted { self.new.how_far ≡ Some how_far }
     {
@@ -394,13 +402,13 @@ impl<
     N: Loan,
     S: Keyring,
     K: Copies<S>,
-    D: Calendar + Drop,
+    D: WallClock + Drop,
     E: Tell,
-> CopyOrders<Watched<'a, N, S>> for Server<'x, C, P, O, L, K, D, E> {
+> CopyOrders<MonitoredStore<'a, N, S>> for Server<'x, C, P, O, L, K, D, E> {
     ghost use Rattle.std.specs.Prelude.{None};
     ghost use Rattle.socket.specs.Connections.{both};
     ghost use Rattle.control.specs.Copying.{IsBegun, IsOnlyRead, ToPath};
-    ghost use Rattle.control.specs.Figures.{TellsKept};
+    ghost use Rattle.control.specs.Metrics.{TellsKept};
     ghost use Rattle.control.specs.Serving.{TakesTurns};
 
     ghost made = { λ old new making. K.made old.inner.now new.inner.now making };
@@ -416,7 +424,11 @@ impl<
         × IsBegun (⟦<Server<'x, C, P, O, L, K, D, E> as Between<S>>⟧.ended new) making };
 
     /// Also notes when the copy was made, if it was.
-    fn copy_to(&mut self, shelves: &mut Watched<'a, N, S>, path: &str) -> Result<(), CopyRefusal>
+    fn copy_to(
+        &mut self,
+        shelves: &mut MonitoredStore<'a, N, S>,
+        path: &str,
+    ) -> Result<(), CopyRefusal>
         ensures meanwhile { (mid : S)
             × ⟦<Server<'x, C, P, O, L, K, D, E> as Between<S>>⟧.went self.old self.new shelves.old.inner.now mid
             × IsOnlyRead (S.shown mid) (S.shown shelves.new.inner.now)
@@ -427,7 +439,7 @@ impl<
         let copies = self.copies;
         self.callers.watch_operator();
         self.copied = shelves.copied;
-        self.how_far = Some(HowFar { done: 0, all: 0 });
+        self.how_far = Some(CopyProgress { done: 0, all: 0 });
         mem::swap(&mut self.traffic, &mut shelves.traffic);
         let told = copies.copy(shelves.inner, path, self);
         mem::swap(&mut self.traffic, &mut shelves.traffic);
@@ -439,10 +451,10 @@ impl<
         Ok(())
     }
 
-    fn catalog_to<U: Restart>(
+    fn catalog_to<U: ResetDeadline>(
         &mut self,
         alloc: Global,
-        shelves: &mut Watched<'a, N, S>,
+        shelves: &mut MonitoredStore<'a, N, S>,
         key: &str,
         output: &mut U,
     ) -> Result<(), CatalogRefusal> {
@@ -457,11 +469,11 @@ impl<
         told
     }
 
-    fn versions(&self, shelves: &mut Watched<'a, N, S>) -> Result<u64, StoreFault> {
+    fn versions(&self, shelves: &mut MonitoredStore<'a, N, S>) -> Result<u64, StoreFault> {
         self.copies.versions(shelves.inner)
     }
 
-    fn figures<'s>(&self, shelves: &'s Watched<'a, N, S>) -> Figures<'s> {
+    fn figures<'s>(&self, shelves: &'s MonitoredStore<'a, N, S>) -> Metrics<'s> {
         shelves.figures_with(self.copies.figures(shelves.inner), None)
     }
 
@@ -477,7 +489,7 @@ impl<
     O: Operator + Drop,
     L: Callers<P, O>,
     K: KeepsRoom,
-    D: Calendar + Drop,
+    D: WallClock + Drop,
     E: Tell,
 > KeepsRoom for Server<'x, C, P, O, L, K, D, E> {
     fn keep_room(&self) -> Room {

@@ -32,7 +32,7 @@ pub trait Tell: Write {
 }
 
 /// A writer whose writes may have a limited time, which can begin anew.
-pub trait Restart: Tell {
+pub trait ResetDeadline: Tell {
     /// Begins a stretch of writes, which has its own time.
     fn restart(&mut self)
         ensures bytes { Self.contents self.new ≡ Self.contents self.old }
@@ -143,7 +143,7 @@ impl<W: Write> Tell for Telling<W> {
 }
 
 /// Its writes have no limit.
-impl<W: Write> Restart for Telling<W> {
+impl<W: Write> ResetDeadline for Telling<W> {
     fn restart(&mut self) {}
 }
 

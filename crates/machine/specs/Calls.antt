@@ -3,9 +3,9 @@ use Rattle.std.specs.Prelude.{ℕ, List, [], ◌∷◌, ◌++◌, Option, Some, 
 use Rattle.std.specs.Borrow.{GName}
 use Rattle.modver.specs.SemanticVersion.{SemanticVersion, version_text}
 use Rattle.world.specs.declared.registry.StoreFault.{StoreFault}
-use Rattle.machine.specs.declared.noted_shelves.Method.{Method}
-use Rattle.machine.specs.declared.noted_shelves.Method.TheVariants as method
-use Rattle.machine.specs.declared.noted_shelves.Outcome.{Outcome}
+use Rattle.machine.specs.declared.traced_shelves.Method.{Method}
+use Rattle.machine.specs.declared.traced_shelves.Method.TheVariants as method
+use Rattle.machine.specs.declared.traced_shelves.Outcome.{Outcome}
 
 -- What a call asks: with which key or of which shelf, at which path and of which version. A text is empty where the
 -- method takes none.

@@ -6,7 +6,7 @@ use Rattle.world.specs.declared.registry.StoreFault.{StoreFault}
 use Rattle.world.specs.declared.registry.StoreFault.TheVariants.{Memory}
 use Rattle.world.specs.World.{World, IsWorld, sees}
 use Rattle.machine.specs.declared.request.Request.{Request}
-use Rattle.machine.specs.declared.noted_shelves.Method.TheVariants as method
+use Rattle.machine.specs.declared.traced_shelves.Method.TheVariants as method
 use Rattle.machine.specs.Calls.{Question, Call, History, of_key}
 use Rattle.machine.specs.Isolation.{belongs, key_of, Low}
 use Rattle.machine.specs.Needs.{Need, Told, Room, needs, Meets}

@@ -11,9 +11,9 @@ ghost use Rattle.world.specs.Store.{Reads};
 ghost use Rattle.world.specs.World.{count};
 
 use crate::decide::{allowed_entry, decide_by_shelf, gomod_refusal};
-use crate::noted_shelves::NotedShelves;
 use crate::reply::Decision;
 use crate::request::Publish;
+use crate::traced_shelves::TracedShelves;
 use std::alloc::{AllocError, Global};
 use world::entry::{EntryRef, Right};
 use world::reading::Reading;
@@ -44,7 +44,7 @@ pub fn checked(
 
 /// Returns the outcome of the checks of an entry against what stands. Fails only if the store fails. It copies no file,
 /// so repeating a publish takes no more memory than the first one did.
-pub fn judge_by_shelf<S: NotedShelves>(
+pub fn judge_by_shelf<S: TracedShelves>(
     shelves: &mut S,
     shelf: &str,
     publish: &Publish,

@@ -46,12 +46,12 @@
 pub mod decide;
 mod judge;
 pub mod laws;
-pub mod lent_shelves;
 mod listed;
 mod noted;
-pub mod noted_shelves;
 mod queries;
 pub mod reply;
 pub mod request;
 pub mod run;
 pub mod step;
+pub mod traced_shelves;
+pub mod traced_store;

@@ -3,7 +3,7 @@ ghost use Rattle.std.specs.Prelude.{◌≡◌, List, [], ◌∷◌, ◌++◌};
 ghost use Rattle.std.specs.Borrow.{ftrue};
 ghost use Rattle.machine.specs.Calls.{Call, call_by};
 
-use crate::noted_shelves::Outcome;
+use crate::traced_shelves::Outcome;
 use std::marker::{Model, PhantomData};
 
 /// The calls that were made to a store, the oldest first. It takes no memory, and its methods do nothing at run time.

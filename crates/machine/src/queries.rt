@@ -8,9 +8,9 @@ ghost use Rattle.machine.specs.Needs.{Told, Meets, MeetsIn, keyed_needs, query_n
 ghost use Rattle.world.specs.Store.{Reads};
 
 use crate::listed::listed;
-use crate::noted_shelves::NotedShelves;
 use crate::reply::Reply;
 use crate::request::Query;
+use crate::traced_shelves::TracedShelves;
 use modpath::ModulePath;
 use modver::Version;
 use std::alloc::Global;
@@ -21,7 +21,7 @@ use world::version_list::Versions;
 /// Returns the reply to a GET with a key: `NotFound` if the key is unknown or its shelf does not see what is asked for.
 /// Each key may read, so its right is not asked.
 /// Fails with `Device` if a device failed, and with `Memory` if memory ran out.
-pub fn answer_query<S: NotedShelves>(
+pub fn answer_query<S: TracedShelves>(
     alloc: Global,
     shelves: &mut S,
     key: &str,
@@ -41,7 +41,7 @@ pub fn answer_query<S: NotedShelves>(
 }
 
 /// Returns the reply to a GET by a key of a shelf. Fails only if the store fails or memory runs out.
-fn answer_from<S: NotedShelves>(
+fn answer_from<S: TracedShelves>(
     alloc: Global,
     shelves: &mut S,
     shelf: &str,
@@ -63,7 +63,7 @@ fn answer_from<S: NotedShelves>(
 }
 
 /// Returns the reply to a GET of the name and the time of a version. Fails only if the store fails.
-fn answer_info<S: NotedShelves>(
+fn answer_info<S: TracedShelves>(
     shelves: &mut S,
     shelf: &str,
     path: &ModulePath,
@@ -124,7 +124,7 @@ fn list_reply(versions: Versions) -> Reply
 }
 
 /// Returns the reply to a GET of the latest version of a path. Fails only if the store fails.
-fn answer_latest<S: NotedShelves>(
+fn answer_latest<S: TracedShelves>(
     shelves: &mut S,
     shelf: &str,
     path: &ModulePath,

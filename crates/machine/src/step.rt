@@ -8,11 +8,11 @@ ghost use Rattle.machine.specs.Publishing.{AnswersPut, PublishesTo, CarriesOut, 
 ghost use Rattle.world.specs.Store.{Does};
 
 use crate::judge::{checked, judge_by_shelf};
-use crate::lent_shelves::LentShelves;
-use crate::noted_shelves::NotedShelves;
 use crate::queries::answer_query;
 use crate::reply::{Decision, Reply};
 use crate::request::{Publish, Request};
+use crate::traced_shelves::TracedShelves;
+use crate::traced_store::TracedStore;
 use std::alloc::Global;
 use world::entry::{EntryRef, Holder};
 use world::registry::StoreFault;
@@ -28,12 +28,12 @@ pub fn step<S: Shelves>(
     ensures does { Does (S.shown shelves.old) (S.shown shelves.new) result
         (λ w. request_reply w request.now) (λ w. after_request w request.now) }
 {
-    let mut lent = LentShelves::new(shelves);
+    let mut lent = TracedStore::new(shelves);
     step_over(alloc, &mut lent, request)
 }
 
 /// Answers a request as [`step`] does, over a store that keeps account of what it is asked.
-pub fn step_over<S: NotedShelves>(
+pub fn step_over<S: TracedShelves>(
     alloc: Global,
     shelves: &mut S,
     request: &Request,
@@ -58,7 +58,7 @@ pub fn step_over<S: NotedShelves>(
 }
 
 /// Decides a PUT, stores what it publishes, and returns the decision. Fails only if the store fails or memory runs out.
-fn answer_publish<S: NotedShelves>(
+fn answer_publish<S: TracedShelves>(
     alloc: Global,
     shelves: &mut S,
     key: &str,
@@ -77,7 +77,7 @@ fn answer_publish<S: NotedShelves>(
 
 /// Decides a PUT by the holder of a key, stores what it publishes, and returns the decision. Fails only if the store
 /// fails or memory runs out.
-fn publish_to<S: NotedShelves>(
+fn publish_to<S: TracedShelves>(
     alloc: Global,
     shelves: &mut S,
     holder: &Holder,
@@ -99,7 +99,7 @@ fn publish_to<S: NotedShelves>(
 
 /// Stores the entry of the publish if the decision is `Published`, and does nothing otherwise. Fails only if the store
 /// fails.
-fn carry_out<S: NotedShelves>(
+fn carry_out<S: TracedShelves>(
     shelves: &mut S,
     holder: &Holder,
     publish: &Publish,
@@ -119,7 +119,7 @@ fn carry_out<S: NotedShelves>(
 }
 
 /// Stores the entry of a publish that passed the checks. Fails only if the store fails.
-fn store<S: NotedShelves>(
+fn store<S: TracedShelves>(
     shelves: &mut S,
     holder: &Holder,
     publish: &Publish,

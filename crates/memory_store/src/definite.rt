@@ -1,6 +1,6 @@
 //! A store in memory stands for one world.
 use crate::map_shelves::MapShelves;
-use meanwhile::definite::Definite;
+use interleave::definite::Definite;
 use world::registry::StoreFault;
 
 impl Definite for MapShelves {

@@ -6,7 +6,7 @@ use Rattle.world.specs.declared.entry.Right.TheVariants.{Reads, Publishes}
 use Rattle.orders.specs.Listing.{word_of}
 use Rattle.orders.specs.Laws.{IsRead}
 use Rattle.orders.specs.Order.{TeamAdd, GroupAdd, KeyAdd, KeyRevoke, KeysRevoke}
-use Rattle.orders.specs.Order.{Ordered, Stop, Ping, ListOf, Copy, Catalog, RevokeNamed, Registry}
+use Rattle.orders.specs.Order.{Ordered, Stop, Ping, ListOf, Copy, Catalog, RevokeByFingerprint, Registry}
 use Rattle.orders.specs.Order.{said_in, IsLineOf, IsNoOrder, ordered}
 use Rattle.orders.specs.Line.{IsLine}
 use Rattle.orders.specs.Words.{Said, One, Two, Three, IsTextOf, text_of}
@@ -29,7 +29,7 @@ read_as (One verb) = word_read verb (listed verb)
 read_as (Two verb first) =
     if bytes_eq verb (codes "copy") then Copy first
     else if bytes_eq verb (codes "catalog") then Catalog first
-    else if bytes_eq verb (codes "revoke-fingerprint") then RevokeNamed first
+    else if bytes_eq verb (codes "revoke-fingerprint") then RevokeByFingerprint first
     else if bytes_eq verb (codes "team-add") then Registry (TeamAdd first None)
     else if bytes_eq verb (codes "group-add") then Registry (GroupAdd first)
     else if bytes_eq verb (codes "key-revoke") then Registry (KeyRevoke first)
@@ -45,7 +45,7 @@ reads_itself Ping = refl
 reads_itself (ListOf listing) = ap (word_read (word_of listing)) (lists_itself listing)
 reads_itself (Copy path) = refl
 reads_itself (Catalog key) = refl
-reads_itself (RevokeNamed f) = refl
+reads_itself (RevokeByFingerprint f) = refl
 reads_itself (Registry (TeamAdd name None)) = refl
 reads_itself (Registry (TeamAdd name (Some group))) = refl
 reads_itself (Registry (GroupAdd name)) = refl

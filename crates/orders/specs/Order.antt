@@ -11,8 +11,8 @@ use Rattle.orders.specs.declared.command.RegistryCommand.TheVariants as command
 use Rattle.orders.specs.declared.listing.Listing.{Listing}
 use Rattle.orders.specs.declared.order.Order.{Order}
 use Rattle.orders.specs.declared.order.Order.TheVariants as order
-use Rattle.orders.specs.declared.write.Unwritten.{Unwritten}
-use Rattle.orders.specs.declared.write.Unwritten.TheVariants as unwritten
+use Rattle.orders.specs.declared.write.WriteError.{WriteError}
+use Rattle.orders.specs.declared.write.WriteError.TheVariants as unwritten
 
 -- A registry command, wherever its texts lie.
 pub data Commanded : Type 0 where
@@ -29,7 +29,7 @@ pub data Ordered : Type 0 where
   ListOf : Listing → Ordered
   Copy : List ℕ → Ordered
   Catalog : List ℕ → Ordered
-  RevokeNamed : List ℕ → Ordered
+  RevokeByFingerprint : List ℕ → Ordered
   Registry : Commanded → Ordered
 
 abbrev pub commanded : RegistryCommand → Commanded
@@ -45,7 +45,7 @@ ordered order.Ping = Ping
 ordered (order.List listing) = ListOf listing
 ordered (order.Copy path) = Copy path.now
 ordered (order.Catalog key) = Catalog key.now
-ordered (order.RevokeNamed f) = RevokeNamed f.now
+ordered (order.RevokeByFingerprint f) = RevokeByFingerprint f.now
 ordered (order.Registry c) = Registry (commanded c)
 
 -- the most bytes of a line without its end: that of a copy names a file
@@ -84,7 +84,7 @@ said_in Ping = words.One (codes "ping")
 said_in (ListOf listing) = words.One (word_of listing)
 said_in (Copy path) = words.Two (codes "copy") path
 said_in (Catalog key) = words.Two (codes "catalog") key
-said_in (RevokeNamed f) = words.Two (codes "revoke-fingerprint") f
+said_in (RevokeByFingerprint f) = words.Two (codes "revoke-fingerprint") f
 said_in (Registry c) = said_in_command c
 
 -- these are the words of this order, or of none
@@ -116,6 +116,6 @@ abbrev pub HasNoLine : Ordered → Type 0
 HasNoLine o = (got : List ℕ) → ¬ IsLineOf got o
 
 -- no bytes are the line of the order, or memory ran out
-abbrev pub IsUnwritten : Ordered → Unwritten → Type 0
+abbrev pub IsUnwritten : Ordered → WriteError → Type 0
 IsUnwritten o unwritten.Words = HasNoLine o
 IsUnwritten o unwritten.Memory = Unit {0}

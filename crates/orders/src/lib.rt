@@ -27,4 +27,4 @@ pub use listing::Listing;
 pub use order::{LONGEST_LINE, Order};
 pub use outcome::{Outcome, read_outcome};
 pub use read::read_order;
-pub use write::Unwritten;
+pub use write::WriteError;

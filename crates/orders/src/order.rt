@@ -22,7 +22,7 @@ pub enum Order<'a> {
     /// `catalog KEY`: the catalog of a key.
     Catalog(&'a str),
     /// `revoke-fingerprint X`: the end of the only key with a fingerprint.
-    RevokeNamed(&'a str),
+    RevokeByFingerprint(&'a str),
     /// A registry command.
     Registry(RegistryCommand<'a>),
 }
@@ -54,7 +54,10 @@ impl<'a> Order<'a> {
             Order::List(listing) => Words::One(listing.word()),
             Order::Copy(path) => Words::Two("copy", path),
             Order::Catalog(key) => Words::Two("catalog", key),
-            Order::RevokeNamed(fingerprint) => Words::Two("revoke-fingerprint", fingerprint),
+            Order::RevokeByFingerprint(fingerprint) => Words::Two(
+                "revoke-fingerprint",
+                fingerprint,
+            ),
             Order::Registry(command) => command_words(command),
         }
     }
@@ -92,7 +95,7 @@ fn of_two<'a>(verb: &str, first: &'a str) -> Option<Order<'a>>
     match verb {
         "copy" => Some(Order::Copy(first)),
         "catalog" => Some(Order::Catalog(first)),
-        "revoke-fingerprint" => Some(Order::RevokeNamed(first)),
+        "revoke-fingerprint" => Some(Order::RevokeByFingerprint(first)),
         "team-add" => Some(Order::Registry(RegistryCommand::TeamAdd {
             name: first,
             group: None,

@@ -11,37 +11,37 @@ use std::alloc::{AllocError, Global};
 
 /// Why an order has no line.
 #[derive(Clone, Copy, Debug, Drop, PartialEq, Eq)]
-pub enum Unwritten {
+pub enum WriteError {
     /// A name, the key or the path in it has a space or the end of a line, or makes the line too long.
     Words,
     /// Memory ran out for the line.
     Memory,
 }
 
-impl From<AllocError> for Unwritten {
-    ghost use Rattle.orders.specs.declared.write.Unwritten.TheVariants.{Memory};
+impl From<AllocError> for WriteError {
+    ghost use Rattle.orders.specs.declared.write.WriteError.TheVariants.{Memory};
 
     ghost from_gives = { λ _ why. why ≡ Memory };
 
-    fn from(_error: AllocError) -> Unwritten {
-        Unwritten::Memory
+    fn from(_error: AllocError) -> WriteError {
+        WriteError::Memory
     }
 }
 
 impl Order<'_> {
     /// Returns its line, with the end. Fails with `Words` if no bytes are its line, and with `Memory` if memory runs
     /// out.
-    pub fn write(&self, alloc: Global) -> Result<String, Unwritten>
+    pub fn write(&self, alloc: Global) -> Result<String, WriteError>
         ensures ok { IfOk result (λ line. spec.IsLineOf (string_bytes line) (spec.ordered self.now)) }
         ensures err { IfErr result (λ why. spec.IsUnwritten (spec.ordered self.now) why) }
     {
         let words = self.words();
         if !words.are_words() {
-            return Err(Unwritten::Words);
+            return Err(WriteError::Words);
         }
         let text = text_with(alloc, words)?;
         if text.len() > self.longest() {
-            return Err(Unwritten::Words);
+            return Err(WriteError::Words);
         }
         let line = ended(text)?;
         Ok(line)

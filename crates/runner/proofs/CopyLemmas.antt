@@ -10,7 +10,7 @@ use Rattle.statements.specs.Counted.{versions_in}
 use Rattle.catalog.specs.Meanwhile.{PrintsCatalogOn}
 use Rattle.catalog.specs.declared.between.CatalogEnd.{CatalogEnd}
 use Rattle.catalog.specs.declared.between.CatalogEnd.TheVariants as end
-use Rattle.catalog.specs.declared.print.Unprinted.TheVariants as why
+use Rattle.catalog.specs.declared.print.PrintError.TheVariants as why
 use Rattle.control.specs.Copying.{IsOnlyRead}
 use Rattle.control.specs.declared.copies.CatalogRefusal.TheVariants as catalog
 use Rattle.control.specs.declared.copies.CopyRefusal.{CopyRefusal}
@@ -66,10 +66,10 @@ prints_alone old new key written written_new told it = record {
 
 -- where the output is told to have failed it did
 pub output_told : (told : Result Bool CatalogEnd) → catalogued told ≡ Err catalog.Output
-    → IsErrOf told (end.Unprinted why.Output)
+    → IsErrOf told (end.PrintError why.Output)
 output_told (Ok true) is = absurd (let e = is in cc)
 output_told (Ok false) is = absurd (let e = is in cc)
-output_told (Err (end.Unprinted why.Device)) is = absurd (let e = is in cc)
-output_told (Err (end.Unprinted why.Memory)) is = absurd (let e = is in cc)
-output_told (Err (end.Unprinted why.Output)) is = refl
+output_told (Err (end.PrintError why.Device)) is = absurd (let e = is in cc)
+output_told (Err (end.PrintError why.Memory)) is = absurd (let e = is in cc)
+output_told (Err (end.PrintError why.Output)) is = refl
 output_told (Err end.Ended) is = absurd (let e = is in cc)

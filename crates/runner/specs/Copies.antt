@@ -16,7 +16,7 @@ use Rattle.store_files.specs.declared.refusal.StoreRefusal.TheVariants as store
 use Rattle.catalog.specs.Meanwhile.{PrintsCatalogOn}
 use Rattle.catalog.specs.declared.between.CatalogEnd.{CatalogEnd}
 use Rattle.catalog.specs.declared.between.CatalogEnd.TheVariants as end
-use Rattle.catalog.specs.declared.print.Unprinted.TheVariants as why
+use Rattle.catalog.specs.declared.print.PrintError.TheVariants as why
 use Rattle.control.specs.Copying.{Making, OfKey, ToPath}
 use Rattle.control.specs.declared.copies.CatalogRefusal.{CatalogRefusal}
 use Rattle.control.specs.declared.copies.CatalogRefusal.TheVariants as catalog
@@ -42,9 +42,9 @@ copied (Err Ended) = Err copy.Ended
 abbrev pub catalogued : Result Bool CatalogEnd → Result (Unit {0}) CatalogRefusal
 catalogued (Ok true) = Ok tt
 catalogued (Ok false) = Err catalog.NoKey
-catalogued (Err (end.Unprinted why.Device)) = Err catalog.Device
-catalogued (Err (end.Unprinted why.Memory)) = Err catalog.Memory
-catalogued (Err (end.Unprinted why.Output)) = Err catalog.Output
+catalogued (Err (end.PrintError why.Device)) = Err catalog.Device
+catalogued (Err (end.PrintError why.Memory)) = Err catalog.Memory
+catalogued (Err (end.PrintError why.Output)) = Err catalog.Output
 catalogued (Err end.Ended) = Err catalog.Ended
 
 -- a count tells how many versions there are in each world that the served store stood for, on an honest disk

@@ -14,12 +14,12 @@ use crate::found::{ClosedFile, Found, OpenedStore};
 use crate::host::SystemHost;
 use crate::reserve::{give_up, keep, make};
 use crate::slice_pace::SlicePace;
-use catalog::Unprinted;
+use catalog::PrintError;
 use catalog::between::{CatalogEnd, print_between};
 use commands::files::size_of_file;
-use control::{CatalogRefusal, Copies, CopyRefusal, Figures, KeepsRoom, Room};
-use histories::Restart;
-use meanwhile::between::Between;
+use control::{CatalogRefusal, Copies, CopyRefusal, KeepsRoom, Metrics, Room};
+use histories::ResetDeadline;
+use interleave::between::Between;
 use slices::pace::Pace;
 use sqlite::Alter;
 use std::alloc::Global;
@@ -107,7 +107,7 @@ impl<'a, S: Alter, G: CopyTargets> Copies<SqlShelves<S>> for FileCopies<'a, G> {
         )
     }
 
-    fn catalog<O: Restart, B: Between<SqlShelves<S>>>(
+    fn catalog<O: ResetDeadline, B: Between<SqlShelves<S>>>(
         &self,
         alloc: Global,
         shelves: &mut SqlShelves<S>,
@@ -122,8 +122,8 @@ impl<'a, S: Alter, G: CopyTargets> Copies<SqlShelves<S>> for FileCopies<'a, G> {
         count_in(shelves)
     }
 
-    fn figures<'s>(&self, _shelves: &'s SqlShelves<S>) -> Figures<'s> {
-        Figures {
+    fn figures<'s>(&self, _shelves: &'s SqlShelves<S>) -> Metrics<'s> {
+        Metrics {
             bytes: size_of_file(self.host.rt, self.db),
             log: self.log_size(),
             copied: None,
@@ -255,9 +255,9 @@ fn catalogued(end: Result<bool, CatalogEnd>) -> Result<(), CatalogRefusal>
     match end {
         Ok(true) => Ok(()),
         Ok(false) => Err(CatalogRefusal::NoKey),
-        Err(CatalogEnd::Unprinted(Unprinted::Device)) => Err(CatalogRefusal::Device),
-        Err(CatalogEnd::Unprinted(Unprinted::Memory)) => Err(CatalogRefusal::Memory),
-        Err(CatalogEnd::Unprinted(Unprinted::Output)) => Err(CatalogRefusal::Output),
+        Err(CatalogEnd::PrintError(PrintError::Device)) => Err(CatalogRefusal::Device),
+        Err(CatalogEnd::PrintError(PrintError::Memory)) => Err(CatalogRefusal::Memory),
+        Err(CatalogEnd::PrintError(PrintError::Output)) => Err(CatalogRefusal::Output),
         Err(CatalogEnd::Ended) => Err(CatalogRefusal::Ended),
     }
 }

@@ -61,7 +61,7 @@ use Rattle.statements.proofs.AddZipLemmas.{adds_nothing}
 use Rattle.statements.proofs.DifferLemmas.{differ_is}
 use Rattle.statements.proofs.RowLemmas.{writing_of}
 use Rattle.statements.proofs.TransactionLemmas.{entry_means}
-use Rattle.meanwhile.specs.Meanwhile.{IsSince}
+use Rattle.interleave.specs.Interleave.{IsSince}
 use Rattle.slices.specs.Slices.{Lacks, AreNumbered, HoldsAllBut, HoldsPart, HoldsUpTo, IsVersionIn}
 use Rattle.slices.specs.declared.cursor.Cursor.{Cursor}
 use Rattle.slices.specs.declared.cursor.Part.{Part}

@@ -10,7 +10,7 @@ use Rattle.sqlite_rules.specs.Lists.{Has}
 use Rattle.world.specs.declared.entry.Place.{Place}
 use Rattle.world.specs.declared.entry.Entry.{Entry}
 use Rattle.world.specs.World.{World, place_cmp, heading_of}
-use Rattle.meanwhile.specs.Meanwhile.{IsSince}
+use Rattle.interleave.specs.Interleave.{IsSince}
 use Rattle.tables.specs.Inserted.{Inserted}
 use Rattle.tables.specs.Means.{Stands, StandFor}
 use Rattle.tables.specs.Pieces.{HasPiece, piece}

@@ -10,7 +10,7 @@ use crate::cursor::{Cursor, Part};
 use crate::pace::Pace;
 use crate::pieces::copy_pieces;
 use crate::versions::{Version, find_version, put_version};
-use meanwhile::newcomers::Newcomers;
+use interleave::newcomers::Newcomers;
 use sqlite::{Alter, Connection, Error, ErrorCode, Transaction};
 use statements::extract_rows::CopyError;
 use statements::meter::len_at;

@@ -10,8 +10,8 @@ use crate::pace::ForMessage;
 use crate::rest::drop_rest;
 use engine::{Io, answer_one};
 use histories::{
-    BoundRead, BoundWrite, Connection, HasCalls, Hear, Hearing, HearingInTime, Start, Tell,
-    Telling, TellingInTime,
+    BoundRead, BoundWrite, Connection, DeadlineReader, DeadlineWriter, HasCalls, Hear, Hearing,
+    Start, Tell, Telling,
 };
 use std::alloc::Global;
 use std::io::{Read, Write};
@@ -118,8 +118,8 @@ fn answer_since<
     ensures reads_in_time { KeepsTime time_for_message K.calls (⟦<Hearing<R> as HasCalls>⟧.calls result.reader) }
     ensures writes_in_time { KeepsTime time_for_message J.calls (⟦<Telling<W> as HasCalls>⟧.calls result.writer) }
 {
-    let mut request: HearingInTime<'_, C, ForMessage, K, R> = HearingInTime::new(reader, clock);
-    let mut reply: TellingInTime<'_, C, ForMessage, J, W> = TellingInTime::new(writer, clock);
+    let mut request: DeadlineReader<'_, C, ForMessage, K, R> = DeadlineReader::new(reader, clock);
+    let mut reply: DeadlineWriter<'_, C, ForMessage, J, W> = DeadlineWriter::new(writer, clock);
     let status = answer_one(alloc, routes, &mut request, &mut reply, shelves);
     Answered {
         reader: request.into_inner(),

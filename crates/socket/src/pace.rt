@@ -2,14 +2,14 @@
 ghost use Rattle.socket.specs.Pace as spec;
 
 use crate::bounds::{BYTES_A_SECOND, PATIENCE, REST_PATIENCE};
-use histories::Patience;
+use histories::Deadline;
 use std::time::Duration;
 
 /// The time for all reads of a message, and again for all writes of a reply.
 #[derive(Drop)]
 pub(crate) struct ForMessage;
 
-impl Patience for ForMessage {
+impl Deadline for ForMessage {
     ghost allowed = { spec.time_for_message };
 
     fn time_for(moved: u64) -> Duration {
@@ -23,7 +23,7 @@ impl Patience for ForMessage {
 #[derive(Drop)]
 pub(crate) struct ForRest;
 
-impl Patience for ForRest {
+impl Deadline for ForRest {
     ghost allowed = { spec.time_for_rest };
 
     fn time_for(_moved: u64) -> Duration {

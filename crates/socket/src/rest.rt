@@ -8,7 +8,7 @@ ghost use Rattle.socket.specs.Pace.{time_for_rest};
 
 use crate::bounds::MOST_DROPPED;
 use crate::pace::ForRest;
-use histories::{BoundRead, HasCalls, Hearing, HearingInTime, Start};
+use histories::{BoundRead, DeadlineReader, HasCalls, Hearing, Start};
 use std::io::{self, Read};
 use std::marker::Brand;
 use std::time::Clock;
@@ -45,7 +45,7 @@ fn drop_rest_since<C: Clock, K: Start, R: BoundRead + Drop>(
     requires { ⟦<Hearing<R> as HasCalls>⟧.calls reader ≡ K.calls }
     ensures { KeepsTime time_for_rest K.calls (⟦<Hearing<R> as HasCalls>⟧.calls result) }
 {
-    let mut rest: HearingInTime<'_, C, ForRest, K, R> = HearingInTime::new(reader, clock);
+    let mut rest: DeadlineReader<'_, C, ForRest, K, R> = DeadlineReader::new(reader, clock);
     if leaves_a_rest(status) || rest.stop_waiting().is_ok() {
         let _ = skip(&mut rest);
     }

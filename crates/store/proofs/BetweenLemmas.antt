@@ -5,9 +5,9 @@ use Rattle.std.specs.FinMap as map
 use Rattle.std.specs.FinSet as set
 use Rattle.sqlite.specs.State.{State, HasCleanDisk}
 use Rattle.sqlite_trees.specs.View.{doubt}
-use Rattle.kept.specs.declared.kept.Kept.{Kept}
-use Rattle.kept.specs.Kept.{AreKept}
-use Rattle.meanwhile.specs.Meanwhile.{IsAsItWas, IsSince, Notes}
+use Rattle.cache.specs.declared.caches.Caches.{Caches}
+use Rattle.cache.specs.Caches.{AreKept}
+use Rattle.interleave.specs.Interleave.{IsAsItWas, IsSince, Notes}
 use Rattle.slices.specs.Slices.{HoldsAllBut, HoldsPart, HoldsUpTo}
 use Rattle.slices.proofs.HoldLemmas.{begun, whole}
 use Rattle.slices.specs.declared.cursor.Cursor.{Cursor}
@@ -33,7 +33,7 @@ use Rattle.store.proofs.CountedLemmas.{counts_once, counts_same}
 use Rattle.store.proofs.ExtractedLemmas.{fills_at}
 
 -- a connection that was only read, with the same kept and count, is a store that is as it was
-pub only_read : (a b : State) (kept kept_new : Kept) (n n_new : ℕ) → Spares a b → kept_new ≡ kept → n_new ≡ n
+pub only_read : (a b : State) (kept kept_new : Caches) (n n_new : ℕ) → Spares a b → kept_new ≡ kept → n_new ≡ n
     → IsAsItWas (shown_with a kept n) (shown_with b kept_new n_new)
 only_read a b kept kept_new n n_new spares same count = record {
   honest = was_clean a b spares.clean;
@@ -48,7 +48,7 @@ one_world s w x clean shown one two =
     stand_for_one s.now.trees w x (one clean shown).trees.means (two clean shown).trees.means
 
 -- after a slice, whose connection is open, and a turn, the transaction holds what it held after the slice
-pub held_on : (a b : State) (kept kept_new : Kept) (n m : ℕ) (before after : set.FinSet place_cmp) (w : World)
+pub held_on : (a b : State) (kept kept_new : Caches) (n m : ℕ) (before after : set.FinSet place_cmp) (w : World)
     (next : Cursor) (reached : State)
     → Notes (shown_with a kept n) (shown_with b kept_new m) before after
     → (HasCleanDisk b → HasCleanDisk a) → HasCleanDisk b → (later : World) → (shown_with a kept n).stands later

@@ -3,7 +3,7 @@ use Rattle.std.proofs.Common.{◌≡◌, ◌≢◌, ◌<◌, ◌≤◌, ◌+◌,
 use Rattle.std.specs.FinMap as map
 use Rattle.world.specs.World.{World}
 use Rattle.statements.specs.Counted.{most_counted, versions_in}
-use Rattle.kept.specs.Total.{IsTotal}
+use Rattle.cache.specs.Total.{IsTotal}
 use Rattle.world.specs.declared.registry.StoreFault.{StoreFault}
 use Rattle.world.specs.declared.registry.StoreFault.TheVariants.{Device, Memory}
 use Rattle.store.specs.Counted.{counting}

@@ -7,9 +7,9 @@ use Rattle.tables.proofs.FailureLemmas.{was_clean}
 use Rattle.std.specs.Prelude.{OnOk, OnErr}
 use Rattle.statements.specs.Calls.{Spares, ChangesAt}
 use Rattle.store.specs.Shown.{shown_of, shown_with}
-use Rattle.kept.specs.declared.kept.Kept.{Kept}
-use Rattle.kept.specs.Kept.{AreKept, IsNothing}
-use Rattle.kept.proofs.KeptLemmas.{nothing_kept}
+use Rattle.cache.specs.declared.caches.Caches.{Caches}
+use Rattle.cache.specs.Caches.{AreKept, IsNothing}
+use Rattle.cache.proofs.KeptLemmas.{nothing_kept}
 use Rattle.setup.specs.Extracted.{IsRead, IsUnfit, AfterFill}
 use Rattle.setup.specs.Parts.{SaysOfCopy, FillsAt, FillsBy}
 use Rattle.store_files.specs.declared.refusal.StoreRefusal.{StoreRefusal}
@@ -58,7 +58,7 @@ after_fill old new x next (Err e) clean stands change = record {
 }
 
 -- what a crash leaves does not depend on what the store keeps
-pub fill_kept : (old new : State) (kept kept_new : Kept) (n n_new : ℕ) (x next : World)
+pub fill_kept : (old new : State) (kept kept_new : Caches) (n n_new : ℕ) (x next : World)
     (result : Result (Unit {0}) StoreRefusal)
     → AfterFill (shown_of old) (shown_of new) x result next
     → AfterFill (shown_with old kept n) (shown_with new kept_new n_new) x result next
@@ -95,7 +95,7 @@ on_err_both A (Ok u) b a = tt
 on_err_both A (Err e) b a = (a, b)
 
 -- so does what `FillsAt` says, if the fresh store keeps nothing
-pub fills_at_kept : (There : Type 0) (next x : World) (a b : State) (old new : Kept) (n m : ℕ)
+pub fills_at_kept : (There : Type 0) (next x : World) (a b : State) (old new : Caches) (n m : ℕ)
     (r : Result (Unit {0}) StoreRefusal) → IsNothing new → FillsAt (shown_of a) (shown_of b) There next x r
     → FillsAt (shown_with a old n) (shown_with b new m) There next x r
 fills_at_kept There next x a b old new n m r none it = record {
@@ -106,7 +106,7 @@ fills_at_kept There next x a b old new n m r none it = record {
 }
 
 -- so does what a store that was only read shows
-pub read_kept : (a b : State) (old new : Kept) (n m : ℕ) → IsNothing new → IsRead (shown_of a) (shown_of b)
+pub read_kept : (a b : State) (old new : Caches) (n m : ℕ) → IsNothing new → IsRead (shown_of a) (shown_of b)
     → IsRead (shown_with a old n) (shown_with b new m)
 read_kept a b old new n m none read = record {
   honest = read.honest;
@@ -116,7 +116,7 @@ read_kept a b old new n m none read = record {
 
 -- a fill holds with what the stores keep too, if the source keeps what it did, and the fresh store nothing
 pub fills_kept : (There : World → Type 0) (next : World → World) (a a_new b b_new : State)
-    (kept kept_new old new : Kept) (n n_new m m_new : ℕ) (r : Result (Unit {0}) StoreRefusal) → kept_new ≡ kept
+    (kept kept_new old new : Caches) (n n_new m m_new : ℕ) (r : Result (Unit {0}) StoreRefusal) → kept_new ≡ kept
     → IsNothing new → FillsBy There next (shown_of a) (shown_of a_new) (shown_of b) (shown_of b_new) r
     → FillsBy There next (shown_with a kept n) (shown_with a_new kept_new n_new) (shown_with b old m)
     (shown_with b_new new m_new) r

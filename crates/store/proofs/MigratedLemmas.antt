@@ -21,15 +21,15 @@ use Rattle.statements.proofs.ExtractLemmas.{unchanged_itself}
 use Rattle.older_rows.specs.Causes.{HasReasonIf}
 use Rattle.older_rows.specs.Filled.{IsOfTables}
 use Rattle.older_rows.specs.Filled.{Migrates as WritesWorld}
-use Rattle.kept.specs.Kept.{IsNothing}
+use Rattle.cache.specs.Caches.{IsNothing}
 use Rattle.store.specs.Shown.{shown_with}
 use Rattle.store.specs.Migrated.{IsForeign, IsVastOlder, IsOldOr, SaysOfMigration, MigratesAt, Migrates, HasCauseInOne}
 use Rattle.setup.specs.Opened.{IsOfOpening}
-use Rattle.kept.specs.declared.kept.Kept.{Kept}
+use Rattle.cache.specs.declared.caches.Caches.{Caches}
 use Rattle.store_files.specs.declared.refusal.StoreRefusal.{StoreRefusal}
 use Rattle.store_files.specs.declared.refusal.StoreRefusal.TheVariants as refusal
 use Rattle.setup.proofs.PutLemmas.{spared_at}
-use Rattle.kept.proofs.KeptLemmas.{nothing_kept}
+use Rattle.cache.proofs.KeptLemmas.{nothing_kept}
 use Rattle.setup.proofs.OpenLemmas.{device_hindered}
 use Rattle.store.proofs.ExtractedLemmas.{after_fill, fill_kept}
 
@@ -113,7 +113,7 @@ world_of db x w (inl was) = was.1.is
 world_of db x w (inr rest) = absurd (true≢false rest.0)
 
 -- a change from x to w, done if the result is Ok, migrates the store as `MigratesAt` says, with nothing kept after
-at_end : (db : Database) (old new : State) (kept kept_new : Kept) (n n_new : ℕ) (x w : World)
+at_end : (db : Database) (old new : State) (kept kept_new : Caches) (n n_new : ℕ) (x w : World)
     (r : Result (Unit {0}) StoreRefusal) → IsNothing kept_new → HasCleanDisk new → StandsFor old x
     → IsOldOr db x (is_ok r) w → ChangesAt old new (is_ok r) x w → SaysOfMigration x r
     → MigratesAt db (shown_with old kept n) (shown_with new kept_new n_new) x r
@@ -135,7 +135,7 @@ at_end db old new kept kept_new n n_new x w (Err e) none clean stands was change
 }
 
 -- what the call shows follows from what it did to the tables, since the fresh store keeps nothing
-migrated : (s t f g : State) (kept kept_new : Kept) (n n_new : ℕ) (r : Result (Unit {0}) StoreRefusal)
+migrated : (s t f g : State) (kept kept_new : Caches) (n n_new : ℕ) (r : Result (Unit {0}) StoreRefusal)
     → IsNothing kept_new → Moves s t f g r → Migrates s t (shown_with f kept n) (shown_with g kept_new n_new) r
 migrated s t f g kept kept_new n n_new r none moves = record {
   clean = moves.clean;
@@ -152,14 +152,14 @@ migrated s t f g kept kept_new n n_new r none moves = record {
       at_end s.now f g kept kept_new n n_new x it.0 r none good so.0 it.1 it.2 (moves.says good x so.0);
 }
 
-pub unwritten : (s f g : State) (kept kept_new : Kept) (n n_new : ℕ) (r : Result (Unit {0}) StoreRefusal)
+pub unwritten : (s f g : State) (kept kept_new : Caches) (n n_new : ℕ) (r : Result (Unit {0}) StoreRefusal)
     → IsNothing kept_new → is_ok r ≡ false → Spares f g
     → (HasCleanDisk g → (x : World) → StandsFor f x → SaysOfMigration x r)
     → Migrates s s (shown_with f kept n) (shown_with g kept_new n_new) r
 unwritten s f g kept kept_new n n_new r none undone spares says =
     migrated s s f g kept kept_new n n_new r none (untouched s f g r undone spares says)
 
-pub written : (format : Format) (s t f m g : State) (kept kept_new : Kept) (n n_new : ℕ)
+pub written : (format : Format) (s t f m g : State) (kept kept_new : Caches) (n n_new : ℕ)
     (r : Result (Unit {0}) StoreRefusal) → IsNothing kept_new → s.now.schema ≡ schema_of format → Spares f m
     → (HasCleanDisk m → (x : World) → StandsFor f x → IsTrue m.is_open × (x ≡ only_common))
     → WritesWorld format s t m g (is_ok r) → r ≢ Err refusal.NotEmpty

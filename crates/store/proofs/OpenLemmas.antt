@@ -16,9 +16,9 @@ use Rattle.world.specs.World.{World, only_common}
 use Rattle.tables.specs.Schema.{store_schema, no_schema}
 use Rattle.tables.specs.Means.{StandFor}
 use Rattle.store.specs.Shown.{shown_of, shown_with, BeginsAt}
-use Rattle.kept.specs.declared.kept.Kept.{Kept}
-use Rattle.kept.specs.Kept.{IsNothing}
-use Rattle.kept.proofs.KeptLemmas.{nothing_kept}
+use Rattle.cache.specs.declared.caches.Caches.{Caches}
+use Rattle.cache.specs.Caches.{IsNothing}
+use Rattle.cache.proofs.KeptLemmas.{nothing_kept}
 use Rattle.setup.specs.Opened.{Opens, IsBad}
 use Rattle.store.specs.Restart.{HoldsWorld, HoldsStore, HoldsNoStore, HoldsNoDatabase, IsBlank, RecoversStore}
 use Rattle.store.specs.Restart.{KeepsTrees, LeavesCommitted}
@@ -126,7 +126,7 @@ no_database_is_no_store image none w is (inr (inl unmade, common)) = none (inr u
 no_database_is_no_store image none w is (inr (inr bare, common)) = none (inl (bare.0, bare.1))
 
 -- a store begins at a world with what it keeps too, if it keeps nothing
-pub begins_empty : (s : State) (kept : Kept) (count : ℕ) (w : World) → IsNothing kept → BeginsAt (shown_of s) w
+pub begins_empty : (s : State) (kept : Caches) (count : ℕ) (w : World) → IsNothing kept → BeginsAt (shown_of s) w
     → BeginsAt (shown_with s kept count) w
 begins_empty s kept count w none it =
     record { honest = it.honest; stands = (it.stands, nothing_kept w kept none); left = it.left }

@@ -8,8 +8,8 @@ use Rattle.world.specs.World.{World, place, first_on, heading_of, without_zip}
 use Rattle.outline.specs.Seen.{seen_heading}
 use Rattle.outline.specs.declared.seen.SeenHeading.{SeenHeading}
 use Rattle.statements.specs.Reading.{entry_with}
-use Rattle.kept.specs.Zips.{IsZipAt}
-use Rattle.kept.proofs.ZipLemmas.{stands_on}
+use Rattle.cache.specs.Zips.{IsZipAt}
+use Rattle.cache.proofs.ZipLemmas.{stands_on}
 
 -- what is seen without the shelf is what is seen without the zip
 pub heading_seen : (seen : Option Seen)

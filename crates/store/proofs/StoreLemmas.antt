@@ -22,17 +22,17 @@ use Rattle.tables.specs.Means.{Stands, StandsFor}
 use Rattle.statements.specs.Calls.{Spares, LeavesOnly, ChangesAt}
 use Rattle.store.specs.Counted.{IsCounted}
 use Rattle.store.specs.Shown.{LeavesEither, shown_with}
-use Rattle.kept.specs.declared.kept.Kept.{Kept}
-use Rattle.kept.specs.Kept.{AreKept}
-use Rattle.kept.specs.declared.headings.KeptHeading.{KeptHeading}
-use Rattle.kept.specs.declared.keys.KeptKey.{KeptKey}
-use Rattle.kept.specs.Absences.{Lacking}
-use Rattle.kept.proofs.AbsenceLemmas.{none_absent, absences_still}
-use Rattle.kept.proofs.GroupLemmas.{groups_still}
-use Rattle.kept.proofs.HeadingLemmas.{headings_still}
-use Rattle.kept.proofs.ListLemmas.{Kept as Lists, no_lists, lists_still}
-use Rattle.kept.proofs.KeyLemmas.{keys_still}
-use Rattle.kept.proofs.RecentLemmas.{Held, none_held}
+use Rattle.cache.specs.declared.caches.Caches.{Caches}
+use Rattle.cache.specs.Caches.{AreKept}
+use Rattle.cache.specs.declared.headings.KeptHeading.{KeptHeading}
+use Rattle.cache.specs.declared.keys.KeptKey.{KeptKey}
+use Rattle.cache.specs.Absences.{Lacking}
+use Rattle.cache.proofs.AbsenceLemmas.{none_absent, absences_still}
+use Rattle.cache.proofs.GroupLemmas.{groups_still}
+use Rattle.cache.proofs.HeadingLemmas.{headings_still}
+use Rattle.cache.proofs.ListLemmas.{Caches as Lists, no_lists, lists_still}
+use Rattle.cache.proofs.KeyLemmas.{keys_still}
+use Rattle.cache.proofs.RecentLemmas.{Held, none_held}
 use Rattle.tables.proofs.FailureLemmas.{was_clean}
 
 pub narrow : (s : State) (w : World) → LeavesEither s w w → LeavesOnly s (λ x. x ≡ w)
@@ -72,7 +72,7 @@ pub no_answer : {X : Type 0} (P : X → Type 0) (s : Result X StoreFault) → Is
 no_answer P (Ok x) failed = absurd (true≢false (sym failed))
 no_answer P (Err e) failed = tt
 
-module _ {T : Type 0} (old new : State) (kept after : Kept) (before now : ℕ) where
+module _ {T : Type 0} (old new : State) (kept after : Caches) (before now : ℕ) where
   -- a read of the tables, which may keep what it found
   pub reads_keeping : (r : Result T StoreFault) (value : World → T) → Spares old new
       → HasCause (shown_with old kept before) (shown_with new after now) r
@@ -162,7 +162,8 @@ by_result (Ok x) a b = (a, tt)
 by_result (Err e) a b = (tt, b)
 
 -- a read of the tables that keeps nothing
-pub reads : {T : Type 0} (old new : State) (kept : Kept) (before now : ℕ) (r : Result T StoreFault) (value : World → T)
+pub reads : {T : Type 0} (old new : State) (kept : Caches) (before now : ℕ) (r : Result T StoreFault)
+    (value : World → T)
     → Spares old new
     → HasCause (shown_with old kept before) (shown_with new kept now) r
     → (HasCleanDisk new → (w : World) → StandsFor old w → IfOk r (λ x. x ≡ value w))
@@ -172,7 +173,7 @@ reads old new kept before now r value spares cause answer =
     (λ clean w stands right. (answer clean w stands, right))
 
 -- a read of the tables whose error is counted, and that keeps nothing
-pub reads_counted : {T : Type 0} (old new : State) (kept : Kept) (before now : ℕ) (given : Result T Error)
+pub reads_counted : {T : Type 0} (old new : State) (kept : Caches) (before now : ℕ) (given : Result T Error)
     (r : Result T StoreFault) (value : World → T)
     → Spares old new → IsCounted before now given r
     → (HasCleanDisk new → (w : World) → Stands old w → IfOk given (λ x. x ≡ value w))
@@ -182,7 +183,7 @@ reads_counted old new kept before now given r value spares counted answer =
     (λ clean w stands. counted_ok given r (λ x. x ≡ value w) counted.ok (answer clean w stands.0))
 
 -- a read of the tables whose error is counted and handed on, and that keeps nothing
-pub reads_counted_none : {T : Type 0} (old new : State) (kept : Kept) (before now : ℕ) (given : Result T Error)
+pub reads_counted_none : {T : Type 0} (old new : State) (kept : Caches) (before now : ℕ) (given : Result T Error)
     (fault : StoreFault) (r : Result T StoreFault) (value : World → T)
     → Spares old new → IsErr r × IsErrAnd r (λ e. e ≡ fault) → IsCounted before now given (Err fault)
     → Reads (shown_with old kept before) (shown_with new kept now) r value
@@ -192,7 +193,7 @@ reads_counted_none old new kept before now given fault r value spares failed cou
     (λ _ w _. no_answer (λ x. x ≡ value w) r failed.0)
 
 -- a read of what is kept, with no call on the tables
-pub reads_kept : {T : Type 0} (old : State) (kept after : Kept) (count : ℕ) (x : T) (value : World → T)
+pub reads_kept : {T : Type 0} (old : State) (kept after : Caches) (count : ℕ) (x : T) (value : World → T)
     → ((w : World) → AreKept w kept → (x ≡ value w) × AreKept w after)
     → Reads (shown_with old kept count) (shown_with old after count) (Ok x) value
 reads_kept old kept after count x value found = record {
@@ -203,7 +204,7 @@ reads_kept old kept after count x value found = record {
 }
 
 -- a read stays one if what is kept then changes and is still right
-pub reads_then : {T : Type 0} (start : Shown) (new : State) (kept after : Kept) (count : ℕ) (r : Result T StoreFault)
+pub reads_then : {T : Type 0} (start : Shown) (new : State) (kept after : Caches) (count : ℕ) (r : Result T StoreFault)
     (value : World → T) → Reads start (shown_with new kept count) r value
     → (HasCleanDisk new → (w : World) → start.stands w → AreKept w kept → AreKept w after)
     → Reads start (shown_with new after count) r value
@@ -289,7 +290,8 @@ reads_no_memory start mid end x y s value next other failed read then = record {
 }
 
 -- a read that keeps less is a read, if what is still kept is right
-pub reads_with_less : {T : Type 0} (old : State) (kept less : Kept) (count : ℕ) (end : Shown) (r : Result T StoreFault)
+pub reads_with_less : {T : Type 0} (old : State) (kept less : Caches) (count : ℕ) (end : Shown)
+    (r : Result T StoreFault)
     (value : World → T) → ((w : World) → AreKept w kept → AreKept w less)
     → Reads (shown_with old less count) end r value → Reads (shown_with old kept count) end r value
 reads_with_less old kept less count end r value right read = record {
@@ -300,7 +302,7 @@ reads_with_less old kept less count end r value right read = record {
 }
 
 -- a read of a shelf's group, and then a read of the tables along its chain, whose error is counted, is one read
-pub reads_along : {T : Type 0} (start : Shown) (mid new : State) (kept : Kept) (before now : ℕ) (shelf : List ℕ)
+pub reads_along : {T : Type 0} (start : Shown) (mid new : State) (kept : Caches) (before now : ℕ) (shelf : List ℕ)
     (group : Option (List ℕ)) (shelves : List (List ℕ)) (given : Result T Error) (r : Result T StoreFault)
     (value : World → List (List ℕ) → T)
     → shelves ≡ shelf ∷ above group → Reads start (shown_with mid kept before) (Ok group) (λ w. group_of w shelf)
@@ -323,7 +325,7 @@ reads_along start mid new kept before now shelf group shelves given r value alon
 }
 
 -- a change that is refused without a call on the tables
-pub refused : {T : Type 0} (old : State) (kept : Kept) (count : ℕ) (x : T) (value : World → T) (next : World → World)
+pub refused : {T : Type 0} (old : State) (kept : Caches) (count : ℕ) (x : T) (value : World → T) (next : World → World)
     → ((w : World) → (x ≡ value w) × (w ≡ next w))
     → Does (shown_with old kept count) (shown_with old kept count) (Ok x) value next
 refused old kept count x value next same = record {
@@ -345,7 +347,7 @@ refused old kept count x value next same = record {
 -- ---- the commands of the registry leave what is kept as it is, except for lists, headings and absences when a team is
 -- added, and for keys when one is revoked or all of a shelf are
 
-module _ (w : World) (kept : Kept) (right : AreKept w kept) where
+module _ (w : World) (kept : Caches) (right : AreKept w kept) where
   module _ (lists : Lists) (headings : Held KeptHeading) (absences : Lacking) (none : lists ≡ [])
       (none_too : headings ≡ []) (none_absences : absences ≡ map.empty) where
     pub kept_but_lists : AreKept w (record kept { lists = lists; headings = headings; absences = absences })

@@ -2,7 +2,7 @@
 use Rattle.std.specs.Prelude.{Bool, false, Result, Ok, Err}
 use Rattle.std.specs.FinSet as set
 use Rattle.sqlite.specs.State.{State}
-use Rattle.meanwhile.specs.Meanwhile.{IsSince}
+use Rattle.interleave.specs.Interleave.{IsSince}
 use Rattle.store_files.specs.declared.refusal.StoreRefusal.{StoreRefusal}
 use Rattle.store_files.specs.declared.refusal.StoreRefusal.TheVariants as refusal
 use Rattle.slices.specs.Slices.{HoldsUpTo}

@@ -1,11 +1,11 @@
-pub use Rattle.kept.specs.Kept
+pub use Rattle.cache.specs.Caches
 pub use Rattle.setup.specs.Opened
 pub use Rattle.setup.specs.Extracted
 pub use Rattle.setup.specs.Parts
 pub mod Shown
 pub mod Counted
 pub mod Names
-pub mod Restart
+pub mod ResetDeadline
 pub mod Migrated
 pub mod Older
 pub mod Still

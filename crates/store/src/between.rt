@@ -16,9 +16,9 @@ ghost use Rattle.store.specs.Shown.{shown_of, shown_with};
 
 use crate::extract::refusal_of;
 use crate::store::{SqlShelves, fault};
-use kept::kept::Kept;
-use meanwhile::between::{Between, Halt, HowFar};
-use meanwhile::newcomers::Newcomers;
+use cache::caches::Caches;
+use interleave::between::{Between, CopyProgress, TurnEnd};
+use interleave::newcomers::Newcomers;
 use setup::copy::copy_registry;
 use setup::judge::is_blank;
 use slices::cursor::Cursor;
@@ -70,7 +70,7 @@ impl<S: Alter> SqlShelves<S> {
             → FillsAt (shown_with (state F.Store fresh.old.conn) fresh.old.kept fresh.old.failures)
             (shown_with (state F.Store fresh.new.conn) fresh.new.kept fresh.new.failures) ⊤ w x (told result) }
     {
-        fresh.kept = Kept::new(fresh.alloc);
+        fresh.kept = Caches::new(fresh.alloc);
         self.copy_tables_between(fresh, pace, between)
     }
 
@@ -226,11 +226,11 @@ impl<S: Alter> SqlShelves<S> {
     {
         let next = copy_slice(&mut self.conn, tx, news, at, pace)?;
         let done = all.saturating_sub(next.left);
-        between.note_how_far(HowFar { done, all });
+        between.note_how_far(CopyProgress { done, all });
         match between.turn(self, news) {
             Ok(()) => Ok(Some(next)),
-            Err(Halt::Ended) => Ok(None),
-            Err(Halt::Memory) => Err(CopyError::Source(Error::SqliteFailure(
+            Err(TurnEnd::Ended) => Ok(None),
+            Err(TurnEnd::Memory) => Err(CopyError::Source(Error::SqliteFailure(
                 ErrorCode::OutOfMemory,
             ))),
         }

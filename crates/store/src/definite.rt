@@ -1,6 +1,6 @@
 //! Whether a store stands for one world.
 use crate::store::{SqlShelves, counted};
-use meanwhile::definite::Definite;
+use interleave::definite::Definite;
 use sqlite::Alter;
 use statements::registry::find_shelf;
 use world::names::COMMON;

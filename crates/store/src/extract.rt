@@ -7,7 +7,7 @@ ghost use Rattle.setup.specs.Parts.{ExtractsTeams};
 ghost use Rattle.store.specs.Shown.{shown_of, shown_with};
 
 use crate::store::{SqlShelves, fault};
-use kept::kept::Kept;
+use cache::caches::Caches;
 use setup::copy::copy_teams;
 use setup::judge::Judged;
 use sqlite::Alter;
@@ -53,7 +53,7 @@ impl<S: Alter> SqlShelves<S> {
         ensures cause { HasCauseInEither self.old.failures self.new.failures
             fresh.old.failures fresh.new.failures result }
     {
-        fresh.kept = Kept::new(fresh.alloc);
+        fresh.kept = Caches::new(fresh.alloc);
         self.extract_rows(teams, fresh, meter)
     }
 

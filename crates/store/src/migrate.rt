@@ -6,7 +6,7 @@ ghost use Rattle.store.specs.Migrated.{Migrates, HasCauseInOne};
 
 use crate::extract::refusal_of;
 use crate::store::{SqlShelves, fault};
-use kept::kept::Kept;
+use cache::caches::Caches;
 use older::schema::format_of;
 use older_rows::write::write_world;
 use setup::judge::is_blank;
@@ -36,7 +36,7 @@ pub fn migrate<S: Alter, F: Alter, M: Meter>(
     ensures cause { HasCauseInOne
         (state S.Store old.old) (state S.Store old.new) fresh.old.failures fresh.new.failures result }
 {
-    fresh.kept = Kept::new(fresh.alloc);
+    fresh.kept = Caches::new(fresh.alloc);
     match is_blank(&mut fresh.conn) {
         Ok(true) => {}
         Ok(false) => return Err(StoreRefusal::NotEmpty),

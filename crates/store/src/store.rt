@@ -9,7 +9,7 @@ ghost use Rattle.world.specs.World.{group_of, view};
 ghost use Rattle.store.specs.Counted.{IsCounted, counting};
 ghost use Rattle.store.specs.Restart.{LeavesCommitted};
 ghost use Rattle.store.specs.Shown.{shown_with};
-ghost use Rattle.kept.specs.Kept.{IsNothing, WeighsAtMost};
+ghost use Rattle.cache.specs.Caches.{IsNothing, WeighsAtMost};
 ghost use Rattle.outline.specs.Seen.{seen_heading};
 ghost use Rattle.tables.specs.Calls.{Honestly};
 ghost use Rattle.tables.specs.Causes.{IsHindered, IsVast};
@@ -17,13 +17,13 @@ ghost use Rattle.setup.specs.Opened.{Opens, IsBad, LeavesFirst, IsOfOpening};
 
 use crate::chain::Chain;
 use crate::seen::{heading_in, with_zip};
-use kept::absences::Absences;
-use kept::groups::{copied, group_in};
-use kept::headings::Headings;
-use kept::kept::Kept;
-use kept::keys::Keys;
-use kept::lists::Lists;
-use kept::total::raised;
+use cache::absences::Absences;
+use cache::caches::Caches;
+use cache::groups::{copied, group_in};
+use cache::headings::Headings;
+use cache::keys::Keys;
+use cache::lists::Lists;
+use cache::total::raised;
 use modpath::ModulePath;
 use modver::Version;
 use outline::outlines::{Outline, Outlines};
@@ -55,7 +55,7 @@ use world::versions::{highest, latest_left};
 #[derive(Drop)]
 pub struct SqlShelves<S: Alter> {
     pub(crate) conn: Connection<S>,
-    pub(crate) kept: Kept,
+    pub(crate) kept: Caches,
     pub(crate) failures: u64,
     pub(crate) alloc: Global,
 }
@@ -322,7 +322,7 @@ impl<S: Alter> SqlShelves<S> {
         match open_tables(alloc, &mut conn) {
             Ok(()) => Ok(SqlShelves {
                 conn,
-                kept: Kept::new(alloc),
+                kept: Caches::new(alloc),
                 failures: 0,
                 alloc,
             }),

@@ -1,4 +1,4 @@
-use Rattle.meanwhile.proofs.MeanwhileLemmas.{as_it_was}
+use Rattle.interleave.proofs.MeanwhileLemmas.{as_it_was}
 use Rattle.catalog.proofs.TurnLemmas.{fails_cut, line_cut, line_on, not_output_fails}
 use Rattle.catalog.proofs.between.print_line.Goals as goal
 

@@ -1,5 +1,5 @@
 use Rattle.std.proofs.Common.{◌∙◌, ap, subst, sym}
-use Rattle.meanwhile.proofs.MeanwhileLemmas.{as_it_was}
+use Rattle.interleave.proofs.MeanwhileLemmas.{as_it_was}
 use Rattle.catalog.specs.Catalog.{lines_at, lines_of_text}
 use Rattle.catalog.specs.Meanwhile.{PrintsOn, past}
 use Rattle.catalog.proofs.TurnLemmas.{memory_on, none_on}

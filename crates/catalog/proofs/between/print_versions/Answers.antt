@@ -2,7 +2,7 @@ use Rattle.std.proofs.Common.{◌≡◌, ◌∙◌, ◌∷◌, ◌+◌, Some, Ok
 use Rattle.std.proofs.lemmas.List.{at_drop_more, drop_all}
 use Rattle.std.proofs.lemmas.Option.{slice_get-get_or}
 use Rattle.std.specs.Prelude.{slice_get}
-use Rattle.meanwhile.proofs.MeanwhileLemmas.{as_it_was}
+use Rattle.interleave.proofs.MeanwhileLemmas.{as_it_was}
 use Rattle.catalog.specs.Catalog.{line_at, lines_by, marks_of}
 use Rattle.catalog.specs.Meanwhile.{PrintsOn, past}
 use Rattle.catalog.proofs.TurnLemmas.{fails_later, on_end, on_failed, on_first, on_next}

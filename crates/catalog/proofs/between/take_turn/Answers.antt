@@ -4,7 +4,7 @@ use Rattle.catalog.proofs.SinceLemmas.{reads_past}
 use Rattle.catalog.proofs.TurnLemmas.{fault_stays, never_output, turn_halts, turn_stays}
 use Rattle.catalog.specs.Meanwhile.{IsNotOutput, StaysOn, past}
 use Rattle.catalog.specs.declared.between.CatalogEnd.TheVariants as end
-use Rattle.catalog.specs.declared.print.Unprinted.TheVariants as why
+use Rattle.catalog.specs.declared.print.PrintError.TheVariants as why
 use Rattle.catalog.proofs.between.take_turn.Goals as goal
 
 pub returns-in-Ok-turn-clause-stays : goal.returns-in-Ok-turn-clause-stays
@@ -35,7 +35,7 @@ returns-in-Err-Ended-clause-went g c =
 pub returns-in-Err-Memory-clause-stays : goal.returns-in-Err-Memory-clause-stays
 returns-in-Err-Memory-clause-stays g c s =
     turn_halts _ _ _ c.args.news.now c.turn.new.news s c.in-Ok.ensures.reads c.in-Ok.ensures.one c.turn.ensures.honest
-    (g.met.B.Between.no_fewer _ _ _ _ c.turn.ensures.went) (end.Unprinted why.Memory)
+    (g.met.B.Between.no_fewer _ _ _ _ c.turn.ensures.went) (end.PrintError why.Memory)
     (λ failed. cc)
 
 pub returns-in-Err-Memory-clause-went : goal.returns-in-Err-Memory-clause-went

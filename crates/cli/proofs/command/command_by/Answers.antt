@@ -1,6 +1,6 @@
 use Rattle.std.proofs.Common.{inl, inr, refl, rules}
 use Rattle.clap.specs.Values.{kind_of}
-use Rattle.words.specs.Table.{texts}
+use Rattle.args.specs.Table.{texts}
 use Rattle.cli.proofs.Needed.{found}
 use Rattle.cli.proofs.Shown.{asked_for, error_shown, none_asked, none_shown}
 use Rattle.cli.proofs.command.command_by.Goals as goal

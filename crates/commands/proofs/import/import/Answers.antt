@@ -3,7 +3,7 @@ use Rattle.std.specs.List.{list_all}
 use Rattle.std.specs.Io.KnownBytes.{Appends}
 use Rattle.commands.specs.Import as spec
 use Rattle.commands.specs.ImportList.{HasRead}
-use Rattle.commands.specs.declared.import.Closing.TheVariants.{Unread}
+use Rattle.commands.specs.declared.import.Closing.TheVariants.{ReadError}
 use Rattle.commands.proofs.Imports.{all_more, appends_none, are_first, broken_off, closed, fails_later, lines_more}
 use Rattle.commands.proofs.Imports.{nothing_done, rows_more, through_idle, through_more}
 use Rattle.commands.proofs.import.import.Goals as goal
@@ -88,7 +88,7 @@ returns-clause-imports g c =
     let (done_rows, so) = c.loop-number.invariant in
     let n : ℕ = 18446744073709551615 in
     closed (g.F.Sources.known c.args.sources.now) c.args.key.now _ _ (g.L.Read.remaining c.args.list) _ _ _ done_rows n
-    Unread c.loop-number.accepted c.close-2.result
+    ReadError c.loop-number.accepted c.close-2.result
     (are_first g.L.Read.remaining (g.L.Read.remaining c.args.list) done_rows _ so.read) so.through
     (inl (omega (arith, so.count), tt)) so.accepted so.printed c.close-2.ensures.closes
 

@@ -1,7 +1,7 @@
 use Rattle.std.proofs.Common.{refl, subst, sym}
 use Rattle.std.specs.Io.KnownBytes.{Appends}
 use Rattle.control.specs.Outcome.{outcome_of_catalog}
-use Rattle.control.specs.declared.told.Told.TheVariants as spoken
+use Rattle.control.specs.declared.control_reply.ControlReply.TheVariants as spoken
 use Rattle.control.proofs.HearingLemmas.{hears_catalog, obeys_cut, obeys_told}
 use Rattle.control.proofs.obeying.print_for.Goals as goal
 

@@ -9,7 +9,7 @@ use Rattle.machine.proofs.step.answer_publish.Goals as goal
 
 pub returns-clause-does : goal.returns-clause-does
 returns-clause-does g c =
-    let shown = g.S.NotedShelves.shown in
+    let shown = g.S.TracedShelves.shown in
     let read = c.in_ok-holder.ensures.reads in
     let does = c.publish_to.ensures.does in
     record {
@@ -17,7 +17,7 @@ returns-clause-does g c =
       at = λ h w stands _.
           let key = read.at (does.honest h) w stands in
           let found : map.get w.keys c.args.key.now ≡ Some c.in-Some.holder = sym key.answer ∙ c.in-Some.is in
-          let there = (g.met.S.NotedShelves.sound _ w stands).keys_stand _ _ found in
+          let there = (g.met.S.TracedShelves.sound _ w stands).keys_stand _ _ found in
           let then =
           subst (λ o. DoesAt (shown c.key.new.self) (shown c.publish_to.new.shelves) w c.publish_to.result
           (decision w o c.args.publish.now) (after_decision w o c.args.publish.now (decision w o c.args.publish.now)))

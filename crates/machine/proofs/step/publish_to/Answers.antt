@@ -11,7 +11,7 @@ pub returns-in-Err-clause-does : goal.returns-in-Err-clause-does
 returns-in-Err-clause-does g c =
     let h = c.args.holder.now in
     let p = c.args.publish.now in
-    let shown = g.S.NotedShelves.shown c.args.shelves.now in
+    let shown = g.S.TracedShelves.shown c.args.shelves.now in
     let refused : own_refusal p h.right ≡ Some c.in-Err.refused =
     sym c.in_ok-entry.ensures.refusal ∙ ap result_err c.in-Err.is in
     record {
@@ -40,7 +40,7 @@ returns-in-Err-clause-needs g c = λ h w stands.
 pub returns-in_err-decision-clause-does : goal.returns-in_err-decision-clause-does
 returns-in_err-decision-clause-does g c =
     read_failed _ _ _ c.in_err-decision.field-0.0 c.from_residual-in_err-decision.result _ _ _
-    (λ w x. g.met.S.NotedShelves.wider c.judge_by_shelf.new.shelves w x) c.from_residual-in_err-decision.ensures.1
+    (λ w x. g.met.S.TracedShelves.wider c.judge_by_shelf.new.shelves w x) c.from_residual-in_err-decision.ensures.1
     c.in_err-decision.ensures.reads
 
 pub returns-in_err-decision-clause-needs : goal.returns-in_err-decision-clause-needs

@@ -7,7 +7,7 @@ use Rattle.machine.proofs.step.store.Goals as goal
 
 pub returns-clause-does : goal.returns-clause-does
 returns-clause-does g c =
-    let shown = g.S.NotedShelves.shown in
+    let shown = g.S.TracedShelves.shown in
     let h = c.args.holder.now in
     let p = c.args.publish.now in
     let does = rw c.as_str-shelf.ensures at c.insert.ensures.does in

@@ -2,7 +2,7 @@ use Rattle.std.proofs.Common.{inl}
 use Rattle.sqlite.specs.Held.{state}
 use Rattle.store_files.proofs.HistoryLemmas.{opened_closed}
 use Rattle.control.proofs.TaskLemmas.{read_none}
-use Rattle.meanwhile.proofs.MeanwhileLemmas.{as_it_was}
+use Rattle.interleave.proofs.MeanwhileLemmas.{as_it_was}
 use Rattle.store.specs.Shown.{shown_with}
 use Rattle.runner.proofs.copies.copy_to.Goals as goal
 

@@ -5,7 +5,7 @@ use Rattle.world.specs.World.{World}
 use Rattle.tables.specs.Means.{Stands}
 use Rattle.statements.specs.Calls.{Spares}
 use Rattle.statements.specs.Rows.{GoesOn}
-use Rattle.meanwhile.specs.Meanwhile.{IsSince}
+use Rattle.interleave.specs.Interleave.{IsSince}
 use Rattle.slices.specs.Slices.{HoldsUpTo}
 use Rattle.slices.proofs.slice.copy_slice.Given as goal
 

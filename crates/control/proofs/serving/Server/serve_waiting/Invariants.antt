@@ -1,6 +1,6 @@
 use Rattle.std.proofs.Common.{◌≡◌, true}
 use Rattle.socket.specs.Connections.{both}
-use Rattle.meanwhile.specs.Noted.{IsNoted, with_said}
+use Rattle.interleave.specs.Noted.{IsNoted, with_said}
 use Rattle.control.specs.Notices.{WritesNotices}
 use Rattle.control.specs.Serving.{Serves}
 use Rattle.control.proofs.serving.Server.serve_waiting.Given as goal

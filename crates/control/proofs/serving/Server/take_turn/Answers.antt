@@ -1,7 +1,7 @@
 use Rattle.std.proofs.Common.{◌≡◌, rules, subst, sym, ◌∙◌, false}
 use Rattle.world.specs.World.{World}
-use Rattle.meanwhile.specs.Meanwhile.{Notes}
-use Rattle.meanwhile.specs.Noted.{IsNoted}
+use Rattle.interleave.specs.Interleave.{Notes}
+use Rattle.interleave.specs.Noted.{IsNoted}
 use Rattle.control.proofs.UnnotedLemmas.{newcomers_noted, noted_first, serves_unnoted}
 use Rattle.control.proofs.serving.Server.take_turn.Goals as goal
 

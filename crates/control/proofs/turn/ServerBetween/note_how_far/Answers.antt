@@ -1,4 +1,4 @@
-use Rattle.meanwhile.proofs.MeanwhileLemmas.{as_it_was}
+use Rattle.interleave.proofs.MeanwhileLemmas.{as_it_was}
 use Rattle.control.specs.Serving.{turns_rest}
 use Rattle.control.proofs.turn.ServerBetween.note_how_far.Goals as goal
 

@@ -31,8 +31,8 @@ use denote.Triple.Table.{entered}
 use denote.Triple.Walked.{says, Stays, stay_ref, stay_none_ref, stay_none_slice, walk_of, AllGo, Goes-ref}
 use denote.Triple.Walked.{Goes-none_ref, Goes-none_slice, Walks, ends_at, walked, walk_Meets}
 use Rattle.machine.specs.Calls.{call_by}
-use Rattle.machine.specs.declared.noted_shelves.Outcome.{Outcome}
-use Rattle.machine.specs.contracts.noted_shelves.Outcome as O
+use Rattle.machine.specs.declared.traced_shelves.Outcome.{Outcome}
+use Rattle.machine.specs.contracts.traced_shelves.Outcome as O
 use Rattle.machine.specs.declared.noted.Noted.{Noted}
 use Rattle.machine.specs.contracts.noted.Noted as T
 use Rattle.machine.specs.contracts.noted.Noted.note.Key.{name as #it}

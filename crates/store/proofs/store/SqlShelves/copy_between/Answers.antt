@@ -1,6 +1,6 @@
 use Rattle.std.proofs.Common.{sym, subst}
 use Rattle.sqlite.specs.Held.{state}
-use Rattle.kept.specs.Kept.{IsNothing}
+use Rattle.cache.specs.Caches.{IsNothing}
 use Rattle.store.specs.Between.{told}
 use Rattle.store.proofs.ExtractedLemmas.{fills_at_kept, read_kept}
 use Rattle.store.proofs.store.SqlShelves.copy_between.Goals as goal

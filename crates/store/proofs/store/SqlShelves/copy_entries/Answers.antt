@@ -1,6 +1,6 @@
 use Rattle.std.proofs.Common.{true, Option, IfSome, refl, subst, ◌∙◌}
 use Rattle.sqlite.specs.Held.{state}
-use Rattle.meanwhile.proofs.MeanwhileLemmas.{as_it_was}
+use Rattle.interleave.proofs.MeanwhileLemmas.{as_it_was}
 use Rattle.slices.specs.declared.cursor.Cursor.{Cursor}
 use Rattle.statements.proofs.GoingLemmas.{goes_on_itself, goes_on_then}
 use Rattle.tables.proofs.FailureLemmas.{was_clean}

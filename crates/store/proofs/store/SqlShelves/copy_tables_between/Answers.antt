@@ -1,7 +1,7 @@
 use Rattle.std.proofs.Common.{◌∙◌, true≢false, Ok, Err, sym, subst}
 use Rattle.sqlite.specs.Held.{state}
 use Rattle.sqlite.specs.State.{HasCleanDisk}
-use Rattle.meanwhile.proofs.MeanwhileLemmas.{as_it_was}
+use Rattle.interleave.proofs.MeanwhileLemmas.{as_it_was}
 use Rattle.store_files.specs.declared.refusal.StoreRefusal.TheVariants as refusal
 use Rattle.statements.specs.Calls.{ChangesAt}
 use Rattle.tables.proofs.FailureLemmas.{was_clean}

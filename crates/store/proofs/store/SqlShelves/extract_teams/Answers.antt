@@ -1,6 +1,6 @@
 use Rattle.std.specs.Prelude.{map as each}
 use Rattle.std.proofs.Common.{sym, subst}
-use Rattle.kept.specs.Kept.{IsNothing}
+use Rattle.cache.specs.Caches.{IsNothing}
 use Rattle.setup.specs.Parts.{AreTeams, part_of_teams}
 use Rattle.store.proofs.ExtractedLemmas.{fills_kept}
 use Rattle.store.proofs.store.SqlShelves.extract_teams.Goals as goal

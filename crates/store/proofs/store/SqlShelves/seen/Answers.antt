@@ -1,7 +1,7 @@
 use Rattle.std.proofs.Common.{◌≡◌, true, Some, None, sym, ap, arith, rules}
 use Rattle.sqlite.specs.Held.{state}
 use Rattle.outline.specs.Seen.{seen_heading}
-use Rattle.kept.proofs.RecentLemmas.{fewer_held}
+use Rattle.cache.proofs.RecentLemmas.{fewer_held}
 use Rattle.world.proofs.Causes.{answers}
 use Rattle.store.proofs.StoreLemmas.{reads_kept, reads_failed, reads_next, reads_with_less}
 use Rattle.store.proofs.store.SqlShelves.seen.Goals as goal

@@ -4,7 +4,7 @@ use Rattle.world.specs.Lines.{in_order}
 use Rattle.world.specs.Versions.{named, by_precedence}
 use Rattle.world.specs.Visible.{versions_on}
 use Rattle.world.specs.World.{above}
-use Rattle.kept.proofs.ListLemmas.{fewer}
+use Rattle.cache.proofs.ListLemmas.{fewer}
 use Rattle.store.proofs.StoreLemmas.{reads_kept, reads_with_less, reads_along, reads_failed}
 use Rattle.store.proofs.store.SqlShelves.take_versions.Goals as goal
 

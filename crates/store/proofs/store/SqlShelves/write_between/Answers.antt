@@ -1,7 +1,7 @@
 use Rattle.std.proofs.Common.{◌≡◌, IsTrue, true, false, refl, subst, rules}
 use Rattle.sqlite.specs.Held.{state}
 use Rattle.sqlite.specs.State.{HasCleanDisk}
-use Rattle.meanwhile.proofs.MeanwhileLemmas.{as_it_was}
+use Rattle.interleave.proofs.MeanwhileLemmas.{as_it_was}
 use Rattle.world.specs.World.{only_common}
 use Rattle.tables.specs.Means.{Stands}
 use Rattle.tables.proofs.FailureLemmas.{was_clean}

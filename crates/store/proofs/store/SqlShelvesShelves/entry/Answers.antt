@@ -3,7 +3,7 @@ use Rattle.modver.specs.SemanticVersion.{version_text}
 use Rattle.world.specs.World.{chain, view}
 use Rattle.world.proofs.Causes.{answers, handed_on, in_turn}
 use Rattle.store.proofs.StoreLemmas.{reads_failed}
-use Rattle.kept.proofs.ZipLemmas.{fewer_zips, stands_on}
+use Rattle.cache.proofs.ZipLemmas.{fewer_zips, stands_on}
 use Rattle.store.proofs.SeenLemmas.{none_seen, whole}
 use Rattle.store.proofs.store.SqlShelvesShelves.entry.Goals as goal
 

@@ -1,13 +1,13 @@
 use Rattle.std.proofs.Common.{Ok, subst}
 use Rattle.sqlite.specs.Held.{state}
-use Rattle.kept.specs.Absences.{AreAbsent}
-use Rattle.kept.specs.Lists.{AreLists}
+use Rattle.cache.specs.Absences.{AreAbsent}
+use Rattle.cache.specs.Lists.{AreLists}
 use Rattle.world.specs.World.{World, place, with_entry}
 use Rattle.modver.specs.SemanticVersion.{version_text}
 use Rattle.world.proofs.Sound.{entry_added}
-use Rattle.kept.proofs.RecentLemmas.{none_held}
+use Rattle.cache.proofs.RecentLemmas.{none_held}
 use Rattle.store.proofs.StoreLemmas.{changes, changes_failed, answer_unit}
-use Rattle.kept.proofs.ZipLemmas.{zips_still}
+use Rattle.cache.proofs.ZipLemmas.{zips_still}
 use Rattle.store.proofs.store.SqlShelvesShelves.insert.Goals as goal
 
 pub returns : goal.returns

@@ -1,6 +1,6 @@
 use Rattle.std.proofs.Common.{◌∙◌, Some, Ok, sym}
 use Rattle.sqlite.specs.Held.{state}
-use Rattle.kept.proofs.RecentLemmas.{fewer_held}
+use Rattle.cache.proofs.RecentLemmas.{fewer_held}
 use Rattle.store.proofs.StoreLemmas.{counted_cause, reads_counted_none, reads_kept, reads_keeping, reads_with_less}
 use Rattle.store.proofs.store.SqlShelvesShelves.key.Goals as goal
 

@@ -1,0 +1,11 @@
+pub mod Groups
+pub mod Recent
+pub mod Total
+pub mod Lists
+pub mod Zips
+pub mod Headings
+pub mod Keys
+pub mod Weights
+pub mod Counts
+pub mod Absences
+pub mod Caches

@@ -1,0 +1,13 @@
+use Rattle.histories.proofs.TimingLemmas.{moves, fails}
+use Rattle.histories.proofs.deadline_reader.DeadlineReaderHear.hear.Goals as goal
+
+pub invariant_of-self-in-Break-1 : goal.invariant_of-self-in-Break-1
+invariant_of-self-in-Break-1 g c = record {
+  since = fails _ _ _ _ _ c.in_err-n.ensures.noted c.in_default.ensures.ready;
+}
+
+pub invariant_of-self-2 : goal.invariant_of-self-2
+invariant_of-self-2 g c = record {
+  since = rw c.count.ensures.first
+      (moves _ _ _ _ _ _ _ c.in_ok-n.ensures.noted c.count.ensures.moved c.in_default.ensures.ready);
+}

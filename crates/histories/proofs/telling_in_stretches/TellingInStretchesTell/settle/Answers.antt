@@ -1,4 +1,0 @@
-use Rattle.histories.proofs.telling_in_stretches.TellingInStretchesTell.settle.Goals as goal
-
-pub invariant_of-self : goal.invariant_of-self
-invariant_of-self g c = record { since = rw c.settle.ensures.waits c.args.self.now.since }

@@ -1,4 +1,0 @@
-use Rattle.histories.proofs.telling_in_time.TellingInTimeTell.tell.Goals as goal
-
-pub invariant_of-self : goal.invariant_of-self
-invariant_of-self g c = record { since = c.tell_in_time.ensures.since _ c.args.self.now.since }

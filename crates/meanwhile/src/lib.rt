@@ -1,9 +1,0 @@
-//! What happens to a store while it is copied: the versions that are published since the copy began, the trait
-//! [`between::Between`] of what is served between two slices of it, and the store that is lent for that and notes what
-//! is published, [`noting::Noting`].
-#![tactic(auto)]
-
-pub mod between;
-pub mod definite;
-pub mod newcomers;
-pub mod noting;

@@ -23,7 +23,7 @@ use Rattle.gomod.proofs.Lists.{cond-append, pointwise-append, last_of, empty_lis
 use Rattle.gomod.proofs.Moves.{Move, blank, single, begins, inside, closes, IsFresh, keywords_more, items_more}
 use Rattle.gomod.proofs.Moves.{keywords_in-move, items-move}
 use Rattle.gomod.proofs.Written.{same_keyword, written-move}
-use Rattle.gomod.proofs.WriteError.{written-back}
+use Rattle.gomod.proofs.Unwritten.{written-back}
 use Rattle.gomod.proofs.Contexts.{context_at, stands, IsAlone, module_same, written-alone}
 use Rattle.gomod.proofs.EntryMeaning.{IsRetractEntryAt, AreMeant, path_list}
 use Rattle.gomod.proofs.LineLaw.{Says, move_says, says_move}

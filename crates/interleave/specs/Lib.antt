@@ -1,2 +1,2 @@
-pub mod Meanwhile
+pub mod Interleave
 pub mod Noted

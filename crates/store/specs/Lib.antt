@@ -5,7 +5,7 @@ pub use Rattle.setup.specs.Parts
 pub mod Shown
 pub mod Counted
 pub mod Names
-pub mod ResetDeadline
+pub mod Restart
 pub mod Migrated
 pub mod Older
 pub mod Still

@@ -102,7 +102,7 @@ pub revokes_as_on_the_store : (made : Making → Type 0)
     → RevokesAsOnTheStore made pinged idle meanwhile old new
 revokes_as_on_the_store made pinged idle meanwhile old new f result w two honest stands =
     let asks = subst (λ told. Asks two.unread two.unread_new (Some []) (Some two.sent)
-        (orders.RevokeByFingerprint f) told)
+    (orders.RevokeByFingerprint f) told)
     two.heard two.command.asks in
     let sends : IsLineOf two.sent (orders.RevokeByFingerprint f) =
     subst (λ got. IsLineOf got (orders.RevokeByFingerprint f)) (sym asks.2) asks.1 in

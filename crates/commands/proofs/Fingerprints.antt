@@ -49,7 +49,7 @@ module _ (f : List ℕ) (unsaid : HasNoLine (orders.RevokeByFingerprint f)) wher
       go true is =
           let it = has_line word fits in
           absurd (unsaid it.0 (subst (λ w. IsLineOf it.0 (orders.RevokeByFingerprint w))
-              ((bytes_decides word f).0 is) it.1))
+          ((bytes_decides word f).0 is) it.1))
 
   -- so no key has one that has none
   no_key_has : (k : List ℕ) → has k f ≡ false

@@ -184,9 +184,9 @@ module _ {L : Type 0} (all : L → Passed → Type 0) (before after : List (Done
   abbrev pub RevokesTo : List ℕ → Result (Unit {0}) CommandRefusal → Type 0
   RevokesTo f result =
       (HasLine (orders.RevokeByFingerprint f)
-          × AsksServer all before after path (RevokesBy f result) (result ≡ Err Device))
+      × AsksServer all before after path (RevokesBy f result) (result ≡ Err Device))
       ⊎ (IsIdle before after × HasNoLine (orders.RevokeByFingerprint f) × (result ≡ Err NoKey)
-          × EndsNamedInEach f result)
+      × EndsNamedInEach f result)
 
   -- the server of this path was told to end, and no other
   abbrev pub StopsTo : Result (Unit {0}) CommandRefusal → Type 0

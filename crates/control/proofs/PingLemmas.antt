@@ -64,7 +64,7 @@ module _ (known : Metrics → Type 0) (pinged : Result Health StoreFault → Typ
 -- what is told of versions that were counted
 pub tells_counted : (known : Metrics → Type 0) (tally : Tally) (before now : ℕ) (counted : ℕ → Type 0)
     (health : Health) (told : ControlReply) → health.tally ≡ tally → health.store_failures ≡ now
-        → counted health.versions
+    → counted health.versions
     → known health.figures → IsLineFor health told → TellsPing known (IsPinged tally before now counted) told
 tells_counted known tally before now counted health told same failures versions is line =
     tells_ping known (IsPinged tally before now counted) health told (same, failures, versions) is line

@@ -12,7 +12,17 @@ STYLE = """:root { color-scheme: light dark }
 body { font: 1rem/1.5 sans-serif; max-width: 60rem; margin: 2rem auto; padding: 0 1rem }
 table { border-collapse: collapse }
 th, td { text-align: left; padding: .3rem 1rem .3rem 0 }
-pre { padding: 1rem; border: 1px solid; white-space: pre-wrap; overflow-wrap: anywhere }"""
+pre { padding: 1rem; border: 1px solid; white-space: pre-wrap; overflow-wrap: anywhere }
+@media (max-width: 48rem) {
+table, tbody, tr, td { display: block; overflow-wrap: anywhere }
+tr { padding: .5rem 0; border-top: 1px solid }
+tr:first-child { display: none }
+td { padding: 0 }
+td:nth-child(2)::before { content: "Shelf: " }
+td:nth-child(3)::before { content: "Right: " }
+td:nth-child(4)::before { content: "Fingerprint: " }
+td:nth-child(5)::before { content: "Last day: " }
+}"""
 STYLE_SUM = base64.b64encode(hashlib.sha256(STYLE.encode()).digest()).decode()
 # (a referrer of this host goes to this host, or a browser would name no origin of a form)
 HEADERS = {
@@ -76,7 +86,7 @@ def listing(
 ) -> str:
     """Returns the page of a person's keys, with forms that make one and revoke one."""
     rows = "".join(row(key, token) for key in keys)
-    heads = "".join(f"<th>{head}</th>" for head in HEADS)
+    heads = "".join(f'<th scope="col">{head}</th>' for head in HEADS)
     table = f"<table><tr>{heads}</tr>{rows}</table>" if rows else "<p>You have none.</p>"
     forms = "".join(makes(shelf, right, until, token) for shelf, (right, until) in sorted(rights.items()))
     if len(keys) >= most:

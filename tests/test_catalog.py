@@ -340,7 +340,7 @@ class TestSetUp:
 
     @pytest.mark.parametrize("shelf", NAMED)
     def test_paths_at_which_the_shelf_publishes(self, shelf: str) -> None:
-        owned = "".join(f"<code>{path}</code>" for path, who in OWNERS.items() if shelf in who)
+        owned = ", ".join(f"<code>{path}</code>" for path, who in OWNERS.items() if shelf in who)
         rest = f"publishes at and below: {owned}, but not below" if owned else "has no path yet to publish at"
         assert f"<p>The shelf {shelf} {rest}" in Page(f"{shelf}/index.html").text
 

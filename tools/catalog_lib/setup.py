@@ -191,7 +191,7 @@ NOT_OFFERED = (
 TAG = (
     "<p>In a clone that has the tag (<code>git tag v1.2.3</code>), with a key that publishes. <code>TAG</code> is "
     "<code>v1.2.3</code>, or <code>log/v1.2.3</code> for a module in the folder <code>log</code>. "
-    "With <code>--check</code> it tries all and publishes nothing.</p>\n"
+    'With <code class="word">--check</code> it tries all and publishes nothing.</p>\n'
 )
 SOON = "<p>These pages have the version a few minutes later.</p>\n"
 
@@ -200,7 +200,7 @@ def owned(it, shelf):
     """At which paths the shelf publishes."""
     if not it.own:
         return html("<p>The shelf {} has no path yet to publish at: ask an operator for one.</p>\n", shelf.name)
-    paths = [[" " if at else "", html("<code>{}</code>", path)] for at, path in enumerate(it.own)]
+    paths = [[", " if at else "", html("<code>{}</code>", path)] for at, path in enumerate(it.own)]
     told = "<p>The shelf {} publishes at and below: {}, but not below a longer path that is another shelf's.</p>\n"
     return html(told, shelf.name, paths)
 

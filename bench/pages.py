@@ -71,9 +71,11 @@ def filled(file, modules, readmes):
 
 def make(name, port, *words):
     """Makes the pages, and prints what that cost."""
-    tool = [os.path.join(ROOT, "tools", "catalog"), "--to", "pages", "--shelf", "alpha", "--today", "2026-11-30"]
+    # (`env` may find a shim of pyenv first, which takes a tenth of a second)
+    tool = [sys.executable, os.path.join(ROOT, "tools", "catalog"), "--to", "pages", "--shelf", "alpha"]
+    tool += ["--today", "2026-11-30", "--port", str(port), "--key-file", "key"]
     began = time.monotonic()
-    child = subprocess.Popen([*tool, "--port", str(port), "--key-file", "key", *words, "lines"], stdout=subprocess.PIPE)
+    child = subprocess.Popen([*tool, *words, "lines"], stdout=subprocess.PIPE)
     told = child.stdout.read().decode().strip()
     _, status, usage = os.wait4(child.pid, 0)
     if status != 0:

@@ -11,9 +11,12 @@ import shlex
 import subprocess
 import sys
 from collections.abc import Iterator
+from contextlib import ExitStack
 
 import pytest
 
+from catalog_lib.held import Held
+from catalog_lib.lines import Refused
 from catalog_lib.markup import html
 from lib import catalog_lines
 from lib.catalog_pages import Page
@@ -380,3 +383,22 @@ def test_gomod_that_requires_the_same_twice(folder: str) -> None:
 def test_any_value_is_escaped_once() -> None:
     wanted = '<a title="&quot;&gt;&lt;script&gt;alert(1)&lt;/script&gt;">&lt;<b>&amp;&#x27;</b></a>'
     assert html('<a title="{}">{}</a>', EVIL, ["<", html("<b>{}</b>", "&'")]) == wanted
+
+
+def test_lines_of_a_pipe_are_taken(folder: str) -> None:
+    write({"lines": line_of(Latest=True)})
+    words = "--shelf alpha --today 2026-11-28"
+    subprocess.run(
+        f"cat lines | {TOOL} --to pipe {words} /dev/stdin && {TOOL} --to file {words} lines", shell=True, check=True
+    )
+    assert read("pipe/index.html") == read("file/index.html")
+
+
+def test_lines_that_change_meanwhile_are_refused(folder: str) -> None:
+    write({"lines": line_of()})
+    with ExitStack() as stack:
+        held = Held("lines", stack)
+        held.check()
+        write({"lines": line_of(Version="v1.1.0") * 2})
+        with pytest.raises(Refused, match="^lines: it changed while it was read$"):
+            held.check()

@@ -20,6 +20,8 @@ MADE = ".made"
 # the style that says on each page how old it is and how much needs attention: a page that did not change stays the same
 # file
 STAMP = "parts/made.css"
+# as many bytes are written at once
+BUFFER = 1 << 20
 # a folder of as many files has a spare
 SPARE_LEAST = 2_000
 
@@ -244,7 +246,7 @@ def replace(at, content):
 
 def replace_by(at, parts):
     """The same of a content in parts."""
-    with open(f"{at}.new", "wb") as file:
+    with open(f"{at}.new", "wb", BUFFER) as file:
         file.writelines(parts)
     os.replace(f"{at}.new", at)
 

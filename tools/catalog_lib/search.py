@@ -4,7 +4,7 @@ It is a module of JavaScript, so a page of another site that names it as a scrip
 """
 import json
 from bisect import bisect_right
-from collections import Counter
+from collections import Counter, defaultdict
 from itertools import chain
 
 from catalog_lib.text import COMMON, shortened
@@ -55,11 +55,12 @@ class Counts:
         return " ".join(sorted(words.split(), key=lambda it: self.counts[it].bit_length()))
 
 
-def script(modules, counts):
-    """Returns the bytes of the script, and how many words of a README it has at most, or None if it has all."""
+def script(modules, counts, guess=0):
+    """Returns the bytes of the script, and how many words of a README it has at most, or None if it has all. `guess` is
+    what the last run found, or 0."""
     lines = lines_of(modules)
-    ranked = [it.words.split() for it in modules]
-    rounds = rounds_that_fit(ranked, counts, BYTES_MOST - len(literal(lines)) - 2)
+    ranked = [it.words.split(" ") if it.words else [] for it in modules]
+    rounds = rounds_that_fit(ranked, counts, BYTES_MOST - len(literal(lines)) - 2, guess)
     longest = max(map(len, ranked), default=0)
     while len(made := literal(f"{lines}\n\n{words_of(ranked, rounds)}")) > BYTES_MOST and rounds:
         rounds -= 1
@@ -73,9 +74,11 @@ def literal(text):
 def lines_of(modules):
     """The lines of the modules, with as much of what they are for, and of the names of packages, as fits."""
     begins = begins_of(modules)
-    left = LINES_MOST - sum(map(len, begins))
+    # (a newline is two letters of the script)
+    left = LINES_MOST - sum(map(len, begins)) - 2 * len(begins)
+    lengths = [Counter(len(it.synopsis) for it in modules), Counter(len(it.packages) for it in modules)]
     for cut in CUTS:
-        if cut == CUTS[-1] or least_length(modules, *cut) <= left:
+        if cut == CUTS[-1] or least_length(*lengths, *cut) <= left:
             made = joined(modules, begins, *cut)
             if len(literal(made)) <= LINES_MOST:
                 break
@@ -94,9 +97,12 @@ def begins_of(modules):
     return found
 
 
-def least_length(modules, synopsis, packages):
-    """Returns a number of bytes that the rest of the lines exceeds with these cuts."""
-    return sum(min(len(it.synopsis), synopsis) + min(len(it.packages), packages) for it in modules)
+def least_length(synopses, names, synopsis, packages):
+    """Returns a number of bytes that the rest of the lines exceeds with these cuts, of how many synopses and names of
+    packages there are of each length."""
+    # (two signs stand before a synopsis)
+    told = sum((min(it, synopsis) + 2) * count for it, count in synopses.items() if it and synopsis)
+    return told + sum(min(it, packages) * count for it, count in names.items())
 
 
 def joined(modules, begins, synopsis, packages):
@@ -127,8 +133,9 @@ def base36(number):
     return "0123456789abcdefghijklmnopqrstuvwxyz"[number]
 
 
-def rounds_that_fit(ranked, counts, left):
-    """Returns how many words of each README fit into these bytes, as far as that is known before they are written."""
+def rounds_that_fit(ranked, counts, left, guess):
+    """Returns how many words of each README fit into these bytes, as far as that is known before they are written. It
+    is found soon if it is the guess."""
     lengths = {it: length_of(len(ranked), count) for it, count in counts.items()}
     longest = max(map(len, ranked), default=0)
 
@@ -139,6 +146,8 @@ def rounds_that_fit(ranked, counts, left):
 
     if not is_too_long(longest):
         return longest
+    if 0 < guess < longest - 1 and is_too_long(guess + 1) and not is_too_long(guess):
+        return guess
     return bisect_right(range(1, longest), False, key=is_too_long)
 
 
@@ -149,13 +158,10 @@ def length_of(modules, count):
 
 def words_of(ranked, rounds):
     """The words, each with the numbers of the modules that have it among their first ones."""
-    places = {}
+    places = defaultdict(list)
     for number, words in enumerate(ranked):
         for word in words[:rounds]:
-            if word in places:
-                places[word].append(number)
-            else:
-                places[word] = [number]
+            places[word].append(number)
     texts = [digits(number) for number in range(len(ranked))]
     found, before = [], ""
     for word in sorted(places):

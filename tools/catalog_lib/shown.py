@@ -43,7 +43,7 @@ def rank_words(shelf, readings, before, most):
         counts.add(words.get(path, ""), 1)
     moved = counts.moved()
     for path, module in shelf.modules.items():
-        if path in words or not moved.isdisjoint(module.words.split()):
+        if path in words or (moved and not moved.isdisjoint(module.words.split())):
             module.lines = None, module.lines[1]
             module.words = counts.ranked(words.get(path) or cut_words(readings.words_of(module), most))
     return counts.counts

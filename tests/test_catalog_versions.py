@@ -11,6 +11,7 @@ from collections.abc import Iterator
 import pytest
 
 from lib.catalog_pages import Page
+from lib.catalog_store import line_of, tool
 from lib.catalog_zips import lines_of, made_pages, published
 from lib.go_command import settings
 from lib.keys import KEYS, SHELVES
@@ -196,3 +197,42 @@ class TestGoAgrees:
     @pytest.mark.parametrize("text", ["use <i>example.com/told.", "loses <b>lines"])
     def test_go_list_has_the_text(self, went: tuple[str, str], text: str) -> None:
         assert text in went[1]
+
+
+# what alpha and common have of modules, each with its fields, and the finding if there is one
+LATEST = {
+    "ahead": (
+        [("v1.0.0", "common", ""), ("v1.1.0", "own", "Latest")],
+        "v1.0.0",
+        "v1.1.0|alpha|v1.0.0|common|a lower version",
+    ),
+    "moved": ([("v1.1.0", "own", ""), ("v1.2.0", "common", "Latest")], "v1.2.0", ""),
+    "retracted": (
+        [("v1.0.0", "own", "Latest"), ("v1.1.0", "common", "Retracted"), ("v1.1.1", "own", "Retracted")],
+        "v1.1.0",
+        "v1.0.0|alpha|v1.1.0|common|retracted here",
+    ),
+    "same": ([("v1.0.0", "own", "Latest")], "v1.0.0", ""),
+}
+
+
+def test_health_says_which_of_two_shelves_answers(folder: str) -> None:
+    """A module's latest version may be another on common, until common has that of the shelf, or a higher one."""
+
+    def made(to: str, more: str) -> list[str]:
+        own = [
+            line_of(Path=name, Version=version, Shelf=shelf, **({mark: True} if mark else {}))
+            for name, (versions, *_) in LATEST.items()
+            for version, shelf, mark in versions
+        ]
+        there = [(name, version, not more or name != "ahead") for name, (_, version, _) in LATEST.items()]
+        there[1:1] = [("ahead", more, True)] if more else []
+        above = [line_of(Path=name, Version=version, Latest=is_latest or None) for name, version, is_latest in there]
+        write({"common.lines": "".join(above)})
+        status, _, errors = tool("--to", to, "--shelf", "alpha", "--common", "common.lines", lines="".join(own))
+        assert (status, errors) == (0, "")
+        return Page(f"{to}/health/index.html").table_of("latest")
+
+    wanted = [f"{name}|{row}" for name, (*_, row) in LATEST.items() if row]
+    assert made("alpha", "") == wanted
+    assert made("alpha", "v1.1.0") == made("anew", "v1.1.0") == wanted[1:]

@@ -1,6 +1,7 @@
 """The page of what needs attention on a shelf, and of what changed."""
 from catalog_lib import checks
 from catalog_lib.markup import Html, cell, code, count, date, html, link, linked, number, page, row, section, table
+from catalog_lib.setup import unbroken
 from catalog_lib.taken import by
 
 
@@ -19,6 +20,12 @@ FINDINGS = (
         "The same version with other content on two shelves",
         "Publish the next version to one shelf only. Compared are go.mod, time and the zip's size.",
         ("Module", "Version", "Here", "And on"),
+    ),
+    (
+        "latest",
+        "Another latest version on a shelf above",
+        "Who does not see this shelf gets the other one. Publish the next version to that shelf.",
+        ("Module", "Latest here", "From", "Latest there", "On", "Why not here"),
     ),
     (
         "retired",
@@ -49,13 +56,23 @@ def found_in(shelf, module):
     return found
 
 
+def latest_row(module, names, there, name):
+    """Returns the row of a module whose latest version is another than on a shelf above, which is its own; no row if it
+    is the same. A shelf sees what those above it have, so it passes a latest version over only for these reasons."""
+    if there in (None, module.latest):
+        return []
+    why = "retracted here" if module.versions.get(there) else "a lower version"
+    return [(module.path, module.latest or "all retracted", names.get(module.shelf, ""), there, name, why)]
+
+
 def findings(shelf, differences):
-    """The findings of the health page, each as in FINDINGS, and its rows: the module, and what was found in it."""
+    """The findings of the health page, each as in FINDINGS, and its rows: the module, and what was found in it.
+    `differences` has those of findings that compare shelves."""
     rows = {name: [] for name, *_ in (*FINDINGS, *checks.FINDINGS)}
     for module in shelf.modules.values():
         for name, found in module.found.items():
             rows[name] += [(module, *it) for it in found]
-    rows["differing"] = differences
+    rows |= differences
     # (where nothing was read there is no finding)
     is_read = any("versions.html" in it.files for it in shelf.modules.values())
     return [(*it, rows[it[0]]) for it in (*FINDINGS, *(checks.FINDINGS if is_read else ()))]
@@ -73,11 +90,20 @@ def finding_rows(place, shelf, name, found):
             row(link(place, path), code(version), cell(own, "here"), cell(above, "and on"))
             for path, version, own, above in found
         ]
+    if name == "latest":
+        return [
+            row(link(place, path), *latest_cells(here, unbroken(own), there, unbroken(above), why))
+            for path, here, own, there, above, why in found
+        ]
     if name == "retired":
         return [row(link(place, it.path), number(it.count, "versions")) for (it,) in found]
     if name == "unreleased":
         return [row(link(place, it.path), code(it.latest or ""), cell(kinds, "has only")) for it, kinds in found]
     return checks.rows(place, shelf, name, found)
+
+
+def latest_cells(here, own, there, above, why):
+    return code(here, "here"), cell(own, "of"), code(there, "but"), cell(above, "on"), cell(why, "why")
 
 
 def health_page(place, shelf, found):

@@ -275,8 +275,8 @@ def as_read(path):
 
 
 def differing(shelf, above, word, source, known):
-    """Returns for each path of a shelf: the sums of its lines there and on a shelf above, and the versions that both
-    have with another go.mod, size of the zip or time.
+    """Returns for each path of a shelf: the sums of its lines there and on a shelf above, the versions that both have
+    with another go.mod, size of the zip or time, and the latest version above if it is on that shelf itself.
 
     `word` is what `Shelf` calls that shelf, and `known` has what this returned before: a path of the same sums is taken
     from there. Refuses lines of another shelf: they lack a version that is seen there."""
@@ -288,9 +288,14 @@ def differing(shelf, above, word, source, known):
         before = known.get(path, [])
         if before[:2] != sums:
             lines = {line.version: line for line in lines_in(above, other, source)} if other else {}
-            before = [*sums, differing_versions(shelf.lines(module), lines, word, source)]
+            versions = differing_versions(shelf.lines(module), lines, word, source)
+            before = [*sums, versions, next((it.version for it in lines.values() if is_own_latest(it)), None)]
         found[path] = before
     return found
+
+
+def is_own_latest(line):
+    return line.is_latest and line.shelf == "own"
 
 
 def differing_versions(lines, above, word, source):

@@ -6,7 +6,7 @@ use Rattle.world.specs.declared.registry.StoreFault.{StoreFault}
 use Rattle.machine.specs.Machine.{after}
 use Rattle.keyring.specs.Revoke.{after_revoke_with, revoked_with}
 use Rattle.control.specs.Copying.{Making}
-use Rattle.control.specs.Hearing.{Heeds}
+use Rattle.control.specs.Hearing.{Handles}
 use Rattle.control.specs.RegistryCommand.{event_of, outcome_in}
 use Rattle.control.specs.declared.health.Health.{Health}
 use Rattle.orders.specs.declared.command.RegistryCommand.{RegistryCommand}
@@ -26,7 +26,7 @@ pub record AreConnected (made : Making → Type 0)
   pub told : Outcome
   pub command : OrdersOver unread unread_new (Some []) (Some sent) order result
   pub heard : command.told ≡ Ok told
-  pub server : Heeds made pinged idle meanwhile old new sent [] (spoken.Outcome told)
+  pub server : Handles made pinged idle meanwhile old new sent [] (spoken.Outcome told)
 
 -- The command ends by the machine's reply to the order in this world, and the store stands for the world after it. Or
 -- it ends by a fault of the store, which still stands for this world.
@@ -56,7 +56,7 @@ pub record AreConnectedToRevoke
   pub told : Outcome
   pub command : RevokesOver unread unread_new (Some []) (Some sent) f result
   pub heard : command.told ≡ Ok told
-  pub server : Heeds made pinged idle meanwhile old new sent [] (spoken.Outcome told)
+  pub server : Handles made pinged idle meanwhile old new sent [] (spoken.Outcome told)
 
 -- The command ends by the outcome of revoking the key that has this fingerprint in this world, and the store stands for
 -- the world after that. Or it ends by a fault of the store, which still stands for this world.

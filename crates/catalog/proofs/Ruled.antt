@@ -1,7 +1,6 @@
 -- What a path says, and its lines, by what was read of it.
-use Rattle.std.proofs.Common.{◌≡◌, ◌∙◌, ◌++◌, ℕ, List, Option, Some, None, Ok, Result, refl, sym, ap, subst, IfOk}
+use Rattle.std.proofs.Common.{◌≡◌, ◌∙◌, ℕ, List, Option, Some, None, Ok, refl, sym, ap, subst}
 use Rattle.gomod.specs.Module.{GoModule}
-use Rattle.keyring.specs.Reading.{Adds, filled}
 use Rattle.modver.specs.SemanticVersion.{SemanticVersion}
 use Rattle.world.proofs.Causes.{answers, in_turn}
 use Rattle.world.proofs.SeenVersions.{versions_fit}
@@ -9,9 +8,8 @@ use Rattle.world.specs.Latest.{AllOf, highest, highest_left, latest_by, latest_o
 use Rattle.world.specs.Store.{Shown, Reads}
 use Rattle.world.specs.Versions.{versions_of}
 use Rattle.world.specs.World.{World, IsWorld}
-use Rattle.world.specs.declared.registry.StoreFault.{StoreFault}
-use Rattle.catalog.specs.Catalog.{lines_by, lines_of_path, ruling, ruling_at}
-use Rattle.catalog.specs.Sight.{Facts, facts_of}
+use Rattle.catalog.specs.Catalog.{ruling, ruling_at}
+use Rattle.catalog.specs.Sight.{facts_of}
 
 -- the latest version by the go.mod of the highest
 latest_left : (w : World) (s p : List ℕ) (top : Option SemanticVersion)
@@ -50,25 +48,4 @@ module _ (seen_of : World → World) (s p : List ℕ) where
         };
     cause = answers old new _ (in_turn old two new first (Ok m) (in_turn old one two vs (Ok first) listed.cause
         ruled.cause) again.cause).no_fewer;
-  }
-
-  -- the lines by what the path says are those of the path
-  pub path_adds : (old mid new : Shown) (latest : Option SemanticVersion) (vs : List SemanticVersion)
-      (m : Option GoModule) (before after : List ℕ) (told : Result (Unit {0}) StoreFault)
-      → Reads old mid (Ok (record { versions = vs; ruling = m; latest = latest })) (λ w. facts_of (seen_of w) s p)
-      → Adds mid new before after told (λ w. lines_by (seen_of w) s p m latest vs)
-      → Adds old new before after told (λ w. lines_of_path (seen_of w) s p)
-  path_adds old mid new latest vs m before after told read adds = record {
-    honest = λ h. read.honest (adds.honest h);
-    at = λ h w stands.
-        let facts = read.at (adds.honest h) w stands in
-        let done = adds.at h w facts.stays in
-        let same : lines_by (seen_of w) s p m latest vs ≡ lines_of_path (seen_of w) s p =
-        ap (λ (it : Facts). lines_by (seen_of w) s p it.ruling it.latest it.versions) facts.answer in
-        record {
-          answer = subst (λ lines. IfOk (filled told after) (λ x. x ≡ before ++ lines)) same done.answer;
-          stays = done.stays;
-          left = λ x y was. done.left x y (facts.left x y was);
-        };
-    cause = in_turn old mid new _ (filled told after) read.cause adds.cause;
   }

@@ -66,6 +66,15 @@ fault_stays a b f value read = record {
 
 -- ---- turns
 
+-- without a turn it is what it was
+pub stays_itself : (a : Shown) → StaysOn {T = Unit {0}} a a (Ok tt)
+stays_itself a = record {
+  honest = λ h. h;
+  at = λ h w stands. stands;
+  no_fewer = omega arith;
+  device = λ failed. absurd (let e = failed in cc);
+}
+
 module _ (a b c : Shown) (before after : set.FinSet place_cmp) (s : List ℕ) (read : Reads {T = Unit {0}} a b (Ok tt) (λ _. tt))
     (one : (w : World) → a.stands w → StandsForOne b) (honest : c.is_honest → b.is_honest) (no_fewer : b.failures ≤ c.failures) where
   -- after a turn with a store that stands for one world, it has come of the worlds of which it had come before

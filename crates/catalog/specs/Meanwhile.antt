@@ -1,5 +1,5 @@
 -- How much of a catalog reached an output that was printed a line at a time, with turns of others between two lines.
-use Rattle.std.specs.Prelude.{◌≡◌, ◌<◌, ◌≤◌, ℕ, Bool, true, false, List, Option, Some, None, Result, Ok, Err}
+use Rattle.std.specs.Prelude.{◌≡◌, ◌<◌, ◌≤◌, ℕ, Bool, true, List, Option, Result}
 use Rattle.std.specs.Prelude.{IfErr, IsErrOf, OnOk}
 use Rattle.std.specs.FinMap as map
 use Rattle.std.specs.FinSet as set
@@ -10,7 +10,7 @@ use Rattle.world.specs.Store.{Shown, GrewOrFull}
 use Rattle.world.specs.World.{World, IsWorld, place_cmp}
 use Rattle.world.specs.declared.entry.Holder.{Holder}
 use Rattle.world.specs.declared.registry.StoreFault.{StoreFault}
-use Rattle.catalog.specs.Printing.{IsFront, lines_of_key, unread}
+use Rattle.catalog.specs.Printing.{AnswersKey, IsFront, lines_of_key, unread}
 use Rattle.catalog.specs.declared.between.CatalogEnd.{CatalogEnd}
 use Rattle.catalog.specs.declared.between.CatalogEnd.TheVariants as end
 use Rattle.catalog.specs.declared.print.PrintError.TheVariants as why
@@ -88,19 +88,13 @@ unread_on fault = end.PrintError (unread fault)
 
 -- ---- of a key
 
--- `true` means that there is such a key, and `false` that there is none
-abbrev pub AnswersOn : Option Holder → Result Bool CatalogEnd → Type 0
-AnswersOn held (Ok true) = (h : Holder) × (held ≡ Some h)
-AnswersOn held (Ok false) = held ≡ None
-AnswersOn held (Err e) = Unit {0}
-
 -- in this world all lines of the key were printed, exactly one for each version that its shelf sees, or a beginning of
 -- them and then there was a failure
 pub record PrintsKeyAt (w : World) (held : Option Holder) (result : Result Bool CatalogEnd) (printed : List ℕ) : Type 0
   where
     pub all : OnOk result (printed ≡ lines_of_key held w)
     pub front : IsFront printed (lines_of_key held w)
-    pub answers : AnswersOn held result
+    pub answers : AnswersKey held result
 
 -- If the disks are honest to the end, so it is in each world that the store stood for before the call, whatever came
 -- to it meanwhile. Honest or not, a fault of a device has a cause.

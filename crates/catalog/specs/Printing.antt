@@ -56,7 +56,7 @@ lines_of_key None w = []
 lines_of_key (Some h) w = lines_seen w h.shelf
 
 -- `true` means that there is such a key, and `false` that there is none
-abbrev pub AnswersKey : Option Holder → Result Bool PrintError → Type 0
+abbrev pub AnswersKey : {E : Type 0} → Option Holder → Result Bool E → Type 0
 AnswersKey held (Ok true) = (h : Holder) × (held ≡ Some h)
 AnswersKey held (Ok false) = held ≡ None
 AnswersKey held (Err e) = Unit {0}

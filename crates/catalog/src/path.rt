@@ -1,4 +1,5 @@
-//! The lines of a path, read from a store. A call fails if the store meets a fault or memory runs out.
+//! What a path says, and the line of a version, read from a store. A call fails if the store meets a fault or memory
+//! runs out.
 ghost use Rattle.std.specs.Prelude.{◌≡◌, ◌++◌, List, Option, Some, IfOk, OnOk, map, option_copied, slice_get};
 ghost use Rattle.gomod.specs.Module.{GoModule};
 ghost use Rattle.modver.specs.SemanticVersion.{SemanticVersion};
@@ -6,18 +7,18 @@ ghost use Rattle.keyring.specs.Reading.{Adds};
 ghost use Rattle.world.specs.Store.{Reads};
 ghost use Rattle.catalog.specs.Catalog as spec;
 ghost use Rattle.catalog.specs.Line.{rest};
-ghost use Rattle.catalog.specs.Sight.{facts_in, facts_of};
+ghost use Rattle.catalog.specs.Sight.{facts_in, facts_of, without};
 
 use crate::line::{Marks, home, push_gomod, push_marks, push_names, push_sums, push_time};
-use crate::sight::Sight;
+use crate::sight::{heading_before, outline_before, versions_before};
 use gomod::GoMod;
+use interleave::newcomers::Newcomers;
+use keyring::Keyring;
 use modpath::ModulePath;
 use modver::Version;
 use outline::outlines::{Outline, Outlines};
 use std::alloc::{AllocError, Global};
-use world::bytes::Bytes;
 use world::entry::Heading;
-use world::forms::path_of;
 use world::reading::gomod_in;
 use world::registry::StoreFault;
 use world::version_list::Versions;
@@ -36,78 +37,24 @@ pub(crate) struct Account {
     latest: Option<Version>,
 }
 
-/// Returns the lines of the path that a text is, one for each version that the shelf sees, by precedence; no line if
-/// the text is no path. (SemVer 2.0.0, section 11.)
-pub(crate) fn lines_of<S: Outlines, V: Sight<S>>(
+/// Returns what a path said before the newcomers.
+pub(crate) fn account_of<S: Outlines + Keyring>(
     alloc: Global,
-    sight: &V,
-    shelves: &mut S,
-    shelf: &str,
-    text: &str,
-) -> Result<Bytes, StoreFault>
-    ensures { Reads (S.shown shelves.old) (S.shown shelves.new) result
-        (λ w. spec.lines_of_text (V.world sight.now w) shelf.now text.now) }
-{
-    let mut lines = Vec::new(alloc);
-    add_text(alloc, sight, shelves, shelf, text, &mut lines)?;
-    Ok(Bytes::new(lines))
-}
-
-/// Adds the lines of the path that a text is.
-fn add_text<S: Outlines, V: Sight<S>>(
-    alloc: Global,
-    sight: &V,
-    shelves: &mut S,
-    shelf: &str,
-    text: &str,
-    lines: &mut Vec<u8>,
-) -> Result<(), StoreFault>
-    ensures { Adds (S.shown shelves.old) (S.shown shelves.new) lines.old.items lines.new.items result
-        (λ w. spec.lines_of_text (V.world sight.now w) shelf.now text.now) }
-{
-    let Some(path) = path_of(alloc, text)? else {
-        return Ok(());
-    };
-    add_path(alloc, sight, shelves, shelf, &path, lines)
-}
-
-/// Adds the lines of a path.
-fn add_path<S: Outlines, V: Sight<S>>(
-    alloc: Global,
-    sight: &V,
-    shelves: &mut S,
-    shelf: &str,
-    path: &ModulePath,
-    lines: &mut Vec<u8>,
-) -> Result<(), StoreFault>
-    ensures { Adds (S.shown shelves.old) (S.shown shelves.new) lines.old.items lines.new.items result
-        (λ w. spec.lines_of_path (V.world sight.now w) shelf.now path.now) }
-{
-    let account = account_of(alloc, sight, shelves, shelf, path)?;
-    let versions = account.versions.as_slice();
-    add_versions(
-        alloc, sight, shelves, shelf, path, versions, &account, lines,
-    )
-}
-
-/// Returns what a path says.
-pub(crate) fn account_of<S: Outlines, V: Sight<S>>(
-    alloc: Global,
-    sight: &V,
+    news: &Newcomers,
     shelves: &mut S,
     shelf: &str,
     path: &ModulePath,
 ) -> Result<Account, StoreFault>
     ensures reads { Reads (S.shown shelves.old) (S.shown shelves.new) (facts_in result)
-        (λ w. facts_of (V.world sight.now w) shelf.now path.now) }
+        (λ w. facts_of (without w news.now) shelf.now path.now) }
     ensures flags { IfOk result (λ account. account.retracted.items
         ≡ map (spec.is_retracted_by account.ruling) account.versions) }
 {
-    let versions = sight.versions(alloc, shelves, shelf, path)?;
+    let versions = versions_before(alloc, news, shelves, shelf, path)?;
     let top = highest(versions.as_slice());
-    let first = ruling(alloc, sight, shelves, shelf, path, top)?;
+    let first = ruling(alloc, news, shelves, shelf, path, top)?;
     let latest = latest_left(alloc, versions.as_slice(), first)?;
-    let ruling = ruling(alloc, sight, shelves, shelf, path, top)?;
+    let ruling = ruling(alloc, news, shelves, shelf, path, top)?;
     let retracted = retracted(alloc, &ruling, versions.as_slice())?;
     Ok(Account {
         versions,
@@ -117,22 +64,22 @@ pub(crate) fn account_of<S: Outlines, V: Sight<S>>(
     })
 }
 
-/// Returns what the go.mod of the highest version of a path says, or None if there is no version.
-fn ruling<S: Outlines, V: Sight<S>>(
+/// Returns what the go.mod of the highest version of a path said before the newcomers, or None if it had no version.
+fn ruling<S: Outlines + Keyring>(
     alloc: Global,
-    sight: &V,
+    news: &Newcomers,
     shelves: &mut S,
     shelf: &str,
     path: &ModulePath,
     top: Option<&Version>,
 ) -> Result<Option<GoMod>, StoreFault>
     ensures { Reads (S.shown shelves.old) (S.shown shelves.new) result
-        (λ w. spec.ruling_at (V.world sight.now w) shelf.now path.now (option_copied top.entry)) }
+        (λ w. spec.ruling_at (without w news.now) shelf.now path.now (option_copied top.entry)) }
 {
     let Some(top) = top else {
         return Ok(None);
     };
-    let heading = sight.heading(alloc, shelves, shelf, path, top)?;
+    let heading = heading_before(alloc, news, shelves, shelf, path, top)?;
     Ok(gomod_in(alloc, heading)?)
 }
 
@@ -148,30 +95,6 @@ fn retracted(
         Some(gomod) => gomod.retracted(alloc, versions),
         None => versions.iter().map(|_| false).collect(alloc),
     }
-}
-
-/// Adds the lines of the versions of a path.
-fn add_versions<S: Outlines, V: Sight<S>>(
-    alloc: Global,
-    sight: &V,
-    shelves: &mut S,
-    shelf: &str,
-    path: &ModulePath,
-    versions: &[Version],
-    account: &Account,
-    lines: &mut Vec<u8>,
-) -> Result<(), StoreFault>
-    ensures { (m : Option GoModule) → account.now.retracted.items ≡ map (spec.is_retracted_by m) versions.now
-        → Adds (S.shown shelves.old) (S.shown shelves.new) lines.old.items lines.new.items result
-        (λ w. spec.lines_by (V.world sight.now w) shelf.now path.now m account.now.latest versions.now) }
-{
-    let mut index = 0;
-    for version in versions {
-        let marks = marks(account, index, version);
-        add_version(alloc, sight, shelves, shelf, path, version, marks, lines)?;
-        index += 1;
-    }
-    Ok(())
 }
 
 /// Returns what a path says of its version at an index.
@@ -196,10 +119,10 @@ fn is_that(latest: &Option<Version>, version: &Version) -> bool
     }
 }
 
-/// Adds the line of a version, if the shelf sees it.
-pub(crate) fn add_version<S: Outlines, V: Sight<S>>(
+/// Adds the line of a version, if the shelf saw it before the newcomers.
+pub(crate) fn add_version<S: Outlines + Keyring>(
     alloc: Global,
-    sight: &V,
+    news: &Newcomers,
     shelves: &mut S,
     shelf: &str,
     path: &ModulePath,
@@ -208,12 +131,12 @@ pub(crate) fn add_version<S: Outlines, V: Sight<S>>(
     lines: &mut Vec<u8>,
 ) -> Result<(), StoreFault>
     ensures { Adds (S.shown shelves.old) (S.shown shelves.new) lines.old.items lines.new.items result
-        (λ w. spec.line_at (V.world sight.now w) shelf.now path.now version.now marks) }
+        (λ w. spec.line_at (without w news.now) shelf.now path.now version.now marks) }
 {
-    let Some(heading) = sight.heading(alloc, shelves, shelf, path, version)? else {
+    let Some(heading) = heading_before(alloc, news, shelves, shelf, path, version)? else {
         return Ok(());
     };
-    let Some(outline) = sight.outline(alloc, shelves, shelf, path, version)? else {
+    let Some(outline) = outline_before(alloc, news, shelves, shelf, path, version)? else {
         return Ok(());
     };
     push_names(lines, path, version)?;

@@ -1,10 +1,14 @@
-//! A store as it is, or as it was before some versions came to it.
+//! What a shelf saw before some versions came to the store. One of them may hide an older one from the shelf, so what
+//! the shelf saw of that is looked up on each shelf that it sees. A call fails if the store meets a fault or memory
+//! runs out.
 ghost use Rattle.std.specs.Prelude.{◌≡◌, [], ◌∷◌, ◌++◌, OnOk};
 ghost use Rattle.std.specs.FinMap as map;
 ghost use Rattle.modver.specs.SemanticVersion.{version_text};
 ghost use Rattle.keyring.specs.Reading.{Adds};
 ghost use Rattle.world.specs.Store.{Reads};
-ghost use Rattle.world.specs.World.{group_of, place, seen_at, view};
+ghost use Rattle.outline.specs.Outline.{outline};
+ghost use Rattle.world.specs.Versions.{versions_of};
+ghost use Rattle.world.specs.World.{group_of, heading, place, seen_at, view};
 ghost use Rattle.catalog.specs.Sight as spec;
 
 use interleave::newcomers::Newcomers;
@@ -29,167 +33,71 @@ pub(crate) struct Sighting {
     pub(crate) outline: Outline,
 }
 
-/// How a store is looked at. A call fails if the store meets a fault or memory runs out.
-pub(crate) trait Sight<S: Outlines> {
-    ghost use Rattle.modver.specs.SemanticVersion.{version_text};
-    ghost use Rattle.outline.specs.Outline.{outline};
-    ghost use Rattle.world.specs.Store.{Reads};
-    ghost use Rattle.world.specs.Versions.{versions_of};
-    ghost use Rattle.world.specs.World.{World, IsWorld, heading};
-
-    /// The world that is seen, where the store stands for this one.
-    ghost world: { Self → World → World };
-
-    /// Returns the versions of the path that the shelf sees, each once, in ascending precedence.
-    fn versions(
-        &self,
-        alloc: Global,
-        shelves: &mut S,
-        shelf: &str,
-        path: &ModulePath,
-    ) -> Result<Versions, StoreFault>
-        ensures reads { Reads (S.shown shelves.old) (S.shown shelves.new) result
-            (λ w. versions_of (world self.now w) shelf.now path.now) };
-
-    /// Returns what the shelf sees of the version without its zip, or None if it sees no entry.
-    fn heading(
-        &self,
-        alloc: Global,
-        shelves: &mut S,
-        shelf: &str,
-        path: &ModulePath,
-        version: &Version,
-    ) -> Result<Option<Heading>, StoreFault>
-        ensures reads { Reads (S.shown shelves.old) (S.shown shelves.new) result
-            (λ w. heading (world self.now w) shelf.now path.now (version_text version.now)) };
-
-    /// Returns the outline of what the shelf sees of the version, or None if it sees no entry.
-    fn outline(
-        &self,
-        alloc: Global,
-        shelves: &mut S,
-        shelf: &str,
-        path: &ModulePath,
-        version: &Version,
-    ) -> Result<Option<Outline>, StoreFault>
-        ensures reads { Reads (S.shown shelves.old) (S.shown shelves.new) result
-            (λ w. outline (world self.now w) shelf.now path.now (version_text version.now)) };
-
-    // The world that is seen is one.
-    ghost sound: { (v : Self) (w : World) → IsWorld w → IsWorld (world v w) };
+/// Returns the versions of the path that the shelf saw before the newcomers, each once, in ascending precedence.
+pub(crate) fn versions_before<S: Outlines + Keyring>(
+    alloc: Global,
+    news: &Newcomers,
+    shelves: &mut S,
+    shelf: &str,
+    path: &ModulePath,
+) -> Result<Versions, StoreFault>
+    ensures { Reads (S.shown shelves.old) (S.shown shelves.new) result
+        (λ w. versions_of (spec.without w news.now) shelf.now path.now) }
+{
+    let seen = shelves.versions(shelf, path)?;
+    let mut kept = Vec::new(alloc);
+    keep_all(
+        alloc,
+        news,
+        shelves,
+        shelf,
+        path,
+        seen.as_slice(),
+        &mut kept,
+    )?;
+    Ok(sorted(alloc, kept)?)
 }
 
-/// A store is looked at as it is.
-#[derive(Drop)]
-pub(crate) struct Now;
-
-impl<S: Outlines> Sight<S> for Now {
-    ghost world = { λ v w. w };
-
-    fn versions(
-        &self,
-        alloc: Global,
-        shelves: &mut S,
-        shelf: &str,
-        path: &ModulePath,
-    ) -> Result<Versions, StoreFault> {
-        shelves.versions(shelf, path)
+/// Returns what the shelf saw of the version before the newcomers, without its zip, or None if it saw no entry.
+pub(crate) fn heading_before<S: Outlines + Keyring>(
+    alloc: Global,
+    news: &Newcomers,
+    shelves: &mut S,
+    shelf: &str,
+    path: &ModulePath,
+    version: &Version,
+) -> Result<Option<Heading>, StoreFault>
+    ensures { Reads (S.shown shelves.old) (S.shown shelves.new) result
+        (λ w. heading (spec.without w news.now) shelf.now path.now (version_text version.now)) }
+{
+    if !news.names(path.as_str(), version.as_str()) {
+        return shelves.heading(shelf, path, version);
     }
-
-    fn heading(
-        &self,
-        alloc: Global,
-        shelves: &mut S,
-        shelf: &str,
-        path: &ModulePath,
-        version: &Version,
-    ) -> Result<Option<Heading>, StoreFault> {
-        shelves.heading(shelf, path, version)
+    match behind(alloc, news, shelves, shelf, path, version)? {
+        Some(it) => Ok(Some(it.heading)),
+        None => Ok(None),
     }
-
-    fn outline(
-        &self,
-        alloc: Global,
-        shelves: &mut S,
-        shelf: &str,
-        path: &ModulePath,
-        version: &Version,
-    ) -> Result<Option<Outline>, StoreFault> {
-        shelves.outline(shelf, path, version)
-    }
-
-    ghost sound = { λ v w is. is };
 }
 
-/// A store is looked at as it was before these versions came. One of them may hide an older one from the shelf, so what
-/// the shelf saw of that is looked up on each shelf that it sees.
-#[derive(Drop)]
-pub(crate) struct Then<'a> {
-    pub(crate) news: &'a Newcomers,
-}
-
-impl<'a, S: Outlines + Keyring> Sight<S> for Then<'a> {
-    ghost use Rattle.catalog.specs.Sight.{without};
-    ghost use Rattle.catalog.specs.Past.{without_is_world};
-
-    ghost world = { λ v w. without w v.news.now };
-
-    fn versions(
-        &self,
-        alloc: Global,
-        shelves: &mut S,
-        shelf: &str,
-        path: &ModulePath,
-    ) -> Result<Versions, StoreFault> {
-        let seen = shelves.versions(shelf, path)?;
-        let mut kept = Vec::new(alloc);
-        keep_all(
-            alloc,
-            self.news,
-            shelves,
-            shelf,
-            path,
-            seen.as_slice(),
-            &mut kept,
-        )?;
-        Ok(sorted(alloc, kept)?)
+/// Returns the outline of what the shelf saw of the version before the newcomers, or None if it saw no entry.
+pub(crate) fn outline_before<S: Outlines + Keyring>(
+    alloc: Global,
+    news: &Newcomers,
+    shelves: &mut S,
+    shelf: &str,
+    path: &ModulePath,
+    version: &Version,
+) -> Result<Option<Outline>, StoreFault>
+    ensures { Reads (S.shown shelves.old) (S.shown shelves.new) result
+        (λ w. outline (spec.without w news.now) shelf.now path.now (version_text version.now)) }
+{
+    if !news.names(path.as_str(), version.as_str()) {
+        return shelves.outline(shelf, path, version);
     }
-
-    fn heading(
-        &self,
-        alloc: Global,
-        shelves: &mut S,
-        shelf: &str,
-        path: &ModulePath,
-        version: &Version,
-    ) -> Result<Option<Heading>, StoreFault> {
-        if !self.news.names(path.as_str(), version.as_str()) {
-            return shelves.heading(shelf, path, version);
-        }
-        match behind(alloc, self.news, shelves, shelf, path, version)? {
-            Some(it) => Ok(Some(it.heading)),
-            None => Ok(None),
-        }
+    match behind(alloc, news, shelves, shelf, path, version)? {
+        Some(it) => Ok(Some(it.outline)),
+        None => Ok(None),
     }
-
-    fn outline(
-        &self,
-        alloc: Global,
-        shelves: &mut S,
-        shelf: &str,
-        path: &ModulePath,
-        version: &Version,
-    ) -> Result<Option<Outline>, StoreFault> {
-        if !self.news.names(path.as_str(), version.as_str()) {
-            return shelves.outline(shelf, path, version);
-        }
-        match behind(alloc, self.news, shelves, shelf, path, version)? {
-            Some(it) => Ok(Some(it.outline)),
-            None => Ok(None),
-        }
-    }
-
-    ghost sound = { λ v w is. without_is_world w v.news.now is };
 }
 
 /// Adds those of the versions that are not newcomers, or of which the shelf saw another entry.

@@ -1,21 +1,16 @@
-use Rattle.std.proofs.Common.{Err, subst, sym}
-use Rattle.catalog.proofs.Printed.{cut_prints, key_fault, none_prints}
-use Rattle.catalog.specs.Printing.{PrintsCatalog}
+use Rattle.catalog.proofs.Printed.{cut_plain, fails_plain, whole_plain}
 use Rattle.catalog.proofs.print.print_catalog.Goals as goal
 
-pub returns-in-Ok-None-clause-prints : goal.returns-in-Ok-None-clause-prints
-returns-in-Ok-None-clause-prints g c =
-    none_prints _ _ c.args.key.now (g.O.Write.contents c.args.output.now) _ c.in-Ok-None.field-0-is
-    c.in-Ok-None.ensures.reads
+pub returns-in-Ok-clause-prints : goal.returns-in-Ok-clause-prints
+returns-in-Ok-clause-prints g c =
+    whole_plain _ _ c.args.key.now _ _ c.in-Ok.ensures.went c.in-Ok.has_key c.in-Ok.ensures.prints
 
-pub returns-in-Err-clause-prints : goal.returns-in-Err-clause-prints
-returns-in-Err-clause-prints g c =
-    let written = g.O.Write.contents c.args.output.now in
-    subst (λ e. PrintsCatalog (g.S.Shelves.shown c.args.shelves.now) (g.S.Shelves.shown c.key.new.self) c.args.key.now
-    written written (Err e)) (sym c.unread.ensures)
-    (key_fault _ _ c.args.key.now written c.in-Err.fault c.in-Err.ensures.reads)
+pub returns-in-Err-PrintError-clause-prints : goal.returns-in-Err-PrintError-clause-prints
+returns-in-Err-PrintError-clause-prints g c =
+    cut_plain _ _ c.args.key.now _ _ c.in-Err-PrintError.ensures.went c.in-Err-PrintError.why
+    (rw c.in-Err-PrintError.field-0-is at c.in-Err-PrintError.ensures.prints)
 
-pub returns-clause-prints : goal.returns-clause-prints
-returns-clause-prints g c =
-    cut_prints _ _ c.args.key.now _ _ _ c.in-Ok-Some.holder _ c.in-Ok-Some.field-0-is c.in-Ok-Some.ensures.reads
-    c.in-Err-print_lines.why (rw c.as_str.ensures at c.in-Err-print_lines.ensures.prints)
+pub returns-in-Err-PrintError-clause-fails : goal.returns-in-Err-PrintError-clause-fails
+returns-in-Err-PrintError-clause-fails g c =
+    fails_plain _ _ c.in-Err-PrintError.why
+    (rw c.in-Err-PrintError.field-0-is at c.in-Err-PrintError.ensures.fails)

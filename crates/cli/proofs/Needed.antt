@@ -7,8 +7,8 @@ use Rattle.std.specs.Str.Parse.{IsNumeral, ParsesUnsigned, digits_value, without
 use Rattle.clap.specs.Words.{TriesOne, one_of}
 use Rattle.commands.specs.declared.action.Action.{Action}
 use Rattle.commands.specs.declared.action.Action.TheVariants as action
-use Rattle.commands.specs.declared.serve.ListenOn.{ListenOn}
-use Rattle.commands.specs.declared.serve.ListenOn.TheVariants.{Input, Port}
+use Rattle.socket.specs.declared.deed.ListenOn.{ListenOn}
+use Rattle.socket.specs.declared.deed.ListenOn.TheVariants.{Input, Port}
 use Rattle.orders.specs.declared.listing.Listing.TheVariants.{Keys, Shelves}
 use Rattle.orders.specs.declared.command.RegistryCommand.{RegistryCommand}
 use Rattle.runner.specs.declared.Command.{Command}

@@ -12,8 +12,8 @@ use Rattle.clap.specs.declared.parser.matches.ValueSource.{ValueSource}
 use Rattle.clap.specs.declared.parser.matches.ValueSource.TheVariants.{CommandLine}
 use Rattle.commands.specs.declared.action.Action.{Action}
 use Rattle.commands.specs.declared.action.Action.TheVariants as action
-use Rattle.commands.specs.declared.serve.ListenOn.{ListenOn}
-use Rattle.commands.specs.declared.serve.ListenOn.TheVariants.{Input, Port}
+use Rattle.socket.specs.declared.deed.ListenOn.{ListenOn}
+use Rattle.socket.specs.declared.deed.ListenOn.TheVariants.{Input, Port}
 use Rattle.orders.specs.declared.listing.Listing.{Listing}
 use Rattle.orders.specs.declared.listing.Listing.TheVariants.{Keys, Shelves}
 use Rattle.orders.specs.declared.command.RegistryCommand.{RegistryCommand}

@@ -12,9 +12,9 @@ use clap::parser::ValueSource;
 use commands::action::Action;
 use commands::publish::{Files, Words};
 use commands::report::Named;
-use commands::serve::ListenOn;
 use orders::{Listing, RegistryCommand};
 use runner::Command;
+use socket::ListenOn;
 use world::entry::Right;
 
 /// Returns the command that the words ask for, or None if they ask for none. The parser has refused words that lack a

@@ -30,7 +30,8 @@ use std::io::{self, Write};
 /// log stands at its name, a line says so before the refusal. The texts of the parser are tested and
 /// not proved.
 ///
-/// What was done to files of stores, and nothing else, is in the histories of `stores`, which `main` makes.
+/// What was done to files of stores, with servers and with callers, and nothing else, is in the histories of `stores`,
+/// which `main` makes.
 pub fn command<'a, I: Hear, O: Tell, E: Tell>(
     stores: &mut SystemStores<'a>,
     words: &[String],

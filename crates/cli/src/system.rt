@@ -11,6 +11,7 @@ use runner::found::{ClosedFile, OpenedStore};
 use runner::host::{Host, SystemHost};
 use runner::system::{SystemOlderFiles, SystemStoreFiles};
 use runner::{Command, run};
+use socket::{Callers, SystemEntrances, SystemOperator, SystemPeer};
 use std::io::{IsTerminal, Write};
 use std::os::unix::net::UnixStream;
 use std::rt::HostRuntime;
@@ -45,7 +46,8 @@ pub trait Runner {
             (O.contents output.old) (O.contents output.new) result command.now };
 }
 
-/// The system with its files and servers, and with all that was done to the files of stores and over connections.
+/// The system with its files, its servers and its entrances, and with all that was done to the files of stores, over
+/// connections to servers, and with callers.
 #[derive(Drop)]
 pub struct SystemStores<'a> {
     pub rt: &'a HostRuntime,
@@ -57,16 +59,21 @@ pub struct SystemStores<'a> {
     pub older: SystemOlderFiles<'a>,
     /// The `serve` that gets an order.
     pub servers: SystemServers<'a>,
+    /// Where `serve` lets callers in.
+    pub entrances: SystemEntrances<'a>,
 }
 
 impl<'a> SystemStores<'a> {
-    /// Returns the system with its files, to which nothing was done, and servers, to which nothing has connected.
+    /// Returns the system with its files, to which nothing was done, servers, to which nothing has connected, and
+    /// entrances, at which nothing was done.
     pub fn new(rt: &'a HostRuntime) -> SystemStores<'a>
         ensures files { ⟦<SystemStoreFiles<'a> as StoreFiles<OpenedStore, ClosedFile>>⟧.history result.files ≡ [] }
         ensures targets { ⟦<SystemStoreFiles<'a> as StoreFiles<OpenedStore, ClosedFile>>⟧.history result.targets ≡ [] }
         ensures older { ⟦<SystemOlderFiles<'a> as StoreFiles<ClosedFile, ClosedFile>>⟧.history result.older ≡ [] }
         ensures servers { ⟦<SystemServers<'a> as Servers<Hearing<UnixStream>, Telling<UnixStream>>>⟧.history
             result.servers ≡ [] }
+        ensures entrances { ⟦<SystemEntrances<'a> as Callers<SystemPeer, SystemOperator>>⟧.history
+            result.entrances ≡ [] }
     {
         SystemStores {
             rt,
@@ -74,6 +81,7 @@ impl<'a> SystemStores<'a> {
             targets: SystemStoreFiles::new(rt, PageRoom::Zip),
             older: SystemOlderFiles::new(rt),
             servers: SystemServers::new(rt),
+            entrances: SystemEntrances::new(rt),
         }
     }
 }
@@ -82,8 +90,9 @@ impl<'a> Runner for SystemStores<'a> {
     ghost use Rattle.commands.specs.Connection.{IsAll};
     ghost use Rattle.runner.specs.Command.{Runs};
 
-    /// The command did what `Runs` says, and between these histories of files and servers nothing else was done.
-    ghost ran = { λ old new. Runs ⟦<SystemHost<'a> as ActionHost<OpenedStore>>⟧.acts
+    /// The command did what `Runs` says, and between these histories of files, servers and callers nothing else was
+    /// done.
+    ghost ran = { λ old new. Runs ⟦<SystemHost<'a> as ActionHost<OpenedStore, SystemEntrances<'a>>>⟧.acts
         ⟦<SystemHost<'a> as Host<OpenedStore, ClosedFile>>⟧.state_of
         ⟦<SystemHost<'a> as Host<OpenedStore, ClosedFile>>⟧.shown
         (record {
@@ -108,7 +117,8 @@ impl<'a> Runner for SystemStores<'a> {
         (⟦<Telling<UnixStream> as Write>⟧.contents link.writer)
         (⟦<Telling<UnixStream> as Tell>⟧.writes link.writer).failed passed)
         (⟦<SystemServers<'a> as Servers<Hearing<UnixStream>, Telling<UnixStream>>>⟧.history old.servers)
-        (⟦<SystemServers<'a> as Servers<Hearing<UnixStream>, Telling<UnixStream>>>⟧.history new.servers) };
+        (⟦<SystemServers<'a> as Servers<Hearing<UnixStream>, Telling<UnixStream>>>⟧.history new.servers)
+        old.entrances new.entrances };
 
     fn is_new(&self, db: &str) -> bool {
         is_new_store(self.rt, db)
@@ -134,6 +144,7 @@ impl<'a> Runner for SystemStores<'a> {
             &mut self.targets,
             &mut self.older,
             &mut self.servers,
+            &mut self.entrances,
             command,
             input,
             output,

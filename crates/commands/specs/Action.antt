@@ -2,6 +2,10 @@
 use Rattle.std.specs.Borrow.{Bor}
 use Rattle.std.specs.Prelude.{ℕ, List, [], ◌≡◌, true, Bool, Option, None, option_copied, Result, Ok, Err}
 use Rattle.histories.specs.Account.{Account}
+use Rattle.histories.specs.Calls.{Reads, Writes}
+use Rattle.socket.specs.History.{Door}
+use Rattle.socket.specs.declared.callers.Caller.{Caller}
+use Rattle.socket.specs.declared.deed.ListenOn.{ListenOn}
 use Rattle.world.specs.Store.{Shown}
 use Rattle.world.specs.declared.entry.Right.{Right}
 use Rattle.orders.specs.declared.command.RegistryCommand.{RegistryCommand}
@@ -14,27 +18,45 @@ use Rattle.commands.specs.RandomBytes.{Drawn, no_draws}
 use Rattle.commands.specs.Report.{PrintsCatalogOf, PrintsInventory, PrintsKeys, PrintsRequirements, PrintsShelves}
 use Rattle.commands.specs.Serve.{Made, Counted, ListensAs}
 use Rattle.commands.specs.declared.refusal.CommandRefusal.{CommandRefusal}
-use Rattle.commands.specs.declared.serve.ListenOn.{ListenOn}
 use Rattle.commands.specs.declared.action.Action.{Action}
 use Rattle.commands.specs.declared.action.Action.TheVariants as action
 
--- a store, what came on the input, and the bytes on the output, at a moment
-pub record Moment (S : Type 0) : Type 0 where
+-- What is seen of what an action reaches outside of its store and its streams, which is entrances `N` of callers: what
+-- passed over the connections of operators and of peers, what is known of a new one, and who waits and what was done.
+pub record Views (N P O : Type 0) : Type 1 where
+  pub heeded : O → Account × Reads
+  pub told : O → Option (List ℕ) × Writes
+  pub heard : P → Account × Reads
+  pub written : P → Option (List ℕ) × Writes
+  pub is_new : Caller P O → Type 0
+  pub door : N → Door (Caller P O)
+
+-- a store, what is reached outside of it, what came on the input, and the bytes on the output, at a moment
+pub record Moment (S N : Type 0) : Type 0 where
   pub store : S
+  pub outside : N
   pub came : Account
   pub written : Option (List ℕ)
 
--- nothing was read or written
-pub record KeepsStreams {S : Type 0} (old new : Moment S) : Type 0 where
-  pub came : new.came ≡ old.came
-  pub written : new.written ≡ old.written
+module _ {S N : Type 0} (old new : Moment S N) where
+  -- nothing was read from the input, and nothing was done outside
+  pub record KeepsInput : Type 0 where
+    pub came : new.came ≡ old.came
+    pub outside : new.outside ≡ old.outside
+
+  -- nothing was read or written, and nothing was done outside
+  pub record KeepsStreams : Type 0 where
+    pub came : new.came ≡ old.came
+    pub written : new.written ≡ old.written
+    pub outside : new.outside ≡ old.outside
 
 -- the result of a command that is accepted once it is done
 abbrev pub acceptance : Result (Unit {0}) CommandRefusal → Result Bool CommandRefusal
 acceptance (Ok u) = Ok true
 acceptance (Err refusal) = Err refusal
 
-module _ {S : Type 0} (shown : S → Shown) (made : Made S) (counted : Counted S) (old new : Moment S) where
+module _ {S N P O : Type 0} (views : Views N P O) (shown : S → Shown) (made : Made S) (counted : Counted S)
+    (old new : Moment S N) where
   -- the registry command was carried out on the store, and nothing was read or written
   pub record RegistersAlone (command : RegistryCommand) (result : Result Bool CommandRefusal) : Type 0 where
     pub ended : Result (Unit {0}) CommandRefusal
@@ -42,13 +64,13 @@ module _ {S : Type 0} (shown : S → Shown) (made : Made S) (counted : Counted S
     pub told : result ≡ acceptance ended
     pub streams : KeepsStreams old new
 
-  -- a key was made of the bytes that were drawn, printed and added, and nothing was read from the input
+  -- a key was made of the bytes that were drawn, printed and added, and nothing else was done
   pub record AddsNewAlone (shelf : Bor (List ℕ)) (right : Right) (result : Result Bool CommandRefusal) : Type 0 where
     pub drawn : Drawn
     pub ended : Result (Unit {0}) CommandRefusal
     pub adds : AddsNew shown no_draws drawn old.store new.store shelf right old.written new.written ended
     pub told : result ≡ acceptance ended
-    pub came : new.came ≡ old.came
+    pub keeps : KeepsInput old new
 
   -- the key with this fingerprint was revoked, and nothing was read or written
   pub record RevokesNamedAlone (fingerprint : List ℕ) (result : Result Bool CommandRefusal) : Type 0 where
@@ -62,15 +84,18 @@ module _ {S : Type 0} (shown : S → Shown) (made : Made S) (counted : Counted S
     pub ended : Result (Unit {0}) CommandRefusal
     pub answers : AnswersAll (shown old.store) (shown new.store) old.came new.came old.written new.written ended
     pub told : result ≡ acceptance ended
+    pub outside : new.outside ≡ old.outside
 
-  -- connections were served from the store, by these times of a calendar, and nothing was read from the input
+  -- callers who came in outside were served from the store, by these times of a calendar, and nothing was read from the
+  -- input
   pub record ServesConnections
       (entrance : ListenOn) (connections : ℕ) (control : Option (List ℕ))
       (result : Result Bool CommandRefusal) : Type 0 where
     pub times : List (List ℕ)
     pub ended : Result (Unit {0}) CommandRefusal
-    pub serves : ListensAs shown made counted [] times old.store new.store entrance connections control
-        old.written new.written ended
+    pub serves : ListensAs views.heeded views.told views.heard views.written views.is_new shown made counted
+        old.store new.store entrance connections old.written new.written [] times
+        (views.door old.outside) (views.door new.outside) ended control
     pub told : result ≡ acceptance ended
     pub came : new.came ≡ old.came
 
@@ -85,20 +110,20 @@ module _ {S : Type 0} (shown : S → Shown) (made : Made S) (counted : Counted S
   Acts result (action.RevokeByFingerprint fingerprint) = RevokesNamedAlone fingerprint.now result
   Acts result (action.Publish words files) =
       PublishesFiles (λ name. None) files shown old.store new.store (asked_by words) old.written new.written result
-      × (new.came ≡ old.came)
+      × KeepsInput old new
   Acts result (action.Import key list) =
-      ImportsFile shown old.store new.store key.now old.written new.written result × (new.came ≡ old.came)
+      ImportsFile shown old.store new.store key.now old.written new.written result × KeepsInput old new
   Acts result (action.Inventory key) =
-      PrintsInventory (shown old.store) (shown new.store) key.now old.written new.written result × (new.came ≡ old.came)
+      PrintsInventory (shown old.store) (shown new.store) key.now old.written new.written result × KeepsInput old new
   Acts result (action.Catalog key) =
-      PrintsCatalogOf (shown old.store) (shown new.store) key.now old.written new.written result × (new.came ≡ old.came)
+      PrintsCatalogOf (shown old.store) (shown new.store) key.now old.written new.written result × KeepsInput old new
   Acts result (action.Requires version) =
       PrintsRequirements (shown old.store) (shown new.store) version old.written new.written result
-      × (new.came ≡ old.came)
+      × KeepsInput old new
   Acts result action.KeyList = PrintsKeys (shown old.store) (shown new.store) old.written new.written result
-      × (new.came ≡ old.came)
+      × KeepsInput old new
   Acts result action.ShelfList =
-      PrintsShelves (shown old.store) (shown new.store) old.written new.written result × (new.came ≡ old.came)
+      PrintsShelves (shown old.store) (shown new.store) old.written new.written result × KeepsInput old new
   Acts result action.Answer = AnswersFrom result
   Acts result (action.Serve entrance connections control) =
       ServesConnections entrance connections (option_copied control) result

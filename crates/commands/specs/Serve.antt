@@ -1,54 +1,31 @@
--- Serving connections from a store, and orders between them.
-use Rattle.std.specs.Prelude.{ℕ, ◌≡◌, ◌≢◌, ◌++◌, List, codes, decimal, Option, Some, None, Result, MatchResult}
+-- Serving connections from a store, and orders between them, by the history of who came in.
+use Rattle.std.specs.Prelude.{ℕ, ◌≡◌, ◌++◌, ◌⊎◌, List, [], codes, decimal, Option, Some, None, Result, Ok, Err}
 use Rattle.std.specs.Io.KnownBytes.{Appends}
+use Rattle.histories.specs.Account.{Account}
+use Rattle.histories.specs.Calls.{Reads, Writes}
 use Rattle.world.specs.Store.{Shown}
 use Rattle.socket.specs.Connections.{GoesThroughMost}
+use Rattle.socket.specs.History.{Does, Door, IsBoundFor}
+use Rattle.socket.specs.Serving.{AnswersEach}
+use Rattle.socket.specs.declared.callers.Caller.{Caller}
+use Rattle.socket.specs.declared.deed.Deed.TheVariants as deed
+use Rattle.socket.specs.declared.deed.ListenOn.{ListenOn}
+use Rattle.socket.specs.declared.deed.ListenOn.TheVariants.{Port, Input}
 use Rattle.control.specs.WallClock.{Shows}
-use Rattle.control.specs.Copying.{Making, GoesOnRead}
+use Rattle.control.specs.Copying.{Making, GoesOnRead, IsOnlyRead}
+use Rattle.control.specs.Visits.{EndsEach}
 use Rattle.commands.specs.Printed.{PrintsFront}
 use Rattle.commands.specs.declared.refusal.CommandRefusal.{CommandRefusal}
 use Rattle.commands.specs.declared.refusal.CommandRefusal.TheVariants.{Io}
-use Rattle.commands.specs.declared.serve.ListenOn.{ListenOn}
-use Rattle.commands.specs.declared.serve.ListenOn.TheVariants.{Port, Input}
 
 -- the line of a port
 abbrev pub port_line : ℕ → List ℕ
 port_line port = codes "listening on 127.0.0.1:" ++ (decimal port ++ codes "\n")
 
--- the line of standard input
-abbrev pub input_line : List ℕ
-input_line = codes "listening on standard input\n"
-
--- a port was printed: the one that is named, or any for 0
-abbrev pub PrintsPort : ℕ → Option (List ℕ) → Option (List ℕ) → Type 0
-PrintsPort port written written_new = (bound : ℕ) × (port ≢ 0 → bound ≡ port)
-    × Appends written written_new (port_line bound)
-
--- the entrance was printed
-abbrev pub Announces : ListenOn → Option (List ℕ) → Option (List ℕ) → Type 0
-Announces (Port port) written written_new = PrintsPort port written written_new
-Announces Input written written_new = Appends written written_new input_line
-
--- a beginning of the line of a port was printed, or all of it: of the one that is named, or of any for 0
-abbrev pub PrintsPortFront : ℕ → Option (List ℕ) → Option (List ℕ) → Type 0
-PrintsPortFront port written written_new =
-    (bound : ℕ) × (port ≢ 0 → bound ≡ port) × PrintsFront written written_new (port_line bound)
-
--- a beginning of the line of the entrance was printed, or all of it
-abbrev pub AnnouncesFront : ListenOn → Option (List ℕ) → Option (List ℕ) → Type 0
-AnnouncesFront (Port port) written written_new = PrintsPortFront port written written_new
-AnnouncesFront Input written written_new = PrintsFront written written_new input_line
-
--- The entrance was printed, and the store went through at most as many requests as there are connections. Or the
--- entrance can't be opened, or the output failed, and a beginning of the line was printed, and the store stays as it
--- was.
-abbrev pub Listens :
-    {S : Type 0} → (S → Shown) → S → S → ListenOn → ℕ → Option (List ℕ) → Option (List ℕ)
-    → Result (Unit {0}) CommandRefusal → Type 0
-Listens shown old new entrance connections written written_new result =
-    MatchResult result
-    (λ _. Announces entrance written written_new × GoesThroughMost (shown old) (shown new) connections)
-    (λ e. (e ≡ Io) × (new ≡ old) × AnnouncesFront entrance written written_new)
+-- the line of where peers come in
+abbrev pub line_of : ListenOn → List ℕ
+line_of (Port port) = port_line port
+line_of Input = codes "listening on standard input\n"
 
 -- what is made of a store: a relation of it before and after that, and of what was made
 abbrev pub Made : Type 0 → Type 1
@@ -58,31 +35,110 @@ Made S = S → S → Making → Type 0
 abbrev pub Counted : Type 0 → Type 1
 Counted S = S → S → ℕ → Type 0
 
--- The calendar showed one time more, and each ping was told that the server began then. The store went through at most
--- as many requests as there are connections, with orders between them, and copies of the machine's world at the moment
--- of each order, and versions counted in that of each ping.
-pub record ServesSince {S : Type 0} (shown : S → Shown) (made : Made S) (counted : Counted S)
-    (times times_new : List (List ℕ)) (old new : S) (connections : ℕ) : Type 0 where
-  pub since : List ℕ
-  pub shows : Shows times times_new (Some since)
-  pub goes : GoesOnRead shown made counted old new since connections
+-- from one moment of the entrances to another, where peers were to be let in, and that was to be printed
+module _ {C : Type 0} (door left : Door C) (entrance : ListenOn) (printed printed_new : Option (List ℕ)) where
+  -- Peers were let in at the entrance that was asked for, in the place of port 0 at a port, and the line of that one
+  -- was printed. Nothing else was opened, and nobody was taken.
+  pub record LetsIn : Type 0 where
+    pub bound : ListenOn
+    pub binds : IsBoundFor entrance bound
+    pub listens : Does door left [] (deed.Listens bound)
+    pub prints : Appends printed printed_new (line_of bound)
 
--- The entrance was printed, and the store was served so. Or it ended before it served, because the entrance or the
--- socket can't be opened, the clock can't be read, the output failed or memory ran out, and a beginning of the line was
--- printed, and the store stays as it was.
-abbrev pub ListensToBoth :
-    {S : Type 0} → (S → Shown) → Made S → Counted S → List (List ℕ) → List (List ℕ) → S → S → ListenOn → ℕ
-    → Option (List ℕ) → Option (List ℕ) → Result (Unit {0}) CommandRefusal → Type 0
-ListensToBoth shown made counted times times_new old new entrance connections written written_new result =
-    MatchResult result
-    (λ _. Announces entrance written written_new × ServesSince shown made counted times times_new old new connections)
-    (λ e. (e ≡ Io) × (new ≡ old) × AnnouncesFront entrance written written_new)
+  -- so it was, but the output failed, and a beginning of the line was printed, or all of it
+  pub record LetsInUnsaid : Type 0 where
+    pub bound : ListenOn
+    pub binds : IsBoundFor entrance bound
+    pub listens : Does door left [] (deed.Listens bound)
+    pub prints : PrintsFront printed printed_new (line_of bound)
 
--- serving without a socket of operators, or with one
-abbrev pub ListensAs :
-    {S : Type 0} → (S → Shown) → Made S → Counted S → List (List ℕ) → List (List ℕ) → S → S → ListenOn → ℕ
-    → Option (List ℕ) → Option (List ℕ) → Option (List ℕ) → Result (Unit {0}) CommandRefusal → Type 0
-ListensAs shown made counted times times_new old new entrance connections None written written_new result =
-    Listens shown old new entrance connections written written_new result
-ListensAs shown made counted times times_new old new entrance connections (Some path) written written_new result =
-    ListensToBoth shown made counted times times_new old new entrance connections written written_new result
+  -- no peer was let in, and nothing was printed
+  pub record LetsNobodyIn : Type 0 where
+    pub deaf : Does door left [] (deed.Deaf entrance)
+    pub silent : printed_new ≡ printed
+
+  -- where this was the result, peers were let in and that was printed, or one of both was not
+  abbrev pub Opens : Result (Unit {0}) CommandRefusal → Type 0
+  Opens (Ok u) = LetsIn
+  Opens (Err e) = (e ≡ Io) × (LetsInUnsaid ⊎ LetsNobodyIn)
+
+-- nothing was served: no peer was let in, or that was not printed whole; nobody was taken, and the store stays
+pub record ServesNobody {C S : Type 0} (old new : S) (entrance : ListenOn) (printed printed_new : Option (List ℕ))
+    (door left : Door C) (e : CommandRefusal) : Type 0 where
+  pub is_io : e ≡ Io
+  pub same : new ≡ old
+  pub opens : LetsInUnsaid door left entrance printed printed_new ⊎ LetsNobodyIn door left entrance printed printed_new
+
+module _ {P O : Type 0} (heard : P → Account × Reads) (written : P → Option (List ℕ) × Writes)
+    (is_new : Caller P O → Type 0) {S : Type 0} (shown : S → Shown) (old new : S) (entrance : ListenOn)
+    (connections : ℕ) (printed printed_new : Option (List ℕ)) (door left : Door (Caller P O)) where
+  -- Peers were let in, and as many connections of peers as are to be served were. The store went through at most as
+  -- many requests.
+  pub record AnswersPeers : Type 0 where
+    pub begun : Door (Caller P O)
+    pub opens : LetsIn door begun entrance printed printed_new
+    pub each : AnswersEach heard written is_new begun left (shown old) (shown new) connections
+    pub most : GoesThroughMost (shown old) (shown new) connections
+
+  -- so it was, or nothing was served
+  abbrev pub AnswersIfOpen : Result (Unit {0}) CommandRefusal → Type 0
+  AnswersIfOpen (Ok u) = AnswersPeers
+  AnswersIfOpen (Err e) = ServesNobody old new entrance printed printed_new door left e
+
+module _ {P O : Type 0} (heeded : O → Account × Reads) (told : O → Option (List ℕ) × Writes)
+    (heard : P → Account × Reads) (written : P → Option (List ℕ) × Writes) (is_new : Caller P O → Type 0)
+    {S : Type 0} (shown : S → Shown) (made : Made S) (counted : Counted S) (old new : S)
+    (entrance : ListenOn) (connections : ℕ) (printed printed_new : Option (List ℕ)) where
+  module _ (since : List ℕ) (door left : Door (Caller P O)) where
+    -- Peers were let in, and callers were served: peers, and between them operators, until one of these ended it, or
+    -- the connections were used up. Before that, the versions of the store were counted, which only reads it. The store
+    -- went through at most as many requests as there are connections, with orders between them, and copies of the
+    -- machine's world at the moment of each order, and versions counted in that of each ping, which was told that the
+    -- server began at this time.
+    pub record ServesCallers : Type 0 where
+      pub begun : Door (Caller P O)
+      pub opens : LetsIn door begun entrance printed printed_new
+      pub mid : S
+      pub counts : IsOnlyRead (shown old) (shown mid)
+      pub each : EndsEach heeded told heard written shown made counted is_new begun left mid new since connections
+      pub goes : GoesOnRead shown made counted old new since connections
+
+    -- so it was, or nothing was served
+    abbrev pub ServesIfOpen : Result (Unit {0}) CommandRefusal → Type 0
+    ServesIfOpen (Ok u) = ServesCallers
+    ServesIfOpen (Err e) = ServesNobody old new entrance printed printed_new door left e
+
+  module _ (times times_new : List (List ℕ)) (door left : Door (Caller P O)) (result : Result (Unit {0}) CommandRefusal)
+    where
+      -- without operators: peers were served or not, and then all was closed
+      pub record Listens : Type 0 where
+        pub ended : Door (Caller P O)
+        pub serves : AnswersIfOpen heard written is_new shown old new entrance connections printed printed_new door ended
+            result
+        pub closes : Does ended left [] deed.Closed
+
+      -- The calendar showed one time more, the socket at this path was made for operators, and callers were served or
+      -- not. Then the name of the socket was taken away, and all was closed.
+      pub record ListensToBoth (path : List ℕ) : Type 0 where
+        pub since : List ℕ
+        pub shows : Shows times times_new (Some since)
+        pub begun : Door (Caller P O)
+        pub makes : Does door begun path deed.Made
+        pub ended : Door (Caller P O)
+        pub serves : ServesIfOpen since begun ended result
+        pub removed : Door (Caller P O)
+        pub removes : Does ended removed path deed.Removed
+        pub closes : Does removed left [] deed.Closed
+
+      -- The clock can't be read, and nothing was opened; or the socket at this path can't be made, and nothing else was
+      -- opened. Nothing was printed, and the store stays as it was.
+      pub record ListensToNobody (path : List ℕ) : Type 0 where
+        pub is_io : result ≡ Err Io
+        pub same : new ≡ old
+        pub silent : printed_new ≡ printed
+        pub opens : (left ≡ door) ⊎ Does door left path deed.Unmade
+
+      -- serving without a socket of operators, or with one
+      abbrev pub ListensAs : Option (List ℕ) → Type 0
+      ListensAs None = Listens
+      ListensAs (Some path) = ListensToBoth path ⊎ ListensToNobody path

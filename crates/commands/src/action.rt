@@ -1,6 +1,7 @@
 //! The actions of commands on a store, whichever store it is.
 ghost use Rattle.std.specs.Prelude.{◌≡◌};
 ghost use Rattle.commands.specs.Action as spec;
+ghost use Rattle.socket.specs.Connections.{both};
 
 use crate::answer::answer_input;
 use crate::import_file::import_file;
@@ -13,13 +14,14 @@ use crate::registry::{register, revoke_by_fingerprint};
 use crate::report::{
     Named, print_catalog, print_inventory, print_keys, print_requirements, print_shelves,
 };
-use crate::serve::{ListenOn, serve};
+use crate::serve::serve;
 use crate::sources::SystemFiles;
-use control::Copies;
+use control::{Copies, Operator};
 use histories::{Hear, Tell, Telling};
 use keyring::Keyring;
 use orders::RegistryCommand;
 use outline::outlines::Outlines;
+use socket::{Entrances, ListenOn, Peer};
 use std::rt::HostRuntime;
 use world::entry::Right;
 
@@ -80,19 +82,47 @@ pub enum Action<'a> {
 
 /// Does one action on a store and returns whether it was accepted; only a publish and an import can be done and not
 /// accepted. `copies` makes the copies that are ordered while the store is served, and counts its versions for a ping.
-/// `serve` tells on standard error what happens.
+/// `serve` lets callers in by `entrances`, and tells on standard error what happens; no other action opens those.
 /// Fails as the function of the action does.
-pub fn act_on<S: Outlines + Keyring, K: Copies<S>, I: Hear, O: Tell>(
+pub fn act_on<
+    S: Outlines + Keyring,
+    K: Copies<S>,
+    P: Peer + Drop,
+    Q: Operator + Drop,
+    N: Entrances<P, Q>,
+    I: Hear,
+    O: Tell,
+>(
     rt: &HostRuntime,
     shelves: &mut S,
     copies: &K,
+    entrances: &mut N,
     action: &Action,
     input: &mut I,
     output: &mut O,
 ) -> Result<bool, CommandRefusal>
-    ensures { spec.Acts S.shown K.made K.counted
-        (record { store = shelves.old; came = I.account input.old; written = O.contents output.old })
-        (record { store = shelves.new; came = I.account input.new; written = O.contents output.new })
+    ensures { spec.Acts
+        (record {
+          heeded = both Q.came Q.reads;
+          told = both Q.written Q.writes;
+          heard = both P.came P.reads;
+          written = both P.written P.writes;
+          is_new = N.is_new;
+          door = both N.waiting N.history;
+        })
+        S.shown K.made K.counted
+        (record {
+          store = shelves.old;
+          outside = entrances.old;
+          came = I.account input.old;
+          written = O.contents output.old;
+        })
+        (record {
+          store = shelves.new;
+          outside = entrances.new;
+          came = I.account input.new;
+          written = O.contents output.new;
+        })
         result action.now }
 {
     match action {
@@ -131,10 +161,13 @@ pub fn act_on<S: Outlines + Keyring, K: Copies<S>, I: Hear, O: Tell>(
             connections,
             control,
         } => acceptance(serve(
+            rt.alloc(),
             rt,
             &mut SystemWallClock::new(rt),
+            SystemWallClock::new(rt),
             shelves,
             copies,
+            entrances,
             *entrance,
             *connections,
             *control,

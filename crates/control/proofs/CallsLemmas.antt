@@ -15,7 +15,7 @@ use Rattle.control.specs.Tasks.{Task, GoesThroughTasks, StandsIf}
 use Rattle.control.specs.Visits.{Call, OfPeer, OfOperator, Untaken, AllTallied}
 use Rattle.control.specs.Visits.{IsEnd, IsNoStop, IsStop, TellsTally}
 use Rattle.control.specs.Visits.{answered_with, callers_of, connections_of, peers, steps_of, steps_with}
-use Rattle.control.specs.declared.callers.Caller.TheVariants.{Peer, Operator}
+use Rattle.socket.specs.declared.callers.Caller.TheVariants.{Peer, Operator}
 use Rattle.control.specs.declared.tally.Tally.{Tally}
 use Rattle.control.proofs.StepLemmas.{read_append, tasks_append}
 use Rattle.control.proofs.TallyLemmas.{answered_last, tally_push}

@@ -14,8 +14,8 @@ use Rattle.control.specs.Health.{IsPinged}
 use Rattle.control.specs.Pinging.{TellsHowFar, TellsPing}
 use Rattle.control.specs.Serving.{ObeysMeanwhile}
 use Rattle.control.specs.Visits.{ObeysOne}
-use Rattle.control.specs.declared.callers.Caller.{Caller}
-use Rattle.control.specs.declared.callers.Caller.TheVariants.{Operator}
+use Rattle.socket.specs.declared.callers.Caller.{Caller}
+use Rattle.socket.specs.declared.callers.Caller.TheVariants.{Operator}
 use Rattle.control.specs.declared.health.Metrics.{Metrics}
 use Rattle.control.specs.declared.health.Health.{Health}
 use Rattle.control.specs.declared.progress.Progress.{Progress}

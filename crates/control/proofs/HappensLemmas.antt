@@ -5,8 +5,8 @@ use Rattle.socket.specs.History.{Done, Door, Ends, Takes, TakesNone}
 use Rattle.socket.specs.declared.deed.Deed.TheVariants as deed
 use Rattle.control.specs.Health.{Answered}
 use Rattle.control.specs.Visits.{Audience, Call, OfPeer, OfOperator, Untaken, Happened, Happens, IsLong}
-use Rattle.control.specs.declared.callers.Caller.{Caller}
-use Rattle.control.specs.declared.callers.Caller.TheVariants.{Peer, Operator}
+use Rattle.socket.specs.declared.callers.Caller.{Caller}
+use Rattle.socket.specs.declared.callers.Caller.TheVariants.{Peer, Operator}
 
 module _ {P O : Type 0} where
   happens_then : (xs ys : List (Call P O)) (ds es : List (Done (Caller P O))) → Happens xs ds → Happens ys es

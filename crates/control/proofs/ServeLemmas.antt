@@ -26,7 +26,7 @@ use Rattle.control.specs.Tasks.{Asked, messages, GoesOn}
 use Rattle.control.specs.Visits.{Call, OfPeer, OfOperator, Untaken, steps_if}
 use Rattle.control.specs.Visits.{steps_with, peers, AnswersOne, ObeysOne}
 use Rattle.control.specs.Visits.{ReadsEach}
-use Rattle.control.specs.declared.callers.Caller.{Caller}
+use Rattle.socket.specs.declared.callers.Caller.{Caller}
 use Rattle.control.specs.declared.health.Health.{Health}
 use Rattle.control.specs.declared.control_reply.ControlReply.{ControlReply}
 use Rattle.control.specs.declared.control_reply.ControlReply.TheVariants as spoken

@@ -25,8 +25,8 @@ use Rattle.control.specs.Tasks.{GoesThroughTasks}
 use Rattle.control.specs.Visits.{Call, OfPeer, OfOperator, Untaken, Audience, CameIf, EndsEach, Happened}
 use Rattle.control.specs.Visits.{IsCallThere, IsToldThere, ObeysOne, ReadsEach, TellsTally}
 use Rattle.control.specs.Visits.{answered_with, callers_of, connections_of, steps_if, steps_of, steps_with}
-use Rattle.control.specs.declared.callers.Caller.{Caller}
-use Rattle.control.specs.declared.callers.Caller.TheVariants.{Peer, Operator}
+use Rattle.socket.specs.declared.callers.Caller.{Caller}
+use Rattle.socket.specs.declared.callers.Caller.TheVariants.{Peer, Operator}
 use Rattle.orders.specs.declared.outcome.Outcome.TheVariants.{Stopping}
 use Rattle.control.specs.declared.progress.Progress.{Progress}
 use Rattle.control.specs.declared.tally.Tally.{Tally}

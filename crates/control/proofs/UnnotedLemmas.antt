@@ -14,7 +14,7 @@ use Rattle.control.specs.Copying.{Making, Step, OfTask, Made, Counted, Listed, L
 use Rattle.control.specs.Serving.{Serves}
 use Rattle.control.specs.Tasks.{Task, GoesThroughTasks, StandsIf, world_at}
 use Rattle.control.specs.Visits.{steps_with}
-use Rattle.control.specs.declared.callers.Caller.{Caller}
+use Rattle.socket.specs.declared.callers.Caller.{Caller}
 use Rattle.control.specs.declared.progress.Progress.{Progress}
 use Rattle.control.proofs.CrashLemmas.{leaves_still}
 

@@ -18,8 +18,8 @@ use Rattle.control.specs.Tasks.{GoesThroughTasks}
 use Rattle.control.specs.Visits.{Call, OfPeer, OfOperator, Untaken, AnswersOne, IsCallThere, IsNoStop, IsStop, ObeysOne}
 use Rattle.control.specs.Visits.{Happened, TellsTally}
 use Rattle.control.specs.Visits.{answered_with, callers_of, connections_of, steps_with}
-use Rattle.control.specs.declared.callers.Caller.{Caller}
-use Rattle.control.specs.declared.callers.Caller.TheVariants.{Peer, Operator}
+use Rattle.socket.specs.declared.callers.Caller.{Caller}
+use Rattle.socket.specs.declared.callers.Caller.TheVariants.{Peer, Operator}
 use Rattle.control.specs.declared.progress.Progress.{Progress}
 use Rattle.control.specs.declared.tally.Tally.{Tally}
 

@@ -2,7 +2,7 @@
 use Rattle.std.specs.Prelude.{ℕ, ◌≡◌, ◌<◌, ◌≤◌, ◌+◌, ◌-◌, ◌^◌, ◌⊎◌, ◌↔◌, Bool, IsTrue}
 use Rattle.std.specs.Prelude.{List, [], ◌∷◌, ◌++◌, length, map, All, Option, Some, None, Result, Ok, Err}
 use Rattle.std.specs.Io.KnownBytes.{Appends, Keeps}
-use Rattle.histories.specs.Account.{Account, IsUnused}
+use Rattle.histories.specs.Account.{Account}
 use Rattle.histories.specs.Calls.{Reads, Writes}
 use Rattle.world.specs.Store.{Shown}
 use Rattle.world.specs.World.{World}
@@ -21,8 +21,8 @@ use Rattle.control.specs.Hearing.{Heard, Made, Pinged, CameOf, GoesAs, IsHeard, 
 use Rattle.control.specs.Hearing.{bytes_heard, steps_heard, told_heard}
 use Rattle.control.specs.Line.{most_tries}
 use Rattle.control.specs.Tasks.{Asked}
-use Rattle.control.specs.declared.callers.Caller.{Caller}
-use Rattle.control.specs.declared.callers.Caller.TheVariants.{Peer, Operator}
+use Rattle.socket.specs.declared.callers.Caller.{Caller}
+use Rattle.socket.specs.declared.callers.Caller.TheVariants.{Peer, Operator}
 use Rattle.control.specs.declared.health.Health.{Health}
 use Rattle.orders.specs.declared.outcome.Outcome.TheVariants.{Stopping}
 use Rattle.control.specs.declared.tally.Tally.{Tally}
@@ -76,13 +76,6 @@ module _ {P O : Type 0} where
   -- the second history is the first, and then what was done for these callers
   abbrev pub Happened : List (Done (Caller P O)) → List (Done (Caller P O)) → List (Call P O) → Type 0
   Happened before after calls = (deeds : List (Done (Caller P O))) × (after ≡ before ++ deeds) × Happens calls deeds
-
--- nothing has passed between this caller and us
-module _ {P O : Type 0} (came : P → Account) (written : P → Option (List ℕ)) (heeded : O → Account)
-    (told : O → Option (List ℕ)) where
-  abbrev pub IsUnheard : Caller P O → Type 0
-  IsUnheard (Peer peer) = IsUnused (came peer) (written peer)
-  IsUnheard (Operator operator) = IsUnused (heeded operator) (told operator)
 
 -- the steps of what an operator ordered, or none if no line was read
 abbrev pub steps_if : Option Heard → List Step

@@ -7,15 +7,13 @@
 //! | what a ping is told: how connections were answered, what was counted by shelf, and more | [`Tally`], [`Health`] |
 //! | what an operator gets | [`ControlReply`] |
 //! | taking an operator's line, and carrying its order out | [`Operator`], [`carry_out`] |
-//! | peers of a port and operators of a socket, one after another | [`serve_both`], [`Callers`], [`Listeners`] |
+//! | peers of a port and operators of a socket, one after another | [`serve_both`] |
 //! | what happened, in lines without a key, for standard error | [`Notice`], [`opened`], [`ended`], [`tell`] |
 //! | room on the disk, so that an order can be carried out once it is full | [`KeepsRoom`], [`Reserve`] |
-//! | the socket | [`operators_at`], [`remove_socket`] |
 //! | the operator's side | [`ask`], [`ask_to_stop`] |
 //! | what it asks to be told | [`ask_for_health`], [`ask_for_list`], [`send_order`], [`hear_on`], [`read_all`] |
 #![tactic(auto)]
 
-mod callers;
 mod carry;
 mod client;
 mod control_reply;
@@ -24,12 +22,12 @@ mod faults;
 mod health;
 pub mod laws;
 mod line;
-mod listeners;
 mod listing;
 mod monitored_store;
 mod naming;
 mod notice;
 mod obeying;
+mod operator;
 mod outcome;
 mod patience;
 mod pinging;
@@ -38,7 +36,6 @@ mod progress;
 mod reserve;
 mod serve;
 mod serving;
-mod socket_file;
 mod store_call;
 mod tally;
 mod telling;
@@ -46,18 +43,16 @@ mod traffic;
 mod turn;
 mod wall_clock;
 
-pub use callers::{Caller, Callers, Obeyed, Operator};
 pub use carry::{carry_out, carry_out_in};
 pub use client::{SendError, ask, ask_for_health, ask_for_list, ask_to_stop, send_order};
 pub use control_reply::ControlReply;
 pub use copies::{CatalogRefusal, Copies, CopyOrders, CopyRefusal};
 pub use health::{Health, Metrics};
 pub use line::{Came, ReadError, hear_on, read_all};
-pub use listeners::{Listeners, SystemCaller, SystemOperator};
 pub use notice::{Notice, ended, opened, reserved};
+pub use operator::{Obeyed, Operator};
 pub use reserve::{KeepsRoom, Reserve, Room, RoomDeed};
 pub use serve::serve_both;
-pub use socket_file::{operators_at, remove_socket};
 pub use tally::Tally;
 pub use telling::tell;
 pub use traffic::{ShelfTraffic, Traffic, Transfer};

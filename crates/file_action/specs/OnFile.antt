@@ -20,10 +20,12 @@ abbrev pub made : Result Bool CommandRefusal → Result Bool CommandRefusal
 made (Ok accepted) = Ok accepted
 made (Err refusal) = Err (new_store_refusal refusal)
 
-module _ (came came_new : Account) (written written_new : Option (List ℕ)) (result : Result Bool CommandRefusal) where
-  -- this is the result, and nothing was read or written
+module _ {N : Type 0} (outside outside_new : N) (came came_new : Account) (written written_new : Option (List ℕ))
+    (result : Result Bool CommandRefusal) where
+  -- this is the result, nothing was read or written, and nothing was done outside
   pub record TellsAlone (told : Result Bool CommandRefusal) : Type 0 where
     pub tells : result ≡ told
+    pub idle : outside_new ≡ outside
     pub input : came_new ≡ came
     pub output : written_new ≡ written
 
@@ -37,31 +39,33 @@ use_of action.ShelfList = Reading
 use_of action.Answer = Reading
 use_of other = Writing
 
--- what an action does, by the name of its file, the store and the streams before it and after it, the result, and the
+-- what an action does, by the name of its file, the store and all else before it and after it, the result, and the
 -- action
-abbrev pub Deeds : Type 0 → Type 1
-Deeds S = List ℕ → Moment S → Moment S → Result Bool CommandRefusal → Action → Type 0
+abbrev pub Deeds : Type 0 → Type 0 → Type 1
+Deeds S N = List ℕ → Moment S N → Moment S N → Result Bool CommandRefusal → Action → Type 0
 
 -- what an action does that is done on a part of a store
-abbrev pub within : {S T : Type 0} → (S → T) → Deeds T → Deeds S
+abbrev pub within : {S T N : Type 0} → (S → T) → Deeds T N → Deeds S N
 within part acts name before after result action = acts name
-    (record { store = part before.store; came = before.came; written = before.written })
-    (record { store = part after.store; came = after.came; written = after.written }) result action
+    (record { store = part before.store; outside = before.outside; came = before.came; written = before.written })
+    (record { store = part after.store; outside = after.outside; came = after.came; written = after.written })
+    result action
 
-module _ {S C : Type 0} (acts : Deeds S) (files : Span S C) (name : List ℕ)
+module _ {S C N : Type 0} (acts : Deeds S N) (files : Span S C) (name : List ℕ) (outside outside_new : N)
     (came came_new : Account) (written written_new : Option (List ℕ)) where
-  -- the store of this file was to be opened, and was not, the result says why, and nothing was read or written
+  -- the store of this file was to be opened, and was not, the result says why, nothing was read or written, and nothing
+  -- was done outside
   pub record ActsOnNone (result : Result Bool CommandRefusal) : Type 0 where
     pub why : StoreRefusal
-    pub tells : TellsAlone came came_new written written_new result (Err (unopened why))
+    pub tells : TellsAlone outside outside_new came came_new written written_new result (Err (unopened why))
     pub done : Refuses files name
 
   -- the store of this file was opened for the action, which was done on it, or it was not opened
   abbrev pub ActsOnFile : Action → Result Bool CommandRefusal → Type 0
   ActsOnFile action result =
       Opens files name (use_of action) (λ begun ended. acts name
-      (record { store = begun; came = came; written = written })
-      (record { store = ended; came = came_new; written = written_new }) result action)
+      (record { store = begun; outside = outside; came = came; written = written })
+      (record { store = ended; outside = outside_new; came = came_new; written = written_new }) result action)
       ⊎ ActsOnNone result
 
 -- the rest of a span that begins with a look at this file, which held no bytes
@@ -73,17 +77,17 @@ behind_look files name = record {
   after = files.after;
 }
 
-module _ {S C : Type 0} (acts : Deeds S) (files : Span S C) (name : List ℕ)
+module _ {S C N : Type 0} (acts : Deeds S N) (files : Span S C) (name : List ℕ) (outside outside_new : N)
     (came came_new : Account) (written written_new : Option (List ℕ)) (result : Result Bool CommandRefusal) where
   -- the file was looked at and held bytes, the result says so, and no store was opened
   pub record FindsBytes : Type 0 where
-    pub tells : TellsAlone came came_new written written_new result (Err NotEmpty)
+    pub tells : TellsAlone outside outside_new came came_new written written_new result (Err NotEmpty)
     pub done : files.after ≡ files.before ++ (name, Looked true) ∷ []
 
   -- the file was looked at and held no bytes; then its store was opened or not, and nothing else was done
   pub record FindsNone : Type 0 where
     pub opened : Result Bool CommandRefusal
-    pub does : ActsOnFile acts (behind_look files name) name came came_new written written_new Open opened
+    pub does : ActsOnFile acts (behind_look files name) name outside outside_new came came_new written written_new Open opened
     pub tells : result ≡ made opened
 
   -- the file was looked at once, and its store was opened only behind that, if the file held no bytes

@@ -3,12 +3,13 @@ use commands::action::Action;
 use commands::refusal::CommandRefusal;
 use histories::{Hear, Tell};
 
-/// The system, as far as an action on a file needs it. The stores of its files are `S`.
-pub trait ActionHost<S> {
+/// The system, as far as an action on a file needs it. The stores of its files are `S`, and what it reaches outside of
+/// them is an `N`, such as entrances where callers come in.
+pub trait ActionHost<S, N> {
     ghost use Rattle.file_action.specs.OnFile.{Deeds};
 
     /// What doing an action does.
-    ghost acts: { Deeds S };
+    ghost acts: { Deeds S N };
 
     /// Does an action on the open store of the file of this name, and returns whether it was accepted. Fails as the
     /// action does.
@@ -16,12 +17,23 @@ pub trait ActionHost<S> {
         &mut self,
         name: &str,
         shelves: &mut S,
+        outside: &mut N,
         action: &Action,
         input: &mut I,
         output: &mut O,
     ) -> Result<bool, CommandRefusal>
         ensures { acts name.now
-            (record { store = shelves.old; came = I.account input.old; written = O.contents output.old })
-            (record { store = shelves.new; came = I.account input.new; written = O.contents output.new })
+            (record {
+              store = shelves.old;
+              outside = outside.old;
+              came = I.account input.old;
+              written = O.contents output.old;
+            })
+            (record {
+              store = shelves.new;
+              outside = outside.new;
+              came = I.account input.new;
+              written = O.contents output.new;
+            })
             result action.now };
 }

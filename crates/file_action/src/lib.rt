@@ -21,27 +21,29 @@ use store_files::files::{StoreFiles, Use};
 /// Makes a store with the shelf `common` alone, and returns true. It first looks whether the file has bytes: if so, it
 /// fails with `NotEmpty` and opens nothing, and otherwise as `on_file` does. If the file can't be read, opening the
 /// store says what is wrong.
-pub fn init<S, C, H, F, I, W>(
+pub fn init<S, C, N, H, F, I, W>(
     host: &mut H,
     files: &mut F,
+    outside: &mut N,
     name: &str,
     input: &mut I,
     output: &mut W,
 ) -> Result<bool, CommandRefusal>
 where
-    H: ActionHost<S>,
+    H: ActionHost<S, N>,
     F: StoreFiles<S, C>,
     I: Hear,
     W: Tell,
     ensures { Inits H.acts
         (record { begins = F.begins; left = F.left; before = F.history files.old; after = F.history files.new })
-        name.now (I.account input.old) (I.account input.new) (W.contents output.old) (W.contents output.new)
+        name.now outside.old outside.new (I.account input.old) (I.account input.new)
+        (W.contents output.old) (W.contents output.new)
         result }
 {
     if files.holds_bytes(name) {
         return Err(CommandRefusal::NotEmpty);
     }
-    match on_file(host, files, name, &Action::Open, input, output) {
+    match on_file(host, files, outside, name, &Action::Open, input, output) {
         Ok(done) => Ok(done),
         Err(refusal) => Err(new_store_refusal(refusal)),
     }
@@ -64,27 +66,30 @@ fn use_of(action: &Action) -> Use
 
 /// Opens the store of a file, does an action on it, closes it in the state that the action left it in, and returns
 /// whether the action was accepted. If there is no file and the action only reads, none is left. If the store can't be
-/// opened, it fails with that refusal and reads and writes nothing; otherwise it fails as the action does.
-pub fn on_file<S, C, H, F, I, W>(
+/// opened, it fails with that refusal, reads and writes nothing, and does nothing `outside`; otherwise it fails as the
+/// action does.
+pub fn on_file<S, C, N, H, F, I, W>(
     host: &mut H,
     files: &mut F,
+    outside: &mut N,
     name: &str,
     action: &Action,
     input: &mut I,
     output: &mut W,
 ) -> Result<bool, CommandRefusal>
 where
-    H: ActionHost<S>,
+    H: ActionHost<S, N>,
     F: StoreFiles<S, C>,
     I: Hear,
     W: Tell,
     ensures { ActsOnFile H.acts
         (record { begins = F.begins; left = F.left; before = F.history files.old; after = F.history files.new })
-        name.now (I.account input.old) (I.account input.new) (W.contents output.old) (W.contents output.new)
+        name.now outside.old outside.new (I.account input.old) (I.account input.new)
+        (W.contents output.old) (W.contents output.new)
         action.now result }
 {
     let mut file = files.open(name, use_of(action))?;
-    let told = host.act(name, &mut file.store, action, input, output);
+    let told = host.act(name, &mut file.store, outside, action, input, output);
     files.close(file);
     told
 }

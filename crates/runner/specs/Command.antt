@@ -23,23 +23,26 @@ use Rattle.runner.specs.Migrate.{MigratesFile}
 use Rattle.runner.specs.declared.Command.{Command}
 use Rattle.runner.specs.declared.Command.TheVariants as command
 
-module _ (came came_new : Account) (written written_new : Option (List ℕ)) (result : Result Bool CommandRefusal) where
+module _ {N : Type 0} (outside outside_new : N) (came came_new : Account) (written written_new : Option (List ℕ))
+    (result : Result Bool CommandRefusal) where
   -- the requests of the input were answered from shelves in memory
   pub record AnswersInMemory (team key : List ℕ) : Type 0 where
     pub ended : Result (Unit {0}) CommandRefusal
     pub answers : AnsweredFor team key came came_new written written_new ended
     pub tells : result ≡ acceptance ended
+    pub idle : outside_new ≡ outside
 
-  -- this was done, the result says how it ended, and nothing was read or written
+  -- this was done, the result says how it ended, nothing was read or written, and nothing was done outside
   pub record EndsAlone (done : Result (Unit {0}) CommandRefusal → Type 0) : Type 0 where
     pub ended : Result (Unit {0}) CommandRefusal
     pub does : done ended
-    pub tells : TellsAlone came came_new written written_new result (acceptance ended)
+    pub tells : TellsAlone outside outside_new came came_new written written_new result (acceptance ended)
 
-  -- this was done, which says what was printed and how it ended, and nothing was read
+  -- this was done, which says what was printed and how it ended, nothing was read, and nothing was done outside
   pub record PrintsAlone (done : Option (List ℕ) → Option (List ℕ) → Result Bool CommandRefusal → Type 0) : Type 0 where
     pub does : done written written_new result
     pub input : came_new ≡ came
+    pub idle : outside_new ≡ outside
 
   -- so it was with an end that has no output of its own
   pub record EndsPrinting (done : Option (List ℕ) → Option (List ℕ) → Result (Unit {0}) CommandRefusal → Type 0)
@@ -48,14 +51,15 @@ module _ (came came_new : Account) (written written_new : Option (List ℕ)) (re
     pub does : done written written_new ended
     pub tells : result ≡ acceptance ended
     pub input : came_new ≡ came
+    pub idle : outside_new ≡ outside
 
-module _ {S C : Type 0} (acts : Deeds S) (state_of : C → State) (shown : S → Shown)
+module _ {S C N : Type 0} (acts : Deeds S N) (state_of : C → State) (shown : S → Shown)
     (files targets : Span S C) (older : Span C C)
     {L : Type 0} (all : L → Passed → Type 0) (connected connected_new : List (network.Done L))
-    (came came_new : Account) (written written_new : Option (List ℕ)) (result : Result Bool CommandRefusal) where
-  -- the command did this, and read and wrote nothing
+    (outside outside_new : N) (came came_new : Account) (written written_new : Option (List ℕ)) (result : Result Bool CommandRefusal) where
+  -- the command did this, read and wrote nothing, and did nothing outside
   abbrev pub Alone : (Result (Unit {0}) CommandRefusal → Type 0) → Type 0
-  Alone = EndsAlone came came_new written written_new result
+  Alone = EndsAlone outside outside_new came came_new written written_new result
 
   -- of the files of stores, nothing was done to a new one or an older one
   abbrev pub IsOnFiles : Type 0
@@ -72,11 +76,11 @@ module _ {S C : Type 0} (acts : Deeds S) (state_of : C → State) (shown : S →
   -- What each kind of command does, to which files of stores: those of the command, the new one, and the older one; and
   -- to which servers. The last eight open no store: they send a line to a running `serve`, or can't.
   abbrev pub Runs : Command → Type 0
-  Runs (command.Init db) = Inits acts files db.now came came_new written written_new result × IsOnFiles × IsUnconnected
+  Runs (command.Init db) = Inits acts files db.now outside outside_new came came_new written written_new result × IsOnFiles × IsUnconnected
   Runs (command.AnswerInMemory team key) =
-      AnswersInMemory came came_new written written_new result team.now key.now × IsOnNone × IsUnconnected
+      AnswersInMemory outside outside_new came came_new written written_new result team.now key.now × IsOnNone × IsUnconnected
   Runs (command.OnStore db action) =
-      ActsOnFile acts files db.now came came_new written written_new action result × IsOnFiles × IsUnconnected
+      ActsOnFile acts files db.now outside outside_new came came_new written written_new action result × IsOnFiles × IsUnconnected
   Runs (command.Extract db teams to) =
       Alone (ExtractsFile shown shown files targets db.now (each (λ team. team.now) teams.now) to.now) × IsIdle older
       × IsUnconnected
@@ -85,17 +89,17 @@ module _ {S C : Type 0} (acts : Deeds S) (state_of : C → State) (shown : S →
   Runs (command.Order control command) =
       Alone (OrdersTo all connected connected_new control.now command) × IsOnNone
   Runs (command.OrderNew control shelf right) =
-      EndsPrinting came came_new written written_new result
+      EndsPrinting outside outside_new came came_new written written_new result
       (OrdersNew all control.now connected connected_new shelf right) × IsOnNone
   Runs (command.OrderNamed control fingerprint) =
       Alone (RevokesTo all connected connected_new control.now fingerprint.now) × IsOnNone
   Runs (command.Copy control to) = Alone (CopiesTo all connected connected_new control.now to.now) × IsOnNone
   Runs (command.Ping control) =
-      PrintsAlone came came_new written written_new result (PingsTo all connected connected_new control.now) × IsOnNone
+      PrintsAlone outside outside_new came came_new written written_new result (PingsTo all connected connected_new control.now) × IsOnNone
   Runs (command.List control listing) =
-      PrintsAlone came came_new written written_new result (ListsTo all connected connected_new control.now listing)
+      PrintsAlone outside outside_new came came_new written written_new result (ListsTo all connected connected_new control.now listing)
       × IsOnNone
   Runs (command.Catalog control key) =
-      PrintsAlone came came_new written written_new result (CatalogsTo all connected connected_new control.now key.now)
+      PrintsAlone outside outside_new came came_new written written_new result (CatalogsTo all connected connected_new control.now key.now)
       × IsOnNone
   Runs (command.Stop control) = Alone (StopsTo all connected connected_new control.now) × IsOnNone

@@ -1,6 +1,7 @@
 //! What a command asks of the system, beside opening and closing the stores of files.
 ghost use Rattle.commands.specs.Action.{Acts};
 ghost use Rattle.runner.specs.Copies.{CountsIn, Makes};
+ghost use Rattle.socket.specs.Connections.{both};
 
 use crate::beside::{check_name, has_lone_log, sync_log};
 use crate::copies::FileCopies;
@@ -15,9 +16,11 @@ use commands::files::{is_empty_file, is_missing_or_empty, is_same_file};
 use commands::new_key::order_new_at;
 use commands::progress::StderrLine;
 use commands::refusal::CommandRefusal;
+use control::Operator;
 use file_action::host::ActionHost;
 use histories::{Hear, Tell};
 use network::servers::Servers;
+use socket::{Callers, Entrances, Peer, SystemEntrances, SystemOperator, SystemPeer};
 use sqlite::Alter;
 use sqlite_trees::store::Store;
 use std::alloc::Global;
@@ -31,7 +34,7 @@ use world::shelves::Shelves;
 
 /// The system, as a command sees it whose stores are `S`. A closed store leaves a `C`, and an older store is opened as
 /// one.
-pub trait Host<S, C>: ActionHost<S> + FileChecks {
+pub trait Host<S, C>: FileChecks {
     ghost use Rattle.std.specs.Prelude.{map as each};
     ghost use Rattle.sqlite.specs.State.{State};
     ghost use Rattle.commands.specs.Connection.{IsAll};
@@ -130,13 +133,25 @@ impl<'a> FileChecks for SystemHost<'a> {
     }
 }
 
-impl<'a> ActionHost<OpenedStore> for SystemHost<'a> {
+/// What it reaches outside is where callers come in.
+impl<'a> ActionHost<OpenedStore, SystemEntrances<'a>> for SystemHost<'a> {
     ghost use Rattle.commands.specs.Action.{Acts};
     ghost use Rattle.file_action.specs.OnFile.{within};
     ghost use Rattle.runner.specs.Copies.{CountsIn, Makes};
     ghost use Rattle.runner.specs.declared.found.OpenedStore.{OpenedStore};
+    ghost use Rattle.socket.specs.Connections.{both};
 
-    ghost acts = { within (λ s. s.shelves) (λ _. Acts ⟦<Found as Shelves>⟧.shown
+    ghost acts = { within (λ s. s.shelves) (λ _. Acts
+        (record {
+          heeded = both ⟦<SystemOperator as Operator>⟧.came ⟦<SystemOperator as Operator>⟧.reads;
+          told = both ⟦<SystemOperator as Operator>⟧.written ⟦<SystemOperator as Operator>⟧.writes;
+          heard = both ⟦<SystemPeer as Peer>⟧.came ⟦<SystemPeer as Peer>⟧.reads;
+          written = both ⟦<SystemPeer as Peer>⟧.written ⟦<SystemPeer as Peer>⟧.writes;
+          is_new = ⟦<SystemEntrances<'a> as Callers<SystemPeer, SystemOperator>>⟧.is_new;
+          door = both ⟦<SystemEntrances<'a> as Callers<SystemPeer, SystemOperator>>⟧.waiting
+              ⟦<SystemEntrances<'a> as Callers<SystemPeer, SystemOperator>>⟧.history;
+        })
+        ⟦<Found as Shelves>⟧.shown
         (Makes ⟦<Found as Shelves>⟧.shown (λ (s : OpenedStore). ⟦<Found as Shelves>⟧.shown s.shelves)
         ⟦<SystemStoreFiles<'a> as StoreFiles<OpenedStore, ClosedFile>>⟧.begins
         ⟦<SystemStoreFiles<'a> as StoreFiles<OpenedStore, ClosedFile>>⟧.left
@@ -147,11 +162,20 @@ impl<'a> ActionHost<OpenedStore> for SystemHost<'a> {
         &mut self,
         name: &str,
         store: &mut OpenedStore,
+        outside: &mut SystemEntrances<'a>,
         action: &Action,
         input: &mut I,
         output: &mut O,
     ) -> Result<bool, CommandRefusal> {
-        act_in(self.rt, name, &mut store.shelves, action, input, output)
+        act_in(
+            self.rt,
+            name,
+            &mut store.shelves,
+            outside,
+            action,
+            input,
+            output,
+        )
     }
 }
 
@@ -209,22 +233,42 @@ impl<'a> Host<OpenedStore, ClosedFile> for SystemHost<'a> {
 
 /// Does an action on the open store of the file of this name, and returns whether it was accepted. Fails as [`act_on`]
 /// does.
-fn act_in<'a, S: Alter, I: Hear, O: Tell>(
+fn act_in<'a, S: Alter, P: Peer + Drop, Q: Operator + Drop, N: Entrances<P, Q>, I: Hear, O: Tell>(
     rt: &'a HostRuntime,
     name: &str,
     shelves: &mut SqlShelves<S>,
+    entrances: &mut N,
     action: &Action,
     input: &mut I,
     output: &mut O,
 ) -> Result<bool, CommandRefusal>
-    ensures { Acts ⟦<SqlShelves<S> as Shelves>⟧.shown
+    ensures { Acts
+        (record {
+          heeded = both Q.came Q.reads;
+          told = both Q.written Q.writes;
+          heard = both P.came P.reads;
+          written = both P.written P.writes;
+          is_new = N.is_new;
+          door = both N.waiting N.history;
+        })
+        ⟦<SqlShelves<S> as Shelves>⟧.shown
         (Makes ⟦<SqlShelves<S> as Shelves>⟧.shown (λ (s : OpenedStore). ⟦<Found as Shelves>⟧.shown s.shelves)
         ⟦<SystemStoreFiles<'a> as StoreFiles<OpenedStore, ClosedFile>>⟧.begins
         ⟦<SystemStoreFiles<'a> as StoreFiles<OpenedStore, ClosedFile>>⟧.left
         ⟦<SystemStoreFiles<'a> as StoreFiles<OpenedStore, ClosedFile>>⟧.history)
         (CountsIn ⟦<SqlShelves<S> as Shelves>⟧.shown)
-        (record { store = shelves.old; came = I.account input.old; written = O.contents output.old })
-        (record { store = shelves.new; came = I.account input.new; written = O.contents output.new })
+        (record {
+          store = shelves.old;
+          outside = entrances.old;
+          came = I.account input.old;
+          written = O.contents output.old;
+        })
+        (record {
+          store = shelves.new;
+          outside = entrances.new;
+          came = I.account input.new;
+          written = O.contents output.new;
+        })
         result action.now }
 {
     let copies = FileCopies {
@@ -232,5 +276,5 @@ fn act_in<'a, S: Alter, I: Hear, O: Tell>(
         db: name,
         targets: SystemStoreFiles::new(rt, PageRoom::Slice),
     };
-    act_on(rt, shelves, &copies, action, input, output)
+    act_on(rt, shelves, &copies, entrances, action, input, output)
 }

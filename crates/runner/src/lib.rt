@@ -54,6 +54,7 @@ use commands::order::{order_at, revoke_at, stop_at};
 use commands::ping::ping_at;
 use commands::refusal::CommandRefusal;
 use commands::served_catalog::catalog_at;
+use file_action::host::ActionHost;
 use file_action::{init, on_file};
 use histories::{Hear, Tell};
 use network::servers::Servers;
@@ -144,19 +145,21 @@ pub enum Command<'a> {
 /// anything else by them. By `servers` it connects to the `serve` of a command with `--control`: once, to the socket of
 /// the command, and nothing passes over that connection but the line of the order and what comes of it, which decides
 /// what is printed and how the command ends. `key-add --new` sends a second order if it can't print the key, and a
-/// `copy` asks how far it is, over connections of their own. An action is done by `host`, and so are checks.
-pub fn run<S, C, H, F, G, Q, R, U, V, I, W>(
+/// `copy` asks how far it is, over connections of their own. An action is done by `host`, and so are checks. Only an
+/// action on the store of a file does anything `outside`, which is where `serve` lets callers in.
+pub fn run<S, C, N, H, F, G, Q, R, U, V, I, W>(
     host: &mut H,
     files: &mut F,
     targets: &mut G,
     older: &mut Q,
     servers: &mut V,
+    outside: &mut N,
     command: &Command,
     input: &mut I,
     output: &mut W,
 ) -> Result<bool, CommandRefusal>
 where
-    H: Host<S, C>,
+    H: Host<S, C> + ActionHost<S, N>,
     F: StoreFiles<S, C>,
     G: StoreFiles<S, C>,
     Q: OlderFiles<C>,
@@ -170,17 +173,19 @@ where
         (record { begins = G.begins; left = G.left; before = G.history targets.old; after = G.history targets.new })
         (record { begins = Q.begins; left = Q.left; before = Q.history older.old; after = Q.history older.new })
         (λ link passed. IsAll (R.account link.reader) (U.contents link.writer) (U.writes link.writer).failed passed)
-        (V.history servers.old) (V.history servers.new)
+        (V.history servers.old) (V.history servers.new) outside.old outside.new
         (I.account input.old) (I.account input.new) (W.contents output.old) (W.contents output.new)
         result command.now }
 {
     match command {
-        Command::Init { db } => init(host, files, db, input, output),
+        Command::Init { db } => init(host, files, outside, db, input, output),
         Command::AnswerInMemory { team, key } => {
             answer_in_memory(host.alloc(), team, key, input, output)?;
             Ok(true)
         }
-        Command::OnStore { db, action } => on_file(host, files, db, action, input, output),
+        Command::OnStore { db, action } => {
+            on_file(host, files, outside, db, action, input, output)
+        },
         Command::Extract { db, teams, to } => {
             acceptance(host.extract(files, targets, db, teams, to))
         }

@@ -16,6 +16,8 @@ use Rattle.socket.specs.Connections.{Answers, Come, exchanges_of}
 use Rattle.socket.specs.History.{Door, Ends, Takes, TakesNone}
 use Rattle.socket.specs.Serving.{AnswersEach, AnswersNext, Call, IsServed, OfPeer, Untaken}
 use Rattle.socket.specs.Serving.{deeds_of, deeds_with, exchanges_at, exchanges_in, peers_of}
+use Rattle.socket.specs.declared.callers.Caller.{Caller}
+use Rattle.socket.specs.declared.callers.Caller.TheVariants.{Peer}
 use Rattle.socket.specs.declared.deed.Deed.TheVariants as deed
 
 one_at_most : (first : Option First) → length (exchanges_of first) ≤ 1
@@ -34,11 +36,18 @@ one_each (OfPeer visit ∷ calls) = omega (
 )
 one_each (Untaken ∷ calls) = let e = one_each calls in omega (arith, e)
 
-deeds_last : {P : Type 0} (calls : List (Call P)) (last : Call P)
-    → deeds_with (calls ++ last ∷ []) ≡ deeds_with calls ++ deeds_of last
-deeds_last [] last = append-nil (deeds_of last)
-deeds_last (call ∷ calls) last = ap (λ more. deeds_of call ++ more) (deeds_last calls last)
-    ∙ sym (append_assoc (deeds_of call) (deeds_with calls) (deeds_of last))
+module _ {P O : Type 0} where
+  deeds_last : (calls : List (Call P)) (last : Call P)
+      → deeds_with {P = P} {O = O} (calls ++ last ∷ []) ≡ deeds_with calls ++ deeds_of last
+  deeds_last [] last = append-nil (deeds_of last)
+  deeds_last (call ∷ calls) last = ap (λ more. deeds_of call ++ more) (deeds_last calls last)
+      ∙ sym (append_assoc (deeds_of call) (deeds_with calls) (deeds_of last))
+
+  peers_last : (calls : List (Call P)) (last : Call P)
+      → peers_of {P = P} {O = O} (calls ++ last ∷ []) ≡ peers_of calls ++ peers_of (last ∷ [])
+  peers_last [] last = refl
+  peers_last (OfPeer visit ∷ calls) last = ap (λ more. Peer visit.before ∷ more) (peers_last calls last)
+  peers_last (Untaken ∷ calls) last = peers_last calls last
 
 exchanges_last : {P : Type 0} (calls : List (Call P)) (last : Call P)
     → exchanges_in (calls ++ last ∷ []) ≡ exchanges_in calls ++ exchanges_at last
@@ -46,18 +55,12 @@ exchanges_last [] last = append-nil (exchanges_at last)
 exchanges_last (call ∷ calls) last = ap (λ more. exchanges_at call ++ more) (exchanges_last calls last)
     ∙ sym (append_assoc (exchanges_at call) (exchanges_in calls) (exchanges_at last))
 
-peers_last : {P : Type 0} (calls : List (Call P)) (last : Call P)
-    → peers_of (calls ++ last ∷ []) ≡ peers_of calls ++ peers_of (last ∷ [])
-peers_last [] last = refl
-peers_last (OfPeer visit ∷ calls) last = ap (λ more. visit.before ∷ more) (peers_last calls last)
-peers_last (Untaken ∷ calls) last = peers_last calls last
-
-none_come : {P : Type 0} (waiting : Option (List P)) → Come waiting waiting []
+none_come : {C : Type 0} (waiting : Option (List C)) → Come waiting waiting []
 none_come None = tt
 none_come (Some all) = refl
 
 -- if some peers come and then others, all of them come
-then_come : {P : Type 0} (waiting left rest : Option (List P)) (first next : List P) → Come waiting left first
+then_come : {C : Type 0} (waiting left rest : Option (List C)) (first next : List C) → Come waiting left first
     → Come left rest next
     → Come waiting rest (first ++ next)
 then_come None left rest first next one two = tt
@@ -81,22 +84,23 @@ module _ {P : Type 0} (heard : P → Account × Reads) (written : P → Option (
   answered old new peer gone (Err io.Write) (first, takes, through, inr ended) cause =
       record { first = Some first; there = (takes, inr ended); through = through }
 
-  module _ (is_new : P → Type 0) where
+  module _ {O : Type 0} (is_new : Caller P O → Type 0) where
     -- a connection that was taken, answered and ended
-    pub next_peer : (door mid left : Door P) (old new : Shown) (peer gone : P) → is_new peer
-        → Takes door mid peer → Answers heard written peer gone old new → Ends mid left gone
+    pub next_peer : (door mid left : Door (Caller P O)) (old new : Shown) (peer gone : P)
+        → is_new (Peer peer)
+        → Takes door mid (Peer peer) → Answers heard written peer gone old new → Ends mid left (Peer gone)
         → AnswersNext heard written is_new door left old new
     next_peer door mid left old new peer gone fresh takes next ends = record {
       call = OfPeer (record { before = peer; after = gone; first = next.first });
-      came = subst (λ w. Come door.0 w (peer ∷ [])) (sym ends.waits) takes.comes;
-      done = ends.noted ∙ (ap (λ m. m ++ ([], deed.Ended gone) ∷ []) takes.noted
-          ∙ append_assoc door.1 (([], deed.Taken peer) ∷ []) (([], deed.Ended gone) ∷ []));
+      came = subst (λ w. Come door.0 w (Peer peer ∷ [])) (sym ends.waits) takes.comes;
+      done = ends.noted ∙ (ap (λ m. m ++ ([], deed.Ended (Peer gone)) ∷ []) takes.noted
+          ∙ append_assoc door.1 (([], deed.Taken (Peer peer)) ∷ []) (([], deed.Ended (Peer gone)) ∷ []));
       served = (fresh, next.there);
       through = next.through;
     }
 
     -- a connection that could not be taken
-    pub next_untaken : (door left : Door P) (shown : Shown) → TakesNone door left
+    pub next_untaken : (door left : Door (Caller P O)) (shown : Shown) → TakesNone door left
         → AnswersNext heard written is_new door left shown shown
     next_untaken door left shown takes = record {
       call = Untaken;
@@ -106,7 +110,7 @@ module _ {P : Type 0} (heard : P → Account × Reads) (written : P → Option (
       through = through_none shown;
     }
 
-    pub each_none : (door : Door P) (shown : Shown) → AnswersEach heard written is_new door door shown shown 0
+    pub each_none : (door : Door (Caller P O)) (shown : Shown) → AnswersEach heard written is_new door door shown shown 0
     each_none door shown = record {
       calls = [];
       count = refl;
@@ -117,7 +121,7 @@ module _ {P : Type 0} (heard : P → Account × Reads) (written : P → Option (
     }
 
     -- one more after others
-    pub each_more : (door mid left : Door P) (old now new : Shown) (n : ℕ)
+    pub each_more : (door mid left : Door (Caller P O)) (old now new : Shown) (n : ℕ)
         → AnswersEach heard written is_new door mid old now n → AnswersNext heard written is_new mid left now new
         → AnswersEach heard written is_new door left old new (n + 1)
     each_more door mid left old now new n first next = record {

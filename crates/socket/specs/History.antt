@@ -1,10 +1,15 @@
 -- What was done where connections come in.
-use Rattle.std.specs.Prelude.{ℕ, ◌≡◌, List, [], ◌∷◌, ◌++◌, Option, None, Result, Ok, Err}
+use Rattle.std.specs.Prelude.{ℕ, ◌≡◌, ◌≢◌, List, [], ◌∷◌, ◌++◌, map, Option, None, Result, Ok, Err}
+use Rattle.histories.specs.Account.{Account, IsUnused}
 use Rattle.socket.specs.Connections.{Come}
+use Rattle.socket.specs.declared.callers.Caller.{Caller}
+use Rattle.socket.specs.declared.callers.Caller.TheVariants.{Peer, Operator}
 use Rattle.socket.specs.declared.deed.Deed.{Deed}
 use Rattle.socket.specs.declared.deed.Deed.TheVariants as deed
+use Rattle.socket.specs.declared.deed.ListenOn.{ListenOn}
+use Rattle.socket.specs.declared.deed.ListenOn.TheVariants.{Port, Input}
 
--- a deed; it has no name
+-- a deed, with the path of the socket that it is about, or with none
 abbrev pub Done : Type 0 → Type 0
 Done C = List ℕ × Deed C
 
@@ -32,10 +37,43 @@ abbrev pub TakesNext : {C E : Type 0} → Door C → Door C → Result C E → T
 TakesNext door left (Ok caller) = Takes door left caller
 TakesNext door left (Err e) = TakesNone door left
 
--- The connection of this one was ended, as it is. Nothing else was done.
-pub record Ends {C : Type 0} (door left : Door C) (caller : C) : Type 0 where
+-- This was done, with the path that it is about. Nothing else was done, and nobody was taken.
+pub record Does {C : Type 0} (door left : Door C) (path : List ℕ) (what : Deed C) : Type 0 where
   pub waits : left.0 ≡ door.0
-  pub noted : left.1 ≡ door.1 ++ ([], deed.Ended caller) ∷ []
+  pub noted : left.1 ≡ door.1 ++ (path, what) ∷ []
+
+-- the connection of this one was ended, as it is, and nothing else was done
+abbrev pub Ends : {C : Type 0} → Door C → Door C → C → Type 0
+Ends door left caller = Does door left [] (deed.Ended caller)
+
+-- these operators, and then these peers
+abbrev pub callers_in : {P O : Type 0} → List O → List P → List (Caller P O)
+callers_in operators peers = map Operator operators ++ map Peer peers
+
+module _ {P O : Type 0} where
+  -- what is done where the next peer was to be taken
+  abbrev pub took_peer : {E : Type 0} → Result P E → Done (Caller P O)
+  took_peer (Ok peer) = ([], deed.Taken (Peer peer))
+  took_peer (Err e) = ([], deed.Untaken)
+
+  -- the next peer was taken, or nobody if that failed
+  abbrev pub TakesPeer : {E : Type 0} → Door (Caller P O) → Door (Caller P O) → Result P E → Type 0
+  TakesPeer door left (Ok peer) = Takes door left (Peer peer)
+  TakesPeer door left (Err e) = TakesNone door left
+
+-- who asks for the first entrance gets the second: the same, or any port in the place of port 0
+abbrev pub IsBoundFor : ListenOn → ListenOn → Type 0
+IsBoundFor (Port port) (Port bound) = port ≢ 0 → bound ≡ port
+IsBoundFor (Port port) Input = ⊥
+IsBoundFor Input (Port bound) = ⊥
+IsBoundFor Input Input = Unit {0}
+
+-- nothing has passed between this caller and us
+module _ {P O : Type 0} (came : P → Account) (written : P → Option (List ℕ)) (heeded : O → Account)
+    (told : O → Option (List ℕ)) where
+  abbrev pub IsUnheard : Caller P O → Type 0
+  IsUnheard (Peer peer) = IsUnused (came peer) (written peer)
+  IsUnheard (Operator operator) = IsUnused (heeded operator) (told operator)
 
 -- the status of a reply that was written whole
 abbrev pub written_whole : {E : Type 0} → Result (Option ℕ) E → Option ℕ

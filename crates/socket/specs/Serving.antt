@@ -7,6 +7,8 @@ use Rattle.engine.specs.Exchange.{Exchange}
 use Rattle.engine.specs.Store.{GoesThrough}
 use Rattle.socket.specs.Connections.{Come, Visit, IsAnsweredThere, exchanges_of}
 use Rattle.socket.specs.History.{Done, Door}
+use Rattle.socket.specs.declared.callers.Caller.{Caller}
+use Rattle.socket.specs.declared.callers.Caller.TheVariants.{Peer}
 use Rattle.socket.specs.declared.deed.Deed.TheVariants as deed
 
 -- a peer whose connection was taken, as it came and as it was left; or a connection that could not be taken
@@ -15,17 +17,17 @@ pub data Call (P : Type 0) : Type 0 where
   Untaken : Call P
 
 -- those who came, in their order
-abbrev pub peers_of : {P : Type 0} → List (Call P) → List P
+abbrev pub peers_of : {P O : Type 0} → List (Call P) → List (Caller P O)
 peers_of [] = []
-peers_of (OfPeer visit ∷ calls) = visit.before ∷ peers_of calls
+peers_of (OfPeer visit ∷ calls) = Peer visit.before ∷ peers_of calls
 peers_of (Untaken ∷ calls) = peers_of calls
 
 -- what is done for one: the connection is taken, and ended as it was left; or it could not be taken
-abbrev pub deeds_of : {P : Type 0} → Call P → List (Done P)
-deeds_of (OfPeer visit) = ([], deed.Taken visit.before) ∷ ([], deed.Ended visit.after) ∷ []
+abbrev pub deeds_of : {P O : Type 0} → Call P → List (Done (Caller P O))
+deeds_of (OfPeer visit) = ([], deed.Taken (Peer visit.before)) ∷ ([], deed.Ended (Peer visit.after)) ∷ []
 deeds_of Untaken = ([], deed.Untaken) ∷ []
 
-abbrev pub deeds_with : {P : Type 0} → List (Call P) → List (Done P)
+abbrev pub deeds_with : {P O : Type 0} → List (Call P) → List (Done (Caller P O))
 deeds_with [] = []
 deeds_with (call ∷ calls) = deeds_of call ++ deeds_with calls
 
@@ -39,28 +41,28 @@ abbrev pub exchanges_in : {P : Type 0} → List (Call P) → List Exchange
 exchanges_in [] = []
 exchanges_in (call ∷ calls) = exchanges_at call ++ exchanges_in calls
 
-module _ {P : Type 0} (heard : P → Account × Reads) (written : P → Option (List ℕ) × Writes) (is_new : P → Type 0)
-  where
-    -- a peer was new, what it sent first was answered to it, and nothing else was written to it
-    abbrev pub IsServed : Call P → Type 0
-    IsServed (OfPeer visit) = is_new visit.before × IsAnsweredThere heard written visit
-    IsServed Untaken = Unit {0}
+module _ {P O : Type 0} (heard : P → Account × Reads) (written : P → Option (List ℕ) × Writes)
+    (is_new : Caller P O → Type 0) where
+  -- a peer was new, what it sent first was answered to it, and nothing else was written to it
+  abbrev pub IsServed : Call P → Type 0
+  IsServed (OfPeer visit) = is_new (Peer visit.before) × IsAnsweredThere heard written visit
+  IsServed Untaken = Unit {0}
 
-    -- One connection was taken, answered and ended as it was left, or it could not be taken. Nothing else was done, and
-    -- the store went through the message that came over it.
-    pub record AnswersNext (door left : Door P) (old new : Shown) : Type 0 where
-      pub call : Call P
-      pub came : Come door.0 left.0 (peers_of (call ∷ []))
-      pub done : left.1 ≡ door.1 ++ deeds_of call
-      pub served : IsServed call
-      pub through : GoesThrough old new (exchanges_at call)
+  -- One connection was taken, answered and ended as it was left, or it could not be taken. Nothing else was done, and
+  -- the store went through the message that came over it.
+  pub record AnswersNext (door left : Door (Caller P O)) (old new : Shown) : Type 0 where
+    pub call : Call P
+    pub came : Come door.0 left.0 (peers_of (call ∷ []))
+    pub done : left.1 ≡ door.1 ++ deeds_of call
+    pub served : IsServed call
+    pub through : GoesThrough old new (exchanges_at call)
 
-    -- So it was with this many connections, one after another, no more and no fewer. Nothing else was done, and the
-    -- store went through the messages that came over them, in their order, and through nothing else.
-    pub record AnswersEach (door left : Door P) (old new : Shown) (connections : ℕ) : Type 0 where
-      pub calls : List (Call P)
-      pub count : length calls ≡ connections
-      pub came : Come door.0 left.0 (peers_of calls)
-      pub done : left.1 ≡ door.1 ++ deeds_with calls
-      pub served : All IsServed calls
-      pub through : GoesThrough old new (exchanges_in calls)
+  -- So it was with this many connections, one after another, no more and no fewer. Nothing else was done, and the
+  -- store went through the messages that came over them, in their order, and through nothing else.
+  pub record AnswersEach (door left : Door (Caller P O)) (old new : Shown) (connections : ℕ) : Type 0 where
+    pub calls : List (Call P)
+    pub count : length calls ≡ connections
+    pub came : Come door.0 left.0 (peers_of calls)
+    pub done : left.1 ≡ door.1 ++ deeds_with calls
+    pub served : All IsServed calls
+    pub through : GoesThrough old new (exchanges_in calls)

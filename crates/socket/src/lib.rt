@@ -1,6 +1,10 @@
 //! Answering messages over connections: one message on each, and one connection after another.
 //!
-//! [`serve_on`] takes a number of connections from a listener, and on each it answers one message as
+//! [`Entrances`] is where callers come in: peers at a port or at standard input, and operators at a Unix socket. A
+//! history has what was opened there, who was taken, and with what passed over it each connection that was ended. Only
+//! clauses read the history. [`SystemEntrances`] has those of the system, and [`MemoryEntrances`] callers in memory.
+//!
+//! [`serve_on`] takes a number of peers from [`Callers`], and on the connection of each it answers one message as
 //! `engine::answer_one` does. A connection that fails counts, and does not disturb those after it.
 //!
 //! A slow peer holds up all others, because there is one connection at a time. So its time and its bytes are bounded:
@@ -21,14 +25,24 @@
 #![tactic(auto)]
 
 mod bounds;
+mod callers;
 mod connection;
 mod deed;
-mod listener;
+mod entrances;
+mod listening;
+mod memory;
 mod pace;
 mod rest;
 mod serve;
+mod socket_file;
+mod sockets;
+mod system;
 
+pub use callers::{Caller, Callers};
 pub use connection::{After, Answered, Peer, answer_in_time};
-pub use deed::{Deed, note_ended, note_taken};
-pub use listener::{Listener, PortListener, SystemPeer};
+pub use deed::{Deed, ListenOn};
+pub use entrances::Entrances;
+pub use memory::MemoryEntrances;
 pub use serve::{serve_on, written_status};
+pub use sockets::{SystemCaller, SystemOperator, SystemPeer};
+pub use system::SystemEntrances;

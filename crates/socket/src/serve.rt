@@ -4,25 +4,25 @@ ghost use Rattle.socket.specs.Connections.{GoesThroughMost, both};
 ghost use Rattle.socket.specs.History.{written_whole};
 ghost use Rattle.socket.specs.Serving.{AnswersEach, AnswersNext};
 
+use crate::callers::Callers;
 use crate::connection::Peer;
-use crate::listener::Listener;
 use engine::Io;
 use std::alloc::Global;
 use std::time::Clock;
 use wire::RouteTable;
 use world::shelves::Shelves;
 
-/// Takes connections from a listener, one after another, answers on each the first message that comes over it, and ends
-/// it; the store goes through at most as many messages as there are connections. It waits for each connection however
-/// long that takes, and returns after the last of them.
+/// Takes connections of peers, where no operator comes in, one after another, answers on each the first message that
+/// comes over it, and ends it; the store goes through at most as many messages as there are connections. It waits for
+/// each connection however long that takes, and returns after the last of them.
 ///
 /// It never fails. A connection that fails counts and is reported to nobody: if its message was not read whole, it
 /// changed nothing; if its reply failed, what the message did stays. An accept that fails counts too, so a server
 /// without descriptors ends.
-pub fn serve_on<C: Clock, P: Peer + Drop, L: Listener<P>, S: Shelves>(
+pub fn serve_on<C: Clock, P: Peer + Drop, O, L: Callers<P, O>, S: Shelves>(
     alloc: Global,
     clock: &C,
-    listener: &mut L,
+    callers: &mut L,
     shelves: &mut S,
     connections: u32,
 )
@@ -31,31 +31,31 @@ pub fn serve_on<C: Clock, P: Peer + Drop, L: Listener<P>, S: Shelves>(
     // at most one on each, which is ended as it was left. If none is, or its reply is not written whole, a call of that
     // connection failed.
     ensures each { AnswersEach (both P.came P.reads) (both P.written P.writes) L.is_new
-        (both L.waiting L.history listener.old) (both L.waiting L.history listener.new)
+        (both L.waiting L.history callers.old) (both L.waiting L.history callers.new)
         (S.shown shelves.old) (S.shown shelves.new) connections }
 {
     let mut routes = RouteTable::new(alloc);
     for _ in 0..connections {
-        serve_next(alloc, clock, &mut routes, listener, shelves);
+        serve_next(alloc, clock, &mut routes, callers, shelves);
     }
 }
 
 /// Takes the next connection, answers the first message that comes over it, and ends it.
-fn serve_next<C: Clock, P: Peer + Drop, L: Listener<P>, S: Shelves>(
+fn serve_next<C: Clock, P: Peer + Drop, O, L: Callers<P, O>, S: Shelves>(
     alloc: Global,
     clock: &C,
     routes: &mut RouteTable,
-    listener: &mut L,
+    callers: &mut L,
     shelves: &mut S,
 )
     ensures { AnswersNext (both P.came P.reads) (both P.written P.writes) L.is_new
-        (both L.waiting L.history listener.old) (both L.waiting L.history listener.new)
+        (both L.waiting L.history callers.old) (both L.waiting L.history callers.new)
         (S.shown shelves.old) (S.shown shelves.new) }
 {
-    match listener.accept() {
+    match callers.next_peer() {
         Ok(peer) => {
             let after = peer.answer(alloc, clock, routes, shelves);
-            listener.end(clock, after.peer, written_status(after.status));
+            callers.end_peer(clock, after.peer, written_status(after.status));
         }
         Err(_) => {}
     }

@@ -47,7 +47,7 @@ impl<'a> FileChecks for MemoryHost<'a> {
     fn sync_log(&self, _path: &str) {}
 }
 
-impl<'a> ActionHost<MapShelves> for MemoryHost<'a> {
+impl<'a> ActionHost<MapShelves, ()> for MemoryHost<'a> {
     // the tests look at results alone
     ghost acts = { λ _ _ _ _ _. Unit {0} };
 
@@ -55,6 +55,7 @@ impl<'a> ActionHost<MapShelves> for MemoryHost<'a> {
         &mut self,
         _name: &str,
         shelves: &mut MapShelves,
+        _outside: &mut (),
         action: &Action,
         _input: &mut I,
         output: &mut O,

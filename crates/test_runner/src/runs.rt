@@ -3,6 +3,7 @@ use crate::host::MemoryHost;
 use crate::no_older::NoOlderFiles;
 use commands::action::Action;
 use commands::refusal::CommandRefusal;
+use file_action::host::ActionHost;
 use histories::{Hear, Hearing, Tell, Telling};
 use memory_store::map_shelves::MapShelves;
 use network::memory::MemoryServers;
@@ -115,7 +116,7 @@ fn wrong_row<S, C, H, F, G, Q, R, U, V>(
     servers: &mut V,
 ) -> &'static str
 where
-    H: Host<S, C>,
+    H: Host<S, C> + ActionHost<S, ()>,
     F: StoreFiles<S, C>,
     G: StoreFiles<S, C>,
     Q: OlderFiles<C>,
@@ -131,6 +132,7 @@ where
             targets,
             older,
             servers,
+            &mut (),
             &command_of(row, &[cell(row, 2)]),
             &mut Hearing::new(&b""[..]),
             &mut Telling::new(&mut printed),

@@ -1,8 +1,12 @@
 //! Connections of this process to itself.
 use crate::shelves::shelves;
-use socket::{PortListener, serve_on};
+use socket::{
+    Callers, Entrances, ListenOn, MemoryEntrances, SystemEntrances, SystemOperator, SystemPeer,
+    serve_on,
+};
+use std::collections::LinkedList;
 use std::io::{Read, Write};
-use std::net::{TcpListener, TcpStream};
+use std::net::TcpStream;
 use std::rt::HostRuntime;
 use std::test::Fail;
 use world::shelves::Shelves;
@@ -21,11 +25,12 @@ pub const SERVED: &str =
     "HTTP/1.1 200 OK\r\nContent-Type: text/plain; charset=utf-8\r\nContent-Length: 23\r\nConnection: close\r\n\r\n\
      module example.com/lib\n";
 
-/// Returns a listener on a free port, and the port.
-fn listening(rt: &HostRuntime) -> Result<(TcpListener, u16), Fail> {
-    let listener = TcpListener::bind(rt, "127.0.0.1:0")?;
-    let port = listener.local_addr()?.port();
-    Ok((listener, port))
+/// Lets peers in at a free port, and returns it.
+fn listening(entrances: &mut SystemEntrances<'_>) -> Result<u16, Fail> {
+    match entrances.listen(ListenOn::Port(0))? {
+        ListenOn::Port(port) => Ok(port),
+        ListenOn::Input => Err(Fail::from("no port")),
+    }
 }
 
 /// Returns a client that has sent its bytes.
@@ -36,9 +41,13 @@ fn client(rt: &HostRuntime, port: u16, bytes: &[u8]) -> Result<TcpStream, Fail> 
 }
 
 /// Serves two connections from shelves, and then drops them.
-fn serve_two<S: Shelves + Drop>(rt: &HostRuntime, mut shelves: S, listener: TcpListener) {
-    let mut port = PortListener::new(listener);
-    serve_on(rt.alloc(), rt, &mut port, &mut shelves, 2);
+fn serve_two<S: Shelves + Drop>(
+    rt: &HostRuntime,
+    mut shelves: S,
+    entrances: &mut SystemEntrances<'_>,
+) {
+    serve_on(rt.alloc(), rt, entrances, &mut shelves, 2);
+    entrances.close();
 }
 
 /// Returns all that a client still gets.
@@ -50,11 +59,35 @@ fn reply(rt: &HostRuntime, mut stream: TcpStream) -> Result<String, Fail> {
 
 #[test]
 fn answers_one_request_on_each_of_two_connections(rt: HostRuntime) -> Result<(), Fail> {
-    let (listener, port) = listening(&rt)?;
+    let mut entrances = SystemEntrances::new(&rt);
+    let port = listening(&mut entrances)?;
     let first = client(&rt, port, PUT)?;
     let second = client(&rt, port, GET)?;
-    serve_two(&rt, shelves(rt.alloc())?, listener);
+    serve_two(&rt, shelves(rt.alloc())?, &mut entrances);
     assert!(rt; reply(&rt, first)?.as_str() == PUBLISHED);
     assert!(rt; reply(&rt, second)?.as_str() == SERVED);
+    Ok(())
+}
+
+#[test]
+fn connections_that_nobody_makes_count(rt: HostRuntime) -> Result<(), Fail> {
+    let mut entrances: MemoryEntrances<'_, SystemPeer, SystemOperator> = MemoryEntrances::new(
+        "serve.socket",
+        LinkedList::new(rt.alloc()),
+        LinkedList::new(rt.alloc()),
+    );
+    assert!(rt; entrances.listen(ListenOn::Port(0))? == ListenOn::Port(8080));
+    assert!(rt; entrances.make_socket("serve.socket").is_err());
+    assert!(rt; entrances.make_socket("other.socket").is_ok());
+    serve_on(
+        rt.alloc(),
+        &rt,
+        &mut entrances,
+        &mut shelves(rt.alloc())?,
+        2,
+    );
+    entrances.remove_socket("other.socket");
+    entrances.close();
+    assert!(rt; entrances.next_waiting().is_none());
     Ok(())
 }

@@ -17,5 +17,5 @@ returns-in-AddNew g c =
           c.add_new.result)
           c.new.ensures c.add_new.ensures.adds;
       told = c.acceptance-in-AddNew.ensures;
-      came = refl;
+      keeps = record { came = refl; outside = refl };
     })

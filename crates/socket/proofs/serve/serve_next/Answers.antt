@@ -8,7 +8,7 @@ returns-in-Ok g c =
     next_peer (both p.came p.reads) (both p.written p.writes) _ _ _ _ _ _ _ _ c.in-Ok.ensures.fresh
     c.in-Ok.ensures.takes
     (answered (both p.came p.reads) (both p.written p.writes) _ _ _ _ _ c.answer-after.ensures.serves
-    c.answer-after.ensures.cause) c.end.ensures
+    c.answer-after.ensures.cause) c.end_peer.ensures
 
 pub returns-in-Err : goal.returns-in-Err
 returns-in-Err g c = next_untaken _ _ _ _ _ _ c.in-Err.ensures.takes

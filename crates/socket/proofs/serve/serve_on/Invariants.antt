@@ -7,7 +7,7 @@ abbrev pub invariant-loop : goal.invariant-loop
 invariant-loop g l =
     let s = g.S.Shelves in
     let p = g.P.Peer in
-    let door = both g.L.Listener.waiting g.L.Listener.history in
-    AnswersEach (both p.came p.reads) (both p.written p.writes) g.L.Listener.is_new
-    (door l.fn.listener) (door l.listener) (s.shown l.fn.shelves) (s.shown l.shelves)
+    let door = both g.L.Callers.waiting g.L.Callers.history in
+    AnswersEach (both p.came p.reads) (both p.written p.writes) g.L.Callers.is_new
+    (door l.fn.callers) (door l.callers) (s.shown l.fn.shelves) (s.shown l.shelves)
     l.counter

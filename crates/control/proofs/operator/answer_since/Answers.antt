@@ -2,7 +2,7 @@ use Rattle.std.proofs.Common.{inl, inr, subst}
 use Rattle.orders.specs.Order.{IsLineOf, ordered}
 use Rattle.control.specs.Health.{IsPinged}
 use Rattle.control.proofs.PingLemmas.{tells_outcome}
-use Rattle.control.proofs.callers.answer_since.Goals as goal
+use Rattle.control.proofs.operator.answer_since.Goals as goal
 
 pub returns-in-Some-Catalog-clause-obeys : goal.returns-in-Some-Catalog-clause-obeys
 returns-in-Some-Catalog-clause-obeys g c = λ came came_new reads.

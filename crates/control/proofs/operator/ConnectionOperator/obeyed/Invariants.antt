@@ -1,4 +1,4 @@
-use Rattle.control.proofs.callers.ConnectionOperator.obeyed.Given as goal
+use Rattle.control.proofs.operator.ConnectionOperator.obeyed.Given as goal
 
 abbrev pub ghosts-obey_since-I-Start : goal.ghosts-obey_since-I-Start
 ghosts-obey_since-I-Start g a = record { calls = a.operator.reader.calls.calls }

@@ -1,21 +1,22 @@
-//! The doors of a server: a port for peers and a socket for operators.
-ghost use Rattle.std.specs.Prelude.{◌≡◌, [], false, None, IfOk, IfSome};
-ghost use Rattle.socket.specs.History.{Ends};
-ghost use Rattle.control.specs.Visits.{IsUnheard};
+//! A port for peers and a socket for operators, which one thread waits on.
+ghost use Rattle.std.specs.Prelude.{IfOk, IfSome};
+ghost use Rattle.socket.specs.History.{IsUnheard};
 
-use crate::callers::{Caller, Callers, Operator};
+use crate::callers::Caller;
+use crate::connection::Peer;
 use histories::{Connection, over_tcp, over_unix};
 use mio::unix::SourceFd;
 use mio::{Events, Interest, Poll, Token};
-use socket::{Deed, Peer, SystemPeer, note_ended, note_taken};
 use std::alloc::Global;
 use std::io::{self, ErrorKind};
-use std::net::TcpListener;
+use std::net::{TcpListener, TcpStream};
 use std::os::fd::AsRawFd;
 use std::os::unix::net::{UnixListener, UnixStream};
 use std::rt::HostRuntime;
-use std::time::{Clock, Duration};
-use store_files::record::Record;
+use std::time::Duration;
+
+/// A peer of a port.
+pub type SystemPeer = Connection<TcpStream, TcpStream>;
 
 /// An operator of a Unix socket.
 pub type SystemOperator = Connection<UnixStream, UnixStream>;
@@ -30,35 +31,9 @@ const OPERATORS: Token = Token(1);
 /// The operator who is watched.
 const OPERATOR: Token = Token(2);
 
-/// A port for peers and a socket for operators, which one thread waits on. That they take and end the connections that
-/// they note, and no others, is read and not proved.
-#[derive(Drop)]
-pub struct Listeners {
-    sockets: Sockets,
-    noted: Record<Deed<SystemCaller>>,
-}
-
-impl Listeners {
-    /// Returns doors that wait on both, and of which no connection was taken yet. Fails if the system refuses to watch
-    /// one of them, or if memory runs out.
-    pub fn new(
-        rt: &HostRuntime,
-        peers: TcpListener,
-        operators: UnixListener,
-    ) -> io::Result<Listeners>
-        ensures { IfOk result (λ doors. ⟦<Listeners as Callers<SystemPeer, SystemOperator>>⟧.history doors ≡ []) }
-    {
-        let sockets = Sockets::new(rt, peers, operators)?;
-        Ok(Listeners {
-            sockets,
-            noted: Record::new(),
-        })
-    }
-}
-
 /// Both of them, and who waits at which.
 #[derive(Drop)]
-struct Sockets {
+pub(crate) struct Sockets {
     poll: Poll,
     events: Events<Global>,
     peers: TcpListener,
@@ -74,8 +49,13 @@ struct Sockets {
 }
 
 impl Sockets {
-    /// Returns both, and waits on them from then on. Fails as `Listeners::new` does.
-    fn new(rt: &HostRuntime, peers: TcpListener, operators: UnixListener) -> io::Result<Sockets> {
+    /// Returns both, and waits on them from then on. Fails if the system refuses to watch one of them, or if memory
+    /// runs out.
+    pub(crate) fn new(
+        rt: &HostRuntime,
+        peers: TcpListener,
+        operators: UnixListener,
+    ) -> io::Result<Sockets> {
         peers.set_nonblocking(true)?;
         operators.set_nonblocking(true)?;
         let poll = Poll::new(rt)?;
@@ -130,7 +110,7 @@ impl Sockets {
     fn accept(&mut self) -> io::Result<Option<SystemCaller>>
         ensures { IfOk result (λ found. IfSome found (λ caller. IsUnheard
             ⟦<SystemPeer as Peer>⟧.came ⟦<SystemPeer as Peer>⟧.written
-            ⟦<SystemOperator as Operator>⟧.came ⟦<SystemOperator as Operator>⟧.written caller)) }
+            ⟦<SystemOperator as Peer>⟧.came ⟦<SystemOperator as Peer>⟧.written caller)) }
     {
         if self.operator_waits {
             match self.operators.accept() {
@@ -158,10 +138,10 @@ impl Sockets {
     }
 
     /// Waits for the next caller, an operator before a peer. Fails if the system does.
-    fn next(&mut self) -> io::Result<SystemCaller>
+    pub(crate) fn next(&mut self) -> io::Result<SystemCaller>
         ensures { IfOk result (λ caller. IsUnheard
             ⟦<SystemPeer as Peer>⟧.came ⟦<SystemPeer as Peer>⟧.written
-            ⟦<SystemOperator as Operator>⟧.came ⟦<SystemOperator as Operator>⟧.written caller) }
+            ⟦<SystemOperator as Peer>⟧.came ⟦<SystemOperator as Peer>⟧.written caller) }
     {
         for _ in 0..u64::MAX {
             self.look(self.longest())?;
@@ -173,10 +153,10 @@ impl Sockets {
     }
 
     /// Returns a caller who waits, an operator before a peer, or None if there is none. Fails if the system does.
-    fn next_waiting(&mut self) -> Option<io::Result<SystemCaller>>
+    pub(crate) fn next_waiting(&mut self) -> Option<io::Result<SystemCaller>>
         ensures { IfSome result (λ next. IfOk next (λ caller. IsUnheard
             ⟦<SystemPeer as Peer>⟧.came ⟦<SystemPeer as Peer>⟧.written
-            ⟦<SystemOperator as Operator>⟧.came ⟦<SystemOperator as Operator>⟧.written caller)) }
+            ⟦<SystemOperator as Peer>⟧.came ⟦<SystemOperator as Peer>⟧.written caller)) }
     {
         if let Err(e) = self.look(Some(Duration::ZERO)) {
             return Some(Err(e));
@@ -189,66 +169,14 @@ impl Sockets {
     }
 
     /// Watches the operator who was taken last. If the system refuses that, nobody is seen to leave.
-    fn watch_operator(&mut self)
-        ensures { self.new.left ≡ false }
-    {
+    pub(crate) fn watch_operator(&mut self) {
         self.left = false;
         let _ = watch(&self.poll, self.taken, OPERATOR);
     }
-}
 
-/// The callers who connect are not known.
-impl Callers<SystemPeer, SystemOperator> for Listeners {
-    ghost use Rattle.std.specs.Prelude.{None};
-    ghost use Rattle.control.specs.Visits.{IsUnheard};
-
-    ghost waiting = { λ _. None };
-
-    ghost history = { λ d. d.noted.deeds };
-
-    ghost left = { λ d. d.sockets.left };
-
-    /// Nothing has passed over the connection.
-    ghost is_new = { λ caller. IsUnheard
-        ⟦<SystemPeer as Peer>⟧.came ⟦<SystemPeer as Peer>⟧.written
-        ⟦<SystemOperator as Operator>⟧.came ⟦<SystemOperator as Operator>⟧.written caller };
-
-    /// Takes an operator before a peer.
-    fn next(&mut self) -> io::Result<SystemCaller> {
-        let next = self.sockets.next();
-        note_taken(&mut self.noted, next)
-    }
-
-    /// Takes an operator before a peer.
-    fn next_waiting(&mut self) -> Option<io::Result<SystemCaller>> {
-        match self.sockets.next_waiting() {
-            Some(next) => Some(note_taken(&mut self.noted, next)),
-            None => None,
-        }
-    }
-
-    fn end_peer<C: Clock>(&mut self, clock: &C, peer: SystemPeer, status: Option<u16>)
-        ensures { Ends (None, self.old.noted.deeds) (None, self.new.noted.deeds) (Caller.Peer peer) }
-    {
-        let ended = note_ended(&mut self.noted, Caller::Peer(peer));
-        if let (Caller::Peer(peer), Some(status)) = (ended, status) {
-            let _ = peer.end(clock, status);
-        }
-    }
-
-    fn end_operator(&mut self, operator: SystemOperator)
-        ensures { Ends (None, self.old.noted.deeds) (None, self.new.noted.deeds) (Caller.Operator operator) }
-    {
-        let _ended = note_ended(&mut self.noted, Caller::Operator(operator));
-    }
-
-    /// If the system refuses to watch it, nobody is seen to leave.
-    fn watch_operator(&mut self) {
-        self.sockets.watch_operator();
-    }
-
-    fn has_left(&self) -> bool {
-        self.sockets.left
+    /// Whether the operator who is watched was seen to close its connection.
+    pub(crate) fn has_left(&self) -> bool {
+        self.left
     }
 }
 

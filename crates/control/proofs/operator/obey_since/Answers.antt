@@ -3,8 +3,8 @@ use Rattle.std.proofs.KnownBytes.{Appends-nil}
 use Rattle.control.proofs.HearingLemmas.{hears_no_memory, obeys_told}
 use Rattle.control.proofs.PaceLemmas.{answered_in_time, unwritten_in_time}
 use Rattle.control.proofs.TaskLemmas.{tasks_none}
-use Rattle.control.proofs.callers.obey_since.Goals as goal
-use Rattle.control.proofs.callers.obey_since.Goals.{in-Ok, in-Err-Io, in-Err-Memory}
+use Rattle.control.proofs.operator.obey_since.Goals as goal
+use Rattle.control.proofs.operator.obey_since.Goals.{in-Ok, in-Err-Io, in-Err-Memory}
 
 pub returns-clause-obeys : goal.returns-clause-obeys
 returns-clause-obeys g c = elim c.match-got.branch [

@@ -10,7 +10,7 @@ use std::rt::HostRuntime;
 /// has more than 107 bytes, or if the system refuses the socket.
 ///
 /// Between making the socket and changing its mode, the umask decides who may connect.
-pub fn operators_at(rt: &HostRuntime, path: &str) -> io::Result<UnixListener> {
+pub(crate) fn operators_at(rt: &HostRuntime, path: &str) -> io::Result<UnixListener> {
     make_way(rt, path)?;
     let operators = UnixListener::bind(rt, path)?;
     fs::set_permissions(rt, path, Permissions::from_mode(0o600))?;
@@ -38,7 +38,7 @@ fn remove_left(rt: &HostRuntime, path: &str) -> io::Result<()> {
 }
 
 /// Removes the socket at the end, if the name is still that of a socket. Errors are ignored.
-pub fn remove_socket(rt: &HostRuntime, path: &str) {
+pub(crate) fn remove_socket(rt: &HostRuntime, path: &str) {
     match fs::symlink_metadata(rt, path) {
         Ok(found) if found.file_type().is_socket() => {
             let _ = fs::remove_file(rt, path);

@@ -1,4 +1,4 @@
-use Rattle.control.proofs.callers.tell_since.Goals as goal
+use Rattle.control.proofs.operator.tell_since.Goals as goal
 
 pub returns-clause-tells : goal.returns-clause-tells
 returns-clause-tells g c = rw c.into_inner.ensures.same (rw c.new-outcome.ensures at c.tell-told.ensures.tells)

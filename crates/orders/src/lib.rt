@@ -5,13 +5,11 @@
 //! |---|---|
 //! | a registry command, a list | [`RegistryCommand`], [`Listing`] |
 //! | an order, whether it has a line, and its line | [`Order`], [`Order::has_line`], [`Order::write`] |
-//! | the lines that are always the same | [`stop_line`], [`ping_line`], [`Listing::line`] |
 //! | the order of a line | [`read_order`] |
 //! | the outcome of an order, its line, and the outcome of a line | [`Outcome`], [`Outcome::line`], [`read_outcome`] |
 #![tactic(auto)]
 
 mod command;
-mod fixed;
 pub mod laws;
 mod line;
 mod listing;
@@ -22,7 +20,6 @@ mod words;
 mod write;
 
 pub use command::RegistryCommand;
-pub use fixed::{ping_line, stop_line};
 pub use listing::Listing;
 pub use order::{LONGEST_LINE, Order};
 pub use outcome::{Outcome, read_outcome};

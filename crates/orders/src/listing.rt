@@ -1,7 +1,6 @@
 //! Which list is asked for, by its word.
 ghost use Rattle.std.specs.Prelude.{◌≡◌, MatchOption};
 ghost use Rattle.orders.specs.Listing as spec;
-ghost use Rattle.orders.specs.Order.{ListOf, line_for};
 
 /// Which list an operator asks for.
 #[derive(Clone, Copy, Debug, Drop, PartialEq, Eq)]
@@ -13,16 +12,6 @@ pub enum Listing {
 }
 
 impl Listing {
-    /// Returns the line that asks for it, with its end.
-    pub fn line(self) -> &'static str
-        ensures { result.now ≡ line_for (ListOf self) }
-    {
-        match self {
-            Listing::Keys => "key-list\n",
-            Listing::Shelves => "shelf-list\n",
-        }
-    }
-
     /// Returns the word that asks for it.
     pub(crate) fn word(self) -> &'static str
         ensures { result.now ≡ spec.word_of self }

@@ -119,6 +119,28 @@ def test_socket_of_a_killed_server_is_taken_over(folder: str, serve: Callable[..
     assert not os.path.lexists("live"), "a server that ends removes its socket"
 
 
+def test_socket_that_another_server_made_meanwhile_stays(folder: str, serve: Callable[..., Server]) -> None:
+    new_store("first.db", ("alpha", KEY))
+    new_store("second.db", ("alpha", KEY))
+    first = serve("first.db", "live", "--connections", "1")
+    os.unlink("live")
+    second = serve("second.db", "live")
+    assert first.status(get(LIST)) == 404
+    assert first.child.wait(60) == 0
+    assert second.order(b"team-add gamma\n") == b"done\n"
+
+
+@pytest.mark.needs("strace")
+def test_socket_whose_mode_cannot_be_set_is_removed(folder: str) -> None:
+    new_store("served.db", ("alpha", KEY))
+    calls = "?chmod,?fchmodat,?fchmodat2"
+    fails = ["strace", "-f", "-qq", "-o", "calls", "-e", f"trace={calls}", "-e", f"inject={calls}:error=EPERM"]
+    words = ["serve", "--db", "served.db", "--port", "0", "--control", CONTROL]
+    assert run(words, before=fails) == refusal("io")
+    assert b"EPERM" in read("calls")
+    assert not os.path.lexists(CONTROL)
+
+
 def test_socket_with_the_longest_name_that_is_removed(folder: str, serve: Callable[..., Server]) -> None:
     new_store("live.db", ("alpha", KEY))
     longest = "s" * 107

@@ -8,7 +8,7 @@ use crate::connection::Peer;
 use crate::deed::{Deed, ListenOn, note_ended, note_peer, note_taken};
 use crate::entrances::Entrances;
 use crate::listening::listener_at;
-use crate::socket_file::{operators_at, remove_socket};
+use crate::socket_file::{SocketFile, operators_at, remove_socket};
 use crate::sockets::{Sockets, SystemCaller, SystemOperator, SystemPeer};
 use histories::{over_tcp, over_unix};
 use std::io::{self, ErrorKind};
@@ -25,6 +25,8 @@ use store_files::record::Record;
 pub struct SystemEntrances<'a> {
     rt: &'a HostRuntime,
     open: Open,
+    /// The socket of operators, once it is made.
+    made: Option<SocketFile>,
     /// Whether the operator who is watched was seen to close its connection.
     left: bool,
     noted: Record<Deed<SystemCaller>>,
@@ -38,6 +40,7 @@ impl<'a> SystemEntrances<'a> {
         SystemEntrances {
             rt,
             open: Open::Nowhere,
+            made: None,
             left: false,
             noted: Record::new(),
         }
@@ -185,8 +188,9 @@ impl<'a> Entrances<SystemPeer, SystemOperator> for SystemEntrances<'a> {
 
     fn make_socket(&mut self, path: &str) -> io::Result<()> {
         match operators_at(self.rt, path) {
-            Ok(operators) => {
+            Ok((operators, made)) => {
                 self.open = Open::ToOperators(operators);
+                self.made = Some(made);
                 self.noted.note(path.as_bytes(), &Deed::Made);
                 Ok(())
             }
@@ -199,7 +203,9 @@ impl<'a> Entrances<SystemPeer, SystemOperator> for SystemEntrances<'a> {
 
     fn remove_socket(&mut self, path: &str) {
         self.noted.note(path.as_bytes(), &Deed::Removed);
-        remove_socket(self.rt, path);
+        if let Some(made) = self.made {
+            remove_socket(self.rt, path, made);
+        }
     }
 
     fn close(&mut self) {

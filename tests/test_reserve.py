@@ -87,6 +87,12 @@ class Disk:
             self.server.kill()
 
 
+def make_holes(reserve: str) -> None:
+    """Gives the room of a whole reserve back to its disk, but for the first bytes."""
+    os.truncate(reserve, 4_096)
+    os.truncate(reserve, WHOLE)
+
+
 def notices() -> list[str]:
     """Returns the notices of the reserve."""
     return [line for line in read("errors").decode().splitlines() if line.startswith("reserve:")]
@@ -179,6 +185,16 @@ class TestFullDisk:
         assert disk.reserved()[0] == WHOLE
         assert disk.statuses(KEY) == [200]
 
+    @pytest.mark.parametrize("disk", ["48m"], indirect=True)
+    def test_reserve_with_holes_on_a_full_disk_is_short(self, disk: Disk) -> None:
+        assert disk.reserved()[0] == WHOLE
+        disk.server.kill()
+        make_holes("small/s.db-reserve")
+        fill("small/other")
+        disk.start()
+        assert disk.publish(100) == 503
+        check_room_again(disk, WHOLE, lambda: os.remove("small/other"))
+
 
 RESERVE = "s.db-reserve"
 # what has the name and is no reserve, and how it is made
@@ -206,6 +222,122 @@ def test_what_is_no_reserve_stays_as_it_is(folder: str, kind: str) -> None:
     after = os.lstat(RESERVE)
     assert (after.st_ino, after.st_size) == (before.st_ino, before.st_size)
     assert read("theirs") == b"a text"
+
+
+def test_reserve_with_holes_is_filled_by_the_next_start(folder: str) -> None:
+    new_store("s.db", ("alpha", KEY))
+    start("s.db").stop()
+    blocks = os.stat(RESERVE).st_blocks
+    make_holes(RESERVE)
+    assert os.stat(RESERVE).st_blocks < blocks
+    start("s.db").stop()
+    assert os.stat(RESERVE).st_blocks >= blocks
+    assert not notices()
+
+
+def test_empty_file_is_filled(folder: str) -> None:
+    new_store("s.db", ("alpha", KEY))
+    write({RESERVE: ""})
+    start("s.db").stop()
+    assert os.stat(RESERVE).st_size == WHOLE
+    assert not notices()
+
+
+@pytest.mark.root
+def test_empty_file_of_another_user_stays_as_it_is(folder: str) -> None:
+    new_store("s.db", ("alpha", KEY))
+    write({RESERVE: ""})
+    os.chown(RESERVE, 65534, 65534)
+    start("s.db").stop()
+    assert os.stat(RESERVE).st_size == 0
+    assert notices() == ["reserve: device"]
+
+
+# a system that misbehaves as FAULT says
+LIBRARY = """
+#define _GNU_SOURCE
+#include <errno.h>
+#include <stdio.h>
+#include <stdlib.h>
+#include <string.h>
+#include <sys/stat.h>
+#include <sys/syscall.h>
+#include <unistd.h>
+
+static int is_fault(const char *name) {
+    const char *fault = getenv("FAULT");
+    return fault && !strcmp(fault, name);
+}
+
+/* reports no blocks */
+int statx(int at, const char *restrict path, int flags, unsigned mask, struct statx *restrict found) {
+    int failed = syscall(SYS_statx, at, path, flags, mask, found);
+    if (!failed && is_fault("blocks")) found->stx_blocks = 0;
+    return failed;
+}
+
+/* fails at a reserve */
+int fsync(int fd) {
+    char link[64], name[4096] = "";
+    snprintf(link, sizeof link, "/proc/self/fd/%d", fd);
+    if (!is_fault("sync") || readlink(link, name, sizeof name - 1) < 0 || !strstr(name, "-reserve"))
+        return syscall(SYS_fsync, fd);
+    errno = EIO;
+    return -1;
+}
+"""
+
+
+@pytest.mark.needs("cc")
+class TestSystem:
+    """Reserves of a system that reports no blocks, and of one that does not write them to the disk."""
+
+    @pytest.fixture(scope="class")
+    def library(self, class_folder: str) -> str:
+        write({"fault.c": LIBRARY})
+        subprocess.run(["cc", "-shared", "-fPIC", "-o", "fault.so", "fault.c"], check=True)
+        return os.path.abspath("fault.so")
+
+    @pytest.fixture
+    def fault(self, library: str, monkeypatch: pytest.MonkeyPatch) -> Callable[[str], None]:
+        def set_fault(name: str) -> None:
+            monkeypatch.setenv("LD_PRELOAD", library)
+            monkeypatch.setenv("FAULT", name)
+
+        return set_fault
+
+    def test_reserve_without_blocks_is_filled_once(self, folder: str, fault: Callable[[str], None]) -> None:
+        new_store("s.db", ("alpha", KEY))
+        start("s.db").stop()
+        whole = os.stat(RESERVE)
+        fault("blocks")
+        start("s.db").stop()
+        filled = os.stat(RESERVE)
+        assert (filled.st_size, filled.st_mtime_ns > whole.st_mtime_ns) == (WHOLE, True)
+        with start("s.db") as server:
+            assert order("team-add", "--team", "beta") == DONE
+            server.stop()
+        assert os.stat(RESERVE).st_mtime_ns == filled.st_mtime_ns
+        assert not notices()
+
+    def test_whole_reserve_that_is_not_synced_stays_whole(self, folder: str, fault: Callable[[str], None]) -> None:
+        new_store("s.db", ("alpha", KEY))
+        start("s.db").stop()
+        fault("sync")
+        with start("s.db") as server:
+            assert order("team-add", "--team", "beta") == DONE
+            server.stop()
+        assert not notices()
+
+    @pytest.mark.root
+    @pytest.mark.needs("umount")
+    @pytest.mark.parametrize("disk", ["48m"], indirect=True)
+    def test_room_is_given_up_though_it_is_not_synced(self, disk: Disk, fault: Callable[[str], None]) -> None:
+        disk.server.kill()
+        fault("sync")
+        disk.start()
+        fill("small/other")
+        check_orders(disk, 100_000)
 
 
 class TestMistaken:

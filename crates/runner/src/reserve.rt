@@ -3,7 +3,7 @@
 
 use crate::beside::real_name;
 use control::Room;
-use std::fs::{self, File, OpenOptions};
+use std::fs::{self, File, Metadata, OpenOptions};
 use std::io::{self, ErrorKind};
 use std::os::unix::fs::{FileExt, MetadataExt, OpenOptionsExt};
 use std::rt::HostRuntime;
@@ -25,6 +25,12 @@ const TITLE: &str = "goshelf reserve of ";
 /// What follows the number.
 const END: &str = " bytes\n";
 
+/// Where a reserve notes that the system reports fewer blocks for it than it has bytes, though all were written.
+const MARK_AT: u64 = 64;
+
+/// What stands there then.
+const MARK: &[u8; 7] = b"packed\n";
+
 /// The bytes that are written at once.
 const PIECE: [u8; 4_096] = [0; 4_096];
 
@@ -45,32 +51,31 @@ pub(crate) fn keep(rt: &HostRuntime, db: &str) -> Room {
 }
 
 fn cut(rt: &HostRuntime, db: &str) -> io::Result<bool> {
-    let Some(file) = opened(rt, name_of(rt, db)?.as_str())? else {
+    let Some(file) = opened(rt, db, name_of(rt, db)?.as_str())? else {
         return Ok(false);
     };
     if file.metadata()?.len() <= KEPT {
         return Ok(false);
     }
     file.set_len(KEPT)?;
-    // Some file systems have the room only then.
-    file.sync_all()?;
+    // Some file systems have the room only then. It is given up even if that fails.
+    let _ = file.sync_all();
     Ok(true)
 }
 
 fn begun(rt: &HostRuntime, db: &str) -> io::Result<bool> {
     let name = name_of(rt, db)?;
-    let Some(file) = opened(rt, name.as_str())? else {
+    let Some(file) = opened(rt, db, name.as_str())? else {
         return made(rt, name.as_str());
     };
     if !refilled(&file)? {
         return Ok(false);
     }
-    doubled(rt, &file)?;
-    Ok(true)
+    enlarged(rt, &file)
 }
 
 fn filled(rt: &HostRuntime, db: &str) -> io::Result<Room> {
-    let Some(file) = opened(rt, name_of(rt, db)?.as_str())? else {
+    let Some(file) = opened(rt, db, name_of(rt, db)?.as_str())? else {
         return Ok(Room::Missing);
     };
     if refilled(&file)? {
@@ -82,15 +87,45 @@ fn filled(rt: &HostRuntime, db: &str) -> io::Result<Room> {
 
 /// Fills a reserve up to the bytes that it is to have, as far as the disk has room, and returns whether it has them.
 fn refilled(file: &File) -> io::Result<bool> {
-    let (found, bytes) = (file.metadata()?.len(), bytes_of(file)?);
-    if found >= bytes {
+    let bytes = bytes_of(file)?;
+    let end = end_of(file)?;
+    if end >= bytes {
         return Ok(true);
     }
-    let is_whole = fill(file, found, bytes)?;
-    if is_whole {
-        file.sync_all()?;
+    Ok(fill(file, end, bytes) && sync(file).is_ok())
+}
+
+/// Returns where a reserve ends. One with holes is cut first, so that it is filled anew.
+fn end_of(file: &File) -> io::Result<u64> {
+    let found = file.metadata()?;
+    if !has_holes(&found) || is_marked(file)? {
+        return Ok(found.len());
     }
-    Ok(is_whole)
+    file.set_len(KEPT)?;
+    Ok(KEPT)
+}
+
+/// Whether a file has fewer blocks on the disk than bytes. The bytes that stay when the room is given up don't count:
+/// they hold little more than a line, so some of their blocks may be missing.
+fn has_holes(found: &Metadata) -> bool {
+    found.blocks().saturating_mul(512).saturating_add(KEPT) < found.len()
+}
+
+/// Has the system write a reserve to the disk. Marks it if it has fewer blocks than bytes all the same, as where a file
+/// system packs zeros: then it is not filled once more.
+fn sync(file: &File) -> io::Result<()> {
+    file.sync_all()?;
+    if has_holes(&file.metadata()?) && !is_marked(file)? {
+        let _ = file.write_all_at(MARK, MARK_AT);
+    }
+    Ok(())
+}
+
+/// Whether a reserve is marked.
+fn is_marked(file: &File) -> io::Result<bool> {
+    let mut mark = [0; 7];
+    let read = file.read_at(&mut mark, MARK_AT)?;
+    Ok(read == 7 && mark == *MARK)
 }
 
 /// Returns the name of the reserve of a store: it stands beside the file that its name leads to. Fails only if memory
@@ -100,9 +135,12 @@ fn name_of(rt: &HostRuntime, db: &str) -> io::Result<String> {
     Ok(format!(in rt.alloc(); "{}-reserve", real.as_str())?)
 }
 
-/// Opens a reserve, or returns None if there is no file of this name. Fails if the file is no reserve, or has another
-/// name too.
-fn opened(rt: &HostRuntime, name: &str) -> io::Result<Option<File>> {
+/// Opens the reserve of the store at `db`, or returns None if there is no file of this name. Fails if the file is no
+/// reserve, or has another name too.
+///
+/// An empty file, as a kill right after its creation leaves it, becomes one to be filled if the owner of the store owns
+/// it.
+fn opened(rt: &HostRuntime, db: &str, name: &str) -> io::Result<Option<File>> {
     let named = match fs::symlink_metadata(rt, name) {
         Err(error) if error.kind() == ErrorKind::NotFound => return Ok(None),
         found => found?,
@@ -114,6 +152,9 @@ fn opened(rt: &HostRuntime, name: &str) -> io::Result<Option<File>> {
     let found = file.metadata()?;
     if found.dev() != named.dev() || found.ino() != named.ino() {
         return Err(ErrorKind::Unsupported.into());
+    }
+    if found.len() == 0 && found.uid() == fs::metadata(rt, db)?.uid() {
+        name_bytes(rt, &file, LEAST)?;
     }
     let _bytes = bytes_of(&file)?;
     Ok(Some(file))
@@ -136,7 +177,7 @@ fn number_in(front: &[u8]) -> Option<u64> {
     number.parse().ok()
 }
 
-/// Makes a reserve, as large as the disk has room for. Fails if it has none for `LEAST` bytes; then it leaves no file.
+/// Makes a reserve, as large as the disk has room for, and returns whether it is there. If not, it leaves no file.
 fn made(rt: &HostRuntime, name: &str) -> io::Result<bool> {
     let file = OpenOptions::new()
         .read(true)
@@ -145,21 +186,28 @@ fn made(rt: &HostRuntime, name: &str) -> io::Result<bool> {
         .mode(0o600)
         .open(rt, name)?;
     match grown(rt, &file) {
-        Ok(()) => Ok(true),
-        Err(error) => {
+        Ok(true) => Ok(true),
+        failed => {
             let _ = fs::remove_file(rt, name);
-            Err(error)
+            failed
         }
     }
 }
 
-/// Writes the bytes of a new reserve. Fails if the disk has no room for `LEAST`.
-fn grown(rt: &HostRuntime, file: &File) -> io::Result<()> {
+/// Writes the bytes of a new reserve, and returns whether all of it is there. False if the disk has no room for
+/// `LEAST`.
+fn grown(rt: &HostRuntime, file: &File) -> io::Result<bool> {
     name_bytes(rt, file, LEAST)?;
-    if !fill(file, KEPT, LEAST)? {
-        return Err(ErrorKind::StorageFull.into());
+    Ok(fill(file, KEPT, LEAST) && enlarged(rt, file)?)
+}
+
+/// Doubles a whole reserve, as `doubled` does, and returns whether it is whole then. One that can't be made larger is,
+/// unless the system could not write it to the disk.
+fn enlarged(rt: &HostRuntime, file: &File) -> io::Result<bool> {
+    match doubled(rt, file) {
+        Ok(()) => Ok(true),
+        Err(_) => refilled(file),
     }
-    doubled(rt, file)
 }
 
 /// Doubles a reserve up to `MOST` bytes, as long as the disk has room.
@@ -170,14 +218,14 @@ fn doubled(rt: &HostRuntime, file: &File) -> io::Result<()> {
             break;
         }
         let double = bytes.saturating_mul(2).min(MOST);
-        if !fill(file, bytes, double)? {
+        if !fill(file, bytes, double) {
             file.set_len(bytes)?;
             break;
         }
         bytes = double;
         name_bytes(rt, file, bytes)?;
     }
-    file.sync_all()
+    sync(file)
 }
 
 /// Writes the first line of a reserve.
@@ -186,19 +234,19 @@ fn name_bytes(rt: &HostRuntime, file: &File, bytes: u64) -> io::Result<()> {
     file.write_all_at(line.as_str().as_bytes(), 0)
 }
 
-/// Writes zeros to a reserve from one position to another, as far as the disk has room, and returns whether it has room
-/// for all of them.
-fn fill(file: &File, from: u64, to: u64) -> io::Result<bool> {
+/// Writes zeros to a reserve from one position to another, up to the first write that fails, and returns whether none
+/// did. Most fail because the disk is full, but one that fails for another cause keeps no room either.
+fn fill(file: &File, from: u64, to: u64) -> bool {
     let mut at = from;
     for _ in 0..MOST {
         if at >= to {
-            return Ok(true);
+            return true;
         }
         let most = (to - at).min(KEPT) as usize;
         match file.write_at(&PIECE[..most], at) {
-            Ok(0) | Err(_) => return Ok(false),
+            Ok(0) | Err(_) => return false,
             Ok(written) => at = at.saturating_add(written as u64),
         }
     }
-    Ok(false)
+    false
 }

@@ -10,7 +10,7 @@ const MILLIS: u64 = 5;
 const BYTES: usize = 1 << 20;
 
 /// What a row counts for beside the bytes that are noted: a page, since the pages of its table and of the indexes go to
-/// the log whole, and are several where rows lie apart. With less, those who wait meet the disk for longer.
+/// the log whole, and are several where rows lie apart. With less, waiting callers would wait longer for the disk.
 const ROW: usize = 4_096;
 
 /// After how many bytes the log of the copy is first written to the disk, so that the commit has little to wait for.
@@ -25,7 +25,7 @@ const SLOW_MILLIS: u64 = 20;
 /// Ends a slice after 5 ms or 1 MiB, whichever comes first. If the clock can't be read, only bytes count.
 ///
 /// The log is written to the disk as it grows. Where that takes more than 20 ms, the next time comes after twice as
-/// many bytes: on a slow disk or a busy one, those who wait meet it a few times and no more.
+/// many bytes: on a slow disk or a busy one, waiting callers wait for it only a few times.
 #[derive(Drop)]
 pub(crate) struct SlicePace<'a, C: Clock, L: FileChecks> {
     clock: &'a C,
@@ -61,7 +61,7 @@ impl<'a, C: Clock, L: FileChecks> SlicePace<'a, C, L> {
         }
     }
 
-    /// Whether so many milliseconds have passed since the slice began.
+    /// Whether this many milliseconds have passed since the slice began.
     fn has_taken(&self, millis: u64) -> bool {
         let Some(begun) = self.begun else {
             return false;
